@@ -1,0 +1,45 @@
+-- The readings of the kinds' strings.
+use Rattle.std.proofs.Common.{◌≢◌, refl, arith, true, false, [], ◌∷◌, zero, suc}
+use Rattle.board.specs.declared.game.Kind.{Kind}
+use Rattle.board.specs.declared.game.Kind.TheVariants.{King, Queen, Rook, Bishop, Knight, Pawn}
+use Rattle.board.specs.declared.step.Mode.TheVariants.{Move, Capture}
+use Rattle.board.specs.declared.terms.Atom.TheVariants.{Wazir, Ferz}
+use Rattle.board.specs.declared.terms.Atom.TheVariants as atom
+use Rattle.board.specs.declared.terms.Term.{Term}
+use Rattle.board.specs.Denotation.{single, AreDistinct, terms_of}
+use Rattle.board.specs.Notation.{IsRead, IsReading, piece_text}
+use Rattle.board.specs.Notation.IsWord.{term, rook, bishop, queen, king}
+use Rattle.board.specs.Notation.IsRead.{last, more}
+
+kind_read : (k : Kind) → IsRead (piece_text k) (terms_of k)
+kind_read King = last king
+kind_read Queen = last queen
+kind_read Rook = last rook
+kind_read Bishop = last bishop
+kind_read Knight = last (term (single atom.Knight) (λ e. cc) refl)
+kind_read Pawn =
+    more (term (record { mode = Move; forward = true; atom = Wazir; rider = false }) (λ e f. cc) refl)
+    (last (term (record { mode = Capture; forward = true; atom = Ferz; rider = false }) (λ e f. cc) refl))
+
+one_distinct : (t : Term) → AreDistinct (t ∷ [])
+one_distinct t i j d p q = absurd (omega arith)
+
+two_distinct : (t u : Term) → t.atom ≢ u.atom → AreDistinct (t ∷ u ∷ [])
+two_distinct t u h zero zero d p q = absurd (omega arith)
+two_distinct t u h zero (suc zero) d p q = h
+two_distinct t u h zero (suc (suc j)) d p q = absurd (omega arith)
+two_distinct t u h (suc i) zero d p q = absurd (omega arith)
+two_distinct t u h (suc i) (suc zero) d p q = absurd (omega arith)
+two_distinct t u h (suc i) (suc (suc j)) d p q = absurd (omega arith)
+
+kind_distinct : (k : Kind) → AreDistinct (terms_of k)
+kind_distinct King = two_distinct _ _ (λ e. cc)
+kind_distinct Queen = two_distinct _ _ (λ e. cc)
+kind_distinct Rook = one_distinct _
+kind_distinct Bishop = one_distinct _
+kind_distinct Knight = one_distinct _
+kind_distinct Pawn = two_distinct _ _ (λ e. cc)
+
+-- each kind's terms are the accepted reading of its string
+pub IsReading-piece_text : (k : Kind) → IsReading (piece_text k) (terms_of k)
+IsReading-piece_text k = record { read = kind_read k; distinct = kind_distinct k }

@@ -1,0 +1,207 @@
+//! Why a text is no position's.
+ghost use Rattle.std.specs.Prelude.{◌≡◌, ◌≢◌, ◌+◌, ◌-◌, ◌*◌, ℕ, ◌<◌, ◌≤◌, ◌==◌, ◌↔◌, ◌∷◌, Any, All, Contains, IsTrue, MatchBool, MatchOption, IfSome, IfNone, count_by, length, map, replicate, slice_index};
+ghost use Rattle.board.specs.Board.{PlainBoard, IsPosition};
+ghost use Rattle.board.specs.Fen.{IsFenText};
+ghost use Rattle.board.specs.Games.{IsPlayed};
+ghost use Rattle.board.specs.FenFaults.{HasAdjacentRuns, IsBoardByte, IsFenFault, IsShape, is_case_of, is_digit, row_width, rows};
+
+use crate::fen::{side_of, unit_of};
+use crate::{Game, Kind, Side};
+use thiserror::Error;
+
+/// Why a text is refused: the first of these that holds.
+#[derive(Clone, Copy, PartialEq, Eq, Debug, Error)]
+pub enum FenFault {
+    #[error("not exactly one space")]
+    Fields,
+    #[error("neither six rows of six nor five rows of five")]
+    Shape,
+    #[error("no letter of this game's units")]
+    Letter,
+    #[error("a digit 0, or two digits together")]
+    Run,
+    #[error("the side is not w or b")]
+    Side,
+    #[error("not one king a side")]
+    Kings,
+    #[error("too many units")]
+    Units,
+    #[error("a pawn on the first or the last rank")]
+    PawnRank,
+    #[error("the side not to move is in check")]
+    OtherInCheck,
+}
+
+/// How often the byte occurs.
+fn count_of(text: &[u8], byte: u8) -> usize
+    ensures { result ≡ count_by (λ c. c == byte) text.now }
+{
+    let mut count = 0;
+    for c in text {
+        if *c == byte {
+            count += 1;
+        }
+    }
+    count
+}
+
+/// Whether the letter is one of this side's, upper case for White.
+fn is_case_of(side: Side, c: u8) -> bool
+    ensures { result ≡ is_case_of side c }
+{
+    match side {
+        Side::White => b'A' <= c && c <= b'Z',
+        Side::Black => b'a' <= c && c <= b'z',
+    }
+}
+
+/// How many letters of this side's case there are.
+fn count_case(board: &[u8], side: Side) -> usize
+    ensures { result ≡ count_by (is_case_of side) board.now }
+{
+    let mut count = 0;
+    for c in board {
+        if is_case_of(side, *c) {
+            count += 1;
+        }
+    }
+    count
+}
+
+/// The place of the first space.
+fn space(text: &[u8]) -> Option<usize>
+    ensures { MatchOption result
+        (All (λ c. c ≢ 32) text.now)
+        (λ i. (i < length text.now) × (slice_index text.now i ≡ 32) × ((k : ℕ) → k < i → slice_index text.now k ≢ 32)) }
+{
+    for (i, c) in text.iter().enumerate() {
+        if *c == b' ' {
+            return Some(i);
+        }
+    }
+    None
+}
+
+/// Whether this is a digit.
+fn is_digit(c: u8) -> bool
+    ensures { result ≡ is_digit c }
+{
+    b'0' <= c && c <= b'9'
+}
+
+/// Whether the rest of a row has what it lacks of its width, and the rows after it are `left` of this width.
+fn has_rows(board: &[u8], width: u8, so_far: u8, left: u8) -> bool
+    requires fits { so_far ≤ width }
+    requires small { width ≤ 6 }
+    ensures { IsTrue result ↔ (map row_width (rows board.now) ≡ (width - so_far) ∷ replicate left width) }
+{
+    let [c, rest @ ..] = board else {
+        return so_far == width && left == 0;
+    };
+    if *c == b'/' {
+        return so_far == width && left > 0 && has_rows(rest, width, 0, left - 1);
+    }
+    let squares = if is_digit(*c) { *c - b'0' } else { 1 };
+    so_far + squares <= width && has_rows(rest, width, so_far + squares, left)
+}
+
+/// The game whose board has this shape.
+fn game_of(board: &[u8]) -> Option<Game>
+    ensures { MatchOption result ((g : Game) → IsShape g board.now → ⊥) (λ g. IsShape g board.now) }
+{
+    if has_rows(board, 6, 0, 5) {
+        return Some(Game::LosAlamos);
+    }
+    if has_rows(board, 5, 0, 4) {
+        return Some(Game::Gardner);
+    }
+    None
+}
+
+/// Whether the game plays with this kind.
+fn is_played(game: Game, kind: Kind) -> bool
+    ensures { IsTrue result ↔ IsPlayed game kind }
+{
+    match kind {
+        Kind::Bishop => game == Game::Gardner,
+        _ => true,
+    }
+}
+
+/// Whether a board of this game may have the byte.
+fn is_board_byte(game: Game, c: u8) -> bool
+    ensures { MatchBool result (IsBoardByte game c) (IsBoardByte game c → ⊥) }
+{
+    if c == b'/' || is_digit(c) {
+        return true;
+    }
+    match unit_of(c) {
+        Some(unit) => is_played(game, unit.kind),
+        None => false,
+    }
+}
+
+/// Whether some byte is one that no board of this game has.
+fn has_foreign(board: &[u8], game: Game) -> bool
+    ensures { MatchBool result (Any (λ c. IsBoardByte game c → ⊥) board.now) (All (IsBoardByte game) board.now) }
+{
+    for c in board {
+        if !is_board_byte(game, *c) {
+            return true;
+        }
+    }
+    false
+}
+
+/// Whether a digit is 0.
+fn has_zero(board: &[u8]) -> bool
+    ensures { IsTrue result ↔ Contains board.now 48 }
+{
+    board.contains(&b'0')
+}
+
+/// Whether two digits stand next to each other.
+fn has_adjacent_runs(board: &[u8]) -> bool
+    ensures { IsTrue result ↔ HasAdjacentRuns board.now }
+{
+    for i in 1..board.len() {
+        if is_digit(board[i - 1]) && is_digit(board[i]) {
+            return true;
+        }
+    }
+    false
+}
+
+/// The fault of a text that is no position's.
+pub fn fault_of(text: &[u8]) -> FenFault
+    requires { (b : PlainBoard) → IsPosition b → IsFenText text.now b → ⊥ }
+    ensures { IsFenFault text.now result }
+{
+    if count_of(text, b' ') != 1 {
+        return FenFault::Fields;
+    }
+    let Some(end) = space(text) else {
+        return FenFault::Fields;
+    };
+    let board = &text[..end];
+    let Some(game) = game_of(board) else {
+        return FenFault::Shape;
+    };
+    if has_foreign(board, game) {
+        return FenFault::Letter;
+    }
+    if has_zero(board) || has_adjacent_runs(board) {
+        return FenFault::Run;
+    }
+    let Some(_) = side_of(&text[end + 1..]) else {
+        return FenFault::Side;
+    };
+    if count_of(board, b'K') != 1 || count_of(board, b'k') != 1 {
+        return FenFault::Kings;
+    }
+    let most = game.most_units() as usize;
+    if count_case(board, Side::White) > most || count_case(board, Side::Black) > most {
+        return FenFault::Units;
+    }
+    FenFault::PawnRank
+}

@@ -1,0 +1,18 @@
+-- The list of lawful moves as it grows: what `lawful` keeps inside, and no caller sees.
+use Rattle.std.specs.Prelude.{ℕ, ◌+◌, ◌*◌, ◌<◌, List, All, AllPairs, Contains}
+use Rattle.board.specs.declared.game.Game.{Game}
+use Rattle.board.specs.Board.{PlainBoard}
+use Rattle.moves.specs.Squares.{Ply, square_number}
+use Rattle.moves.specs.Moves.{IsLawful}
+use Rattle.moves.specs.Order.{promotion_number}
+
+-- the order of moves by one number
+abbrev pub ply_number : Game → Ply → ℕ
+ply_number g m = (square_number g m.from * 36 + square_number g m.to) * 5 + promotion_number m.promotion
+
+-- the list has exactly the lawful moves whose number is below n, by their numbers
+pub record ListsBelow (b : PlainBoard) (n : ℕ) (moves : List Ply) : Type 0 where
+  pub lawful : All (IsLawful b) moves
+  pub below : All (λ m. ply_number b.game m < n) moves
+  pub complete : (m : Ply) → ply_number b.game m < n → IsLawful b m → Contains moves m
+  pub ordered : AllPairs (λ a c. ply_number b.game a < ply_number b.game c) moves
