@@ -1,5 +1,5 @@
 -- Laws of forced mate.
-use Rattle.std.proofs.Common.{◌≡◌, ℕ, inl, inr, zero, suc, refl, sym, subst, Bool, true, false, MatchBool}
+use Rattle.std.proofs.Common.{◌≡◌, ℕ, ◌*◌, arith, inl, inr, zero, suc, refl, sym, subst, Bool, true, false, MatchBool}
 use Rattle.board.specs.declared.game.Side.{Side}
 use Rattle.board.specs.declared.game.Side.TheVariants.{White, Black}
 use Rattle.board.specs.Games.{is_same_side, other_side}
@@ -7,7 +7,6 @@ use Rattle.board.specs.Board.{PlainBoard}
 use Rattle.moves.specs.Squares.{Ply}
 use Rattle.moves.specs.declared.goal.Goal.{Goal}
 use Rattle.moves.specs.Moves.{IsMove}
-use Rattle.moves.specs.Laws.{twice}
 use Rattle.moves.specs.Forces.{IsReached, Forces}
 use Rattle.moves.proofs.Keeps.{mover-after}
 
@@ -52,6 +51,10 @@ swap_other White Black e = refl
 swap_other Black White e = refl
 swap_other Black Black e = cc
 
+pub same_side-self : (s : Side) → is_same_side s s ≡ true
+same_side-self White = refl
+same_side-self Black = refl
+
 -- a move passes the turn
 pub turn-own : (side : Side) (b : PlainBoard) (m : Ply) (q : PlainBoard) → IsMove b m q → IsOwnTurn side b → IsOtherTurn side q
 turn-own side b m q move own = subst (λ t. is_same_side side t ≡ false) (sym (mover-after b m q move)) (swap_own side b.mover own)
@@ -69,6 +72,15 @@ Forces-more goal side b (suc n) f = map_turn (is_same_side side b.mover) _ _ _ _
     f
 
 -- ---- the last ply of an even number gains the attacker nothing
+
+-- 2 n, by a recursion that computes
+abbrev pub twice : ℕ → ℕ
+twice zero = zero
+twice (suc n) = suc (suc (twice n))
+
+pub twice-double : (n : ℕ) → twice n ≡ 2 * n
+twice-double zero = refl
+twice-double (suc n) = let before = twice-double n in omega arith
 
 even-from : (n : ℕ) (goal : Goal) (side : Side) → ((q : PlainBoard) → IsOtherTurn side q → Forces goal side q (suc (twice n)) → Forces goal side q (twice n)) → (b : PlainBoard) → IsOwnTurn side b → Forces goal side b (suc (suc (twice n))) → Forces goal side b (suc (twice n))
 even-from n goal side odd b own f =

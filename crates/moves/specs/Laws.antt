@@ -1,5 +1,5 @@
--- Laws of forced mate.
-use Rattle.std.specs.Prelude.{◌≡◌, ℕ, zero, suc, true}
+-- Laws of what is forced.
+use Rattle.std.specs.Prelude.{◌≡◌, ℕ, suc, ◌+◌, ◌*◌, ◌↔◌, true}
 use Rattle.board.specs.declared.game.Side.{Side}
 use Rattle.board.specs.Games.{is_same_side}
 use Rattle.board.specs.Board.{PlainBoard}
@@ -8,13 +8,8 @@ use Rattle.moves.specs.Forces.{Forces}
 
 -- what is forced within n plies is forced within n + 1
 abbrev pub StaysForced : Type 0
-StaysForced = (goal : Goal) (attacker : Side) (b : PlainBoard) (n : ℕ) → Forces goal attacker b n → Forces goal attacker b (suc n)
+StaysForced = (goal : Goal) (attacker : Side) (b : PlainBoard) (n : ℕ) → Forces goal attacker b n → Forces goal attacker b (n + 1)
 
--- 2 n, by a recursion that computes
-abbrev pub twice : ℕ → ℕ
-twice zero = zero
-twice (suc n) = suc (suc (twice n))
-
--- with the attacker to move, the last ply of an even number gains it nothing
-abbrev pub EvenGainsNothing : Type 0
-EvenGainsNothing = (goal : Goal) (attacker : Side) (b : PlainBoard) (n : ℕ) → is_same_side attacker b.mover ≡ true → Forces goal attacker b (twice (suc n)) → Forces goal attacker b (suc (twice n))
+-- with the attacker to move, an even number of plies from 2 on forces what the odd number below it forces
+abbrev pub EvenEqualsOdd : Type 0
+EvenEqualsOdd = (goal : Goal) (attacker : Side) (b : PlainBoard) (k : ℕ) → is_same_side attacker b.mover ≡ true → Forces goal attacker b (2 * k + 2) ↔ Forces goal attacker b (2 * k + 1)

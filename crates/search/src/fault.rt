@@ -1,0 +1,9 @@
+//! Why a solve is refused.
+use thiserror::Error;
+
+/// Why a solve is refused: the first of these that holds.
+#[derive(Clone, Copy, PartialEq, Eq, Debug, Error)]
+pub enum SolveFault {
+    #[error("the limit in plies is outside those that are searched")]
+    Limit,
+}
