@@ -10,8 +10,10 @@ use Rattle.board.specs.Games.{width_of, squares_of, IsPlayed}
 use Rattle.board.specs.Denotation.{terms_of, ListsSteps}
 use Rattle.board.specs.Board.{PlainBoard}
 use Rattle.board.proofs.Leaps.{goes_somewhere}
-use Rattle.moves.specs.Squares.{Place, IsOnBoard, square_number}
+use Rattle.moves.specs.Squares.{Place, Ply, IsOnBoard, square_number}
 use Rattle.moves.specs.Reach.{ReachesBy, Reaches}
+use Rattle.moves.specs.Moves.{IsLawful}
+use Rattle.moves.specs.Order.{ListsLawful}
 use Rattle.moves.proofs.Rides.{same_place}
 
 -- ---- the steps of a unit
@@ -60,3 +62,9 @@ module _ (g : Game) (P : Place → Type 0) where
   -- its end
   pub none_at_all : ((s : Place) → IsOnBoard g s → square_number g s < squares_of g → P s → ⊥) → (s : Place) → IsOnBoard g s → P s → ⊥
   none_at_all none s a p = none s a (number_within g s a) p
+
+-- ---- a list of lawful moves
+
+-- each of its moves is lawful
+pub lawful_at : (b : PlainBoard) (moves : List Ply) → ListsLawful b moves → (i : ℕ) (d : Ply) → i < length moves → IsLawful b (get_or moves i d)
+lawful_at b moves lists i d h = (lists.exact _).0 (Contains-get_or moves i d h)

@@ -63,9 +63,6 @@ same_default : (xs : List Ply) (i : ℕ) (d m : Ply) → i < length xs → get_o
 same_default xs i d m h e = grind (arith, common_steps, elements)
 
 module _ (goal : Goal) (b : PlainBoard) (xs : List Ply) (lists : ListsLawful b xs) where
-  pub lawful_at : (i : ℕ) (d : Ply) → i < length xs → IsLawful b (get_or xs i d)
-  lawful_at i d h = (lists.exact _).0 (Contains-get_or xs i d h)
-
   wins_listed : (m : Ply) → Wins goal b 1 m → Contains xs m
   wins_listed m (q, move, f) = (lists.exact m).1 (q, move)
 

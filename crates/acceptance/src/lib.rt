@@ -1,0 +1,11 @@
+//! Tests that cross crates, with expected values from outside the program.
+#![tactic(auto)]
+
+#[cfg(test)]
+mod leaves;
+#[cfg(test)]
+mod perft;
+#[cfg(test)]
+mod rules;
+#[cfg(test)]
+mod solving;

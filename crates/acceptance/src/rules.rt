@@ -1,0 +1,94 @@
+//! Squares, checks and lawful moves: each call once, with lists worked out by hand.
+use board::{FenFault, Game, Position, Side, fen_text};
+use moves::{Move, Square, apply, forced_mate_laws, in_check, is_lawful, lawful, read_sound, sound};
+use std::alloc::{AllocError, Global};
+use std::process::Abort;
+use std::test::Fail;
+
+fn position(rt: &impl Abort, text: &str) -> Position {
+    read_sound(text.as_bytes()).expect(rt, "a position")
+}
+
+/// The lawful moves, with a space behind each.
+fn list(alloc: Global, position: &Position) -> Result<String, AllocError> {
+    let mut text = String::new(alloc);
+    for m in lawful(position).as_slice() {
+        let m = *m;
+        text.push_str(format!(in alloc; "{m} ")?.as_str())?;
+    }
+    Ok(text)
+}
+
+#[test]
+fn lists_lawful_moves(rt: HostRuntime) -> Result<(), Fail> {
+    for (text, moves) in [
+        // the two starting positions
+        (
+            "rnqknr/pppppp/6/6/PPPPPP/RNQKNR w",
+            "b1a3 b1c3 e1d3 e1f3 a2a3 b2b3 c2c3 d2d3 e2e3 f2f3 ",
+        ),
+        (
+            "rnbqk/ppppp/5/PPPPP/RNBQK w",
+            "b1a3 b1c3 a2a3 b2b3 c2c3 d2d3 e2e3 ",
+        ),
+        // promotions, with and without a bishop
+        (
+            "k4/2P2/1K3/5/5 w",
+            "b3a2 b3b2 b3c2 b3a3 b3c3 c4c5q c4c5r c4c5b c4c5n ",
+        ),
+        (
+            "k5/2P3/6/6/6/5K w",
+            "f1e1 f1e2 f1f2 c5c6q c5c6r c5c6n ",
+        ),
+        // stalemate, and mate
+        ("k5/2Q3/6/6/6/5K b", ""),
+        ("k4R/6/1K4/6/6/6 b", ""),
+    ] {
+        assert_eq!(rt; list(rt.alloc(), &position(&rt, text))?.as_str(), moves, "{text}");
+    }
+    Ok(())
+}
+
+const A6: Square = Square { file: 0, rank: 5 };
+
+const B6: Square = Square { file: 1, rank: 5 };
+
+#[test]
+fn numbers_squares(rt: HostRuntime) {
+    let e5 = Square { file: 4, rank: 4 };
+    assert!(rt; e5.is_on_board(Game::Gardner));
+    assert_eq!(rt; e5.number(Game::Gardner), 24);
+    assert_eq!(rt; Square::of_number(Game::Gardner, 24), e5);
+    assert!(rt; B6.is_on_board(Game::LosAlamos));
+    assert!(rt; !B6.is_on_board(Game::Gardner));
+    assert_eq!(rt; B6.number(Game::LosAlamos), 31);
+    assert_eq!(rt; Square::of_number(Game::LosAlamos, 31), B6);
+}
+
+#[test]
+fn finds_checks(rt: HostRuntime) {
+    let mated = position(&rt, "k4R/6/1K4/6/6/6 b");
+    assert!(rt; in_check(&mated, Side::Black));
+    assert!(rt; !in_check(&mated, Side::White));
+    assert!(rt; sound(&mated));
+    assert!(rt; matches!(read_sound(b"k4R/6/1K4/6/6/6 w"), Err(FenFault::OtherInCheck)));
+    assert!(rt; matches!(read_sound(b"k4R/6/1K4/6/6/6"), Err(FenFault::Fields)));
+}
+
+#[test]
+fn makes_moves(rt: HostRuntime) {
+    let before = position(&rt, "k4/2P2/1K3/5/5 w");
+    let moves = lawful(&before);
+    forced_mate_laws();
+    assert_eq!(rt; moves.len(), 9);
+    let promotes = moves.as_slice()[5];
+    assert!(rt; is_lawful(&before, promotes));
+    let after = apply(&before, promotes);
+    assert_eq!(rt; fen_text(&after).as_str(), "k1Q2/5/1K3/5/5 b");
+    let stays = Move {
+        from: A6,
+        to: A6,
+        promotion: None,
+    };
+    assert!(rt; !is_lawful(&before, stays));
+}

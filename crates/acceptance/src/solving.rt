@@ -1,0 +1,41 @@
+//! Answers of a solve within one ply.
+use moves::{Goal, read_sound};
+use search::{Answer, SolveFault, solve};
+use std::alloc::{AllocError, Global};
+use std::test::Fail;
+
+fn answer_text(
+    alloc: Global,
+    answer: Result<Answer, SolveFault>,
+) -> Result<String, AllocError> {
+    let Ok(answer) = answer else {
+        return format!(in alloc; "refused");
+    };
+    match answer {
+        Answer::Mate { plies, first } => format!(in alloc; "{plies} {first}"),
+        Answer::NoneWithin(limit) => format!(in alloc; "none within {limit}"),
+    }
+}
+
+#[test]
+fn solves_within_one_ply(rt: HostRuntime) -> Result<(), Fail> {
+    for (text, goal, limit, answer) in [
+        ("k5/6/1K4/6/6/5R w", Goal::Mate, 1, "1 f1f6"),
+        ("5r/6/6/1k4/6/K5 b", Goal::Mate, 1, "1 f6f1"),
+        // a queen and a rook both mate: the queen's letter comes first
+        ("k4/2P2/1K3/5/5 w", Goal::Mate, 1, "1 c4c5q"),
+        // a stalemating move is a win for the second goal alone
+        ("k5/6/2K3/6/6/1R4 w", Goal::Mate, 1, "none within 1"),
+        ("k5/6/2K3/6/6/1R4 w", Goal::MateOrStale, 1, "1 b1b5"),
+        // who is mated or stalemated at the root has no win
+        ("k4R/6/1K4/6/6/6 b", Goal::Mate, 1, "none within 1"),
+        ("k5/2Q3/6/6/6/5K b", Goal::MateOrStale, 1, "none within 1"),
+        ("k5/6/1K4/6/6/5R w", Goal::Mate, 0, "refused"),
+        ("k5/6/1K4/6/6/5R w", Goal::Mate, 64, "refused"),
+    ] {
+        let position = read_sound(text.as_bytes()).expect(&rt, "a position");
+        let got = answer_text(rt.alloc(), solve(&position, goal, limit))?;
+        assert_eq!(rt; got.as_str(), answer, "{text}");
+    }
+    Ok(())
+}
