@@ -17,10 +17,14 @@ abbrev pub ahead_of : Side → ℤ → ℤ
 ahead_of White dy = dy
 ahead_of Black dy = neg_ℤ dy
 
+-- t is dx files to the right of s and dy ranks up
+pub record IsShift (dx dy : ℤ) (s t : Place) : Type 0 where
+  pub file : pos t.file ≡ pos s.file +ℤ dx
+  pub rank : pos t.rank ≡ pos s.rank +ℤ dy
+
 -- t is one step from s
-pub record IsStep (side : Side) (step : Step) (s t : Place) : Type 0 where
-  pub file : pos t.file ≡ pos s.file +ℤ step.dx
-  pub rank : pos t.rank ≡ pos s.rank +ℤ ahead_of side step.dy
+abbrev pub IsStep : Side → Step → Place → Place → Type 0
+IsStep side step s t = IsShift step.dx (ahead_of side step.dy) s t
 
 -- the step leads from s to t: at once, or for a rider repeated, over empty squares
 pub data Leads (b : PlainBoard) (side : Side) (step : Step) : Place → Place → Type 0 where

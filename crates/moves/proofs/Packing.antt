@@ -1,0 +1,245 @@
+-- What words stand for, and what a move does to them.
+use Rattle.std.proofs.Common.{◌≡◌, ◌≢◌, ℕ, ◌+◌, ◌-◌, ◌*◌, ◌/◌, ◌%◌, ◌^◌, ◌<◌, ◌≤◌, zero, suc, refl, sym, ap, subst, ◌∙◌, arith, ◌⊎◌, inl, inr, List, [], ◌∷◌, length, get_or, set, IfSome, Option, Some, None, map}
+use Rattle.std.specs.List.{range_with_len}
+use Rattle.std.specs.Int.RustNames.{bit_xor}
+use Rattle.std.proofs.lemmas.Nat.{shr_le}
+use Rattle.std.proofs.lemmas.Bool.{cases_eq, cases_lt}
+use Rattle.std.proofs.lemmas.List.{get_or-set_same, get_or-set_other, length-set}
+use Rattle.std.proofs.lemmas.List.FromFn.{get_or-map-range_with_len, length-map-range_with_len, fill_by_all}
+use Rattle.board.specs.declared.game.Game.{Game}
+use Rattle.board.specs.declared.game.Game.TheVariants.{LosAlamos, Gardner}
+use Rattle.board.specs.declared.game.Side.{Side}
+use Rattle.board.specs.declared.game.Unit.{Unit as Man}
+use Rattle.board.specs.Games.{width_of, squares_of, other_side}
+use Rattle.board.specs.Board.{PlainBoard, unit_on, board_of, IsPosition, MayStandOn}
+use Rattle.moves.specs.Words.{digit, man_of, word_of, place_of, code_on, flags_of, game_of, game_of_flags, mover_of_flags, units_in, unpacked, IsUnused, IsPacked, IsFlags}
+
+pub within_36 : (g : Game) (n : ℕ) → n < squares_of g → n < 36
+within_36 LosAlamos n h = omega (arith, h)
+within_36 Gardner n h = omega (arith, h)
+
+pub units_in-at : (g : Game) (words : List ℕ) (n : ℕ) → n < 36 → get_or (units_in g words) n None ≡ man_of (code_on g words n)
+units_in-at g words n h = get_or-map-range_with_len (λ k. man_of (code_on g words k)) 0 36 n n None h (omega arith)
+
+-- two squares have two places
+pub other_place : (g : Game) (n s : ℕ) → n ≢ s → word_of g n ≡ word_of g s → place_of g n ≡ place_of g s → ⊥
+other_place LosAlamos n s other e f = other (omega (arith, e, f))
+other_place Gardner n s other e f = other (omega (arith, e, f))
+
+-- no square stands where the flags do
+pub not_flags : (g : Game) (s : ℕ) → 12 ≡ place_of g s → ⊥
+not_flags LosAlamos s e = omega (arith, e)
+not_flags Gardner s e = omega (arith, e)
+
+-- the flags with the other side to move
+record IsTurned (f h : ℕ) : Type 0 where
+  game : game_of_flags h ≡ game_of_flags f
+  mover : mover_of_flags h ≡ other_side (mover_of_flags f)
+  flags : IsFlags h
+
+flag_cases : (f : ℕ) → IsFlags f → (f ≡ 0) ⊎ ((f ≡ 1) ⊎ ((f ≡ 4) ⊎ (f ≡ 5)))
+flag_cases f h = elim (cases_eq f 0) [
+  | inl e ↦ inl e
+  | inr a ↦ elim (cases_eq f 1) [
+    | inl e ↦ inr (inl e)
+    | inr b ↦ elim (cases_eq f 4) [
+      | inl e ↦ inr (inr (inl e))
+      | inr c ↦ inr (inr (inr (omega (arith, h.eight, h.colour, a, b, c))))
+    ]
+  ]
+]
+
+turned_flags : (f : ℕ) → IsFlags f → IsTurned f (bit_xor f 1)
+turned_flags f h = elim (flag_cases f h) [
+  | inl e ↦ subst (λ n. IsTurned n (bit_xor n 1)) (sym e) (record { game = refl; mover = refl; flags = record { eight = omega arith; colour = omega arith } })
+  | inr (inl e) ↦ subst (λ n. IsTurned n (bit_xor n 1)) (sym e) (record { game = refl; mover = refl; flags = record { eight = omega arith; colour = omega arith } })
+  | inr (inr (inl e)) ↦ subst (λ n. IsTurned n (bit_xor n 1)) (sym e) (record { game = refl; mover = refl; flags = record { eight = omega arith; colour = omega arith } })
+  | inr (inr (inr e)) ↦ subst (λ n. IsTurned n (bit_xor n 1)) (sym e) (record { game = refl; mover = refl; flags = record { eight = omega arith; colour = omega arith } })
+]
+
+-- the board with a unit on square `to`, none on `from` and the other side to move
+abbrev pub made : PlainBoard → ℕ → ℕ → Man → PlainBoard
+made b from to u = board_of b.game (other_side b.mover) (set (set b.units from None) to (Some u))
+
+-- `after` has the code on square s and is else as `before`
+pub record IsPut (g : Game) (before after : List ℕ) (s code : ℕ) : Type 0 where
+  pub there : code_on g after s ≡ code
+  pub elsewhere : (k i : ℕ) → (k ≡ word_of g s → i ≡ place_of g s → ⊥) → digit (get_or after k 0) i ≡ digit (get_or before k 0) i
+
+module _ (g : Game) (w v u : List ℕ) (t from to code : ℕ) (p : IsPut g w v from 0) (q : IsPut g v u to code) (apart : from ≢ to) (long : length u ≡ 3)
+    (flip : digit t 12 ≡ bit_xor (digit (get_or u 0 0) 12) 1) (rest : (i : ℕ) → i ≢ 12 → digit t i ≡ digit (get_or u 0 0) i) where
+  end : List ℕ
+  end = set u 0 t
+
+  end_first : get_or end 0 0 ≡ t
+  unfolding end
+  end_first = get_or-set_same u 0 t 0 (omega (arith, long))
+
+  -- what the turn leaves
+  end_same : (k i : ℕ) → (k ≡ 0 → i ≡ 12 → ⊥) → digit (get_or end k 0) i ≡ digit (get_or u k 0) i
+  unfolding end
+  end_same k i none = elim (cases_eq k 0) [
+    | inl e ↦ subst (λ n. digit (get_or end n 0) i ≡ digit (get_or u n 0) i) (sym e) (ap (λ n. digit n i) end_first ∙ rest i (none e))
+    | inr other ↦ ap (λ n. digit n i) (get_or-set_other u 0 k t 0 other)
+  ]
+
+  flags_end : flags_of end ≡ bit_xor (flags_of w) 1
+  flags_end =
+      ap (λ n. digit n 12) end_first ∙ flip
+      ∙ ap (λ n. bit_xor n 1) (q.elsewhere 0 12 (λ _ e. not_flags g to e) ∙ p.elsewhere 0 12 (λ _ e. not_flags g from e))
+
+  code_end : (n : ℕ) → code_on g end n ≡ code_on g u n
+  code_end n = end_same (word_of g n) (place_of g n) (λ _ e. not_flags g n (sym e))
+
+  at_to : code_on g end to ≡ code
+  at_to = code_end to ∙ q.there
+
+  at_from : code_on g end from ≡ 0
+  at_from = code_end from ∙ q.elsewhere (word_of g from) (place_of g from) (other_place g from to apart) ∙ p.there
+
+  at_other : (n : ℕ) → n ≢ from → n ≢ to → code_on g end n ≡ code_on g w n
+  at_other n a b =
+      code_end n ∙ q.elsewhere (word_of g n) (place_of g n) (other_place g n to b)
+      ∙ p.elsewhere (word_of g n) (place_of g n) (other_place g n from a)
+
+  module _ (same : game_of w ≡ g) (packed : IsPacked w) (f : from < squares_of g) (o : to < squares_of g) (pl : Man) (m : man_of code ≡ Some pl) where
+    flags_turned : IsTurned (flags_of w) (flags_of end)
+    flags_turned = subst (IsTurned (flags_of w)) (sym flags_end) (turned_flags (flags_of w) (record { eight = packed.flags; colour = packed.colour }))
+
+    game_end : game_of end ≡ g
+    game_end = flags_turned.game ∙ same
+
+    length_two : length (set (set (units_in g w) from None) to (Some pl)) ≡ 36
+    length_two = length-set (set (units_in g w) from None) to (Some pl) ∙ length-set (units_in g w) from None ∙ length-map-range_with_len (λ n. man_of (code_on g w n)) 0 36
+
+    unit_end : (k : ℕ) → k < 36 → get_or (set (set (units_in g w) from None) to (Some pl)) k None ≡ man_of (code_on g end k)
+    unit_end k h = elim (cases_eq k to) [
+      | inl e ↦ subst (λ n. get_or (set (set (units_in g w) from None) to (Some pl)) n None ≡ man_of (code_on g end n)) (sym e)
+          (get_or-set_same (set (units_in g w) from None) to (Some pl) None (omega (arith, length-set (units_in g w) from None, length-map-range_with_len (λ n. man_of (code_on g w n)) 0 36, within_36 g to o))
+          ∙ sym m ∙ ap man_of (sym at_to))
+      | inr a ↦ get_or-set_other (set (units_in g w) from None) to k (Some pl) None a ∙ elim (cases_eq k from) [
+        | inl e ↦ subst (λ n. get_or (set (units_in g w) from None) n None ≡ man_of (code_on g end n)) (sym e)
+            (get_or-set_same (units_in g w) from None None (omega (arith, length-map-range_with_len (λ n. man_of (code_on g w n)) 0 36, within_36 g from f))
+            ∙ ap man_of (sym at_from))
+        | inr b ↦ get_or-set_other (units_in g w) from k None None b ∙ units_in-at g w k h ∙ ap man_of (sym (at_other k b a))
+      ]
+    ]
+
+    units_end : units_in g end ≡ set (set (units_in g w) from None) to (Some pl)
+    units_end = sym (fill_by_all (λ n. man_of (code_on g end n)) _ 36 None length_two unit_end)
+
+    -- the new words stand for the board after the move
+    pub unpacked_end : unpacked (set u 0 t) ≡ made (unpacked w) from to pl
+    unfolding end
+    unpacked_end =
+        let units : units_in (game_of end) end ≡ set (set (units_in (game_of w) w) from None) to (Some pl) =
+        ap (λ x. units_in x end) game_end ∙ units_end ∙ ap (λ x. set (set (units_in x w) from None) to (Some pl)) (sym same) in
+        λ i. record { game = flags_turned.game i; mover = flags_turned.mover i; units = units i }
+
+    code_small : code < 13 → (n : ℕ) → n < squares_of g → code_on g end n < 13
+    code_small small n h = elim (cases_eq n to) [
+      | inl e ↦ subst (λ x. code_on g end x < 13) (sym e) (subst (λ x. x < 13) (sym at_to) small)
+      | inr a ↦ elim (cases_eq n from) [
+        | inl e ↦ subst (λ x. code_on g end x < 13) (sym e) (subst (λ x. x < 13) (sym at_from) (omega arith))
+        | inr b ↦ subst (λ x. x < 13) (sym (at_other n b a)) (subst (λ x. code_on x w n < 13) same (packed.codes n (subst (λ x. n < squares_of x) (sym same) h)))
+      ]
+    ]
+
+    unused_end : (k i : ℕ) → IsUnused g k i → digit (get_or end k 0) i ≡ 0
+    unused_end k i free =
+        end_same k i free.no_flags
+        ∙ q.elsewhere k i (λ a b. free.no_square to o (sym a) (sym b))
+        ∙ p.elsewhere k i (λ a b. free.no_square from f (sym a) (sym b))
+        ∙ packed.unused k i (subst (λ x. IsUnused x k i) (sym same) free)
+
+    -- and keep what a board's words keep
+    pub IsPacked-end : code < 13 → IsPosition (made (unpacked w) from to pl) → IsPacked (set u 0 t)
+    unfolding end
+    IsPacked-end small is = record {
+      position = subst IsPosition (sym unpacked_end) is;
+      codes = λ n h. subst (λ x. code_on x end n < 13) (sym game_end) (code_small small n (subst (λ x. n < squares_of x) game_end h));
+      flags = flags_turned.flags.eight;
+      colour = flags_turned.flags.colour;
+      unused = λ k i free. unused_end k i (subst (λ x. IsUnused x k i) game_end free);
+    }
+
+-- ---- the words of a position, filled square by square
+
+digit_zero : (i : ℕ) → digit 0 i ≡ 0
+digit_zero i = omega (arith, shr_le 0 (4 * i))
+
+-- the squares below n are filled, and all else is 0 but for the flags
+pub record IsFilled (g : Game) (f : ℕ) (units : List (Option Man)) (words : List ℕ) (n : ℕ) : Type 0 where
+  pub flags : flags_of words ≡ f
+  pub done : (k : ℕ) → k < n → man_of (code_on g words k) ≡ get_or units k None
+  pub small : (k : ℕ) → k < n → code_on g words k < 13
+  pub free : (k i : ℕ) → ((m : ℕ) → m < n → word_of g m ≡ k → place_of g m ≡ i → ⊥) → (k ≡ 0 → i ≡ 12 → ⊥) → digit (get_or words k 0) i ≡ 0
+
+free_start : (w : ℕ) → ((i : ℕ) → i ≢ 12 → digit w i ≡ digit 0 i) → (k i : ℕ) → (k ≡ 0 → i ≡ 12 → ⊥) → digit (get_or (w ∷ 0 ∷ 0 ∷ []) k 0) i ≡ 0
+free_start w rest zero i none = rest i (none refl) ∙ digit_zero i
+free_start w rest (suc zero) i none = digit_zero i
+free_start w rest (suc (suc zero)) i none = digit_zero i
+free_start w rest (suc (suc (suc k))) i none = digit_zero i
+
+pub IsFilled-start : (g : Game) (f : ℕ) (units : List (Option Man)) (w : ℕ) → digit w 12 ≡ f → ((i : ℕ) → i ≢ 12 → digit w i ≡ digit 0 i) → IsFilled g f units (w ∷ 0 ∷ 0 ∷ []) 0
+IsFilled-start g f units w there rest = record {
+  flags = there;
+  done = λ k h. absurd (omega (arith, h));
+  small = λ k h. absurd (omega (arith, h));
+  free = λ k i _ none. free_start w rest k i none;
+}
+
+module _ (g : Game) (f : ℕ) (units : List (Option Man)) (v u : List ℕ) (n code : ℕ) (p : IsPut g v u n code) (is : man_of code ≡ get_or units n None) (low : code < 13) (h : IsFilled g f units v n) where
+  same_below : (k : ℕ) → k ≢ n → code_on g u k ≡ code_on g v k
+  same_below k other = p.elsewhere (word_of g k) (place_of g k) (other_place g k n other)
+
+  pub IsFilled-more : IsFilled g f units u (n + 1)
+  IsFilled-more = record {
+    flags = p.elsewhere 0 12 (λ _ e. not_flags g n e) ∙ h.flags;
+    done = λ k less. elim (cases_eq k n) [
+      | inl e ↦ subst (λ x. man_of (code_on g u x) ≡ get_or units x None) (sym e) (ap man_of p.there ∙ is)
+      | inr other ↦ ap man_of (same_below k other) ∙ h.done k (omega (arith, less, other))
+    ];
+    small = λ k less. elim (cases_eq k n) [
+      | inl e ↦ subst (λ x. code_on g u x < 13) (sym e) (subst (λ x. x < 13) (sym p.there) low)
+      | inr other ↦ subst (λ x. x < 13) (sym (same_below k other)) (h.small k (omega (arith, less, other)))
+    ];
+    free = λ k i none flag. p.elsewhere k i (λ a b. none n (omega arith) (sym a) (sym b)) ∙ h.free k i (λ m less. none m (omega (arith, less))) flag;
+  }
+
+off_unit : (b : PlainBoard) (o : Option Man) (k : ℕ) → IfSome o (MayStandOn b.game k) → squares_of b.game ≤ k → o ≡ None
+off_unit b None k _ h = refl
+off_unit b (Some u) k m h = absurd (omega (arith, m.on_board, h))
+
+off_board : (b : PlainBoard) → IsPosition b → (k : ℕ) → squares_of b.game ≤ k → get_or b.units k None ≡ None
+off_board b is k h = off_unit b (unit_on b k) k (is.squares k) h
+
+module _ (b : PlainBoard) (is : IsPosition b) (f : ℕ) (words : List ℕ) (flags : IsFlags f) (game : game_of_flags f ≡ b.game) (mover : mover_of_flags f ≡ b.mover) (h : IsFilled b.game f b.units words (squares_of b.game)) where
+  game_is : game_of words ≡ b.game
+  game_is = ap game_of_flags h.flags ∙ game
+
+  unused_0 : (k i : ℕ) → IsUnused b.game k i → digit (get_or words k 0) i ≡ 0
+  unused_0 k i free = h.free k i free.no_square free.no_flags
+
+  unit_is : (k : ℕ) → k < 36 → get_or b.units k None ≡ man_of (code_on b.game words k)
+  unit_is k _ = elim (cases_lt k (squares_of b.game)) [
+    | inl less ↦ sym (h.done k less)
+    | inr more ↦ off_board b is k more ∙ sym (ap man_of (unused_0 (word_of b.game k) (place_of b.game k) (record {
+      no_square = λ n low e d. other_place b.game n k (λ same. omega (arith, same, low, more)) e d;
+      no_flags = λ _ e. not_flags b.game k (sym e);
+    })))
+  ]
+
+  pub unpacked_of : unpacked words ≡ b
+  unpacked_of =
+      let units : units_in (game_of words) words ≡ b.units = ap (λ x. units_in x words) game_is ∙ sym (fill_by_all (λ n. man_of (code_on b.game words n)) b.units 36 None is.places unit_is) in
+      λ i. record { game = game_is i; mover = (ap mover_of_flags h.flags ∙ mover) i; units = units i }
+
+  pub IsPacked-of : IsPacked words
+  IsPacked-of = record {
+    position = subst IsPosition (sym unpacked_of) is;
+    codes = λ n less. subst (λ x. code_on x words n < 13) (sym game_is) (h.small n (subst (λ x. n < squares_of x) game_is less));
+    flags = subst (λ x. x < 8) (sym h.flags) flags.eight;
+    colour = subst (λ x. x % 4 < 2) (sym h.flags) flags.colour;
+    unused = λ k i free. unused_0 k i (subst (λ x. IsUnused x k i) game_is free);
+  }

@@ -1,0 +1,26 @@
+use Rattle.std.proofs.Common.{◌≡◌, ℕ, ap, subst, ◌∙◌, arith}
+use Rattle.board.specs.Games.{squares_of}
+use Rattle.moves.proofs.Packing.{IsPut, IsFilled, IsFilled-more, IsPacked-of, unpacked_of}
+use Rattle.moves.proofs.packed.Board.of.Goals as goal
+
+pub loop-square-preserved : goal.loop-square-preserved
+loop-square-preserved c =
+    let put : IsPut c.args.position.now.game c.loop-square.words c.put.new.words c.loop-square.square c.code_at.result =
+    subst (λ g. IsPut g c.loop-square.words c.put.new.words c.loop-square.square c.code_at.result) c.game-game.ensures.value (record { there = c.put.ensures.there; elsewhere = c.put.ensures.elsewhere }) in
+    IsFilled-more _ _ _ _ _ _ c.code_at.result put c.code_at.ensures.value c.code_at.ensures.code c.loop-square.invariant
+
+pub invariant_of-result : goal.invariant_of-result
+invariant_of-result c =
+    let b = c.args.position.now in
+    let end : c.squares-square-end.result ≡ squares_of b.game = c.squares-square-end.ensures ∙ ap squares_of c.game-game.ensures.value in
+    let at : c.loop-square.square ≡ squares_of b.game = omega arith in
+    IsPacked-of b c.game-game.ensures.position c.flags_of-flags.result _ c.flags_of-flags.ensures.flags (c.flags_of-flags.ensures.game ∙ c.game-game.ensures.value) (c.flags_of-flags.ensures.mover ∙ c.mover.ensures)
+    (subst (IsFilled b.game c.flags_of-flags.result b.units c.loop-square.words) at c.loop-square.invariant)
+
+pub returns : goal.returns
+returns c =
+    let b = c.args.position.now in
+    let end : c.squares-square-end.result ≡ squares_of b.game = c.squares-square-end.ensures ∙ ap squares_of c.game-game.ensures.value in
+    let at : c.loop-square.square ≡ squares_of b.game = omega arith in
+    unpacked_of b c.game-game.ensures.position c.flags_of-flags.result _ c.flags_of-flags.ensures.flags (c.flags_of-flags.ensures.game ∙ c.game-game.ensures.value) (c.flags_of-flags.ensures.mover ∙ c.mover.ensures)
+    (subst (IsFilled b.game c.flags_of-flags.result b.units c.loop-square.words) at c.loop-square.invariant)

@@ -1,0 +1,119 @@
+//! A position in three words.
+ghost use Rattle.std.specs.Prelude.{◌≡◌, ◌<◌, Some};
+ghost use Rattle.board.specs.Board.{unit_on, IsPosition};
+ghost use Rattle.board.specs.Games.{squares_of};
+ghost use Rattle.moves.specs.Words.{man_of, game_of_flags, mover_of_flags, IsFlags};
+ghost use Rattle.moves.specs.Moves.{IsPseudoLegal, after};
+
+use crate::Move;
+use crate::words::{code_of, code_on, put, turned, unit_of, with_digit};
+use board::{Game, Position, Side, Unit};
+use std::marker::Model;
+
+/// A position: four bits a square, two ranks a word, and the side to move and the game in word 0.
+#[derive(Drop)]
+pub struct Board {
+    words: [u64; 3],
+}
+
+impl Model for Board {
+    ghost use Rattle.board.specs.Board.{PlainBoard};
+    ghost use Rattle.moves.specs.Words.{unpacked, IsPacked};
+
+    ghost Value = { PlainBoard };
+
+    ghost view = { λ b. unpacked b.words };
+
+    ghost invariant = { λ b. IsPacked b.words };
+}
+
+/// The code of what stands on a square.
+fn code_at(position: &Position, square: u8) -> u8
+    requires { square < squares_of position.now.game }
+    ensures value { man_of result ≡ unit_on position.now square }
+    ensures code { result < 13 }
+{
+    match position.unit(square) {
+        Some(unit) => code_of(unit),
+        None => 0,
+    }
+}
+
+/// The flags of a game and a side to move.
+fn flags_of(game: Game, mover: Side) -> u8
+    ensures flags { IsFlags result }
+    ensures game { game_of_flags result ≡ game }
+    ensures mover { mover_of_flags result ≡ mover }
+{
+    let side = match mover {
+        Side::White => 0,
+        Side::Black => 1,
+    };
+    match game {
+        Game::LosAlamos => side,
+        Game::Gardner => side + 4,
+    }
+}
+
+impl Board {
+    /// The board of a position.
+    pub fn of(position: &Position) -> Board
+        ensures { result ≡ position.now }
+    {
+        let game = position.game();
+        let flags = flags_of(game, position.mover());
+        let mut words = [with_digit(0, 12, flags), 0, 0];
+        for square in 0..game.squares() {
+            put(&mut words, game, square, code_at(position, square));
+        }
+        Board { words }
+    }
+
+    /// The game that is played.
+    pub fn game(&self) -> Game
+        ensures value { result ≡ self.now.game }
+        ensures position { IsPosition self.now }
+    {
+        if (self.words[0] >> 48) % 16 < 4 {
+            Game::LosAlamos
+        } else {
+            Game::Gardner
+        }
+    }
+
+    /// The side to move.
+    pub fn mover(&self) -> Side
+        ensures { result ≡ self.now.mover }
+    {
+        if (self.words[0] >> 48) % 16 % 2 == 0 {
+            Side::White
+        } else {
+            Side::Black
+        }
+    }
+
+    /// The unit on a square, by the square's number.
+    pub fn unit(&self, square: u8) -> Option<Unit>
+        requires { square < squares_of self.now.game }
+        ensures { result ≡ unit_on self.now square }
+    {
+        unit_of(code_on(&self.words, self.game(), square))
+    }
+
+    /// The board after the unit's move.
+    pub(crate) fn moved(&self, m: Move, unit: Unit) -> Board
+        requires { IsPseudoLegal self.now m unit }
+        ensures { result ≡ after self.now m unit }
+    {
+        let game = self.game();
+        let mut words = self.words;
+        put(&mut words, game, m.from.number(game), 0);
+        let placed = Unit {
+            side: unit.side,
+            kind: m.promotion.unwrap_or(unit.kind),
+        };
+        put(&mut words, game, m.to.number(game), code_of(placed));
+        words[0] = turned(words[0]);
+        Board { words }
+    }
+}
