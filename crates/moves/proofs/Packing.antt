@@ -1,5 +1,5 @@
 -- What words stand for, and what a move does to them.
-use Rattle.std.proofs.Common.{◌≡◌, ◌≢◌, ℕ, ◌+◌, ◌-◌, ◌*◌, ◌/◌, ◌%◌, ◌^◌, ◌<◌, ◌≤◌, zero, suc, refl, sym, ap, subst, ◌∙◌, arith, ◌⊎◌, inl, inr, List, [], ◌∷◌, length, get_or, set, IfSome, Option, Some, None, map}
+use Rattle.std.proofs.Common.{◌≡◌, ◌≢◌, ℕ, ◌+◌, ◌-◌, ◌*◌, ◌/◌, ◌%◌, ◌^◌, ◌<◌, ◌≤◌, zero, suc, refl, sym, ap, subst, ◌∙◌, arith, ◌⊎◌, inl, inr, List, [], ◌∷◌, length, get_or, set, IfSome, Option, Some, None, map, replicate}
 use Rattle.std.specs.List.{range_with_len}
 use Rattle.std.specs.Int.RustNames.{bit_xor}
 use Rattle.std.proofs.lemmas.Nat.{shr_le}
@@ -243,3 +243,46 @@ module _ (b : PlainBoard) (is : IsPosition b) (f : ℕ) (words : List ℕ) (flag
     colour = subst (λ x. x % 4 < 2) (sym h.flags) flags.colour;
     unused = λ k i free. unused_0 k i (subst (λ x. IsUnused x k i) game_is free);
   }
+
+-- ---- the units of a board, copied square by square
+
+-- the places below n hold what stands there, and the others nothing
+pub record IsCopied (b : PlainBoard) (units : List (Option Man)) (n : ℕ) : Type 0 where
+  pub long : length units ≡ 36
+  pub below : (k : ℕ) → k < n → get_or units k None ≡ unit_on b k
+  pub above : (k : ℕ) → n ≤ k → get_or units k None ≡ None
+
+abbrev nothing : Option Man
+nothing = None
+
+replicate_none : (n k : ℕ) → get_or (replicate n nothing) k nothing ≡ nothing
+replicate_none zero k = refl
+replicate_none (suc n) zero = refl
+replicate_none (suc n) (suc k) = replicate_none n k
+
+pub IsCopied-start : (b : PlainBoard) → IsCopied b (replicate 36 nothing) 0
+IsCopied-start b = record { long = refl; below = λ k h. absurd (omega (arith, h)); above = λ k h. replicate_none 36 k }
+
+pub IsCopied-more : (b : PlainBoard) (units : List (Option Man)) (n : ℕ) (place : Option Man) → n < 36 → place ≡ unit_on b n → IsCopied b units n → IsCopied b (set units n place) (n + 1)
+IsCopied-more b units n place h e c = record {
+  long = length-set units n place ∙ c.long;
+  below = λ k less. elim (cases_eq k n) [
+    | inl same ↦ subst (λ x. get_or (set units n place) x None ≡ unit_on b x) (sym same) (get_or-set_same units n place None (omega (arith, c.long)) ∙ e)
+    | inr other ↦ get_or-set_other units n k place None other ∙ c.below k (omega (arith, less, other))
+  ];
+  above = λ k more. let other : k ≢ n = omega (arith, more) in get_or-set_other units n k place None other ∙ c.above k (omega (arith, more));
+}
+
+-- a whole copy is the board's own list
+pub IsCopied-end : (b : PlainBoard) → IsPosition b → (units : List (Option Man)) → IsCopied b units (squares_of b.game) → units ≡ b.units
+IsCopied-end b is units c = fill_by_all (unit_on b) units 36 None c.long same ∙ sym (fill_by_all (unit_on b) b.units 36 None is.places (λ k h. refl))
+  where
+    same : (k : ℕ) → k < 36 → get_or units k None ≡ unit_on b k
+    same k h = elim (cases_lt k (squares_of b.game)) [
+      | inl less ↦ c.below k less
+      | inr more ↦ c.above k more ∙ sym (off_board b is k more)
+    ]
+
+-- its parts make the board again
+pub IsCopied-whole : (b : PlainBoard) → IsPosition b → (g : Game) (mover : Side) (units : List (Option Man)) (n : ℕ) → g ≡ b.game → mover ≡ b.mover → n ≡ squares_of b.game → IsCopied b units n → board_of g mover units ≡ b
+IsCopied-whole b is g mover units n e f h c = λ i. board_of (e i) (f i) (IsCopied-end b is units (subst (IsCopied b units) h c) i)

@@ -1,12 +1,17 @@
 //! A position in three words.
-ghost use Rattle.std.specs.Prelude.{◌≡◌, ◌<◌, Some};
+ghost use Rattle.std.specs.Prelude.{◌≡◌, ◌<◌, ◌↔◌, IsTrue, Some};
 ghost use Rattle.board.specs.Board.{unit_on, IsPosition};
 ghost use Rattle.board.specs.Games.{squares_of};
 ghost use Rattle.moves.specs.Words.{man_of, game_of_flags, mover_of_flags, IsFlags};
-ghost use Rattle.moves.specs.Moves.{IsPseudoLegal, after};
+ghost use Rattle.moves.specs.Reach.{IsInCheck};
+ghost use Rattle.moves.specs.Moves.{IsPseudoLegal, IsMove, IsLawful, after};
+ghost use Rattle.moves.specs.Order.{ListsLawful};
 
-use crate::Move;
+use crate::list::lawful;
+use crate::plies::Move;
+use crate::reach::in_check;
 use crate::words::{code_of, code_on, put, turned, unit_of, with_digit};
+use arrayvec::ArrayVec;
 use board::{Game, Position, Side, Unit};
 use std::marker::Model;
 
@@ -69,6 +74,18 @@ impl Board {
         Board { words }
     }
 
+    /// The position that the words stand for.
+    pub fn position(&self) -> Position
+        ensures { result ≡ self.now }
+    {
+        let game = self.game();
+        let mut units = [None; 36];
+        for square in 0..game.squares() {
+            units[square as usize] = self.unit(square);
+        }
+        Position::of(game, self.mover(), &units).unwrap()
+    }
+
     /// The game that is played.
     pub fn game(&self) -> Game
         ensures value { result ≡ self.now.game }
@@ -116,4 +133,29 @@ impl Board {
         words[0] = turned(words[0]);
         Board { words }
     }
+}
+
+/// Whether the king of the side to move is attacked.
+pub fn mover_in_check(board: &Board) -> bool
+    ensures { IsTrue result ↔ IsInCheck board.now board.now.mover }
+{
+    in_check(&board.position(), board.mover())
+}
+
+/// The lawful moves, in order.
+pub fn lawful_on(board: &Board) -> ArrayVec<Move, 512>
+    ensures { ListsLawful board.now result.items }
+{
+    lawful(&board.position())
+}
+
+/// The board after a lawful move.
+pub fn after(board: &Board, m: Move) -> Board
+    requires { IsLawful board.now m }
+    ensures { IsMove board.now m result }
+{
+    let Some(unit) = board.unit(m.from.number(board.game())) else {
+        unreachable!()
+    };
+    board.moved(m, unit)
 }
