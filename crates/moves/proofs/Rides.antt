@@ -51,7 +51,7 @@ room_falls (pos zero) (pos zero) f r f' r' a b c d e g h = absurd (omega arith)
 room_falls (pos zero) (pos (suc k)) f r f' r' a b c d e g h = omega (arith, ints, g)
 room_falls (pos zero) (negsuc k) f r f' r' a b c d e g h = omega (arith, ints, g)
 
-size-ahead : (side : Side) (dy : ℤ) → unsigned_abs (ahead_of side dy) ≡ unsigned_abs dy
+pub size-ahead : (side : Side) (dy : ℤ) → unsigned_abs (ahead_of side dy) ≡ unsigned_abs dy
 size-ahead White dy = refl
 size-ahead Black (pos zero) = refl
 size-ahead Black (pos (suc n)) = refl

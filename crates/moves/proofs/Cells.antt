@@ -1,0 +1,75 @@
+-- Cells and steps: where a step from a square leads on the board with its border.
+use Rattle.std.proofs.Common.{◌≡◌, ◌≢◌, ℕ, ◌+◌, ◌-◌, ◌*◌, ◌/◌, ◌%◌, ◌<◌, ◌≤◌, ℤ, pos, negsuc, ◌+ℤ◌, ◌*ℤ◌, neg_ℤ, zero, suc, refl, sym, ap, subst, ◌∙◌, arith, ◌⊎◌, inl, inr}
+use Rattle.std.specs.Int.RustNames.{unsigned_abs}
+use Rattle.std.proofs.lemmas.Int.{ints}
+use Rattle.std.proofs.lemmas.Bool.{cases_lt}
+use Rattle.board.specs.declared.game.Game.{Game}
+use Rattle.board.specs.declared.game.Game.TheVariants.{LosAlamos, Gardner}
+use Rattle.board.specs.Games.{width_of}
+use Rattle.moves.specs.Squares.{Place, IsOnBoard}
+use Rattle.moves.specs.Reach.{IsShift}
+use Rattle.moves.specs.Mailbox.{cell_of, place_in, IsAway, IsCell, IsNear}
+use Rattle.board.specs.declared.game.Side.{Side}
+use Rattle.board.specs.declared.step.Step.{Step}
+use Rattle.moves.specs.Reach.{ahead_of}
+use Rattle.moves.proofs.Rides.{same_place, size-ahead}
+
+six : (g : Game) (n : ℕ) → n < width_of g → n < 6
+six LosAlamos n h = h
+six Gardner n h = omega arith
+
+-- a square stands in its cell
+pub place_in-cell_of : (g : Game) (s : Place) → IsOnBoard g s → place_in (cell_of s) ≡ s
+place_in-cell_of g s on =
+    let f = six g s.file on.file in
+    same_place (place_in (cell_of s)) s (omega arith) (omega arith)
+
+pub cell_of-place_in : (g : Game) (i : ℕ) → IsCell g i → cell_of (place_in i) ≡ i
+cell_of-place_in g i c = let a = c.above in omega arith
+
+pub IsCell-cell_of : (g : Game) (s : Place) → IsOnBoard g s → IsCell g (cell_of s)
+IsCell-cell_of g s on = record { above = omega arith; on_board = subst (IsOnBoard g) (sym (place_in-cell_of g s on)) on }
+
+-- whether a cell is a square of the board
+pub cell_cases : (g : Game) (i : ℕ) → IsCell g i ⊎ (IsCell g i → ⊥)
+cell_cases g i = elim (cases_lt i 17) [
+  | inl less ↦ inr (λ c. let a = c.above in absurd (omega arith))
+  | inr above ↦ elim (cases_lt (place_in i).file (width_of g)) [
+    | inr far ↦ inr (λ c. let f = c.on_board.file in absurd (omega arith))
+    | inl file ↦ elim (cases_lt (place_in i).rank (width_of g)) [
+      | inr high ↦ inr (λ c. let r = c.on_board.rank in absurd (omega arith))
+      | inl rank ↦ inl (record { above = above; on_board = record { file = file; rank = rank } })
+    ]
+  ]
+]
+
+-- on the board with its border no step of two squares at most wraps round an edge
+file_away : (dx dy : ℤ) (f r f' r' : ℕ) → f < 6 → f' < 6 → unsigned_abs dx ≤ 2 → pos (8 * r' + f') ≡ (pos (8 * r + f) +ℤ dx) +ℤ (pos 8 *ℤ dy) → (pos f' ≡ pos f +ℤ dx) × (pos r' ≡ pos r +ℤ dy)
+file_away (pos x) (pos y) f r f' r' a b c e = (omega (arith, ints, e), omega (arith, ints, e))
+file_away (pos x) (negsuc y) f r f' r' a b c e = (omega (arith, ints, e), omega (arith, ints, e))
+file_away (negsuc x) (pos y) f r f' r' a b c e = (omega (arith, ints, e), omega (arith, ints, e))
+file_away (negsuc x) (negsuc y) f r f' r' a b c e = (omega (arith, ints, e), omega (arith, ints, e))
+
+-- a cell of the board that is a step away holds the square that the step leads to
+pub shift_in : (g : Game) (dx dy : ℤ) (i j : ℕ) → IsCell g i → unsigned_abs dx ≤ 2 → IsAway dx dy i j → IsCell g j → IsShift dx dy (place_in i) (place_in j)
+shift_in g dx dy i j from small away to =
+    let a : i ≡ 17 + (8 * (place_in i).rank + (place_in i).file) = let h = from.above in omega arith in
+    let b : j ≡ 17 + (8 * (place_in j).rank + (place_in j).file) = let h = to.above in omega arith in
+    let e : pos (8 * (place_in j).rank + (place_in j).file) ≡ (pos (8 * (place_in i).rank + (place_in i).file) +ℤ dx) +ℤ (pos 8 *ℤ dy) = omega (arith, ints, a, b, away) in
+    let w = file_away dx dy (place_in i).file (place_in i).rank (place_in j).file (place_in j).rank (six g _ from.on_board.file) (six g _ to.on_board.file) small e in
+    record { file = w.0; rank = w.1 }
+
+-- and the square that the step leads to stands in that cell
+pub cell_of-shift : (g : Game) (dx dy : ℤ) (i j : ℕ) (t : Place) → IsCell g i → IsAway dx dy i j → IsOnBoard g t → IsShift dx dy (place_in i) t → cell_of t ≡ j
+cell_of-shift g dx dy i j t from away on e =
+    let a : i ≡ 17 + (8 * (place_in i).rank + (place_in i).file) = let h = from.above in omega arith in
+    omega (arith, ints, a, away, e.file, e.rank)
+
+-- a near step goes at most 17 cells
+seventeen : (dx dy : ℤ) → unsigned_abs dx + unsigned_abs dy ≤ 3 → unsigned_abs dx ≤ 2 → unsigned_abs dy ≤ 2 → unsigned_abs (dx +ℤ (pos 8 *ℤ dy)) ≤ 17
+seventeen dx dy h a b = omega (arith, ints, h, a, b)
+
+pub offset_near : (side : Side) (step : Step) → IsNear step → unsigned_abs (step.dx +ℤ (pos 8 *ℤ ahead_of side step.dy)) ≤ 17
+offset_near side step near =
+    let same = size-ahead side step.dy in
+    seventeen step.dx (ahead_of side step.dy) (omega (arith, near.both, same)) near.files (omega (arith, near.ranks, same))

@@ -1,0 +1,37 @@
+-- A board with a border round it: eight cells a rank, so that a step off the board comes to a cell of the border.
+use Rattle.std.specs.Prelude.{◌≡◌, ℕ, ℤ, pos, ◌+ℤ◌, ◌*ℤ◌, ◌+◌, ◌-◌, ◌*◌, ◌/◌, ◌%◌, ◌<◌, ◌≤◌, List, slice_index}
+use Rattle.std.specs.Int.RustNames.{unsigned_abs}
+use Rattle.board.specs.declared.game.Game.{Game}
+use Rattle.board.specs.declared.step.Step.{Step}
+use Rattle.board.specs.Board.{PlainBoard}
+use Rattle.moves.specs.Squares.{Place, IsOnBoard, unit_at}
+use Rattle.moves.specs.Words.{man_of}
+
+-- the cell of a square: after two ranks of border, eight cells a rank
+abbrev pub cell_of : Place → ℕ
+cell_of s = 17 + 8 * s.rank + s.file
+
+-- the square of a cell
+abbrev pub place_in : ℕ → Place
+place_in i = record { file = (i - 17) % 8; rank = (i - 17) / 8 }
+
+-- the cell j is dx files to the right of i and dy ranks up
+abbrev pub IsAway : ℤ → ℤ → ℕ → ℕ → Type 0
+IsAway dx dy i j = pos j ≡ (pos i +ℤ dx) +ℤ (pos 8 *ℤ dy)
+
+-- a step that comes to the border at worst: a leap of two squares along one axis and one along the other, or less
+pub record IsNear (step : Step) : Type 0 where
+  pub files : unsigned_abs step.dx ≤ 2
+  pub ranks : unsigned_abs step.dy ≤ 2
+  pub both : unsigned_abs step.dx + unsigned_abs step.dy ≤ 3
+
+-- the cell is a square of the board
+pub record IsCell (g : Game) (i : ℕ) : Type 0 where
+  pub above : 17 ≤ i
+  pub on_board : IsOnBoard g (place_in i)
+
+-- each square's cell has the code of what stands there, and each cell of the border has 15
+pub record LaysOut (b : PlainBoard) (cells : List ℕ) : Type 0 where
+  pub stands : (i : ℕ) → IsCell b.game i → man_of (slice_index cells i) ≡ unit_at b (place_in i)
+  pub code : (i : ℕ) → IsCell b.game i → slice_index cells i < 13
+  pub border : (i : ℕ) → i < 80 → (IsCell b.game i → ⊥) → slice_index cells i ≡ 15
