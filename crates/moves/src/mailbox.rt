@@ -59,7 +59,7 @@ fn cell_away(side: Side, step: &Step, cell: u8) -> u8
 
 impl Mailbox {
     /// The unit in a cell of the board.
-    fn unit_in(&self, cell: u8) -> Option<Unit>
+    pub(crate) fn unit_in(&self, cell: u8) -> Option<Unit>
         requires { IsCell self.now.game cell }
         ensures { result ≡ unit_at self.now (place_in cell) }
     {
@@ -67,7 +67,7 @@ impl Mailbox {
     }
 
     /// The cell that a step leads to, if it is on the board.
-    fn next(&self, side: Side, step: &Step, cell: u8) -> Option<u8>
+    pub(crate) fn next(&self, side: Side, step: &Step, cell: u8) -> Option<u8>
         requires cell { IsCell self.now.game cell }
         requires near { IsNear step.now }
         ensures { MatchOption result

@@ -1,0 +1,50 @@
+//! The set of cells that a unit reaches, one bit a cell.
+ghost use Rattle.std.specs.Prelude.{◌≡◌, ◌<◌, ◌+◌, ℕ, ◌↔◌, ◌⊎◌, IsTrue};
+ghost use Rattle.std.specs.Int.RustNames.{unsigned_abs};
+ghost use Rattle.board.specs.Games.{IsPlayed};
+ghost use Rattle.moves.specs.Mailbox.{place_in, IsCell, IsNear};
+ghost use Rattle.moves.specs.Targets.{Has, IsTarget, IsTargetBy};
+
+use crate::mailbox::Mailbox;
+use crate::reach::allows;
+use crate::steps::steps;
+use board::{Step, Unit};
+
+/// The set with the cell, if it is to be added.
+fn with_cell(set: u64, cell: u8, is_added: bool) -> u64
+    requires { cell < 64 }
+    ensures { (i : ℕ) → Has result i ↔ (Has set i ⊎ (IsTrue is_added × (cell ≡ i))) }
+{
+    if is_added { set | 1 << cell } else { set }
+}
+
+/// Adds the cells that the step of the unit reaches.
+fn add_targets(mail: &Mailbox, unit: Unit, step: &Step, cell: u8, set: u64) -> u64
+    requires cell { IsCell mail.now.game cell }
+    requires near { IsNear step.now }
+    requires goes { 0 < unsigned_abs step.now.dx + unsigned_abs step.now.dy }
+    ensures { (i : ℕ) → Has result i ↔ (Has set i ⊎ IsTargetBy mail.now unit step.now (place_in cell) i) }
+{
+    let Some(to) = mail.next(unit.side, step, cell) else {
+        return set;
+    };
+    let target = mail.unit_in(to);
+    let more = with_cell(set, to, allows(step.mode, unit.side, target));
+    if !step.rider || target.is_some() {
+        return more;
+    }
+    add_targets(mail, unit, step, to, more)
+}
+
+/// The cells that a unit reaches.
+pub(crate) fn targets(mail: &Mailbox, unit: Unit, cell: u8) -> u64
+    requires cell { IsCell mail.now.game cell }
+    requires played { IsPlayed mail.now.game unit.kind }
+    ensures { (i : ℕ) → Has result i ↔ IsTarget mail.now unit (place_in cell) i }
+{
+    let mut set = 0;
+    for step in steps(unit.kind) {
+        set = add_targets(mail, unit, step, cell, set);
+    }
+    set
+}
