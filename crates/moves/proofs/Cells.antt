@@ -73,3 +73,7 @@ pub offset_near : (side : Side) (step : Step) → IsNear step → unsigned_abs (
 offset_near side step near =
     let same = size-ahead side step.dy in
     seventeen step.dx (ahead_of side step.dy) (omega (arith, near.both, same)) near.files (omega (arith, near.ranks, same))
+
+pub small_width : (g : Game) → width_of g ≤ 6
+small_width LosAlamos = omega arith
+small_width Gardner = omega arith

@@ -1,10 +1,10 @@
 -- A board with a border round it: eight cells a rank, so that a step off the board comes to a cell of the border.
-use Rattle.std.specs.Prelude.{◌≡◌, ℕ, ℤ, pos, ◌+ℤ◌, ◌*ℤ◌, ◌+◌, ◌-◌, ◌*◌, ◌/◌, ◌%◌, ◌<◌, ◌≤◌, List, slice_index}
+use Rattle.std.specs.Prelude.{◌≡◌, ℕ, ℤ, pos, ◌+ℤ◌, ◌*ℤ◌, ◌+◌, ◌-◌, ◌*◌, ◌/◌, ◌%◌, ◌<◌, ◌≤◌, List, length, slice_index}
 use Rattle.std.specs.Int.RustNames.{unsigned_abs}
 use Rattle.board.specs.declared.game.Game.{Game}
 use Rattle.board.specs.declared.step.Step.{Step}
 use Rattle.board.specs.Board.{PlainBoard}
-use Rattle.moves.specs.Squares.{Place, IsOnBoard, unit_at}
+use Rattle.moves.specs.Squares.{Place, IsOnBoard, square_number, unit_at}
 use Rattle.moves.specs.Words.{man_of}
 
 -- the cell of a square: after two ranks of border, eight cells a rank
@@ -35,3 +35,10 @@ pub record LaysOut (b : PlainBoard) (cells : List ℕ) : Type 0 where
   pub stands : (i : ℕ) → IsCell b.game i → man_of (slice_index cells i) ≡ unit_at b (place_in i)
   pub code : (i : ℕ) → IsCell b.game i → slice_index cells i < 13
   pub border : (i : ℕ) → i < 80 → (IsCell b.game i → ⊥) → slice_index cells i ≡ 15
+
+-- the squares of a number below n are laid out, and all other cells are border
+pub record IsLaid (b : PlainBoard) (cells : List ℕ) (n : ℕ) : Type 0 where
+  pub long : length cells ≡ 80
+  pub stands : (i : ℕ) → IsCell b.game i → square_number b.game (place_in i) < n → man_of (slice_index cells i) ≡ unit_at b (place_in i)
+  pub code : (i : ℕ) → IsCell b.game i → square_number b.game (place_in i) < n → slice_index cells i < 13
+  pub border : (i : ℕ) → i < 80 → (IsCell b.game i → square_number b.game (place_in i) < n → ⊥) → slice_index cells i ≡ 15

@@ -6,7 +6,7 @@ ghost use Rattle.board.specs.Games.{width_of};
 ghost use Rattle.moves.specs.Squares.{Place, IsOnBoard, square_number, unit_at};
 ghost use Rattle.moves.specs.Reach.{ahead_of, IsStep};
 ghost use Rattle.moves.specs.Words.{man_of};
-ghost use Rattle.moves.specs.Mailbox.{place_in, IsAway, IsCell, IsNear};
+ghost use Rattle.moves.specs.Mailbox.{place_in, IsAway, IsCell, IsNear, IsLaid};
 
 use crate::packed::Board;
 use crate::reach::ranks_up;
@@ -57,7 +57,49 @@ fn cell_away(side: Side, step: &Step, cell: u8) -> u8
     (i16::from(cell) + offset(side, step)) as u8
 }
 
+/// Lays out the squares of a rank.
+fn lay_rank(board: &Board, rank: u8, cells: &mut [u8; CELLS])
+    requires rank { rank < width_of board.now.game }
+    requires laid { IsLaid board.now cells.old (width_of board.now.game * rank) }
+    ensures { IsLaid board.now cells.new (width_of board.now.game * (rank + 1)) }
+{
+    let width = board.game().width();
+    for file in 0..width {
+        cells[(17 + 8 * rank + file) as usize] = board.code(width * rank + file);
+    }
+}
+
 impl Mailbox {
+    /// The board, laid out.
+    pub(crate) fn of(board: &Board) -> Mailbox
+        ensures { result ≡ board.now }
+    {
+        let width = board.game().width();
+        let mut cells = [BORDER; CELLS];
+        for rank in 0..width {
+            lay_rank(board, rank, &mut cells);
+        }
+        Mailbox {
+            board: board.again(),
+            cells,
+        }
+    }
+
+    /// The game that is played.
+    pub(crate) fn game(&self) -> Game
+        ensures value { result ≡ self.now.game }
+        ensures position { IsPosition self.now }
+    {
+        self.board.game()
+    }
+
+    /// The side to move.
+    pub(crate) fn mover(&self) -> Side
+        ensures { result ≡ self.now.mover }
+    {
+        self.board.mover()
+    }
+
     /// The unit in a cell of the board.
     pub(crate) fn unit_in(&self, cell: u8) -> Option<Unit>
         requires { IsCell self.now.game cell }

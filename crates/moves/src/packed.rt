@@ -114,7 +114,23 @@ impl Board {
         requires { square < squares_of self.now.game }
         ensures { result ≡ unit_on self.now square }
     {
-        unit_of(code_on(&self.words, self.game(), square))
+        unit_of(self.code(square))
+    }
+
+    /// The code of what stands on a square, by the square's number.
+    pub(crate) fn code(&self, square: u8) -> u8
+        requires { square < squares_of self.now.game }
+        ensures value { man_of result ≡ unit_on self.now square }
+        ensures small { result < 13 }
+    {
+        code_on(&self.words, self.game(), square)
+    }
+
+    /// The same board again.
+    pub(crate) fn again(&self) -> Board
+        ensures { result ≡ self.now }
+    {
+        Board { words: self.words }
     }
 
     /// The board after the unit's move.
