@@ -1,6 +1,7 @@
 //! A board laid out cell by cell with a border round it, on which steps are taken.
 ghost use Rattle.std.specs.Prelude.{◌≡◌, ◌<◌, ◌≤◌, ◌+◌, ◌*◌, ◌↔◌, ℕ, IsTrue, MatchOption, Some, slice_index, ℤ, pos, ◌+ℤ◌, ◌*ℤ◌};
 ghost use Rattle.std.specs.Int.RustNames.{unsigned_abs};
+ghost use Rattle.board.specs.declared.game.Kind.TheVariants.{King};
 ghost use Rattle.board.specs.Board.{IsPosition};
 ghost use Rattle.board.specs.Games.{width_of};
 ghost use Rattle.moves.specs.Squares.{Place, IsOnBoard, square_number, unit_at};
@@ -16,6 +17,10 @@ use std::marker::Model;
 
 /// What a cell off the board holds.
 const BORDER: u8 = 15;
+
+const WHITE_KING: u8 = 1;
+
+const BLACK_KING: u8 = 7;
 
 /// How many cells there are: two ranks of border on each side of the board's, and the last two files of each rank.
 const CELLS: usize = 80;
@@ -106,6 +111,19 @@ impl Mailbox {
         ensures { result ≡ unit_at self.now (place_in cell) }
     {
         unit_of(self.cells[cell as usize])
+    }
+
+    /// Whether the side's king stands in a cell, which may be one of the border.
+    pub(crate) fn has_king(&self, side: Side, cell: u8) -> bool
+        requires { cell < 80 }
+        ensures { IsTrue result
+            ↔ (IsCell self.now.game cell × (unit_at self.now (place_in cell) ≡ Some (record { side = side; kind = King }))) }
+    {
+        let code = self.cells[cell as usize];
+        match side {
+            Side::White => code == WHITE_KING,
+            Side::Black => code == BLACK_KING,
+        }
     }
 
     /// The cell that a step leads to, if it is on the board.

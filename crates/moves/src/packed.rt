@@ -1,15 +1,13 @@
 //! A position in three words.
-ghost use Rattle.std.specs.Prelude.{◌≡◌, ◌<◌, ◌↔◌, IsTrue, Some};
+ghost use Rattle.std.specs.Prelude.{◌≡◌, ◌<◌, Some};
 ghost use Rattle.board.specs.Board.{unit_on, IsPosition};
 ghost use Rattle.board.specs.Games.{squares_of};
 ghost use Rattle.moves.specs.Words.{man_of, game_of_flags, mover_of_flags, IsFlags};
-ghost use Rattle.moves.specs.Reach.{IsInCheck};
 ghost use Rattle.moves.specs.Moves.{IsPseudoLegal, IsMove, IsLawful, after};
 ghost use Rattle.moves.specs.Order.{ListsLawful};
 
 use crate::list::lawful;
 use crate::plies::Move;
-use crate::reach::in_check;
 use crate::words::{code_of, code_on, put, turned, unit_of, with_digit};
 use arrayvec::ArrayVec;
 use board::{Game, Position, Side, Unit};
@@ -149,13 +147,6 @@ impl Board {
         words[0] = turned(words[0]);
         Board { words }
     }
-}
-
-/// Whether the king of the side to move is attacked.
-pub fn mover_in_check(board: &Board) -> bool
-    ensures { IsTrue result ↔ IsInCheck board.now board.now.mover }
-{
-    in_check(&board.position(), board.mover())
 }
 
 /// The lawful moves, in order.

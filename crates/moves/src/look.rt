@@ -1,0 +1,133 @@
+//! Check as the king sees it: a square is attacked by what a unit of the same kind would take from there.
+ghost use Rattle.std.specs.Prelude.{◌≡◌, ◌<◌, ◌+◌, ◌↔◌, IsTrue, MatchOption, Some, ℕ};
+ghost use Rattle.std.specs.Int.RustNames.{unsigned_abs};
+ghost use Rattle.board.specs.declared.game.Kind.TheVariants.{King};
+ghost use Rattle.board.specs.Board.{IsPosition};
+ghost use Rattle.board.specs.Games.{IsPlayed, other_side};
+ghost use Rattle.moves.specs.Squares.{unit_at};
+ghost use Rattle.moves.specs.Reach.{IsAttacked, IsInCheck};
+ghost use Rattle.moves.specs.Mailbox.{place_in, IsCell, IsNear};
+ghost use Rattle.moves.specs.Looking.{foe_of, Strikes, StrikesBy, IsStruck};
+
+use crate::mailbox::Mailbox;
+use crate::packed::Board;
+use crate::steps::steps;
+use board::{Game, Kind, Mode, Side, Step, Unit};
+
+/// Whether the units are of one kind and of two sides.
+fn is_foe(unit: Unit, other: Unit) -> bool
+    ensures { IsTrue result ↔ (other ≡ foe_of unit) }
+{
+    other.side == unit.side.other() && other.kind == unit.kind
+}
+
+/// Whether the step leads the unit to a foe of its own kind.
+fn strikes(mail: &Mailbox, unit: Unit, step: &Step, cell: u8) -> bool
+    requires cell { IsCell mail.now.game cell }
+    requires near { IsNear step.now }
+    requires goes { 0 < unsigned_abs step.now.dx + unsigned_abs step.now.dy }
+    ensures { IsTrue result ↔ Strikes mail.now unit step.now (place_in cell) }
+{
+    let Some(to) = mail.next(unit.side, step, cell) else {
+        return false;
+    };
+    if let Some(other) = mail.unit_in(to) {
+        return is_foe(unit, other);
+    }
+    if !step.rider {
+        return false;
+    }
+    strikes(mail, unit, step, to)
+}
+
+/// Whether the step leads the unit to a foe of its own kind, and may capture it.
+fn strikes_by(mail: &Mailbox, unit: Unit, step: &Step, cell: u8) -> bool
+    requires cell { IsCell mail.now.game cell }
+    requires near { IsNear step.now }
+    requires goes { 0 < unsigned_abs step.now.dx + unsigned_abs step.now.dy }
+    ensures { IsTrue result ↔ StrikesBy mail.now unit (place_in cell) step.now }
+{
+    step.mode != Mode::Move && strikes(mail, unit, step, cell)
+}
+
+/// Whether some step of the unit would take a foe of its own kind from the cell.
+fn is_struck(mail: &Mailbox, unit: Unit, cell: u8) -> bool
+    requires { IsCell mail.now.game cell }
+    ensures { IsTrue result ↔ IsStruck mail.now unit (place_in cell) }
+{
+    for step in steps(unit.kind) {
+        if strikes_by(mail, unit, step, cell) {
+            return true;
+        }
+    }
+    false
+}
+
+/// Whether the game plays with the kind.
+fn is_played(game: Game, kind: Kind) -> bool
+    ensures { IsTrue result ↔ IsPlayed game kind }
+{
+    match kind {
+        Kind::Bishop => game == Game::Gardner,
+        _ => true,
+    }
+}
+
+const KINDS: [Kind; 6] = [
+    Kind::King,
+    Kind::Queen,
+    Kind::Rook,
+    Kind::Bishop,
+    Kind::Knight,
+    Kind::Pawn,
+];
+
+/// Whether some unit of the other side attacks the cell.
+fn is_attacked(mail: &Mailbox, cell: u8, side: Side) -> bool
+    requires { IsCell mail.now.game cell }
+    ensures { IsTrue result ↔ IsAttacked mail.now (place_in cell) (other_side side) }
+{
+    let game = mail.game();
+    for kind in &KINDS {
+        if is_played(game, *kind) && is_struck(mail, Unit { side, kind: *kind }, cell) {
+            return true;
+        }
+    }
+    false
+}
+
+/// The cell of the side's king.
+pub(crate) fn king_cell(mail: &Mailbox, side: Side) -> Option<u8>
+    ensures { MatchOption result
+        ((i : ℕ) → IsCell mail.now.game i → unit_at mail.now (place_in i) ≡ Some (record { side = side; kind = King }) → ⊥)
+        (λ i. IsCell mail.now.game i × (unit_at mail.now (place_in i) ≡ Some (record { side = side; kind = King }))) }
+{
+    for cell in 17..63 {
+        if mail.has_king(side, cell) {
+            return Some(cell);
+        }
+    }
+    None
+}
+
+/// Whether the side's king, which stands in the cell, is attacked.
+pub(crate) fn king_attacked(mail: &Mailbox, cell: u8, side: Side) -> bool
+    requires cell { IsCell mail.now.game cell }
+    requires king { unit_at mail.now (place_in cell) ≡ Some (record { side = side; kind = King }) }
+    requires position { IsPosition mail.now }
+    ensures { IsTrue result ↔ IsInCheck mail.now side }
+{
+    is_attacked(mail, cell, side)
+}
+
+/// Whether the king of the side to move is attacked.
+pub fn mover_in_check(board: &Board) -> bool
+    ensures { IsTrue result ↔ IsInCheck board.now board.now.mover }
+{
+    let mail = Mailbox::of(board);
+    let side = mail.mover();
+    match king_cell(&mail, side) {
+        Some(cell) => king_attacked(&mail, cell, side),
+        None => false,
+    }
+}
