@@ -77,3 +77,11 @@ offset_near side step near =
 pub small_width : (g : Game) → width_of g ≤ 6
 small_width LosAlamos = omega arith
 small_width Gardner = omega arith
+
+pub small_squares : (g : Game) → width_of g * width_of g ≤ 36
+small_squares LosAlamos = omega arith
+small_squares Gardner = omega arith
+
+-- a square's cell is one of 64
+pub cell_small : (g : Game) (i : ℕ) → IsCell g i → i < 63
+cell_small g i c = let f = six g _ c.on_board.file in let r = six g _ c.on_board.rank in let a = c.above in omega arith

@@ -10,9 +10,13 @@ use Rattle.board.specs.Board.{PlainBoard, unit_on}
 use Rattle.moves.specs.Squares.{Place, IsOnBoard, square_number, unit_at}
 use Rattle.moves.specs.Words.{man_of}
 use Rattle.moves.specs.Mailbox.{cell_of, place_in, IsCell, LaysOut, IsLaid}
+use Rattle.board.specs.Board.{IsPosition}
+use Rattle.moves.specs.Squares.{Ply}
+use Rattle.moves.specs.Moves.{IsPseudoLegal, placed, after}
+use Rattle.moves.proofs.Keeps.{to_on_board, other_square}
 use Rattle.moves.proofs.Listed.{same_number}
 use Rattle.moves.proofs.Reached.{same_cell}
-use Rattle.moves.proofs.Cells.{place_in-cell_of, cell_of-place_in, IsCell-cell_of}
+use Rattle.moves.proofs.Cells.{cell_small, small_squares, place_in-cell_of, cell_of-place_in, IsCell-cell_of}
 
 abbrev pub off : ℕ
 off = 15
@@ -66,6 +70,7 @@ number_below Gardner s on = let f = on.file in let r = on.rank in omega arith
 -- all ranks laid out are the board
 pub LaysOut-all : (b : PlainBoard) (cells : List ℕ) → IsLaid b cells (width_of b.game * width_of b.game) → LaysOut b cells
 LaysOut-all b cells laid = record {
+  long = laid.long;
   stands = λ i c. laid.stands i c (number_below b.game (place_in i) c.on_board);
   code = λ i c. laid.code i c (number_below b.game (place_in i) c.on_board);
   border = λ i low none. laid.border i low (λ c _. none c);
@@ -77,3 +82,86 @@ cell_at g file rank f r =
     let s : Place = record { file = file; rank = rank } in
     let on : IsOnBoard g s = record { file = f; rank = r } in
     (IsCell-cell_of g s on, ap (square_number g) (place_in-cell_of g s on) ∙ omega arith)
+
+-- ---- a move
+
+module _ (b : PlainBoard) (m : Ply) (u : Man) (is : IsPosition b) (p : IsPseudoLegal b m u) where
+  to : IsOnBoard b.game m.to
+  to = to_on_board b m u p
+
+  n_from : ℕ
+  n_from = square_number b.game m.from
+
+  n_to : ℕ
+  n_to = square_number b.game m.to
+
+  long_two : length (set b.units n_from None) ≡ 36
+  long_two = length-set b.units n_from None ∙ is.places
+
+  -- what stands on a square after the move
+  pub unit_at-to : unit_at (after b m u) m.to ≡ Some (placed u m)
+  unfolding n_from n_to
+  unit_at-to = get_or-set_same (set b.units n_from None) n_to (Some (placed u m)) None (omega (arith, long_two, number_below b.game m.to to, small_squares b.game))
+
+  pub unit_at-from : unit_at (after b m u) m.from ≡ None
+  unfolding n_from n_to
+  unit_at-from =
+      get_or-set_other (set b.units n_from None) n_to n_from (Some (placed u m)) None (other_square b m u p)
+      ∙ get_or-set_same b.units n_from None None (omega (arith, is.places, number_below b.game m.from p.on_board, small_squares b.game))
+
+  pub unit_at-other : (s : Place) → IsOnBoard b.game s → (s ≡ m.from → ⊥) → (s ≡ m.to → ⊥) → unit_at (after b m u) s ≡ unit_at b s
+  unfolding n_from n_to
+  unit_at-other s on a c =
+      get_or-set_other (set b.units n_from None) n_to (square_number b.game s) (Some (placed u m)) None (λ e. c (same_number b.game s m.to on to e))
+      ∙ get_or-set_other b.units n_from (square_number b.game s) None None (λ e. a (same_number b.game s m.from on p.on_board e))
+
+  -- and in its cell
+  pub LaysOut-after : (cells : List ℕ) (code from_cell to_cell : ℕ) → LaysOut b cells → from_cell ≡ cell_of m.from → to_cell ≡ cell_of m.to → man_of code ≡ Some (placed u m) → code < 13
+      → LaysOut (after b m u) (set (set cells from_cell 0) to_cell code)
+  LaysOut-after cells code f t lays ef et man small = record {
+    long = length-set (set cells f 0) t code ∙ length-set cells f 0 ∙ lays.long;
+    stands = λ i c. elim (cases_eq i t) [
+      | inl same ↦ subst (λ x. man_of (get_or (set (set cells f 0) t code) x 0) ≡ unit_at (after b m u) (place_in x)) (sym same)
+          (ap man_of (get_or-set_same (set cells f 0) t code 0 in_to) ∙ man ∙ sym unit_at-to ∙ ap (unit_at (after b m u)) (sym place_to))
+      | inr other ↦ ap man_of (get_or-set_other (set cells f 0) t i code 0 other) ∙ elim (cases_eq i f) [
+        | inl same ↦ subst (λ x. man_of (get_or (set cells f 0) x 0) ≡ unit_at (after b m u) (place_in x)) (sym same)
+            (ap man_of (get_or-set_same cells f 0 0 in_from) ∙ sym unit_at-from ∙ ap (unit_at (after b m u)) (sym place_from))
+        | inr apart ↦ ap man_of (get_or-set_other cells f i 0 0 apart) ∙ lays.stands i c ∙ sym (unit_at-other (place_in i) c.on_board (not_from i c apart) (not_to i c other))
+      ]
+    ];
+    code = λ i c. elim (cases_eq i t) [
+      | inl same ↦ subst (λ x. get_or (set (set cells f 0) t code) x 0 < 13) (sym same) (subst (λ x. x < 13) (sym (get_or-set_same (set cells f 0) t code 0 in_to)) small)
+      | inr other ↦ subst (λ x. x < 13) (sym (get_or-set_other (set cells f 0) t i code 0 other)) (elim (cases_eq i f) [
+        | inl same ↦ subst (λ x. get_or (set cells f 0) x 0 < 13) (sym same) (subst (λ x. x < 13) (sym (get_or-set_same cells f 0 0 in_from)) (omega arith))
+        | inr apart ↦ subst (λ x. x < 13) (sym (get_or-set_other cells f i 0 0 apart)) (lays.code i c)
+      ])
+    ];
+    border = λ i low none.
+        get_or-set_other (set cells f 0) t i code 0 (λ e. none (subst (IsCell b.game) (sym e) cell_to))
+        ∙ get_or-set_other cells f i 0 0 (λ e. none (subst (IsCell b.game) (sym e) cell_from))
+        ∙ lays.border i low none;
+  }
+    where
+      cell_from : IsCell b.game f
+      cell_from = subst (IsCell b.game) (sym ef) (IsCell-cell_of b.game m.from p.on_board)
+
+      cell_to : IsCell b.game t
+      cell_to = subst (IsCell b.game) (sym et) (IsCell-cell_of b.game m.to to)
+
+      place_from : place_in f ≡ m.from
+      place_from = ap place_in ef ∙ place_in-cell_of b.game m.from p.on_board
+
+      place_to : place_in t ≡ m.to
+      place_to = ap place_in et ∙ place_in-cell_of b.game m.to to
+
+      in_from : f < length cells
+      in_from = omega (arith, lays.long, cell_small b.game f cell_from)
+
+      in_to : t < length (set cells f 0)
+      in_to = omega (arith, length-set cells f 0, lays.long, cell_small b.game t cell_to)
+
+      not_from : (i : ℕ) → IsCell b.game i → (i ≡ f → ⊥) → place_in i ≡ m.from → ⊥
+      not_from i c apart e = apart (same_cell b.game i f c cell_from (e ∙ sym place_from))
+
+      not_to : (i : ℕ) → IsCell b.game i → (i ≡ t → ⊥) → place_in i ≡ m.to → ⊥
+      not_to i c apart e = apart (same_cell b.game i t c cell_to (e ∙ sym place_to))

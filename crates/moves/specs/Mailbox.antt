@@ -32,6 +32,7 @@ pub record IsCell (g : Game) (i : ℕ) : Type 0 where
 
 -- each square's cell has the code of what stands there, and each cell of the border has 15
 pub record LaysOut (b : PlainBoard) (cells : List ℕ) : Type 0 where
+  pub long : length cells ≡ 80
   pub stands : (i : ℕ) → IsCell b.game i → man_of (slice_index cells i) ≡ unit_at b (place_in i)
   pub code : (i : ℕ) → IsCell b.game i → slice_index cells i < 13
   pub border : (i : ℕ) → i < 80 → (IsCell b.game i → ⊥) → slice_index cells i ≡ 15

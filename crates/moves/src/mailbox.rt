@@ -1,22 +1,27 @@
 //! A board laid out cell by cell with a border round it, on which steps are taken.
-ghost use Rattle.std.specs.Prelude.{◌≡◌, ◌<◌, ◌≤◌, ◌+◌, ◌*◌, ◌↔◌, ℕ, IsTrue, MatchOption, Some, slice_index, ℤ, pos, ◌+ℤ◌, ◌*ℤ◌};
+ghost use Rattle.std.specs.Prelude.{◌≡◌, ◌<◌, ◌≤◌, ◌+◌, ◌-◌, ◌*◌, ◌%◌, ◌↔◌, ℕ, IsTrue, MatchOption, Some, slice_index, ℤ, pos, ◌+ℤ◌, ◌*ℤ◌};
 ghost use Rattle.std.specs.Int.RustNames.{unsigned_abs};
 ghost use Rattle.board.specs.declared.game.Kind.TheVariants.{King};
 ghost use Rattle.board.specs.Board.{IsPosition};
 ghost use Rattle.board.specs.Games.{width_of};
 ghost use Rattle.moves.specs.Squares.{Place, IsOnBoard, square_number, unit_at};
 ghost use Rattle.moves.specs.Reach.{ahead_of, IsStep};
+ghost use Rattle.moves.specs.Moves.{IsPseudoLegal, after};
 ghost use Rattle.moves.specs.Words.{man_of};
-ghost use Rattle.moves.specs.Mailbox.{place_in, IsAway, IsCell, IsNear, IsLaid};
+ghost use Rattle.moves.specs.Mailbox.{cell_of, place_in, IsAway, IsCell, IsNear, IsLaid};
 
 use crate::packed::Board;
 use crate::reach::ranks_up;
-use crate::words::unit_of;
+use crate::plies::Move;
+use crate::squares::Square;
+use crate::words::{code_of, unit_of};
 use board::{Game, Side, Step, Unit};
 use std::marker::Model;
 
 /// What a cell off the board holds.
 const BORDER: u8 = 15;
+
+const EMPTY: u8 = 0;
 
 const WHITE_KING: u8 = 1;
 
@@ -74,6 +79,25 @@ fn lay_rank(board: &Board, rank: u8, cells: &mut [u8; CELLS])
     }
 }
 
+/// The cell of a square.
+pub(crate) fn cell_of(square: Square) -> u8
+    ensures value { result ≡ cell_of square }
+    ensures within { result < 63 }
+{
+    17 + 8 * square.rank + square.file
+}
+
+/// The square of a cell of the board.
+pub(crate) fn square_in(cell: u8) -> Square
+    requires { (17 ≤ cell) × (cell < 63) × ((cell - 17) % 8 < 6) }
+    ensures { result ≡ place_in cell }
+{
+    Square {
+        file: (cell - 17) % 8,
+        rank: (cell - 17) / 8,
+    }
+}
+
 impl Mailbox {
     /// The board, laid out.
     pub(crate) fn of(board: &Board) -> Mailbox
@@ -103,6 +127,25 @@ impl Mailbox {
         ensures { result ≡ self.now.mover }
     {
         self.board.mover()
+    }
+
+    /// The board after the unit's move, laid out.
+    pub(crate) fn moved(&self, m: Move, unit: Unit) -> Mailbox
+        requires position { IsPosition self.now }
+        requires lawful { IsPseudoLegal self.now m unit }
+        ensures { result ≡ after self.now m unit }
+    {
+        let placed = Unit {
+            side: unit.side,
+            kind: m.promotion.unwrap_or(unit.kind),
+        };
+        let mut cells = self.cells;
+        cells[cell_of(m.from) as usize] = EMPTY;
+        cells[cell_of(m.to) as usize] = code_of(placed);
+        Mailbox {
+            board: self.board.moved(m, unit),
+            cells,
+        }
     }
 
     /// The unit in a cell of the board.
