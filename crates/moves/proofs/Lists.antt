@@ -170,6 +170,12 @@ HasParts-lawful b m l = let h = IsNumbered-lawful b m l in record {
   promotion = h.promotion;
 }
 
+-- a lawful move from the unit's square reaches its to-square
+pub reaches_from : (b : PlainBoard) (u : Man) (from : Place) → unit_at b from ≡ Some u → (m : Ply) → IsLawful b m → m.from ≡ from → Reaches b u from m.to (unit_at b m.to)
+reaches_from b u from stands m (q, move) e =
+    let same : move.unit ≡ u = same_Some move.unit u (sym move.pseudo.stands ∙ ap (unit_at b) e ∙ stands) in
+    subst (λ x. Reaches b u x m.to (unit_at b m.to)) e (subst (λ x. Reaches b x m.from m.to (unit_at b m.to)) same move.pseudo.reaches)
+
 pub ListsBelow-unreached : (b : PlainBoard) (n : ℕ) (xs : List Ply) (u : Man) (from to : Place) → IsOnBoard b.game from → IsOnBoard b.game to → square_number b.game to ≡ n → unit_at b from ≡ Some u → (Reaches b u from to (unit_at b to) → ⊥)
     → ListsBelow b ((square_number b.game from * 36 + n) * 5) xs → ListsBelow b ((square_number b.game from * 36 + (n + 1)) * 5) xs
 ListsBelow-unreached b n xs u from to on_from on_to at stands unreached lists =
@@ -181,12 +187,7 @@ ListsBelow-unreached b n xs u from to on_from on_to at stands unreached lists =
     let numbered = IsNumbered-lawful b m l in
     let same_from : m.from ≡ from = same_number b.game m.from from numbered.from on_from f in
     let same_to : m.to ≡ to = same_number b.game m.to to numbered.to on_to (t ∙ sym at) in
-    unreached (reaches_of m l same_from same_to))
-  where
-    reaches_of : (m : Ply) → IsLawful b m → m.from ≡ from → m.to ≡ to → Reaches b u from to (unit_at b to)
-    reaches_of m (q, move) e f =
-        let same : move.unit ≡ u = same_Some move.unit u (sym move.pseudo.stands ∙ ap (unit_at b) e ∙ stands) in
-        subst (λ x. Reaches b u from x (unit_at b x)) f (subst (λ x. Reaches b u x m.to (unit_at b m.to)) e (subst (λ x. Reaches b x m.from m.to (unit_at b m.to)) same move.pseudo.reaches))
+    unreached (subst (λ x. Reaches b u from x (unit_at b x)) same_to (reaches_from b u from stands m l same_from)))
 
 pub ListsBelow-all_to : (b : PlainBoard) (f n : ℕ) (xs : List Ply) → squares_of b.game ≤ n → n ≤ 36 → ListsBelow b ((f * 36 + n) * 5) xs → ListsBelow b ((f + 1) * 36 * 5) xs
 ListsBelow-all_to b f n xs all le lists =

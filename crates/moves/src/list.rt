@@ -15,7 +15,7 @@ use arrayvec::ArrayVec;
 use board::{Kind, PieceTable, Position, Unit, pieces};
 
 /// What a move may name as its promotion, in order.
-const PROMOTIONS: [Option<Kind>; 5] = [
+pub(crate) const PROMOTIONS: [Option<Kind>; 5] = [
     None,
     Some(Kind::Queen),
     Some(Kind::Rook),

@@ -2,8 +2,8 @@
 ghost use Rattle.std.specs.Prelude.{◌≡◌, ◌<◌, ◌≤◌, ◌+◌, ◌-◌, ◌*◌, ◌%◌, ◌↔◌, ℕ, IsTrue, MatchOption, Some, slice_index, ℤ, pos, ◌+ℤ◌, ◌*ℤ◌};
 ghost use Rattle.std.specs.Int.RustNames.{unsigned_abs};
 ghost use Rattle.board.specs.declared.game.Kind.TheVariants.{King};
-ghost use Rattle.board.specs.Board.{IsPosition};
-ghost use Rattle.board.specs.Games.{width_of};
+ghost use Rattle.board.specs.Board.{IsPosition, unit_on};
+ghost use Rattle.board.specs.Games.{width_of, squares_of};
 ghost use Rattle.moves.specs.Squares.{Place, IsOnBoard, square_number, unit_at};
 ghost use Rattle.moves.specs.Reach.{ahead_of, IsStep};
 ghost use Rattle.moves.specs.Moves.{IsPseudoLegal, after};
@@ -89,7 +89,9 @@ pub(crate) fn cell_of(square: Square) -> u8
 
 /// The square of a cell of the board.
 pub(crate) fn square_in(cell: u8) -> Square
-    requires { (17 ≤ cell) × (cell < 63) × ((cell - 17) % 8 < 6) }
+    requires above { 17 ≤ cell }
+    requires file { (place_in cell).file < 6 }
+    requires rank { (place_in cell).rank < 6 }
     ensures { result ≡ place_in cell }
 {
     Square {
@@ -127,6 +129,14 @@ impl Mailbox {
         ensures { result ≡ self.now.mover }
     {
         self.board.mover()
+    }
+
+    /// The unit on a square, by the square's number.
+    pub(crate) fn unit_on(&self, square: u8) -> Option<Unit>
+        requires { square < squares_of self.now.game }
+        ensures { result ≡ unit_on self.now square }
+    {
+        self.board.unit(square)
     }
 
     /// The board after the unit's move, laid out.

@@ -4,12 +4,9 @@ ghost use Rattle.board.specs.Board.{unit_on, IsPosition};
 ghost use Rattle.board.specs.Games.{squares_of};
 ghost use Rattle.moves.specs.Words.{man_of, game_of_flags, mover_of_flags, IsFlags};
 ghost use Rattle.moves.specs.Moves.{IsPseudoLegal, IsMove, IsLawful, after};
-ghost use Rattle.moves.specs.Order.{ListsLawful};
 
-use crate::list::lawful;
 use crate::plies::Move;
 use crate::words::{code_of, code_on, put, turned, unit_of, with_digit};
-use arrayvec::ArrayVec;
 use board::{Game, Position, Side, Unit};
 use std::marker::Model;
 
@@ -147,13 +144,6 @@ impl Board {
         words[0] = turned(words[0]);
         Board { words }
     }
-}
-
-/// The lawful moves, in order.
-pub fn lawful_on(board: &Board) -> ArrayVec<Move, 512>
-    ensures { ListsLawful board.now result.items }
-{
-    lawful(&board.position())
 }
 
 /// The board after a lawful move.

@@ -1,5 +1,6 @@
 //! The set of cells that a unit reaches, one bit a cell.
-ghost use Rattle.std.specs.Prelude.{◌≡◌, ◌<◌, ◌+◌, ℕ, ◌↔◌, ◌⊎◌, IsTrue};
+ghost use Rattle.std.specs.Prelude.{◌≡◌, ◌≢◌, ◌<◌, ◌+◌, ℕ, ◌↔◌, ◌⊎◌, IsTrue};
+ghost use Rattle.std.specs.Int.{bit_at};
 ghost use Rattle.std.specs.Int.RustNames.{unsigned_abs};
 ghost use Rattle.board.specs.Games.{IsPlayed};
 ghost use Rattle.moves.specs.Mailbox.{place_in, IsCell, IsNear};
@@ -47,4 +48,25 @@ pub(crate) fn targets(mail: &Mailbox, unit: Unit, cell: u8) -> u64
         set = add_targets(mail, unit, step, cell, set);
     }
     set
+}
+
+/// The lowest cell of a set that has one.
+pub(crate) fn lowest(set: u64) -> u8
+    requires { 0 < set }
+    ensures within { result < 64 }
+    ensures there { Has set result }
+    ensures least { (i : ℕ) → i < result → bit_at set i ≡ 0 }
+{
+    set.trailing_zeros() as u8
+}
+
+/// The set without one of its cells.
+pub(crate) fn without(set: u64, cell: u8) -> u64
+    requires within { cell < 64 }
+    requires there { Has set cell }
+    ensures less { result < set }
+    ensures gone { bit_at result cell ≡ 0 }
+    ensures others { (i : ℕ) → i < 64 → i ≢ cell → bit_at result i ≡ bit_at set i }
+{
+    set & !(1 << cell)
 }

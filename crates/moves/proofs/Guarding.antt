@@ -1,0 +1,120 @@
+-- The mover's king, and the moves that keep it safe.
+use Rattle.std.proofs.Common.{◌≡◌, ℕ, ◌+◌, ◌*◌, ◌/◌, ◌%◌, ◌<◌, ◌≤◌, zero, suc, refl, sym, ap, subst, ◌∙◌, arith, ◌⊎◌, inl, inr, ◌↔◌, IsTrue, Bool, true, false, ◌&&◌, not, cond, List, length, get_or, take, Option, Some, None, IsSome, IfSome, unwrap_or, count_by}
+use Rattle.std.proofs.lemmas.Bool.{false≢true, and_parts, false_from_ne_true, cases_lt}
+use Rattle.std.proofs.lemmas.List.{take_all}
+use Rattle.std.proofs.lemmas.List.Sums.{count_by_more_no}
+use Rattle.std.proofs.lemmas.Option.{same_Some}
+use Rattle.board.specs.declared.game.Game.{Game}
+use Rattle.board.specs.declared.game.Game.TheVariants.{LosAlamos, Gardner}
+use Rattle.board.specs.declared.game.Side.{Side}
+use Rattle.board.specs.declared.game.Side.TheVariants.{White, Black}
+use Rattle.board.specs.declared.game.Kind.{Kind}
+use Rattle.board.specs.declared.game.Kind.TheVariants.{King, Queen, Rook, Bishop, Knight, Pawn}
+use Rattle.board.specs.declared.game.Unit.{Unit as Man}
+use Rattle.board.specs.Games.{width_of, squares_of, other_side, is_same_side}
+use Rattle.board.specs.Board.{PlainBoard, unit_on, is_king, is_king_of, IsPosition, MayStandOn}
+use Rattle.moves.specs.Squares.{Place, Ply, IsOnBoard, square_number, unit_at}
+use Rattle.moves.specs.Reach.{IsInCheck}
+use Rattle.moves.specs.Moves.{Promotes, IsPromotion, IsSomeKing, IsPseudoLegal, IsMove, IsLawful, placed, after}
+use Rattle.moves.specs.Mailbox.{cell_of, place_in, IsCell}
+use Rattle.moves.specs.declared.board_list.Guard.{Guard}
+use Rattle.moves.specs.Guard.{Guards}
+use Rattle.moves.proofs.Cells.{IsCell-cell_of, place_in-cell_of}
+use Rattle.moves.proofs.Laying.{unit_at-to, unit_at-other}
+use Rattle.moves.proofs.Keeps.{to_on_board, one_mover}
+use Rattle.moves.proofs.Kings.{king_of}
+
+-- ---- the king stands somewhere
+
+none_counted : (p : Option Man → Bool) (xs : List (Option Man)) (n : ℕ) → ((i : ℕ) → i < length xs → p (get_or xs i None) ≡ false) → n ≤ length xs → count_by p (take n xs) ≡ 0
+none_counted p xs zero none h = refl
+none_counted p xs (suc n) none h =
+    let next : suc n ≡ n + 1 = omega arith in
+    let low : n < length xs = omega (arith, h) in
+    ap (λ k. count_by p (take k xs)) next ∙ count_by_more_no p xs n None low (none n low) ∙ none_counted p xs n none (omega (arith, h))
+
+king_kind : (k : Kind) → is_king k ≡ true → k ≡ King
+king_kind King e = refl
+king_kind Queen e = cc
+king_kind Rook e = cc
+king_kind Bishop e = cc
+king_kind Knight e = cc
+king_kind Pawn e = cc
+
+own_side : (s t : Side) → is_same_side s t ≡ true → t ≡ s
+own_side White White e = refl
+own_side White Black e = cc
+own_side Black White e = cc
+own_side Black Black e = refl
+
+king_from : (side : Side) (o : Option Man) → is_king_of side o ≡ true → o ≡ king_of side
+king_from side None e = absurd (false≢true e)
+king_from side (Some u) e = let w = and_parts _ _ e in λ i. Some (record { side = own_side side u.side w.1 i; kind = king_kind u.kind w.0 i })
+
+-- the square of a number
+numbered : (g : Game) (n : ℕ) → n < squares_of g → (s : Place) × IsOnBoard g s × (square_number g s ≡ n)
+numbered LosAlamos n h = (record { file = n % 6; rank = n / 6 }, record { file = omega arith; rank = omega arith }, omega arith)
+numbered Gardner n h = (record { file = n % 5; rank = n / 5 }, record { file = omega arith; rank = omega arith }, omega arith)
+
+off_board : (g : Game) (o : Option Man) (n : ℕ) (u : Man) → IfSome o (MayStandOn g n) → o ≡ Some u → n < squares_of g
+off_board g None n u m e = cc
+off_board g (Some v) n u m e = m.on_board
+
+pub no_kingless : (b : PlainBoard) → IsPosition b → (side : Side) → ((i : ℕ) → IsCell b.game i → unit_at b (place_in i) ≡ king_of side → ⊥) → ⊥
+no_kingless b is side none =
+    let all : take (length b.units) b.units ≡ b.units = take_all (length b.units) b.units (omega arith) in
+    let zeroed = none_counted (is_king_of side) b.units (length b.units) (λ i h. false_from_ne_true _ (λ e. nowhere i (king_from side (unit_on b i) e))) (omega arith) in
+    omega (arith, (is.armies side).king, rw all at zeroed)
+  where
+    nowhere : (n : ℕ) → unit_on b n ≡ king_of side → ⊥
+    nowhere n e =
+        let s = numbered b.game n (off_board b.game (unit_on b n) n _ (is.squares n) e) in
+        none (cell_of s.0) (IsCell-cell_of b.game s.0 s.1) (ap (unit_at b) (place_in-cell_of b.game s.0 s.1) ∙ ap (unit_on b) s.2 ∙ e)
+
+-- ---- the king after a move
+
+no_promotion : (o : Option Kind) (k : Kind) (P : Type 0) → k ≡ King → (IsSome o → k ≡ Pawn) → unwrap_or o k ≡ King
+no_promotion None k P e f = e
+no_promotion (Some q) k P e f = cc (sym e ∙ f refl)
+
+module _ (b : PlainBoard) (m : Ply) (u : Man) (is : IsPosition b) (p : IsPseudoLegal b m u) where
+  -- a king that moves stands on the to-square
+  pub king_moved : u.kind ≡ King → unit_at (after b m u) m.to ≡ king_of u.side
+  king_moved e = unit_at-to b m u is p ∙ λ i. Some (record { side = u.side; kind = no_promotion m.promotion u.kind ⊥ e (λ s. (p.named.0 s).0) i })
+
+  -- and one that doesn't stays
+  pub king_stays : (k : Place) → IsOnBoard b.game k → unit_at b k ≡ king_of b.mover → (u.kind ≡ King → ⊥) → unit_at (after b m u) k ≡ king_of u.side
+  king_stays k on king other =
+      unit_at-other b m u is p k on
+      (λ e. other (ap (λ (x : Man). x.kind) (same_Some u _ (sym p.stands ∙ ap (unit_at b) (sym e) ∙ king))))
+      (λ e. p.no_king (taken (unit_at b m.to) (ap (unit_at b) (sym e) ∙ king)))
+      ∙ king ∙ ap king_of (sym p.owner)
+    where
+      taken : (o : Option Man) → o ≡ king_of b.mover → IsSomeKing o
+      taken None e = cc
+      taken (Some v) e = ap (λ (x : Man). x.kind) (same_Some v _ e)
+
+-- ---- lawful moves among those that reach a square
+
+module _ (b : PlainBoard) (m : Ply) (u : Man) (stands : unit_at b m.from ≡ Some u) where
+  same_unit : (v : Man) → IsPseudoLegal b m v → v ≡ u
+  same_unit v p = same_Some v u (sym p.stands ∙ stands)
+
+  -- a pseudo-legal move is lawful where it leaves the king safe
+  pub lawful_if_safe : (r : Bool) → IsPseudoLegal b m u → (IsTrue r ↔ (IsInCheck (after b m u) b.mover → ⊥)) → IsTrue r ↔ IsLawful b m
+  lawful_if_safe r p safe = (
+    λ e. (after b m u, record { unit = u; pseudo = p; leads = refl; safe = safe.0 e }),
+    λ (q, move). safe.1 (λ check. move.safe (subst (λ x. IsInCheck x b.mover) (ap (after b m) (sym (same_unit move.unit move.pseudo)) ∙ sym move.leads) check)),
+  )
+
+  -- a move onto a king, or one that names its promotion badly, is no lawful one
+  pub not_onto_king : IsSomeKing (unit_at b m.to) → IsLawful b m → ⊥
+  not_onto_king there (q, move) = move.pseudo.no_king there
+
+  pub promotes_well : IsLawful b m → (IsSome m.promotion ↔ Promotes b.game u m.to) × IfSome m.promotion (IsPromotion b.game)
+  promotes_well (q, move) = (subst (λ v. IsSome m.promotion ↔ Promotes b.game v m.to) (same_unit move.unit move.pseudo) move.pseudo.named, move.pseudo.allowed)
+
+-- no attack on the king is no check
+pub not_attacked_safe : (r : Bool) (q : PlainBoard) (side : Side) → (IsTrue r ↔ IsInCheck q side) → IsTrue (not r) ↔ (IsInCheck q side → ⊥)
+not_attacked_safe true q side h = (λ no. absurd (false≢true no), λ safe. absurd (safe (h.0 refl)))
+not_attacked_safe false q side h = (λ _ check. false≢true (h.1 check), λ _. refl)

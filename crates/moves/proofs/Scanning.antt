@@ -1,0 +1,169 @@
+-- The list of a unit's moves as its cells are read from the lowest on.
+use Rattle.std.proofs.Common.{◌≡◌, ◌≢◌, ℕ, ◌+◌, ◌-◌, ◌*◌, ◌^◌, ◌%◌, ◌<◌, ◌≤◌, w64, zero, suc, refl, sym, ap, subst, ◌∙◌, arith, ◌⊎◌, inl, inr, ◌↔◌, List, length, Option, Some}
+use Rattle.std.specs.Int.{bit_at, bit_not}
+use Rattle.std.specs.Int.RustNames.{bit_and}
+use Rattle.std.proofs.lemmas.Bool.{cases_eq, cases_lt, cases_order}
+use Rattle.std.proofs.lemmas.Nat.{and_le_l}
+use Rattle.std.proofs.lemmas.Nat.Bits.{bit_at-zero, bit_at_above, bit_at_clear_same, bit_at_clear_other}
+use Rattle.std.proofs.lemmas.Option.{same_Some}
+use Rattle.board.specs.declared.game.Game.{Game}
+use Rattle.board.specs.declared.game.Game.TheVariants.{LosAlamos, Gardner}
+use Rattle.board.specs.declared.game.Kind.TheVariants.{Pawn}
+use Rattle.board.specs.declared.game.Unit.{Unit as Man}
+use Rattle.board.specs.Games.{width_of, squares_of}
+use Rattle.board.specs.Board.{PlainBoard}
+use Rattle.moves.specs.Squares.{Place, Ply, IsOnBoard, square_number, unit_at}
+use Rattle.moves.specs.Reach.{Reaches}
+use Rattle.moves.specs.Moves.{IsLawful}
+use Rattle.moves.specs.Listing.{ListsBelow, ply_number}
+use Rattle.moves.specs.Mailbox.{cell_of, place_in, IsCell}
+use Rattle.moves.specs.Targets.{Has, IsTarget}
+use Rattle.moves.proofs.Cells.{IsCell-cell_of, place_in-cell_of, cell_small}
+use Rattle.moves.proofs.Listed.{same_number, number_within}
+use Rattle.moves.proofs.Lists.{ListsBelow-jump, ListsBelow-all_to, IsNumbered-lawful, HasParts-lawful, within_board, reaches_from}
+use Rattle.moves.proofs.Room.{share, share-more, share-most, share-step, squares_36}
+
+-- cells are ordered as their squares' numbers are
+cell_order : (g : Game) (i j : ℕ) → IsCell g i → IsCell g j → square_number g (place_in i) < square_number g (place_in j) → i < j
+cell_order LosAlamos i j a b h = let x = a.on_board.file in let y = b.on_board.file in let p = a.above in let q = b.above in omega arith
+cell_order Gardner i j a b h = let x = a.on_board.file in let y = b.on_board.file in let p = a.above in let q = b.above in omega arith
+
+number_order : (g : Game) (i j : ℕ) → IsCell g i → IsCell g j → i < j → square_number g (place_in i) < square_number g (place_in j)
+number_order LosAlamos i j a b h = let x = a.on_board.file in let y = b.on_board.file in let p = a.above in let q = b.above in omega arith
+number_order Gardner i j a b h = let x = a.on_board.file in let y = b.on_board.file in let p = a.above in let q = b.above in omega arith
+
+-- the squares numbered below `upto` are done, and the set has the targets from there on
+pub record IsScanned (b : PlainBoard) (u : Man) (from : Place) (set : ℕ) (moves : List Ply) (before now : ℕ) : Type 0 where
+  pub fits : set < 2 ^ 64
+  pub upto : ℕ
+  pub within : upto ≤ squares_of b.game
+  pub left : (i : ℕ) → Has set i ↔ (IsTarget b u from i × (upto ≤ square_number b.game (place_in i)))
+  pub lists : ListsBelow b ((square_number b.game from * 36 + upto) * 5) moves
+  pub few : now ≤ before + share b.game u from upto
+
+module _ (b : PlainBoard) (u : Man) (from : Place) (on : IsOnBoard b.game from) (stands : unit_at b from ≡ Some u) where
+  pub IsScanned-start : (set : ℕ) (moves : List Ply) (n : ℕ) → set < 2 ^ 64 → ((i : ℕ) → Has set i ↔ IsTarget b u from i) → ListsBelow b (square_number b.game from * 36 * 5) moves → IsScanned b u from set moves n n
+  IsScanned-start set moves n fits targets lists =
+      let same : square_number b.game from * 36 * 5 ≡ (square_number b.game from * 36 + 0) * 5 = omega arith in
+      record {
+        fits = fits;
+        upto = 0;
+        within = omega arith;
+        left = λ i. (λ h. ((targets i).0 h, omega arith), λ h. (targets i).1 h.0);
+        lists = subst (λ k. ListsBelow b k moves) same lists;
+        few = omega arith;
+      }
+
+  -- up to the next target no move of the unit is lawful
+  skip : (set : ℕ) (moves : List Ply) (n k low : ℕ) (s : IsScanned b u from set moves n k) (to : ℕ) → s.upto ≤ to → to ≤ squares_of b.game → ((i : ℕ) → IsCell b.game i → square_number b.game (place_in i) < to → Has set i → ⊥)
+      → ListsBelow b ((square_number b.game from * 36 + to) * 5) moves
+  skip set moves n k low s to more within none =
+      ListsBelow-jump b _ _ moves (omega (arith, more)) s.lists (λ m above below l.
+      let parts = HasParts-lawful b m l in
+      let small = squares_36 b.game in
+      let f : square_number b.game m.from ≡ square_number b.game from = omega (arith, parts.to, parts.promotion, above, below, s.within, within, small) in
+      let t : s.upto ≤ square_number b.game m.to = omega (arith, parts.to, parts.promotion, above, below, f) in
+      let t' : square_number b.game m.to < to = omega (arith, parts.to, parts.promotion, above, below, f) in
+      let numbered = IsNumbered-lawful b m l in
+      let same_from : m.from ≡ from = same_number b.game m.from from numbered.from on f in
+      let cell = IsCell-cell_of b.game m.to numbered.to in
+      let at : place_in (cell_of m.to) ≡ m.to = place_in-cell_of b.game m.to numbered.to in
+      let reached : Reaches b u from (place_in (cell_of m.to)) (unit_at b (place_in (cell_of m.to))) = subst (λ x. Reaches b u from x (unit_at b x)) (sym at) (reaches_from b u from stands m l same_from) in
+      none (cell_of m.to) cell (subst (λ x. square_number b.game x < to) (sym at) t')
+      ((s.left (cell_of m.to)).1 ((cell, reached), subst (λ x. s.upto ≤ square_number b.game x) (sym at) t)))
+
+  share-jump : (n k : ℕ) → share b.game u from n ≤ share b.game u from (n + k)
+  share-jump n zero = let same : n ≡ n + 0 = omega arith in subst (λ x. share b.game u from n ≤ share b.game u from x) same (omega arith)
+  share-jump n (suc k) =
+      let step = share-more b.game u from (n + k) in
+      let same : (n + k) + 1 ≡ n + suc k = omega arith in
+      subst (λ x. share b.game u from n ≤ share b.game u from x) same (omega (arith, step, share-jump n k))
+
+  share-up : (n k : ℕ) → n ≤ k → share b.game u from n ≤ share b.game u from k
+  share-up n k h = let same : n + (k - n) ≡ k = omega arith in subst (λ x. share b.game u from n ≤ share b.game u from x) same (share-jump n (k - n))
+
+  -- the lowest cell of the set is the next target
+  module _ (set : ℕ) (moves : List Ply) (n k : ℕ) (s : IsScanned b u from set moves n k) (to : ℕ) (has : Has set to) (low : (i : ℕ) → i < to → bit_at set i ≡ 0) where
+    pub next_target : IsTarget b u from to
+    next_target = ((s.left to).0 has).0
+
+    pub next_lists : ListsBelow b ((square_number b.game from * 36 + square_number b.game (place_in to)) * 5) moves
+    next_lists =
+        let from_upto = ((s.left to).0 has).1 in
+        let within = number_within b.game (place_in to) next_target.0.on_board in
+        skip set moves n k 0 s (square_number b.game (place_in to)) from_upto (omega (arith, within))
+        (λ i c less h. let at = low i (cell_order b.game i to c next_target.0 less) in omega (arith, h, at))
+
+    pub next_room : k + 5 ≤ n + 41
+    next_room =
+        let most = share-most b.game u from s.upto s.within in
+        omega (arith, s.few, most)
+
+    -- once its moves are listed the rest is left
+    pub IsScanned-more : (rest : ℕ) (more : List Ply) (now : ℕ) → rest < set → bit_at rest to ≡ 0 → ((i : ℕ) → i < 64 → i ≢ to → bit_at rest i ≡ bit_at set i) → now ≤ k + 5 → ((u.kind ≡ Pawn → ⊥) → now ≤ k + 1)
+        → ListsBelow b ((square_number b.game from * 36 + square_number b.game (place_in to) + 1) * 5) more
+        → IsScanned b u from rest more n now
+    IsScanned-more rest more now less gone others five one lists =
+        let number = square_number b.game (place_in to) in
+        let upto_number = ((s.left to).0 has).1 in
+        let in_game = number_within b.game (place_in to) next_target.0.on_board in
+        let step = share-step b u from (place_in to) _ number k now next_target.1 next_target.0.on_board refl five one in
+        let up = share-up s.upto number upto_number in
+        let same : (square_number b.game from * 36 + number + 1) * 5 ≡ (square_number b.game from * 36 + (number + 1)) * 5 = omega arith in
+        record {
+          fits = omega (arith, less, s.fits);
+          upto = number + 1;
+          within = omega (arith, in_game);
+          left = λ i. (λ h. kept i (narrow i h) h, λ t. again i t.0 t.1);
+          lists = subst (λ x. ListsBelow b x more) same lists;
+          few = omega (arith, s.few, step, up);
+        }
+      where
+        narrow : (i : ℕ) → Has rest i → i < 64
+        narrow i h = elim (cases_lt i 64) [
+          | inl less' ↦ less'
+          | inr more' ↦ let zeroed = bit_at_above rest 64 i (omega (arith, less, s.fits)) more' in absurd (omega (arith, h, zeroed))
+        ]
+
+        not_lowest : (i : ℕ) → Has rest i → i ≢ to
+        not_lowest i h e = let here : bit_at rest to ≡ 1 = subst (λ x. bit_at rest x ≡ 1) e h in omega (arith, gone, here)
+
+        kept : (i : ℕ) → i < 64 → Has rest i → IsTarget b u from i × (square_number b.game (place_in to) + 1 ≤ square_number b.game (place_in i))
+        kept i small h =
+            let there : bit_at set i ≡ 1 = sym (others i small (not_lowest i h)) ∙ h in
+            let target = (s.left i).0 there in
+            let above : to < i = elim (cases_order i to) [
+              | inl same ↦ absurd (not_lowest i h same)
+              | inr (inl below) ↦ let at = low i below in absurd (omega (arith, at, there))
+              | inr (inr more') ↦ more'
+            ] in
+            let later = number_order b.game to i next_target.0 target.0.0 above in
+            (target.0, omega (arith, later))
+
+        again : (i : ℕ) → IsTarget b u from i → square_number b.game (place_in to) + 1 ≤ square_number b.game (place_in i) → Has rest i
+        again i t later =
+            let upto_number = ((s.left to).0 has).1 in
+            let small = cell_small b.game i t.0 in
+            let other : i ≢ to = λ e. let same : square_number b.game (place_in i) ≡ square_number b.game (place_in to) = ap (λ x. square_number b.game (place_in x)) e in omega (arith, later, same) in
+            others i (omega (arith, small)) other ∙ (s.left i).1 (t, omega (arith, upto_number, later))
+
+  -- an empty set leaves nothing to list
+  pub IsScanned-end : (set : ℕ) (moves : List Ply) (n k : ℕ) → set ≡ 0 → IsScanned b u from set moves n k → ListsBelow b ((square_number b.game from + 1) * 36 * 5) moves × (k ≤ n + 36)
+  IsScanned-end set moves n k none s =
+      let all = skip set moves n k 0 s (squares_of b.game) s.within (omega arith)
+          (λ i c less h. let zeroed = bit_at-zero i in let there : bit_at 0 i ≡ 1 = subst (λ x. bit_at x i ≡ 1) none h in omega (arith, zeroed, there)) in
+      (ListsBelow-all_to b (square_number b.game from) (squares_of b.game) moves (omega arith) (squares_36 b.game) all,
+        (let most = share-most b.game u from s.upto s.within in omega (arith, s.few, most)))
+
+-- a set without its lowest cell is less
+pub less_cleared : (set to : ℕ) → to < 64 → bit_at set to ≡ 1 → bit_and set (bit_not w64 (1 * 2 ^ to % 2 ^ 64)) < set
+less_cleared set to wide has =
+    let le = and_le_l set (bit_not w64 (1 * 2 ^ to % 2 ^ 64)) in
+    let gone = bit_at_clear_same w64 set to wide in
+    elim (cases_lt (bit_and set (bit_not w64 (1 * 2 ^ to % 2 ^ 64))) set) [
+      | inl less ↦ less
+      | inr more ↦
+          let same : bit_and set (bit_not w64 (1 * 2 ^ to % 2 ^ 64)) ≡ set = omega (arith, le, more) in
+          let here : bit_at (bit_and set (bit_not w64 (1 * 2 ^ to % 2 ^ 64))) to ≡ 1 = ap (λ x. bit_at x to) same ∙ has in
+          absurd (omega (arith, gone, here))
+    ]

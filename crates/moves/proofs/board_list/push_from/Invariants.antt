@@ -1,0 +1,11 @@
+use Rattle.arrayvec.specs.ArrayVec.{array_vec_len}
+use Rattle.moves.proofs.Scanning.{IsScanned}
+use Rattle.moves.proofs.board_list.push_from.Given as given
+
+-- the cells so far are read, and their moves listed
+abbrev pub invariant-cells : given.invariant-cells
+invariant-cells l = IsScanned l.mail l.unit l.from l.left l.moves.items (array_vec_len l.fn.moves) (array_vec_len l.moves)
+
+-- each turn takes the lowest cell away
+abbrev pub decreases-cells : given.decreases-cells
+decreases-cells l = l.left

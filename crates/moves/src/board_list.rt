@@ -1,0 +1,204 @@
+//! The lawful moves of a board, by the cells that each unit reaches.
+ghost use Rattle.std.specs.Prelude.{◌≡◌, ◌≤◌, ◌+◌, ◌*◌, ◌<◌, ◌↔◌, IsTrue, Some, MatchOption, true, false};
+ghost use Rattle.arrayvec.specs.ArrayVec.{array_vec_len};
+ghost use Rattle.board.specs.declared.game.Kind.TheVariants.{King, Pawn};
+ghost use Rattle.board.specs.Board.{IsPosition, unit_on, is_of_side};
+ghost use Rattle.board.specs.Games.{squares_of};
+ghost use Rattle.moves.specs.Squares.{IsOnBoard, square_number, unit_at};
+ghost use Rattle.moves.specs.Reach.{Reaches, IsInCheck};
+ghost use Rattle.moves.specs.Moves.{IsPseudoLegal, IsLawful, after};
+ghost use Rattle.moves.specs.Order.{ListsLawful};
+ghost use Rattle.moves.specs.Listing.{ListsBelow};
+ghost use Rattle.moves.specs.Mailbox.{place_in, IsCell};
+ghost use Rattle.moves.specs.Lines.{IsInLine};
+ghost use Rattle.moves.specs.Guard.{Guards};
+
+use crate::list::PROMOTIONS;
+use crate::look::{king_attacked, king_cell};
+use crate::mailbox::{Mailbox, cell_of, square_in};
+use crate::packed::Board;
+use crate::plies::{Move, is_king, is_promoted_well};
+use crate::squares::Square;
+use crate::targets::{lowest, targets, without};
+use arrayvec::ArrayVec;
+use board::{Kind, Unit};
+
+/// What the mover's king asks of each move: the cell where it stands, and whether it is in check.
+#[derive(Clone, Copy)]
+pub(crate) struct Guard {
+    king: u8,
+    checked: bool,
+}
+
+/// Whether the squares stand on one file, rank or diagonal.
+fn in_line(s: Square, t: Square) -> bool
+    ensures { IsTrue result ↔ IsInLine s t }
+{
+    s.file == t.file
+        || s.rank == t.rank
+        || s.file + t.rank == t.file + s.rank
+        || s.file + s.rank == t.file + t.rank
+}
+
+/// The cell of the mover's king after the move.
+fn king_after(mail: &Mailbox, guard: Guard, m: Move, unit: Unit) -> u8
+    requires position { IsPosition mail.now }
+    requires guards { Guards mail.now guard }
+    requires pseudo { IsPseudoLegal mail.now m unit }
+    ensures cell { IsCell mail.now.game result }
+    ensures king { unit_at (after mail.now m unit) (place_in result) ≡ Some (record { side = unit.side; kind = King }) }
+{
+    if is_king(Some(unit)) {
+        return cell_of(m.to);
+    }
+    guard.king
+}
+
+/// Whether the move leaves the mover's king out of check.
+fn is_safe(mail: &Mailbox, guard: Guard, m: Move, unit: Unit) -> bool
+    requires position { IsPosition mail.now }
+    requires guards { Guards mail.now guard }
+    requires pseudo { IsPseudoLegal mail.now m unit }
+    ensures { IsTrue result ↔ (IsInCheck (after mail.now m unit) mail.now.mover → ⊥) }
+{
+    if !guard.checked && !is_king(Some(unit)) && !in_line(m.from, square_in(guard.king)) {
+        return true;
+    }
+    let king = king_after(mail, guard, m, unit);
+    !king_attacked(&mail.moved(m, unit), king, unit.side)
+}
+
+/// Whether a move to a square that the unit reaches is lawful.
+fn is_lawful_to(mail: &Mailbox, guard: Guard, m: Move, unit: Unit, target: Option<Unit>) -> bool
+    requires position { IsPosition mail.now }
+    requires guards { Guards mail.now guard }
+    requires on_board { IsOnBoard mail.now.game m.from }
+    requires stands { unit_at mail.now m.from ≡ Some unit }
+    requires owner { unit.side ≡ mail.now.mover }
+    requires target { target ≡ unit_at mail.now m.to }
+    requires reaches { Reaches mail.now unit m.from m.to (unit_at mail.now m.to) }
+    ensures { IsTrue result ↔ IsLawful mail.now m }
+{
+    if is_king(target) {
+        return false;
+    }
+    if !is_promoted_well(mail.game(), unit, m) {
+        return false;
+    }
+    is_safe(mail, guard, m, unit)
+}
+
+/// Adds the lawful moves of the unit to a square that it reaches, on which `target` stands.
+fn push_to(
+    mail: &Mailbox,
+    guard: Guard,
+    unit: Unit,
+    from: Square,
+    to: Square,
+    target: Option<Unit>,
+    moves: &mut ArrayVec<Move, 512>,
+)
+    requires position { IsPosition mail.now }
+    requires guards { Guards mail.now guard }
+    requires from_on_board { IsOnBoard mail.now.game from }
+    requires to_on_board { IsOnBoard mail.now.game to }
+    requires stands { unit_at mail.now from ≡ Some unit }
+    requires owner { unit.side ≡ mail.now.mover }
+    requires target { target ≡ unit_at mail.now to }
+    requires reaches { Reaches mail.now unit from to (unit_at mail.now to) }
+    requires room { array_vec_len moves.old + 5 ≤ 512 }
+    requires before { ListsBelow mail.now ((square_number mail.now.game from * 36 + square_number mail.now.game to) * 5) moves.old.items }
+    ensures after { ListsBelow mail.now ((square_number mail.now.game from * 36 + square_number mail.now.game to + 1) * 5) moves.new.items }
+    ensures few { array_vec_len moves.new ≤ array_vec_len moves.old + 5 }
+    ensures one { (unit.kind ≡ Pawn → ⊥) → array_vec_len moves.new ≤ array_vec_len moves.old + 1 }
+{
+    for promotion in &PROMOTIONS {
+        let m = Move {
+            from,
+            to,
+            promotion: *promotion,
+        };
+        if is_lawful_to(mail, guard, m, unit, target) {
+            moves.push(m);
+        }
+    }
+}
+
+/// Adds the lawful moves of the unit on the square.
+fn push_from(
+    mail: &Mailbox,
+    guard: Guard,
+    unit: Unit,
+    from: Square,
+    moves: &mut ArrayVec<Move, 512>,
+)
+    requires position { IsPosition mail.now }
+    requires guards { Guards mail.now guard }
+    requires on_board { IsOnBoard mail.now.game from }
+    requires stands { unit_at mail.now from ≡ Some unit }
+    requires owner { unit.side ≡ mail.now.mover }
+    requires room { array_vec_len moves.old + 41 ≤ 512 }
+    requires before { ListsBelow mail.now (square_number mail.now.game from * 36 * 5) moves.old.items }
+    ensures after { ListsBelow mail.now ((square_number mail.now.game from + 1) * 36 * 5) moves.new.items }
+    ensures few { array_vec_len moves.new ≤ array_vec_len moves.old + 36 }
+{
+    let mut left = targets(mail, unit, cell_of(from));
+    'cells: while left != 0 {
+        let cell = lowest(left);
+        left = without(left, cell);
+        let target = mail.unit_in(cell);
+        push_to(mail, guard, unit, from, square_in(cell), target, moves);
+    }
+}
+
+/// The unit on a square, if it is the mover's.
+fn own_unit(mail: &Mailbox, number: u8) -> Option<Unit>
+    requires { number < squares_of mail.now.game }
+    ensures { MatchOption result
+        (is_of_side mail.now.mover (unit_on mail.now number) ≡ false)
+        (λ u. (unit_on mail.now number ≡ Some u) × (u.side ≡ mail.now.mover) × (is_of_side mail.now.mover (unit_on mail.now number) ≡ true)) }
+{
+    let unit = mail.unit_on(number)?;
+    if unit.side == mail.mover() {
+        Some(unit)
+    } else {
+        None
+    }
+}
+
+/// The lawful moves, in order.
+pub fn lawful_on(board: &Board) -> ArrayVec<Move, 512>
+    ensures { ListsLawful board.now result.items }
+{
+    let mail = Mailbox::of(board);
+    let guard = guard_of(&mail);
+    let game = mail.game();
+    let mut moves = ArrayVec::new();
+    for number in 0..game.squares() {
+        if let Some(unit) = own_unit(&mail, number) {
+            push_from(
+                &mail,
+                guard,
+                unit,
+                Square::of_number(game, number),
+                &mut moves,
+            );
+        }
+    }
+    moves
+}
+
+/// Where the mover's king stands, and whether it is in check.
+fn guard_of(mail: &Mailbox) -> Guard
+    requires { IsPosition mail.now }
+    ensures { Guards mail.now result }
+{
+    let side = mail.mover();
+    let Some(king) = king_cell(mail, side) else {
+        unreachable!()
+    };
+    Guard {
+        king,
+        checked: king_attacked(mail, king, side),
+    }
+}
