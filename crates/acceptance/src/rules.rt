@@ -1,6 +1,8 @@
 //! Squares, checks and lawful moves: each call once, with lists worked out by hand.
 use board::{FenFault, Game, Position, Side, fen_text};
-use moves::{Move, Square, apply, forced_mate_laws, in_check, is_lawful, lawful, read_sound, sound};
+use moves::{
+    Move, Square, apply, forced_mate_laws, in_check, is_lawful, lawful, ray, read_sound, sound,
+};
 use std::alloc::{AllocError, Global};
 use std::process::Abort;
 use std::test::Fail;
@@ -91,4 +93,16 @@ fn makes_moves(rt: HostRuntime) {
         promotion: None,
     };
     assert!(rt; !is_lawful(&before, stays));
+}
+
+#[test]
+fn follows_rays(rt: HostRuntime) {
+    for (game, square, dx, dy, squares) in [
+        (Game::LosAlamos, 0, 1, 1, [7, 14, 21, 28, 35].as_slice()),
+        (Game::LosAlamos, 2, -1, 1, [7, 12].as_slice()),
+        (Game::Gardner, 0, 1, 1, [6, 12, 18, 24].as_slice()),
+        (Game::Gardner, 24, 1, 0, [].as_slice()),
+    ] {
+        assert_eq!(rt; ray(game, square, dx, dy).as_slice(), squares);
+    }
 }

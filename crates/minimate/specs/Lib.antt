@@ -1,0 +1,7 @@
+pub mod Device
+pub mod Refusal
+pub mod Output
+pub mod Outcome
+pub mod Run
+pub mod Program
+pub mod Words

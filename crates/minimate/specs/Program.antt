@@ -1,0 +1,34 @@
+-- The commands, as `clap` reads them.
+use Rattle.std.specs.Prelude.{Some, true, codes, pos}
+use Rattle.clap.specs.Words.{App, Rule, new_app, new_rule, with_rule, with_subcommand}
+use Rattle.clap.specs.declared.builder.value_parser.ValueParser.TheVariants as parser
+
+-- one word that must be there
+abbrev pub fen_rule : Rule
+fen_rule = record (new_rule (codes "FEN")) { required = true }
+
+-- a number of 32 bits after `--limit`, which must be there
+abbrev pub limit_rule : Rule
+limit_rule = record (new_rule (codes "limit")) {
+  long = Some (codes "limit");
+  value_names = 1;
+  parser = Some (parser.Signed (pos 0) (pos 4294967295));
+  required = true;
+}
+
+-- `solve --limit N FEN`
+abbrev pub solve_app : App
+solve_app = with_rule (with_rule (new_app (codes "solve")) limit_rule) fen_rule
+
+-- `moves FEN`
+abbrev pub moves_app : App
+moves_app = with_rule (new_app (codes "moves")) fen_rule
+
+-- the program without its commands
+abbrev pub bare_app : App
+bare_app = let new = new_app (codes "minimate") in
+    record new { top = record new.top { has_version = true; subcommand_required = true } }
+
+-- the program, whose first word is one of its commands
+abbrev pub program : App
+program = with_subcommand (with_subcommand bare_app solve_app.top) moves_app.top

@@ -1,0 +1,46 @@
+//! The texts of the program's help.
+
+pub const PROGRAM: &str =
+    "Finds forced mates in Los Alamos chess (6 by 6) and in Gardner minichess (5 by 5)";
+
+pub const PROGRAM_NOTES: &str = "\
+Exit status:
+  0  answered
+  1  refused; the output says why, as `refused: Kings`
+  2  the words are no command, or they ask for help
+  3  out of memory; the output is `refused: NoMemory`
+  4  the output could not be written
+
+Example:
+  minimate solve --limit 1 'k5/6/1K4/6/6/5R w'";
+
+pub const SOLVE: &str = "Find the fewest plies to mate and the first move";
+
+pub const SOLVE_NOTES: &str = "\
+The side to move attacks. The output is `mate 1 f1f6`, the fewest plies within which it forces mate
+and the least first move that keeps them, or `none within 1`. `minimate --help` lists the exit
+statuses.
+
+Example:
+  minimate solve --limit 1 'k5/6/1K4/6/6/5R w'";
+
+pub const MOVES: &str = "List the lawful moves";
+
+pub const MOVES_NOTES: &str = "\
+Each move has a line of its own: the square it leaves, the square it comes to, and for a promotion
+q, r, b or n, as `c5c6q`. They are ordered by the first square, the second, and the promotion in
+that order; squares go by ranks, a1, b1 and so on. `minimate --help` lists the exit statuses.
+
+Example:
+  minimate moves 'rnqknr/pppppp/6/6/PPPPPP/RNQKNR w'";
+
+pub const FEN: &str = "\
+The position as one word, so quote it: the ranks from the last one down, with / between
+them, then a space and w or b, the side to move. A rank goes from the a-file: K Q R B N P
+are White's units, k q r b n p Black's, and a digit is a run of empty squares. Six ranks
+of six are Los Alamos chess, five of five Gardner minichess.
+'k5/6/1K4/6/6/5R w': Black's king on a6, White's on b4, White's rook on f1, White to move.";
+
+pub const LIMIT: &str = "\
+The most plies to mate, 1 to 63; so far 1 alone is searched.
+A ply is one move of one side.";

@@ -1,0 +1,25 @@
+//! A command line that was read.
+
+/// A command and the position that it is about.
+#[derive(Clone, Copy)]
+pub struct Line<'a> {
+    /// The position's text.
+    pub fen: &'a [u8],
+    pub action: Action,
+}
+
+/// A command with its values.
+#[derive(Clone, Copy)]
+pub enum Action {
+    /// The fewest plies to mate, and the first move.
+    Solve(Limits),
+    /// Each lawful move.
+    Moves,
+}
+
+/// How far to search, as the command line has it: any number that it can name.
+#[derive(Clone, Copy)]
+pub struct Limits {
+    /// The most plies to mate.
+    pub limit: u32,
+}

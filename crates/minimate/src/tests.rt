@@ -1,0 +1,247 @@
+//! Whole runs over devices in memory: worked positions, refusals, and devices that fail.
+ghost use Rattle.std.specs.Prelude.{◌≡◌, None, Some, IfOk};
+
+use crate::device::{Counted, Failed, Sink, Source};
+use crate::run::run;
+use std::alloc::{AllocError, Global};
+use std::process::Abort;
+use std::test::Fail;
+
+const START: &str = "rnqknr/pppppp/6/6/PPPPPP/RNQKNR w";
+
+const START_MOVES: &str = "b1a3\nb1c3\ne1d3\ne1f3\na2a3\nb2b3\nc2c3\nd2d3\ne2e3\nf2f3\n";
+
+const ROOK_MATES: &str = "k5/6/1K4/6/6/5R w";
+
+// Queen and rook both mate on the last rank.
+const PAWN_MATES: &str = "k4/2P2/1K3/5/5 w";
+
+const STALEMATED: &str = "k5/2Q3/6/6/6/5K b";
+
+const OTHER_IN_CHECK: &str = "k4R/6/1K4/6/6/6 w";
+
+/// A reader that fails at once.
+#[derive(Drop)]
+struct Failing {
+    failures: u64,
+}
+
+impl Source for Failing {
+    ghost remaining = { λ _. None };
+
+    ghost failures = { λ reader. reader.failures };
+
+    fn read(&mut self, _buffer: &mut [u8]) -> Result<usize, Failed> {
+        self.failures += 1;
+        Err(Failed)
+    }
+}
+
+/// A writer that takes at most `most` bytes a call, and `left` in all, and then fails.
+#[derive(Drop)]
+struct Dripping {
+    taken: Vec<u8>,
+    most: usize,
+    left: usize,
+    failures: u64,
+}
+
+impl Dripping {
+    fn new(alloc: Global, most: usize, left: usize) -> Result<Dripping, AllocError>
+        ensures { IfOk result (λ writer. writer.failures ≡ 0) }
+    {
+        Ok(Dripping {
+            taken: Vec::with_capacity(alloc, 100)?,
+            most,
+            left,
+            failures: 0,
+        })
+    }
+}
+
+impl Sink for Dripping {
+    ghost contents = { λ writer. Some writer.taken.items };
+
+    ghost failures = { λ writer. writer.failures };
+
+    fn write(&mut self, bytes: &[u8]) -> Result<usize, Failed> {
+        let count = self.left.min(self.most).min(bytes.len());
+        if count == 0 || self.taken.extend_from_slice(&bytes[..count]).is_err() {
+            self.failures += 1;
+            return Err(Failed);
+        }
+        self.left -= count;
+        Ok(count)
+    }
+}
+
+/// A writer that takes no byte and reports no error.
+#[derive(Drop)]
+struct Deaf;
+
+impl std::io::Write for Deaf {
+    ghost contents = { λ _. None };
+
+    fn write(&mut self, _bytes: &[u8]) -> std::io::Result<usize> {
+        Ok(0)
+    }
+
+    fn flush(&mut self) -> std::io::Result<()> {
+        Ok(())
+    }
+}
+
+/// Runs the words, and expects a status and an output.
+fn expect<R: Abort + AllocGlobal>(rt: &R, words: &[&str], status: u8, output: &str) {
+    let mut reader = Counted::new(b"".as_slice());
+    let mut writer = Counted::new(Vec::new(rt.alloc()));
+    let answered = run(rt.alloc(), words, &mut reader, &mut writer);
+    assert_eq!(rt; answered, status);
+    assert_eq!(rt; writer.device.as_slice(), output.as_bytes());
+}
+
+/// Solves within a limit, and expects an output with status 0.
+fn expect_answer<R: Abort + AllocGlobal>(rt: &R, limit: &str, fen: &str, output: &str) {
+    expect(rt, &["minimate", "solve", "--limit", limit, fen], 0, output);
+}
+
+/// Lists the moves, and expects an output with status 0.
+fn expect_moves<R: Abort + AllocGlobal>(rt: &R, fen: &str, output: &str) {
+    expect(rt, &["minimate", "moves", fen], 0, output);
+}
+
+/// Expects both commands to refuse the position, whatever the limit.
+fn expect_refused<R: Abort + AllocGlobal>(rt: &R, fen: &str, output: &str) {
+    expect(rt, &["minimate", "moves", fen], 1, output);
+    expect(rt, &["minimate", "solve", "--limit", "0", fen], 1, output);
+}
+
+/// Expects the words to mean no line: nothing is written.
+fn expect_no_line<R: Abort + AllocGlobal>(rt: &R, words: &[&str]) {
+    expect(rt, words, 2, "");
+}
+
+#[test]
+fn finds_mates_in_one(rt: HostRuntime) {
+    expect_answer(&rt, "1", ROOK_MATES, "mate 1 f1f6\n");
+    expect_answer(&rt, "1", "5r/6/6/1k4/6/K5 b", "mate 1 f6f1\n");
+    expect_answer(&rt, "1", PAWN_MATES, "mate 1 c4c5q\n");
+}
+
+#[test]
+fn finds_no_mate_in_one(rt: HostRuntime) {
+    // Mate takes three plies, and b1b5 is stalemate.
+    expect_answer(&rt, "1", "k5/6/2K3/6/6/1R4 w", "none within 1\n");
+    expect_answer(&rt, "1", STALEMATED, "none within 1\n");
+    // The side to move is mated.
+    expect_answer(&rt, "1", "k4R/6/1K4/6/6/6 b", "none within 1\n");
+    expect_answer(&rt, "1", START, "none within 1\n");
+}
+
+#[test]
+fn lists_moves_in_order(rt: HostRuntime) {
+    expect_moves(&rt, START, START_MOVES);
+    expect_moves(
+        &rt,
+        "rnbqk/ppppp/5/PPPPP/RNBQK w",
+        "b1a3\nb1c3\na2a3\nb2b3\nc2c3\nd2d3\ne2e3\n",
+    );
+    expect_moves(
+        &rt,
+        "k5/2P3/6/6/6/5K w",
+        "f1e1\nf1e2\nf1f2\nc5c6q\nc5c6r\nc5c6n\n",
+    );
+    expect_moves(
+        &rt,
+        PAWN_MATES,
+        "b3a2\nb3b2\nb3c2\nb3a3\nb3c3\nc4c5q\nc4c5r\nc4c5b\nc4c5n\n",
+    );
+    expect_moves(&rt, STALEMATED, "");
+}
+
+#[test]
+fn refuses_positions_by_name(rt: HostRuntime) {
+    expect_refused(&rt, "", "refused: Fields\n");
+    expect_refused(&rt, "k5/6/6/6/6/5K", "refused: Fields\n");
+    expect_refused(&rt, "k5/6/6/6/5K w", "refused: Shape\n");
+    expect_refused(&rt, "k5/6/6/6/6/B4K w", "refused: Letter\n");
+    expect_refused(&rt, "k5/6/33/6/6/5K w", "refused: Run\n");
+    expect_refused(&rt, "k5/6/6/6/6/5K x", "refused: Side\n");
+    expect_refused(&rt, "6/6/6/6/6/5K w", "refused: Kings\n");
+    expect_refused(&rt, "k5/QQQQQQ/QQQQQQ/6/6/K5 w", "refused: Units\n");
+    expect_refused(&rt, "k5/6/6/6/6/P4K w", "refused: PawnRank\n");
+    expect_refused(&rt, OTHER_IN_CHECK, "refused: OtherInCheck\n");
+}
+
+#[test]
+fn refuses_limits(rt: HostRuntime) {
+    // 257 and 4294967295 end in bytes that a limit of 8 bits would have read as 1 and 255.
+    for limit in ["0", "64", "257", "4294967295"] {
+        let words = ["minimate", "solve", "--limit", limit, ROOK_MATES];
+        expect(&rt, &words, 1, "refused: Limit\n");
+    }
+}
+
+#[test]
+fn refuses_words(rt: HostRuntime) {
+    expect_no_line(&rt, &[]);
+    expect_no_line(&rt, &["minimate"]);
+    expect_no_line(&rt, &["minimate", "--help"]);
+    expect_no_line(&rt, &["minimate", "solve", "--help"]);
+    expect_no_line(&rt, &["minimate", "play", START]);
+    expect_no_line(&rt, &["minimate", "moves"]);
+    expect_no_line(&rt, &["minimate", "moves", START, START]);
+    expect_no_line(&rt, &["minimate", "solve", START]);
+    for limit in ["x", "", "-1", "1.0", "4294967296"] {
+        expect_no_line(&rt, &["minimate", "solve", "--limit", limit, START]);
+    }
+}
+
+#[test]
+fn refuses_what_has_not_come(rt: HostRuntime) {
+    expect_no_line(&rt, &["minimate", "check", START]);
+    expect_no_line(&rt, &["minimate", "tree", "--limit", "1", START]);
+    for option in ["--workers", "--slots", "--goal"] {
+        let words = ["minimate", "solve", "--limit", "1", option, "1", START];
+        expect_no_line(&rt, &words);
+    }
+}
+
+#[test]
+fn writes_on_where_a_writer_takes_little(rt: HostRuntime) -> Result<(), Fail> {
+    let words = ["minimate", "moves", START];
+    let mut reader = Counted::new(b"".as_slice());
+    let mut writer = Dripping::new(rt.alloc(), 3, 100)?;
+    let status = run(rt.alloc(), words.as_slice(), &mut reader, &mut writer);
+    assert_eq!(rt; status, 0);
+    assert_eq!(rt; writer.taken.as_slice(), START_MOVES.as_bytes());
+    Ok(())
+}
+
+#[test]
+fn stops_at_a_failed_write(rt: HostRuntime) -> Result<(), Fail> {
+    let words = ["minimate", "solve", "--limit", "1", ROOK_MATES];
+    let mut reader = Counted::new(b"".as_slice());
+    let mut after_four = Dripping::new(rt.alloc(), 100, 4)?;
+    let status = run(rt.alloc(), words.as_slice(), &mut reader, &mut after_four);
+    assert_eq!(rt; status, 4);
+    assert_eq!(rt; after_four.taken.as_slice(), b"mate".as_slice());
+    assert_eq!(rt; after_four.failures, 1);
+
+    let mut deaf = Counted::new(Deaf);
+    let status = run(rt.alloc(), words.as_slice(), &mut reader, &mut deaf);
+    assert_eq!(rt; status, 4);
+    assert_eq!(rt; deaf.failures, 1);
+    Ok(())
+}
+
+#[test]
+fn asks_the_reader_for_nothing(rt: HostRuntime) {
+    let words = ["minimate", "solve", "--limit", "1", ROOK_MATES];
+    let mut reader = Failing { failures: 0 };
+    let mut writer = Counted::new(Vec::new(rt.alloc()));
+    let status = run(rt.alloc(), words.as_slice(), &mut reader, &mut writer);
+    assert_eq!(rt; status, 0);
+    assert_eq!(rt; reader.failures, 0);
+    assert_eq!(rt; writer.device.as_slice(), b"mate 1 f1f6\n".as_slice());
+}
