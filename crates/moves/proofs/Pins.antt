@@ -115,9 +115,6 @@ own_or_other White e = cc
 own_or_other Black e = cc
 
 module _ (b : PlainBoard) (m : Ply) (u : Man) (is : IsPosition b) (p : IsPseudoLegal b m u) (piece : u.kind ≡ King → ⊥) (k : Place) (on : IsOnBoard b.game k) (king : unit_at b k ≡ king_of b.mover) (off : IsInLine m.from k → ⊥) where
-
-
-
   to : IsOnBoard b.game m.to
   to = to_on_board b m u p
 
@@ -130,6 +127,7 @@ module _ (b : PlainBoard) (m : Ply) (u : Man) (is : IsPosition b) (p : IsPseudoL
       | inr apart ↦ sym (unit_at-other b m u is p s o apart far) ∙ e
     ]
   ]
+
   -- a walk to the king after the move was one before it
   walked : (kind : Kind) (side : Side) (step : Step) (s t : Place) → Denotes (terms_of kind) step → t ≡ k → Leads (after b m u) side step s t → Leads b side step s t
   walked kind side step s t denoted e (once o a) = once o a
@@ -152,15 +150,18 @@ module _ (b : PlainBoard) (m : Ply) (u : Man) (is : IsPosition b) (p : IsPseudoL
       let a = check.attacked.1 in
       let stands : unit_at b check.attacked.0 ≡ Some a.unit = stood check.attacked.0 a.unit a.on_board a.stands (λ e. own_or_other b.mover (sym p.owner ∙ sym (ap (λ (x : Man). x.side) e) ∙ a.owner)) in
       let r = a.reaches in
-      check_from b b.mover t check.on_board before (check.attacked.0, record {
-        unit = a.unit;
-        on_board = a.on_board;
-        stands = stands;
-        owner = a.owner;
-        reaches = record {
-          step = r.step;
-          played = r.played;
-          denoted = r.denoted;
-          reaches = record { allows = r.reaches.allows; leads = walked a.unit.kind a.unit.side r.step check.attacked.0 t r.denoted at r.reaches.leads };
-        };
-      })
+      check_from b b.mover t check.on_board before (
+        check.attacked.0,
+        record {
+          unit = a.unit;
+          on_board = a.on_board;
+          stands = stands;
+          owner = a.owner;
+          reaches = record {
+            step = r.step;
+            played = r.played;
+            denoted = r.denoted;
+            reaches = record { allows = r.reaches.allows; leads = walked a.unit.kind a.unit.side r.step check.attacked.0 t r.denoted at r.reaches.leads };
+          };
+        },
+      )

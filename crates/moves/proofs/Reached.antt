@@ -23,15 +23,15 @@ use Rattle.moves.proofs.Cells.{cell_of-place_in}
 -- a set with a cell
 pub Has-with : (set k i : ℕ) → k < 64 → Has (bit_or set (1 * 2 ^ k % 2 ^ 64)) i ↔ (Has set i ⊎ (k ≡ i))
 Has-with set k i low = elim (cases_eq i k) [
-    inl same ↦ (
-      λ _. inr (sym same),
-      λ _. subst (λ n. bit_at (bit_or set (1 * 2 ^ k % 2 ^ 64)) n ≡ 1) (sym same) (bit_at_set_same w64 set k low),
-    )
+  | inl same ↦ (
+    λ _. inr (sym same),
+    λ _. subst (λ n. bit_at (bit_or set (1 * 2 ^ k % 2 ^ 64)) n ≡ 1) (sym same) (bit_at_set_same w64 set k low),
+  )
   | inr other ↦ (
-      λ h. inl (sym (bit_at_set_other w64 set k low i other) ∙ h),
-      λ h. elim h [ inl x ↦ bit_at_set_other w64 set k low i other ∙ x | inr y ↦ absurd (other (sym y)) ],
-    )
-  ]
+    λ h. inl (sym (bit_at_set_other w64 set k low i other) ∙ h),
+    λ h. elim h [ inl x ↦ bit_at_set_other w64 set k low i other ∙ x | inr y ↦ absurd (other (sym y)) ],
+  )
+]
 
 -- cells of one square are one cell
 pub same_cell : (g : Game) (i j : ℕ) → IsCell g i → IsCell g j → place_in i ≡ place_in j → i ≡ j
@@ -55,28 +55,28 @@ module _ (b : PlainBoard) (u : Man) (step : Step) (s : Place) (v : ℕ) (on : Is
   Has-stop stop i = (
     λ h. elim ((added i).0 h) [ inl x ↦ inl x | inr y ↦ inr (here i y.0 y.1) ],
     λ h. (added i).1 (elim h [
-        inl x ↦ inl x
+      | inl x ↦ inl x
       | inr w ↦ elim (Leads-through b u.side step s (place_in v) (place_in i) on.on_board a w.1.leads) [
-          inl same ↦ let e = same_cell b.game v i on w.0 same in inr (at_v i e w, e)
+        | inl same ↦ let e = same_cell b.game v i on w.0 same in inr (at_v i e w, e)
         | inr z ↦ absurd (stop z.0 z.1)
-        ]
-      ]),
+      ]
+    ]),
   )
 
   -- or goes on from it
   pub Has-onward : (all : ℕ) → step.rider ≡ true → unit_at b (place_in v) ≡ None → ((i : ℕ) → Has all i ↔ (Has more i ⊎ IsTargetBy b u step (place_in v) i)) → (i : ℕ) → Has all i ↔ (Has set i ⊎ IsTargetBy b u step s i)
   Has-onward all rides empty rest i = (
     λ h. elim ((rest i).0 h) [
-        inl x ↦ elim ((added i).0 x) [ inl y ↦ inl y | inr y ↦ inr (here i y.0 y.1) ]
+      | inl x ↦ elim ((added i).0 x) [ inl y ↦ inl y | inr y ↦ inr (here i y.0 y.1) ]
       | inr w ↦ inr (w.0, record { allows = w.1.allows; leads = again rides on.on_board a empty w.1.leads })
-      ],
+    ],
     λ h. (rest i).1 (elim h [
-        inl x ↦ inl ((added i).1 (inl x))
+      | inl x ↦ inl ((added i).1 (inl x))
       | inr w ↦ elim (Leads-through b u.side step s (place_in v) (place_in i) on.on_board a w.1.leads) [
-          inl same ↦ let e = same_cell b.game v i on w.0 same in inl ((added i).1 (inr (at_v i e w, e)))
+        | inl same ↦ let e = same_cell b.game v i on w.0 same in inl ((added i).1 (inr (at_v i e w, e)))
         | inr z ↦ inr (w.0, record { allows = w.1.allows; leads = z.2 })
-        ]
-      ]),
+      ]
+    ]),
   )
 
 -- ---- the steps of a table

@@ -151,9 +151,10 @@ module _ (b : PlainBoard) (u : Man) (from : Place) (on : IsOnBoard b.game from) 
   pub IsScanned-end : (set : ℕ) (moves : List Ply) (n k : ℕ) → set ≡ 0 → IsScanned b u from set moves n k → ListsBelow b ((square_number b.game from + 1) * 36 * 5) moves × (k ≤ n + 36)
   IsScanned-end set moves n k none s =
       let all = skip set moves n k 0 s (squares_of b.game) s.within (omega arith)
-          (λ i c less h. let zeroed = bit_at-zero i in let there : bit_at 0 i ≡ 1 = subst (λ x. bit_at x i ≡ 1) none h in omega (arith, zeroed, there)) in
-      (ListsBelow-all_to b (square_number b.game from) (squares_of b.game) moves (omega arith) (squares_36 b.game) all,
-        (let most = share-most b.game u from s.upto s.within in omega (arith, s.few, most)))
+      (λ i c less h. let zeroed = bit_at-zero i in let there : bit_at 0 i ≡ 1 = subst (λ x. bit_at x i ≡ 1) none h in omega (arith, zeroed, there)) in (
+        ListsBelow-all_to b (square_number b.game from) (squares_of b.game) moves (omega arith) (squares_36 b.game) all,
+        (let most = share-most b.game u from s.upto s.within in omega (arith, s.few, most)),
+      )
 
 -- a set without its lowest cell is less
 pub less_cleared : (set to : ℕ) → to < 64 → bit_at set to ≡ 1 → bit_and set (bit_not w64 (1 * 2 ^ to % 2 ^ 64)) < set

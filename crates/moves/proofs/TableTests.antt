@@ -101,8 +101,8 @@ is_term_step t s = (has_atom_leap t.atom s.dx s.dy && goes_ahead t.forward s.dy)
 is_term_step-decides : (t : Term) (s : Step) → Decides (is_term_step t s) (IsTermStep t s)
 is_term_step-decides t s =
     let w = both-decides _ _ _ _
-        (both-decides _ _ _ _ (has_atom_leap-decides t.atom s.dx s.dy) (goes_ahead-decides t.forward s.dy))
-        (both-decides _ _ _ _ (same_bool-decides s.rider t.rider) (same_mode-decides s.mode t.mode)) in (
+    (both-decides _ _ _ _ (has_atom_leap-decides t.atom s.dx s.dy) (goes_ahead-decides t.forward s.dy))
+    (both-decides _ _ _ _ (same_bool-decides s.rider t.rider) (same_mode-decides s.mode t.mode)) in (
       λ e. let h = w.0 e in record { leap = record { atom = h.0.0; ahead = h.0.1 }; rider = h.1.0; mode = h.1.1 },
       λ h. w.1 ((h.leap.atom, h.leap.ahead), (h.rider, h.mode)),
     )
@@ -130,10 +130,13 @@ each_near p = p (negsuc 1) && (p (negsuc 0) && (p (pos 0) && (p (pos 1) && p (po
 module _ (p : ℤ → Bool) (e : each_near p ≡ true) where
   minus_two : (p (negsuc 1) ≡ true) × ((p (negsuc 0) && (p (pos 0) && (p (pos 1) && p (pos 2)))) ≡ true)
   minus_two = and_parts (p (negsuc 1)) (p (negsuc 0) && (p (pos 0) && (p (pos 1) && p (pos 2)))) e
+
   minus_one : (p (negsuc 0) ≡ true) × ((p (pos 0) && (p (pos 1) && p (pos 2))) ≡ true)
   minus_one = and_parts (p (negsuc 0)) (p (pos 0) && (p (pos 1) && p (pos 2))) minus_two.1
+
   nought : (p (pos 0) ≡ true) × ((p (pos 1) && p (pos 2)) ≡ true)
   nought = and_parts (p (pos 0)) (p (pos 1) && p (pos 2)) minus_one.1
+
   one_two : (p (pos 1) ≡ true) × (p (pos 2) ≡ true)
   one_two = and_parts (p (pos 1)) (p (pos 2)) nought.1
 

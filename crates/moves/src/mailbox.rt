@@ -11,8 +11,8 @@ ghost use Rattle.moves.specs.Words.{man_of};
 ghost use Rattle.moves.specs.Mailbox.{cell_of, place_in, IsAway, IsCell, IsNear, IsLaid};
 
 use crate::packed::Board;
-use crate::reach::ranks_up;
 use crate::plies::Move;
+use crate::reach::ranks_up;
 use crate::squares::Square;
 use crate::words::{code_of, unit_of};
 use board::{Game, Side, Step, Unit};

@@ -65,9 +65,16 @@ impl Square {
         ensures on_board { IsOnBoard game result }
         ensures number { square_number game result ≡ number }
     {
-        Square {
-            file: number % game.width(),
-            rank: number / game.width(),
+        // Divisors that the compiler knows are cheap to divide by.
+        match game {
+            Game::LosAlamos => Square {
+                file: number % 6,
+                rank: number / 6,
+            },
+            Game::Gardner => Square {
+                file: number % 5,
+                rank: number / 5,
+            },
         }
     }
 }

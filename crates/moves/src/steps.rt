@@ -11,20 +11,38 @@ macro_rules! steps {
     };
 }
 
-static KING: [Step; 8] = steps!(false, Mode::Both; (-1, -1), (-1, 0), (-1, 1), (0, -1), (0, 1), (1, -1), (1, 0), (1, 1));
+static KING: [Step; 8] =
+    steps!(false, Mode::Both; (-1, -1), (-1, 0), (-1, 1), (0, -1), (0, 1), (1, -1), (1, 0), (1, 1));
 
-static QUEEN: [Step; 8] = steps!(true, Mode::Both; (-1, -1), (-1, 0), (-1, 1), (0, -1), (0, 1), (1, -1), (1, 0), (1, 1));
+static QUEEN: [Step; 8] =
+    steps!(true, Mode::Both; (-1, -1), (-1, 0), (-1, 1), (0, -1), (0, 1), (1, -1), (1, 0), (1, 1));
 
 static ROOK: [Step; 4] = steps!(true, Mode::Both; (-1, 0), (0, -1), (0, 1), (1, 0));
 
 static BISHOP: [Step; 4] = steps!(true, Mode::Both; (-1, -1), (-1, 1), (1, -1), (1, 1));
 
-static KNIGHT: [Step; 8] = steps!(false, Mode::Both; (-2, -1), (-2, 1), (-1, -2), (-1, 2), (1, -2), (1, 2), (2, -1), (2, 1));
+static KNIGHT: [Step; 8] =
+    steps!(false, Mode::Both; (-2, -1), (-2, 1), (-1, -2), (-1, 2), (1, -2), (1, 2), (2, -1), (2, 1));
 
 static PAWN: [Step; 3] = [
-    Step { dx: -1, dy: 1, rider: false, mode: Mode::Capture },
-    Step { dx: 0, dy: 1, rider: false, mode: Mode::Move },
-    Step { dx: 1, dy: 1, rider: false, mode: Mode::Capture },
+    Step {
+        dx: -1,
+        dy: 1,
+        rider: false,
+        mode: Mode::Capture,
+    },
+    Step {
+        dx: 0,
+        dy: 1,
+        rider: false,
+        mode: Mode::Move,
+    },
+    Step {
+        dx: 1,
+        dy: 1,
+        rider: false,
+        mode: Mode::Capture,
+    },
 ];
 
 /// The steps of a kind.

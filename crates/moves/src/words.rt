@@ -70,7 +70,7 @@ pub(crate) fn turned(word: u64) -> u64
     with_digit(word, 12, digit(word, 12) ^ 1)
 }
 
-const MEN: [Option<Unit>; 13] = [
+static MEN: [Option<Unit>; 13] = [
     None,
     Some(Unit {
         side: Side::White,

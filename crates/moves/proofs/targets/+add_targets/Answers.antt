@@ -18,9 +18,9 @@ returns-then-not-step t c =
     let allows : IsTrue c.allows.result ↔ Allows c.args.step.now.mode c.args.unit.side (unit_at b (place_in c.in-Some.to)) = rw c.unit_in-target.ensures at c.allows.ensures in
     Has-stop b c.args.unit c.args.step.now (place_in c.args.cell) c.in-Some.to e.0 e.1 c.args.set c.with_cell-more.result c.allows.result allows c.with_cell-more.ensures
     (λ rides empty. elim c.then-not-step.branch [
-        | then-not-step-via-then-not-step w ↦ false≢true (sym w.if-not-step.true ∙ rides)
-        | then-not-step-via-else-not-step+then-is_some w ↦ taken_from c.unit_in-target.result _ w.is_some.result c.unit_in-target.ensures w.is_some.ensures w.if-is_some.true empty
-      ])
+      | then-not-step-via-then-not-step w ↦ false≢true (sym w.if-not-step.true ∙ rides)
+      | then-not-step-via-else-not-step+then-is_some w ↦ taken_from c.unit_in-target.result _ w.is_some.result c.unit_in-target.ensures w.is_some.ensures w.if-is_some.true empty
+    ])
 
 pub add_targets-requires : goal.add_targets-requires
 add_targets-requires t c =
