@@ -8,14 +8,15 @@ use Rattle.board.specs.declared.terms.Atom.TheVariants as atom
 use Rattle.board.specs.declared.terms.Term.{Term}
 use Rattle.board.specs.Denotation.{single, AreDistinct, terms_of}
 use Rattle.board.specs.Notation.{IsRead, IsReading, piece_text}
-use Rattle.board.specs.Notation.IsWord.{term, rook, bishop, queen, king}
+use Rattle.board.specs.Notation.IsWord.{term, short}
+use Rattle.board.specs.Notation.IsShorthand.{rook, bishop, queen, king}
 use Rattle.board.specs.Notation.IsRead.{last, more}
 
 kind_read : (k : Kind) → IsRead (piece_text k) (terms_of k)
-kind_read King = last king
-kind_read Queen = last queen
-kind_read Rook = last rook
-kind_read Bishop = last bishop
+kind_read King = last (short king)
+kind_read Queen = last (short queen)
+kind_read Rook = last (short rook)
+kind_read Bishop = last (short bishop)
 kind_read Knight = last (term (single atom.Knight) (λ e. cc) refl)
 kind_read Pawn =
     more (term (record { mode = Move; forward = true; atom = Wazir; rider = false }) (λ e f. cc) refl)

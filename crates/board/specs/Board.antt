@@ -13,6 +13,7 @@ pub record PlainBoard : Type 0 where
   pub mover : Side
   pub units : List (Option Man)
 
+-- the board of these parts
 abbrev pub board_of : Game → Side → List (Option Man) → PlainBoard
 board_of g mover units = record { game = g; mover = mover; units = units }
 
@@ -20,14 +21,17 @@ board_of g mover units = record { game = g; mover = mover; units = units }
 abbrev pub unit_on : PlainBoard → ℕ → Option Man
 unit_on b n = slice_index_or b.units n None
 
+-- a place holds a unit of this side
 abbrev pub is_of_side : Side → Option Man → Bool
 is_of_side side None = false
 is_of_side side (Some u) = is_same_side side u.side
 
+-- the kind is the king
 abbrev pub is_king : Kind → Bool
 is_king King = true
 is_king _ = false
 
+-- a place holds this side's king
 abbrev pub is_king_of : Side → Option Man → Bool
 is_king_of side None = false
 is_king_of side (Some u) = is_king u.kind && is_same_side side u.side

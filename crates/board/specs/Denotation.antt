@@ -39,10 +39,11 @@ Denotes terms s = Any (λ t. IsTermStep t s) terms
 abbrev pub AreDistinct : List Term → Type 0
 AreDistinct terms = AllPairs (λ t u. t.atom ≢ u.atom) terms
 
--- a term with no modifier, its atom once or doubled
+-- a term with no modifier, its atom once
 abbrev pub single : Atom → Term
 single a = record { mode = Both; forward = false; atom = a; rider = false }
 
+-- a term with no modifier, its atom doubled
 abbrev pub doubled : Atom → Term
 doubled a = record { mode = Both; forward = false; atom = a; rider = true }
 

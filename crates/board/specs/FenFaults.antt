@@ -13,10 +13,11 @@ use Rattle.board.specs.Fen.{letter_of, side_letter}
 
 -- ---- the parts of a text
 
--- what stands before the first space, and what stands after it
+-- what stands before the first space
 abbrev pub board_part : List ℕ → List ℕ
 board_part text = before_first (λ c. c == 32) text
 
+-- what stands after the first space
 abbrev pub side_part : List ℕ → List ℕ
 side_part text = after_first (λ c. c == 32) text
 
@@ -24,15 +25,18 @@ side_part text = after_first (λ c. c == 32) text
 abbrev pub rows : List ℕ → List (List ℕ)
 rows board = slice_split (λ c. c == 47) board
 
+-- the first row, that of the last rank
 abbrev pub first_of : List (List ℕ) → List ℕ
 first_of [] = []
 first_of (row ∷ _) = row
 
+-- the last row, that of rank 1
 abbrev pub last_of : List (List ℕ) → List ℕ
 last_of [] = []
 last_of (row ∷ []) = row
 last_of (row ∷ next ∷ rest) = last_of (next ∷ rest)
 
+-- 0 to 9
 abbrev pub is_digit : ℕ → Bool
 is_digit c = nat_le 48 c && nat_le c 57
 
@@ -59,11 +63,13 @@ abbrev pub is_case_of : Side → ℕ → Bool
 is_case_of White c = nat_le 65 c && nat_le c 90
 is_case_of Black c = nat_le 97 c && nat_le c 122
 
+-- a row has a pawn of either side
 abbrev pub has_pawn : List ℕ → Bool
 has_pawn row = list_any (λ c. c == letter_of White Pawn || c == letter_of Black Pawn) row
 
 -- ---- the conditions
 
+-- the order in which faults are asked for
 abbrev pub fen_fault_number : FenFault → ℕ
 fen_fault_number Fields = 1
 fen_fault_number Shape = 2
@@ -75,6 +81,7 @@ fen_fault_number Units = 7
 fen_fault_number PawnRank = 8
 fen_fault_number OtherInCheck = 9
 
+-- the condition of each fault
 abbrev pub FenFaultHolds : FenFault → List ℕ → Type 0
 -- not exactly one space
 FenFaultHolds Fields text = count_by (λ c. c == 32) text ≢ 1

@@ -12,23 +12,23 @@ use thiserror::Error;
 /// Why a text is refused: the first of these that holds.
 #[derive(Clone, Copy, PartialEq, Eq, Debug, Error)]
 pub enum FenFault {
-    #[error("not exactly one space")]
+    #[error("write the board, exactly one space, and then w or b")]
     Fields,
-    #[error("neither six rows of six nor five rows of five")]
+    #[error("write six rows of six squares or five rows of five, divided by /")]
     Shape,
-    #[error("no letter of this game's units")]
+    #[error("use no letters in a row but those of the game: K Q R N P, in Gardner B too, in upper or lower case")]
     Letter,
-    #[error("a digit 0, or two digits together")]
+    #[error("write each run of empty squares as one digit above 0")]
     Run,
-    #[error("the side is not w or b")]
+    #[error("write nothing but w or b after the space")]
     Side,
-    #[error("not one king a side")]
+    #[error("give each side exactly one king")]
     Kings,
-    #[error("too many units")]
+    #[error("give a side no more than 12 units in Los Alamos, or 10 in Gardner")]
     Units,
-    #[error("a pawn on the first or the last rank")]
+    #[error("put no pawn on the first or the last rank")]
     PawnRank,
-    #[error("the side not to move is in check")]
+    #[error("let the side that is not to move stand out of check")]
     OtherInCheck,
 }
 
@@ -89,30 +89,44 @@ fn is_digit(c: u8) -> bool
     b'0' <= c && c <= b'9'
 }
 
-/// Whether the rest of a row has what it lacks of its width, and the rows after it are `left` of this width.
-fn has_rows(board: &[u8], width: u8, so_far: u8, left: u8) -> bool
-    requires fits { so_far ≤ width }
-    requires small { width ≤ 6 }
-    ensures { IsTrue result ↔ (map row_width (rows board.now) ≡ (width - so_far) ∷ replicate left width) }
+/// Whether the row has this many squares.
+fn is_wide(row: &[u8], width: u8) -> bool
+    requires { width < 10 }
+    ensures { IsTrue result ↔ (row_width row.now ≡ width) }
 {
-    let [c, rest @ ..] = board else {
-        return so_far == width && left == 0;
-    };
-    if *c == b'/' {
-        return so_far == width && left > 0 && has_rows(rest, width, 0, left - 1);
+    let mut squares = 0;
+    for c in row {
+        squares += if is_digit(*c) { *c - b'0' } else { 1 };
+        if squares > width {
+            return false;
+        }
     }
-    let squares = if is_digit(*c) { *c - b'0' } else { 1 };
-    so_far + squares <= width && has_rows(rest, width, so_far + squares, left)
+    squares == width
+}
+
+/// Whether the board has as many rows of this width as the width says.
+fn has_rows(board: &[u8], width: u8) -> bool
+    requires { width < 10 }
+    ensures { IsTrue result ↔ (map row_width (rows board.now) ≡ replicate width width) }
+{
+    let mut count = 0;
+    for row in board.split(|c| *c == b'/') {
+        if count == width || !is_wide(row, width) {
+            return false;
+        }
+        count += 1;
+    }
+    count == width
 }
 
 /// The game whose board has this shape.
 fn game_of(board: &[u8]) -> Option<Game>
     ensures { MatchOption result ((g : Game) → IsShape g board.now → ⊥) (λ g. IsShape g board.now) }
 {
-    if has_rows(board, 6, 0, 5) {
+    if has_rows(board, 6) {
         return Some(Game::LosAlamos);
     }
-    if has_rows(board, 5, 0, 4) {
+    if has_rows(board, 5) {
         return Some(Game::Gardner);
     }
     None

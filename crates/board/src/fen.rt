@@ -179,7 +179,7 @@ fn read_as(text: &[u8], game: Game) -> Option<Position>
 }
 
 /// The position of the text, if it is one's.
-pub fn parse_fen(text: &[u8]) -> Option<Position>
+fn parse_fen(text: &[u8]) -> Option<Position>
     ensures { MatchOption result
         ((b : PlainBoard) → IsPosition b → IsFenText text.now b → ⊥)
         (λ p. IsFenText text.now p) }

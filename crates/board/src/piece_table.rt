@@ -1,11 +1,11 @@
 //! The pieces of a game, each with the steps of its string.
 ghost use Rattle.std.specs.Prelude.{◌≡◌, ◌↔◌, IsSome, IfSome};
-ghost use Rattle.board.specs.Denotation.{terms_of, AreDistinct, ListsSteps};
+ghost use Rattle.board.specs.Denotation.{terms_of, ListsSteps};
 ghost use Rattle.board.specs.Games.{IsPlayed};
 ghost use Rattle.board.specs.Notation.{IsReading, piece_text};
 
-use crate::terms::{Atom, Term, steps_of};
-use crate::{Game, Kind, Mode, Moves};
+use crate::betza::parse_betza;
+use crate::{Game, Kind, Moves};
 use std::marker::Model;
 
 /// The steps of each kind that a game plays with.
@@ -32,92 +32,25 @@ impl Model for PieceTable {
     ghost invariant = { IsTable };
 }
 
-static KING: [Term; 2] = [
-    Term {
-        mode: Mode::Both,
-        forward: false,
-        atom: Atom::Wazir,
-        rider: false,
-    },
-    Term {
-        mode: Mode::Both,
-        forward: false,
-        atom: Atom::Ferz,
-        rider: false,
-    },
-];
-
-static QUEEN: [Term; 2] = [
-    Term {
-        mode: Mode::Both,
-        forward: false,
-        atom: Atom::Wazir,
-        rider: true,
-    },
-    Term {
-        mode: Mode::Both,
-        forward: false,
-        atom: Atom::Ferz,
-        rider: true,
-    },
-];
-
-static ROOK: [Term; 1] = [Term {
-    mode: Mode::Both,
-    forward: false,
-    atom: Atom::Wazir,
-    rider: true,
-}];
-
-static BISHOP: [Term; 1] = [Term {
-    mode: Mode::Both,
-    forward: false,
-    atom: Atom::Ferz,
-    rider: true,
-}];
-
-static KNIGHT: [Term; 1] = [Term {
-    mode: Mode::Both,
-    forward: false,
-    atom: Atom::Knight,
-    rider: false,
-}];
-
-static PAWN: [Term; 2] = [
-    Term {
-        mode: Mode::Move,
-        forward: true,
-        atom: Atom::Wazir,
-        rider: false,
-    },
-    Term {
-        mode: Mode::Capture,
-        forward: true,
-        atom: Atom::Ferz,
-        rider: false,
-    },
-];
-
-/// The terms of the kind's string.
-fn terms(kind: Kind) -> &'static [Term]
-    ensures value { result.now ≡ terms_of kind }
-    ensures distinct { AreDistinct result.now }
+/// The string of a kind.
+fn piece_text(kind: Kind) -> &'static [u8]
+    ensures { result.now ≡ piece_text kind }
 {
     match kind {
-        Kind::King => &KING,
-        Kind::Queen => &QUEEN,
-        Kind::Rook => &ROOK,
-        Kind::Bishop => &BISHOP,
-        Kind::Knight => &KNIGHT,
-        Kind::Pawn => &PAWN,
+        Kind::King => b"K",
+        Kind::Queen => b"Q",
+        Kind::Rook => b"R",
+        Kind::Bishop => b"B",
+        Kind::Knight => b"N",
+        Kind::Pawn => b"mfWcfF",
     }
 }
 
-/// The steps of a kind.
+/// The steps of a kind, by its string: each kind's has an accepted reading, so the `unwrap` is proved.
 fn steps(kind: Kind) -> Moves
     ensures { ListsSteps (terms_of kind) result.items }
 {
-    steps_of(terms(kind))
+    parse_betza(piece_text(kind)).unwrap()
 }
 
 /// The pieces of a game.

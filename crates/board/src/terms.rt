@@ -1,19 +1,20 @@
 //! The terms of a piece string, and the steps that they denote.
 ghost use Rattle.std.specs.Prelude.{◌≡◌, ◌↔◌, IsTrue, All, MatchOption};
-ghost use Rattle.board.specs.Denotation.{IsLeap, IsAtomLeap, IsTermLeap, Denotes, AreDistinct, ListsSteps};
+ghost use Rattle.board.specs.Denotation.{IsLeap, IsAtomLeap, IsTermLeap, Denotes, AreDistinct, ListsSteps, single, doubled};
 
 use crate::{Mode, Moves, Step};
 
 /// What a letter of the notation stands for.
-#[derive(Clone, Copy, PartialEq, Eq, Debug)]
+#[derive(Clone, Copy, PartialEq, Eq, Debug, Default)]
 pub enum Atom {
+    #[default]
     Wazir,
     Ferz,
     Knight,
 }
 
 /// An atom with its modifiers.
-#[derive(Clone, Copy, PartialEq, Eq, Debug)]
+#[derive(Clone, Copy, PartialEq, Eq, Debug, Default)]
 pub struct Term {
     pub mode: Mode,
     pub forward: bool,
@@ -63,6 +64,30 @@ impl Atom {
 }
 
 impl Term {
+    /// The atom once, with no modifier.
+    pub fn single(atom: Atom) -> Term
+        ensures { result ≡ single atom }
+    {
+        Term {
+            mode: Mode::Both,
+            forward: false,
+            atom,
+            rider: false,
+        }
+    }
+
+    /// The atom doubled, with no modifier.
+    pub fn doubled(atom: Atom) -> Term
+        ensures { result ≡ doubled atom }
+    {
+        Term {
+            mode: Mode::Both,
+            forward: false,
+            atom,
+            rider: true,
+        }
+    }
+
     /// Whether this is one of the term's leaps.
     fn has_leap(self, leap: &(i8, i8)) -> bool
         ensures { IsTrue result ↔ IsTermLeap self leap.now.0 leap.now.1 }

@@ -1,0 +1,6 @@
+use Rattle.std.proofs.Common.{◌≡◌, ◌++◌, take}
+use Rattle.board.specs.Denotation.{AreDistinct}
+use Rattle.board.proofs.betza.joined.Given as goal
+
+abbrev pub invariant-loop-term : goal.invariant-loop-term
+invariant-loop-term l = (l.terms.items ≡ l.fn.terms.items ++ take l.term-index l.word) × AreDistinct l.terms.items

@@ -1,0 +1,15 @@
+pub mod Histories
+pub mod Seats
+pub mod GatePass
+pub mod ClaimPass
+pub mod ReadsPass
+pub mod SlotKeeps
+pub mod Words
+pub mod TableStep
+pub mod GateSteps
+pub mod ClaimSteps
+pub mod ReadSteps
+pub mod Order
+pub mod Along
+pub mod Dealing
+pub mod Grows

@@ -1,0 +1,12 @@
+use Rattle.std.proofs.Common.{arith, sym, ap, subst, ◌∙◌}
+use Rattle.atomic_table.specs.Seated.{TableId}
+use Rattle.slots.specs.Steps.{IsBusy}
+use Rattle.slots.proofs.GateSteps.{begins_told}
+use Rattle.slots.proofs.table.Slots.begin.Goals as goal
+
+pub load-requires : goal.load-requires
+load-requires g c = let size = c.self.invariant in let same = c.self.view_is in let words = ap (λ (z : TableId). z.words) same in let taken = c.requires.seat.0.0 in (
+  taken.0 ∙ sym same,
+  omega arith,
+  begins_told _ _ _ _ _ _ _ _ _ c.requires.told.0 (omega arith) (omega arith) taken.2 c.requires.seat.0.1 (subst IsBusy (sym c.requires.told.1) tt),
+)

@@ -1,0 +1,9 @@
+use Rattle.slots.specs.declared.calls.Act.TheVariants.{Offered}
+use Rattle.slots.specs.declared.calls.Store.TheVariants.{Stored, Busy}
+use Rattle.slots.proofs.table.Slots.put.Given as goal
+
+abbrev pub ghosts-claim : goal.ghosts-claim
+ghosts-claim g a = record { slot = a.slot; busy = Offered a.words Busy; done = Offered a.words Stored }
+
+abbrev pub ghosts-publish : goal.ghosts-publish
+ghosts-publish g a = record { slot = a.slot; busy = Offered a.words Busy; done = Offered a.words Stored }

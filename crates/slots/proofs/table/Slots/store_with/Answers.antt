@@ -1,0 +1,35 @@
+use Rattle.std.proofs.Common.{arith}
+use Rattle.slots.proofs.Along.{along_first, along_more, done_first, done_last, done_more, called, busy_ends, has_room}
+use Rattle.slots.proofs.table.Slots.store_with.Goals as goal
+
+pub returns-then-gate-eq1-clause-call : goal.returns-then-gate-eq1-clause-call
+returns-then-gate-eq1-clause-call g c = let odd = c.if-gate-eq1.true in
+    called _ _ _ _ c.args.seat.now c.offer-gate.new.seat (done_first _ _ _ c.args.seat.now.me.0 c.offer-gate.new.seat.me.0 (has_room _ _ c.args.seat.now c.requires.seat.0 c.requires.slot) (busy_ends _ _ _ _ _ c.args.seat.now.me.0 c.offer-gate.new.seat.me.0 (c.offer-gate.ensures.step.4 (omega arith))))
+
+pub returns-then-gate-clause-call : goal.returns-then-gate-clause-call
+returns-then-gate-clause-call g c = let odd = c.if-gate-eq1.false in let high = c.if-gate.true in
+    called _ _ _ _ c.args.seat.now c.offer-gate.new.seat (done_first _ _ _ c.args.seat.now.me.0 c.offer-gate.new.seat.me.0 (has_room _ _ c.args.seat.now c.requires.seat.0 c.requires.slot) (c.offer-gate.ensures.step.3 (omega arith) (omega arith)))
+
+pub returns-then-slot-eq1-clause-call : goal.returns-then-slot-eq1-clause-call
+returns-then-slot-eq1-clause-call g c = let odd = c.if-gate-eq1.false in let low = c.if-gate.false in
+    let one = along_first _ _ c.args.seat.now.me.0 c.offer-gate.new.seat.me.0 (c.offer-gate.ensures.step.2 (omega arith) (omega arith)) in
+    called _ _ _ _ c.args.seat.now c.put.new.seat (done_more _ _ _ _ _ _ c.args.seat.now.me.0 c.offer-gate.new.seat.me.0 c.put.new.seat.me.0 one c.put.ensures.call)
+
+pub returns-then-last-gate-clause-call : goal.returns-then-last-gate-clause-call
+returns-then-last-gate-clause-call g c = let odd = c.if-gate-eq1.false in let low = c.if-gate.false in
+    let one = along_first _ _ c.args.seat.now.me.0 c.offer-gate.new.seat.me.0 (c.offer-gate.ensures.step.2 (omega arith) (omega arith)) in
+    let all = along_more _ _ _ _ _ c.args.seat.now.me.0 c.offer-gate.new.seat.me.0 c.gather-got.new.seat.me.0 one (c.gather-got.ensures.half _ one.half) in
+    called _ _ _ _ c.args.seat.now c.keep-last.new.seat (done_last _ _ _ _ _ c.args.seat.now.me.0 c.gather-got.new.seat.me.0 c.keep-last.new.seat.me.0 (has_room _ _ c.args.seat.now c.requires.seat.0 c.requires.slot) all ((c.keep-last.ensures.step.1 _ _ all.half).0 c.if-last-gate.true).0)
+
+pub returns-else-last-gate-clause-call : goal.returns-else-last-gate-clause-call
+returns-else-last-gate-clause-call g c = let odd = c.if-gate-eq1.false in let low = c.if-gate.false in
+    let one = along_first _ _ c.args.seat.now.me.0 c.offer-gate.new.seat.me.0 (c.offer-gate.ensures.step.2 (omega arith) (omega arith)) in
+    let all = along_more _ _ _ _ _ c.args.seat.now.me.0 c.offer-gate.new.seat.me.0 c.gather-got.new.seat.me.0 one (c.gather-got.ensures.half _ one.half) in
+    called _ _ _ _ c.args.seat.now c.keep-last.new.seat (done_last _ _ _ _ _ c.args.seat.now.me.0 c.gather-got.new.seat.me.0 c.keep-last.new.seat.me.0 (has_room _ _ c.args.seat.now c.requires.seat.0 c.requires.slot) all
+    (busy_ends _ _ _ _ _ c.gather-got.new.seat.me.0 c.keep-last.new.seat.me.0 ((c.keep-last.ensures.step.1 _ _ all.half).1 c.if-last-gate.false).1))
+
+pub returns-clause-call : goal.returns-clause-call
+returns-clause-call g c = let odd = c.if-gate-eq1.false in let low = c.if-gate.false in
+    let one = along_first _ _ c.args.seat.now.me.0 c.offer-gate.new.seat.me.0 (c.offer-gate.ensures.step.2 (omega arith) (omega arith)) in
+    let all = along_more _ _ _ _ _ c.args.seat.now.me.0 c.offer-gate.new.seat.me.0 c.gather-got.new.seat.me.0 one (c.gather-got.ensures.half _ one.half) in
+    called _ _ _ _ c.args.seat.now c.put-2.new.seat (done_more _ _ _ _ _ _ c.args.seat.now.me.0 c.gather-got.new.seat.me.0 c.put-2.new.seat.me.0 all c.put-2.ensures.call)

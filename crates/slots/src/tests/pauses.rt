@@ -1,0 +1,56 @@
+// How often a pause is called.
+ghost use Rattle.std.specs.Prelude.{◌<◌};
+ghost use Rattle.slots.specs.Promise.{slots_of, IsSeatOf};
+
+use crate::tests::triples::Triples;
+use crate::{Pause, Probe, Seat, Slots, Store};
+use std::process::Abort;
+
+// The last number that it was told, and how often it was told one.
+#[derive(Drop)]
+struct Count {
+    last: u8,
+    calls: u8,
+}
+
+impl Pause for Count {
+    fn at(&mut self, done: u8) {
+        self.last = done;
+        self.calls = self.calls.saturating_add(1);
+    }
+}
+
+fn counted_store(rt: &impl Abort, slots: &Slots<Triples>, seat: &mut Seat, slot: usize, most: u8)
+    requires seat { IsSeatOf slots.now seat.old }
+    requires room { slot < slots_of slots.now }
+    ensures { IsSeatOf slots.now seat.new }
+{
+    let mut count = Count { last: 0, calls: 0 };
+    assert!(rt; slots.store_with(seat, slot, [5, 6, 7], &mut count) == Store::Stored);
+    assert!(rt; count.last == most && count.calls == most);
+}
+
+fn counted(rt: &impl Abort, slots: &Slots<Triples>, mut seat: Seat)
+    requires seat { IsSeatOf slots.now seat }
+    requires room { 1 < slots_of slots.now }
+{
+    counted_store(rt, slots, &mut seat, 0, 8);
+    counted_store(rt, slots, &mut seat, 1, 5);
+    let mut probe = Count { last: 0, calls: 0 };
+    assert!(rt; slots.probe_with(&mut seat, 0, [1, 0, 0], &mut probe) == Probe::Hit([5, 6, 7]));
+    assert!(rt; probe.last == 4 && probe.calls == 4);
+    let mut kept = Count { last: 0, calls: 0 };
+    assert!(rt; slots.store_with(&mut seat, 0, [4, 5, 6], &mut kept) == Store::Kept([5, 6, 7]));
+    assert!(rt; kept.last == 4 && kept.calls == 4);
+}
+
+#[test]
+fn a_pause_comes_after_each_step_but_the_last(rt: HostRuntime) {
+    let Ok((slots, mut seats)) = Slots::<Triples>::make(rt.alloc(), 2, 1) else {
+        panic!(rt; "not made")
+    };
+    let Some(seat) = seats.pop() else {
+        panic!(rt; "no seat")
+    };
+    counted(&rt, &slots, seat);
+}
