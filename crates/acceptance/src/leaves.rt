@@ -7,9 +7,18 @@
 pub const LEAVES: [(&str, [u64; 4]); 62] = [
     ("rnqknr/pppppp/6/6/PPPPPP/RNQKNR w", [10, 100, 1212, 14332]),
     ("1rqr2/3k2/ppppp1/nR2Q1/1P2K1/R5 w", [26, 403, 9323, 153665]),
-    ("rn1k1r/1p4/pPp1q1/2pQP1/PR3P/RN2K1 b", [8, 160, 3089, 56505]),
-    ("r1qknr/ppp1pp/1Nnp2/2N3/PPPPPP/R1QK1R b", [18, 283, 4608, 72089]),
-    ("rn2kr/ppqp1p/1Np2n/2P2p/PPQPPP/R2K1R w", [21, 298, 5484, 84284]),
+    (
+        "rn1k1r/1p4/pPp1q1/2pQP1/PR3P/RN2K1 b",
+        [8, 160, 3089, 56505],
+    ),
+    (
+        "r1qknr/ppp1pp/1Nnp2/2N3/PPPPPP/R1QK1R b",
+        [18, 283, 4608, 72089],
+    ),
+    (
+        "rn2kr/ppqp1p/1Np2n/2P2p/PPQPPP/R2K1R w",
+        [21, 298, 5484, 84284],
+    ),
     ("r4q/p5/3N2/2k2p/3nP1/K4R w", [16, 305, 3658, 76277]),
     ("2k3/1rp2r/5p/p4P/2n2Q/1RK3 w", [16, 266, 4745, 74109]),
     ("3qkr/3p1p/Qp2pn/2R3/PPP3/1R1K2 b", [12, 257, 3505, 67565]),
@@ -18,12 +27,27 @@ pub const LEAVES: [(&str, [u64; 4]); 62] = [
     ("r2n2/2ppkp/p5/PQN3/1P1p1P/R2K1R w", [23, 302, 6826, 88818]),
     ("3r2/2kpnp/2n1P1/r1PR2/6/5K w", [11, 266, 2753, 68177]),
     ("1n1k1r/3p2/3p1p/r1q2P/5R/1N1KN1 b", [30, 299, 7850, 82057]),
-    ("r2kr1/Q1pp2/2n1p1/q4N/2PP1P/1R1KR1 b", [27, 548, 12101, 248320]),
+    (
+        "r2kr1/Q1pp2/2n1p1/q4N/2PP1P/1R1KR1 b",
+        [27, 548, 12101, 248320],
+    ),
     ("k1r3/5p/p2P1R/1p1P2/P2K2/1R4 w", [19, 281, 5075, 66181]),
-    ("2r1nr/4k1/pp1ppp/NP4/P2RPP/1n1K1R b", [21, 250, 4612, 58516]),
-    ("2k1n1/r1p2r/1qp1pP/1P4/QP1P1P/RN2KR b", [25, 232, 4807, 62817]),
-    ("1n2qr/r1kppQ/p1P3/P1PN2/1P2nP/1R1K1R b", [3, 67, 879, 18284]),
-    ("1nqkn1/rpppp1/4p1/p1PNr1/PP1P1R/R2QK1 w", [4, 54, 1161, 18305]),
+    (
+        "2r1nr/4k1/pp1ppp/NP4/P2RPP/1n1K1R b",
+        [21, 250, 4612, 58516],
+    ),
+    (
+        "2k1n1/r1p2r/1qp1pP/1P4/QP1P1P/RN2KR b",
+        [25, 232, 4807, 62817],
+    ),
+    (
+        "1n2qr/r1kppQ/p1P3/P1PN2/1P2nP/1R1K1R b",
+        [3, 67, 879, 18284],
+    ),
+    (
+        "1nqkn1/rpppp1/4p1/p1PNr1/PP1P1R/R2QK1 w",
+        [4, 54, 1161, 18305],
+    ),
     ("3rnk/p1Pp2/n5/RPp3/2QNR1/3KN1 b", [11, 302, 3146, 85271]),
     ("rnq2r/pN2pp/2p1kn/2PP2/PP1P1P/RQ1KNR b", [3, 42, 583, 8511]),
     ("1qr3/1N2kr/1Rpp1p/n2P2/4KP/3Q1R b", [18, 363, 7027, 145934]),
@@ -31,10 +55,22 @@ pub const LEAVES: [(&str, [u64; 4]); 62] = [
     ("rnr3/1k1p1p/p3P1/P2NPK/4nR/3qN1 w", [12, 328, 3388, 86956]),
     ("r2k2/p4P/npP2p/3p1q/5P/RNK2R w", [13, 185, 2572, 41374]),
     ("r2kr1/p2ppp/npN2n/3P2/PPP1PP/R1QKR1 b", [3, 54, 861, 13730]),
-    ("2r1n1/pN3r/P1k1p1/p2p1P/K1Np2/3R2 w", [21, 361, 6641, 113465]),
-    ("r1qk2/p1ppr1/n1P3/2P2Q/R1K2P/1N2rR w", [20, 360, 6693, 123656]),
-    ("r1qknr/p1N1p1/1pnp1p/QP3P/P1PPP1/RN1K1R b", [21, 347, 6638, 109942]),
-    ("rnqkn1/pp1ppr/2p3/1PN1p1/P1PPK1/R1Q1NR w", [24, 357, 7208, 120985]),
+    (
+        "2r1n1/pN3r/P1k1p1/p2p1P/K1Np2/3R2 w",
+        [21, 361, 6641, 113465],
+    ),
+    (
+        "r1qk2/p1ppr1/n1P3/2P2Q/R1K2P/1N2rR w",
+        [20, 360, 6693, 123656],
+    ),
+    (
+        "r1qknr/p1N1p1/1pnp1p/QP3P/P1PPP1/RN1K1R b",
+        [21, 347, 6638, 109942],
+    ),
+    (
+        "rnqkn1/pp1ppr/2p3/1PN1p1/P1PPK1/R1Q1NR w",
+        [24, 357, 7208, 120985],
+    ),
     ("r3nr/p3k1/2P1pp/PK1pPP/n5/RNR3 w", [15, 208, 2486, 37309]),
     ("rnbqk/ppppp/5/PPPPP/RNBQK w", [7, 53, 506, 4775]),
     ("rnB2/2p1k/p4/PPPKP/2RQ1 b", [7, 76, 763, 8419]),

@@ -34,8 +34,14 @@ fn counts_lines_of_play(rt: HostRuntime) {
 fn compare(rt: &impl Abort, position: &Position) {
     let board = Board::of(position);
     assert_eq!(rt; lawful_on(&board).as_slice(), lawful(position).as_slice());
-    assert_eq!(rt; mover_in_check(&board), in_check(position, position.mover()));
-    assert_eq!(rt; fen_text(&board.position()).as_str(), fen_text(position).as_str());
+    assert_eq!(rt;
+        mover_in_check(&board),
+        in_check(position, position.mover())
+    );
+    assert_eq!(rt;
+        fen_text(&board.position()).as_str(),
+        fen_text(position).as_str()
+    );
 }
 
 /// Checks that the move leads both bodies to one position, and what they say of it.
@@ -43,7 +49,10 @@ fn compare_after(rt: &impl Abort, position: &Position, m: Move) {
     assert!(rt; is_lawful(position, m));
     let next = apply(position, m);
     let board = after(&Board::of(position), m);
-    assert_eq!(rt; fen_text(&board.position()).as_str(), fen_text(&next).as_str());
+    assert_eq!(rt;
+        fen_text(&board.position()).as_str(),
+        fen_text(&next).as_str()
+    );
     compare(rt, &next);
 }
 

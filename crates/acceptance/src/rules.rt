@@ -38,15 +38,16 @@ fn lists_lawful_moves(rt: HostRuntime) -> Result<(), Fail> {
             "k4/2P2/1K3/5/5 w",
             "b3a2 b3b2 b3c2 b3a3 b3c3 c4c5q c4c5r c4c5b c4c5n ",
         ),
-        (
-            "k5/2P3/6/6/6/5K w",
-            "f1e1 f1e2 f1f2 c5c6q c5c6r c5c6n ",
-        ),
+        ("k5/2P3/6/6/6/5K w", "f1e1 f1e2 f1f2 c5c6q c5c6r c5c6n "),
         // stalemate, and mate
         ("k5/2Q3/6/6/6/5K b", ""),
         ("k4R/6/1K4/6/6/6 b", ""),
     ] {
-        assert_eq!(rt; list(rt.alloc(), &position(&rt, text))?.as_str(), moves, "{text}");
+        assert_eq!(rt;
+            list(rt.alloc(), &position(&rt, text))?.as_str(),
+            moves,
+            "{text}"
+        );
     }
     Ok(())
 }
@@ -73,7 +74,12 @@ fn finds_checks(rt: HostRuntime) {
     assert!(rt; in_check(&mated, Side::Black));
     assert!(rt; !in_check(&mated, Side::White));
     assert!(rt; sound(&mated));
-    assert!(rt; matches!(read_sound(b"k4R/6/1K4/6/6/6 w"), Err(FenFault::OtherInCheck)));
+    assert!(rt;
+        matches!(
+            read_sound(b"k4R/6/1K4/6/6/6 w"),
+            Err(FenFault::OtherInCheck)
+        )
+    );
     assert!(rt; matches!(read_sound(b"k4R/6/1K4/6/6/6"), Err(FenFault::Fields)));
 }
 

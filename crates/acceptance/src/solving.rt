@@ -4,10 +4,7 @@ use search::{Answer, SolveFault, solve};
 use std::alloc::{AllocError, Global};
 use std::test::Fail;
 
-fn answer_text(
-    alloc: Global,
-    answer: Result<Answer, SolveFault>,
-) -> Result<String, AllocError> {
+fn answer_text(alloc: Global, answer: Result<Answer, SolveFault>) -> Result<String, AllocError> {
     let Ok(answer) = answer else {
         return format!(in alloc; "refused");
     };
