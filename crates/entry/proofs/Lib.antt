@@ -1,0 +1,7 @@
+pub mod Digits
+pub mod Ranks
+pub mod Words
+pub mod Decided
+pub mod Questions
+pub mod Truths
+pub mod Preferred

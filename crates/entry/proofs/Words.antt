@@ -1,0 +1,127 @@
+-- The fields of an entry's words.
+use Rattle.std.proofs.Common.{◌≡◌, ℕ, ◌+◌, ◌-◌, ◌*◌, ◌/◌, ◌%◌, ◌^◌, ◌<◌, ◌≤◌, refl, ap, ◌∙◌, arith, List, [], ◌∷◌, get_or, take, drop, Option, Some, None}
+use Rattle.std.specs.Option.{IfSome}
+use Rattle.board.specs.declared.game.Game.{Game}
+use Rattle.board.specs.declared.game.Game.TheVariants.{LosAlamos, Gardner}
+use Rattle.board.specs.declared.game.Side.{Side}
+use Rattle.board.specs.declared.game.Side.TheVariants.{White, Black}
+use Rattle.board.specs.Games.{width_of}
+use Rattle.board.specs.Board.{IsPosition}
+use Rattle.moves.specs.declared.goal.Goal.{Goal}
+use Rattle.moves.specs.declared.goal.Goal.TheVariants.{Mate, MateOrStale}
+use Rattle.entry.specs.Bounds.{Bounds, IsBounds}
+use Rattle.entry.specs.declared.entries.Entry.{Entry}
+use Rattle.entry.specs.declared.marks.Marks.{Marks}
+use Rattle.entry.specs.Packing.{side_bit, game_bit, goal_bit, upto_byte, squares_word, rank_pair, first_word, second_word, third_word, Packing}
+use Rattle.entry.specs.Marks.{marks_number}
+use Rattle.entry.specs.Squares.{IsPacked}
+use Rattle.entry.proofs.Digits.{squares_small}
+use Rattle.entry.proofs.Ranks.{Places, whole_position}
+
+-- ---- marks
+
+pub side_bit_le : (s : Side) → side_bit s ≤ 1
+side_bit_le White = omega arith
+side_bit_le Black = omega arith
+
+pub game_bit_le : (g : Game) → game_bit g ≤ 1
+game_bit_le LosAlamos = omega arith
+game_bit_le Gardner = omega arith
+
+pub goal_bit_le : (g : Goal) → goal_bit g ≤ 1
+goal_bit_le Mate = omega arith
+goal_bit_le MateOrStale = omega arith
+
+one_side : (s t : Side) → side_bit s ≡ side_bit t → s ≡ t
+one_side White White e = refl
+one_side White Black e = absurd (omega arith)
+one_side Black White e = absurd (omega arith)
+one_side Black Black e = refl
+
+one_game : (g h : Game) → game_bit g ≡ game_bit h → g ≡ h
+one_game LosAlamos LosAlamos e = refl
+one_game LosAlamos Gardner e = absurd (omega arith)
+one_game Gardner LosAlamos e = absurd (omega arith)
+one_game Gardner Gardner e = refl
+
+one_goal : (g h : Goal) → goal_bit g ≡ goal_bit h → g ≡ h
+one_goal Mate Mate e = refl
+one_goal Mate MateOrStale e = absurd (omega arith)
+one_goal MateOrStale Mate e = absurd (omega arith)
+one_goal MateOrStale MateOrStale e = refl
+
+abbrev pub marks_of : Entry → Marks
+marks_of e = record { mover = e.position.mover; attacker = e.attacker; game = e.position.game; goal = e.goal }
+
+same_bits : (a b c d p q r s : ℕ) → a ≤ 1 → b ≤ 1 → c ≤ 1 → d ≤ 1 → p ≤ 1 → q ≤ 1 → r ≤ 1 → s ≤ 1 → a + 2 * b + 4 * c + 8 * d ≡ p + 2 * q + 4 * r + 8 * s → (a ≡ p) × (b ≡ q) × (c ≡ r) × (d ≡ s)
+same_bits a b c d p q r s h1 h2 h3 h4 h5 h6 h7 h8 e = (omega arith, omega arith, omega arith, omega arith)
+
+-- a number is that of one side to move, attacker, game and goal
+pub one_marks : (m n : Marks) → marks_number m ≡ marks_number n → m ≡ n
+one_marks m n e =
+    let bits = same_bits (side_bit m.mover) (side_bit m.attacker) (game_bit m.game) (goal_bit m.goal) (side_bit n.mover) (side_bit n.attacker) (game_bit n.game) (goal_bit n.goal)
+    (side_bit_le m.mover) (side_bit_le m.attacker) (game_bit_le m.game) (goal_bit_le m.goal) (side_bit_le n.mover) (side_bit_le n.attacker) (game_bit_le n.game) (goal_bit_le n.goal) (omega arith) in
+    let a = one_side m.mover n.mover bits.0 in
+    let b = one_side m.attacker n.attacker bits.1 in
+    let c = one_game m.game n.game bits.2 in
+    let d = one_goal m.goal n.goal bits.3 in
+    λ i. record { mover = a i; attacker = b i; game = c i; goal = d i }
+
+-- ---- the fields of the three words
+
+pub record Fields (e : Entry) (three : List ℕ) : Type 0 where
+  pub marks : get_or three 0 0 / 2 ^ 48 ≡ marks_number (marks_of e)
+  pub below : get_or three 1 0 / 2 ^ 48 ≡ e.interval.below
+  pub upto : get_or three 2 0 / 2 ^ 48 ≡ upto_byte e.interval.upto
+  pub packed : IsPacked e.position (get_or three 0 0 % 2 ^ 48) (get_or three 1 0 % 2 ^ 48) (get_or three 2 0 % 2 ^ 48)
+
+width_le : (g : Game) → width_of g ≤ 6
+width_le LosAlamos = omega arith
+width_le Gardner = omega arith
+
+low_part : (word low high : ℕ) → low < 2 ^ 48 → word ≡ low + 2 ^ 48 * high → (word / 2 ^ 48 ≡ high) × (word % 2 ^ 48 ≡ low)
+low_part word low high h e = (omega arith, omega arith)
+
+pub fields_of : (e : Entry) (three : List ℕ) → Packing e three → Fields e three
+fields_of e three p =
+    let whole = whole_position e.position p.position in
+    let narrow = width_le e.position.game in
+    let a = low_part (get_or three 0 0) (squares_word (rank_pair 0 e.position)) (marks_number (marks_of e)) (squares_small _ (omega (arith, whole.first))) (let w : get_or three 0 0 ≡ first_word e = ap (λ (l : List ℕ). get_or l 0 0) p.words in omega arith) in
+    let b = low_part (get_or three 1 0) (squares_word (rank_pair 1 e.position)) e.interval.below (squares_small _ (omega (arith, whole.second))) (ap (λ (l : List ℕ). get_or l 1 0) p.words) in
+    let c = low_part (get_or three 2 0) (squares_word (rank_pair 2 e.position)) (upto_byte e.interval.upto) (squares_small _ (omega (arith, whole.third))) (ap (λ (l : List ℕ). get_or l 2 0) p.words) in
+    record {
+      marks = a.0;
+      below = b.0;
+      upto = c.0;
+      packed = record { position = p.position; low = a.1; middle = b.1; high = c.1 };
+    }
+
+-- ---- intervals
+
+one_end : (a b : Option ℕ) → IfSome a (λ n. n ≤ 63) → IfSome b (λ n. n ≤ 63) → upto_byte a ≡ upto_byte b → a ≡ b
+one_end None None h k e = refl
+one_end None (Some n) h k e = absurd (omega arith)
+one_end (Some n) None h k e = absurd (omega arith)
+one_end (Some m) (Some n) h k e = ap Some e
+
+pub one_interval : (i j : Bounds) → IsBounds i → IsBounds j → i.below ≡ j.below → upto_byte i.upto ≡ upto_byte j.upto → i ≡ j
+one_interval i j p q a b = let c = one_end i.upto j.upto p.upto q.upto b in λ k. record { below = a k; upto = c k }
+
+-- ---- an entry's words made
+
+-- the three words of these fields are a packing
+pub packing_made : (e : Entry) → IsPosition e.position → IsBounds e.interval → (n : ℕ) (us : Places) (s0 s1 s2 marks upto : ℕ) → n ≡ width_of e.position.game → us ≡ e.position.units → s0 ≡ squares_word (take (2 * n) us) → s1 ≡ squares_word (take (2 * (2 * n) - 2 * n) (drop (2 * n) us)) → s2 ≡ squares_word (take (3 * (2 * n) - 2 * (2 * n)) (drop (2 * (2 * n)) us)) → marks ≡ marks_number (marks_of e) → upto ≡ upto_byte e.interval.upto → marks < 65536 → upto < 256 → Packing e ((s0 + marks * 2 ^ 48 % 2 ^ 64) ∷ (s1 + e.interval.below * 2 ^ 48 % 2 ^ 64) ∷ (s2 + upto * 2 ^ 48 % 2 ^ 64) ∷ [])
+packing_made e position interval n us s0 s1 s2 marks upto wide units a b c m u ml ul =
+    let two : 2 * (2 * n) - 2 * n ≡ 2 * width_of e.position.game = omega arith in
+    let three : 3 * (2 * n) - 2 * (2 * n) ≡ 2 * width_of e.position.game = omega arith in
+    let from0 : 0 ≡ 0 * (2 * width_of e.position.game) = omega arith in
+    let from1 : 2 * n ≡ 1 * (2 * width_of e.position.game) = omega arith in
+    let from2 : 2 * (2 * n) ≡ 2 * (2 * width_of e.position.game) = omega arith in
+    let at0 : s0 ≡ squares_word (rank_pair 0 e.position) = a ∙ (λ i. squares_word (take (2 * wide i) (units i))) ∙ ap (λ k. squares_word (take (2 * width_of e.position.game) (drop k e.position.units))) from0 in
+    let at1 : s1 ≡ squares_word (rank_pair 1 e.position) = b ∙ (λ i. squares_word (take (two i) (drop (from1 i) (units i)))) in
+    let at2 : s2 ≡ squares_word (rank_pair 2 e.position) = c ∙ (λ i. squares_word (take (three i) (drop (from2 i) (units i)))) in
+    let limit = interval.below in
+    let w0 : s0 + marks * 2 ^ 48 % 2 ^ 64 ≡ first_word e = omega arith in
+    let w1 : s1 + e.interval.below * 2 ^ 48 % 2 ^ 64 ≡ second_word e = omega arith in
+    let w2 : s2 + upto * 2 ^ 48 % 2 ^ 64 ≡ third_word e = omega arith in
+    record { position = position; interval = interval; words = λ i. w0 i ∷ w1 i ∷ w2 i ∷ [] }

@@ -1,0 +1,10 @@
+pub mod Bounds
+pub mod Packing
+pub mod Squares
+pub mod Marks
+pub mod Keys
+pub mod Truth
+pub mod Laws
+pub mod Prefers
+pub mod Preference
+pub mod NoZeros

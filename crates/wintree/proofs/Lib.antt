@@ -1,0 +1,17 @@
+pub mod Lists
+pub mod Tails
+pub mod Listings
+pub mod Heights
+pub mod Endings
+pub mod Winning
+pub mod Forced
+pub mod Places
+pub mod MoveTexts
+pub mod Texts
+pub mod Standing
+pub mod MoveReads
+pub mod Turns
+pub mod Reader
+pub mod Options
+pub mod Depths
+pub mod OneText

@@ -1,0 +1,18 @@
+//! Winning trees: the type, their text both ways, and their checker.
+#![tactic(auto)]
+
+mod fault;
+mod laws;
+mod read;
+#[cfg(test)]
+mod tests;
+mod tree;
+mod wins;
+mod written;
+
+pub use fault::{NoMemory, TreeFault};
+pub use laws::{deep_is_before_the_fault, one_offset, one_tree};
+pub use read::read_tree;
+pub use tree::{End, Tree};
+pub use wins::check;
+pub use written::tree_text;
