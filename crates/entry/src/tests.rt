@@ -1,4 +1,4 @@
-//! Worked rows.
+//! Worked examples.
 
 use crate::{Entry, Interval, MateLore, key_of, meet, pack, pack_board, prefers, slot_of, unpack};
 use board::{Position, Side, read_fen};
