@@ -26,5 +26,5 @@ pub use interval::{Interval, meet};
 pub use keys::{key_of, slot_of};
 pub use laws::{interval_laws, key_laws, packing_laws, preference_laws};
 pub use lore::MateLore;
-pub use packing::{pack, unpack};
+pub use packing::{interval_of, pack, unpack};
 pub use worth::prefers;

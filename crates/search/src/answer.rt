@@ -2,7 +2,7 @@
 use moves::Move;
 
 /// The greatest limit of a solve, in plies.
-pub const MOST_LIMIT: u8 = 1;
+pub const MOST_LIMIT: u8 = 63;
 
 /// The answer for a position, a goal and a limit in plies. The attacker is the side to move.
 #[derive(Clone, Copy, PartialEq, Eq, Debug)]

@@ -6,4 +6,8 @@ use thiserror::Error;
 pub enum SolveFault {
     #[error("the limit in plies is outside those that are searched")]
     Limit,
+    #[error("the number of slots is outside those that a table has")]
+    Slots,
+    #[error("memory was refused")]
+    NoMemory,
 }

@@ -63,7 +63,8 @@ impl<L: Lore> Slots<L> {
 
     /// The number of slots.
     pub fn len(&self) -> usize
-        ensures { result ≡ slots_of self.now }
+        ensures value { result ≡ slots_of self.now }
+        ensures some { 0 < result }
     {
         self.count
     }

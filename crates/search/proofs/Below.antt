@@ -1,0 +1,244 @@
+-- The positions below one.
+use Rattle.std.proofs.Common.{◌≡◌, ◌≢◌, ℕ, zero, suc, inl, inr, MatchBool, ◌+◌, ◌-◌, ◌<◌, ◌≤◌, ◌↔◌, IsTrue, Bool, true, false, not, eqb, List, [], ◌∷◌, ◌++◌, take, length, get_or, All, Contains, refl, sym, ap, ◌∙◌, subst, arith, cond}
+use mathlib.Core.Bool.{beq}
+use Rattle.std.proofs.lemmas.Bool.{false≢true}
+use Rattle.std.proofs.lemmas.Bool.Decides.{Decides-eqb}
+use Rattle.std.proofs.lemmas.List.Elements.{All-append, All-contains, Contains-append_left, Contains-append_right}
+use Rattle.std.proofs.Math.Seq.{take-suc}
+use Rattle.atomic_table.specs.Seated.{TableId}
+use Rattle.atomic_table.specs.declared.shared.Seat.{Seat}
+use Rattle.board.specs.declared.game.Side.{Side}
+use Rattle.board.specs.Games.{is_same_side}
+use Rattle.board.specs.Board.{PlainBoard}
+use Rattle.moves.specs.declared.goal.Goal.{Goal}
+use Rattle.moves.specs.declared.goal.Goal.TheVariants.{Mate, MateOrStale}
+use Rattle.moves.specs.Squares.{Ply}
+use Rattle.moves.specs.Moves.{IsMove, IsLawful}
+use Rattle.moves.specs.Order.{ListsLawful}
+use Rattle.moves.specs.Forces.{IsReached, OnTurn, Forces}
+use Rattle.moves.proofs.Keeps.{one_after}
+use Rattle.moves.proofs.Forcing.{on_own, to_own, on_other, to_other}
+use Rattle.slots.specs.declared.views.View.{View}
+use Rattle.slots.specs.declared.calls.Call.{Call}
+use Rattle.slots.specs.declared.calls.Act.{Act}
+use Rattle.slots.specs.declared.calls.Act.TheVariants.{Asked}
+use Rattle.slots.specs.declared.calls.Probe.{Probe}
+use Rattle.slots.specs.Machine.{part, call}
+use Rattle.slots.specs.Promise.{number}
+use Rattle.search.specs.Calls.{added, BeginsWith, Continues}
+use Rattle.search.specs.Questions.{Question, question, key_for, first_slot}
+use Rattle.search.specs.Decisions.{Asks, IsAsked, RestsOnOne, AsksBelow}
+use Rattle.search.specs.Decisions.Asks.{first_decides, one_slot, second_decides, neither_decides}
+use Rattle.search.proofs.Calls.{added_more}
+
+-- what an answer says that doesn't end the search: no on the attacker's turn, yes on the defender's
+abbrev pub Goes : Bool → Type 0 → Type 0
+Goes true P = P → ⊥
+Goes false P = P
+
+-- what an answer says that ends it
+abbrev pub Ends : Bool → Type 0 → Type 0
+Ends true P = P
+Ends false P = P → ⊥
+
+-- the position after the move was asked of, and didn't end the search
+abbrev pub IsTried : Question → ℕ → ℕ → ℕ → Bool → List Call → Ply → Type 0
+IsTried q slots n number own calls m = (b : PlainBoard) → IsMove q.position m b → IsAsked (question b q.attacker q.goal) slots number calls × Goes own (Forces q.goal q.attacker b n)
+
+-- ---- an answer below
+
+pub goes_by : (own answer : Bool) (P : Type 0) → (IsTrue answer ↔ P) → answer ≢ own → Goes own P
+goes_by true true P h apart = absurd (apart refl)
+goes_by true false P h apart = λ p. false≢true (h.1 p)
+goes_by false true P h apart = h.0 refl
+goes_by false false P h apart = absurd (apart refl)
+
+pub ends_by : (own answer : Bool) (P : Type 0) → (IsTrue answer ↔ P) → answer ≡ own → Ends own P
+ends_by true true P h same = h.0 refl
+ends_by true false P h same = absurd (false≢true same)
+ends_by false true P h same = absurd (false≢true (sym same))
+ends_by false false P h same = λ p. false≢true (h.1 p)
+
+-- ---- the calls
+
+kept : (r : Bool) (x : Call) (xs ys : List Call) (c : Call) → Contains (cond r (x ∷ ys) ys) c → (Contains ys c → Contains xs c) → Contains (x ∷ xs) c
+kept true x xs ys c (zero, lt, e) later = (zero, omega arith, e)
+kept true x xs ys c (suc k, lt, e) later = let (j, l, f) = later (k, omega (arith, lt), e) in (suc j, omega (arith, l), f)
+kept false x xs ys c h later = let (j, l, f) = later h in (suc j, omega (arith, l), f)
+
+-- what is in the part of a slot is in the whole
+pub in_part : (slot : ℕ) (calls : List Call) (c : Call) → Contains (part slot calls) c → Contains calls c
+in_part slot [] c h = h
+in_part slot (x ∷ xs) c h = kept (eqb x.slot slot) x xs (part slot xs) c h (in_part slot xs c)
+
+first_in : (slot number : ℕ) (act : Act) (calls : List Call) → BeginsWith slot number act calls → Contains calls (call slot number act)
+first_in slot number act calls b = in_part slot calls (call slot number act) (subst (λ (l : List Call). Contains l (call slot number act)) (sym b.1) (zero, omega arith, refl))
+
+-- who asks in both slots asks in the first
+pub asked_first : (key : List ℕ) (slot slots n number : ℕ) (counts : Probe) (calls : List Call) → Asks key slot slots n number counts calls → (reply : Probe) × Contains calls (call slot number (Asked key reply))
+asked_first key slot slots n number counts calls (first_decides b s) = (counts, first_in slot number (Asked key counts) calls b)
+asked_first key slot slots n number counts calls (one_slot b s le) = (counts, first_in slot number (Asked key counts) calls b)
+asked_first key slot slots n number counts calls (second_decides {reply} b s lt b' s') = (reply, first_in slot number (Asked key reply) calls b)
+asked_first key slot slots n number counts calls (neither_decides {reply} b s lt b' s') = (counts, first_in slot number (Asked key counts) calls b)
+
+-- a decision asks in its first slot
+pub asked_below : (t : TableId) (a b : Seat ℕ View) (q : Question) (slots n : ℕ) (counts : Probe) → number b ≡ number a → (calls : List Call) → Asks (key_for q) (first_slot (key_for q) slots) slots n (number b) counts calls → IsAsked q slots (number a) calls
+asked_below t a b q slots n counts same calls asks = asked_first (key_for q) (first_slot (key_for q) slots) slots n (number a) counts calls (subst (λ z. Asks (key_for q) (first_slot (key_for q) slots) slots n z counts calls) same asks)
+
+-- what was asked stays asked as calls follow, and as they come before
+pub asked_on : (q : Question) (slots number : ℕ) (xs ys : List Call) → IsAsked q slots number xs → IsAsked q slots number (xs ++ ys)
+asked_on q slots number xs ys a = (a.0, Contains-append_left xs ys _ a.1)
+
+pub asked_behind : (q : Question) (slots number : ℕ) (xs ys : List Call) → IsAsked q slots number ys → IsAsked q slots number (xs ++ ys)
+asked_behind q slots number xs ys a = (a.0, Contains-append_right xs ys _ a.1)
+
+tried_on : (q : Question) (slots n number : ℕ) (own : Bool) (xs ys : List Call) (m : Ply) → IsTried q slots n number own xs m → IsTried q slots n number own (xs ++ ys) m
+tried_on q slots n number own xs ys m h b move = let a = h b move in (asked_on (question b q.attacker q.goal) slots number xs ys a.0, a.1)
+
+-- after one move more
+pub tried_more : (q : Question) (slots n number : ℕ) (own : Bool) (xs ys : List Call) (ms : List Ply) (i : ℕ) (m : Ply) (b : PlainBoard) → i < length ms → m ≡ get_or ms i m → IsMove q.position m b
+    → All (IsTried q slots n number own xs) (take i ms) → IsAsked (question b q.attacker q.goal) slots number ys → Goes own (Forces q.goal q.attacker b n)
+    → All (IsTried q slots n number own (xs ++ ys)) (take (suc i) ms)
+tried_more q slots n number own xs ys ms i m b lt is move before asked goes =
+    subst (All (IsTried q slots n number own (xs ++ ys))) (sym (take-suc ms i m lt))
+    (All-append (IsTried q slots n number own (xs ++ ys)) (take i ms) (get_or ms i m ∷ [])
+    (λ k d small. tried_on q slots n number own xs ys _ (before k d small))
+    (one (get_or ms i m) (subst (IsTried q slots n number own (xs ++ ys)) is tried)))
+  where
+    tried : IsTried q slots n number own (xs ++ ys) m
+    tried b' move' = subst (λ (z : PlainBoard). IsAsked (question z q.attacker q.goal) slots number (xs ++ ys) × Goes own (Forces q.goal q.attacker z n)) (one_after q.position m b b' move move')
+        (asked_behind (question b q.attacker q.goal) slots number xs ys asked, goes)
+    one : (x : Ply) → IsTried q slots n number own (xs ++ ys) x → All (IsTried q slots n number own (xs ++ ys)) (x ∷ [])
+    one x h zero d small = h
+    one x h (suc k) d small = absurd (omega arith)
+
+-- ---- the answer
+
+-- where there is a lawful move, the goal is not reached
+pub not_reached : (goal : Goal) (b : PlainBoard) (m : Ply) → IsLawful b m → IsReached goal b → ⊥
+not_reached Mate b m lawful mated = mated.no_move m lawful
+not_reached MateOrStale b m lawful (inl mated) = mated.no_move m lawful
+not_reached MateOrStale b m lawful (inr stale) = stale.no_move m lawful
+
+module _ (q : Question) (slots number n : ℕ) where
+  -- one more ply than k
+  abbrev pub IsForced : ℕ → Type 0
+  IsForced k = Forces q.goal q.attacker q.position k
+
+  ended : (own : Bool) (k : ℕ) → own ≡ is_same_side q.attacker q.position.mover → (m : Ply) (b : PlainBoard) → IsMove q.position m b → Ends own (Forces q.goal q.attacker b k) → IsTrue own ↔ IsForced (suc k)
+  ended true k turn m b move e = (λ _. to_own _ _ _ (sym turn) (m, b, move, e), λ _. refl)
+  ended false k turn m b move e = (
+    λ is. absurd (false≢true is),
+    λ f. absurd (elim (on_other _ _ _ (sym turn) f) [
+      | inl there ↦ not_reached q.goal q.position m (b, move) there
+      | inr w ↦ e (w.1 m b move)
+    ]),
+  )
+
+  -- the answer below ends the search
+  pub ended_answer : (own : Bool) → own ≡ is_same_side q.attacker q.position.mover → 0 < n → (m : Ply) (b : PlainBoard) → IsMove q.position m b → Ends own (Forces q.goal q.attacker b (n - 1)) → IsTrue own ↔ IsForced n
+  ended_answer own turn some m b move e = let up : suc (n - 1) ≡ n = omega arith in subst (λ k. IsTrue own ↔ IsForced k) up (ended own (n - 1) turn m b move e)
+
+  rests : (own : Bool) → own ≡ is_same_side q.attacker q.position.mover → RestsOnOne q own
+  rests true turn = to_own _ _ _ (sym turn) refl
+  rests false turn = to_other _ _ _ (sym turn) refl
+
+  pub ended_below : (own : Bool) → own ≡ is_same_side q.attacker q.position.mover → (m : Ply) (b : PlainBoard) → IsMove q.position m b → (calls : List Call) → IsAsked (question b q.attacker q.goal) slots number calls → AsksBelow q slots number own calls
+  ended_below own turn m b move calls asked = record { some = λ _. (m, b, move, asked); every = λ no_one. absurd (no_one (rests own turn)) }
+
+  rests_not : (own : Bool) → own ≡ is_same_side q.attacker q.position.mover → RestsOnOne q (not own) → ⊥
+  rests_not true turn r = false≢true (on_own _ _ _ (sym turn) r)
+  rests_not false turn r = false≢true (sym (on_other _ _ _ (sym turn) r))
+
+  module _ (xs : List Ply) (lists : ListsLawful q.position xs) where
+    gone : (own : Bool) (k : ℕ) (calls : List Call) → own ≡ is_same_side q.attacker q.position.mover → 0 < length xs → All (IsTried q slots k number own calls) xs → IsTrue (not own) ↔ IsForced (suc k)
+    gone true k calls turn some all = (
+      λ is. absurd (false≢true is),
+      λ f. absurd (let w = on_own _ _ _ (sym turn) f in
+          (All-contains (IsTried q slots k number true calls) xs w.0 all ((lists.exact w.0).1 (w.1, w.2)) w.1 w.2).1 w.3),
+    )
+    gone false k calls turn some all = (
+      λ _. to_other _ _ _ (sym turn) (inr ((listed some, λ m b move. (All-contains (IsTried q slots k number false calls) xs m all ((lists.exact m).1 (b, move)) b move).1))),
+      λ _. refl,
+    )
+      where
+        listed : 0 < length xs → (m : Ply) × IsLawful q.position m
+        listed lt = first xs lt (λ m. (lists.exact m).0)
+          where
+            first : (ys : List Ply) → 0 < length ys → ((m : Ply) → Contains ys m → IsLawful q.position m) → (m : Ply) × IsLawful q.position m
+            first [] lt h = absurd (omega (arith, lt))
+            first (y ∷ ys) lt h = (y, h y (zero, omega arith, refl))
+
+    -- no answer below ends it
+    pub gone_answer : (own : Bool) (calls : List Call) → own ≡ is_same_side q.attacker q.position.mover → 0 < n → 0 < length xs → All (IsTried q slots (n - 1) number own calls) xs → IsTrue (not own) ↔ IsForced n
+    gone_answer own calls turn plies some all = let up : suc (n - 1) ≡ n = omega arith in subst (λ k. IsTrue (not own) ↔ IsForced k) up (gone own (n - 1) calls turn some all)
+
+    pub gone_below : (own : Bool) (calls : List Call) → own ≡ is_same_side q.attacker q.position.mover → All (IsTried q slots (n - 1) number own calls) xs → AsksBelow q slots number (not own) calls
+    gone_below own calls turn all = record {
+      some = λ r. absurd (rests_not own turn r);
+      every = λ _ m b move. (All-contains (IsTried q slots (n - 1) number own calls) xs m all ((lists.exact m).1 (b, move)) b move).0;
+    }
+
+    -- an empty list has no lawful move
+    pub none_listed : length xs ≡ 0 → (m : Ply) → IsLawful q.position m → ⊥
+    none_listed e m lawful = let h = (lists.exact m).1 lawful in absurd (omega (arith, h.1))
+
+-- ---- no lawful move
+
+-- the attacker forces nothing
+pub still_own : (goal : Goal) (attacker : Side) (b : PlainBoard) (n : ℕ) → is_same_side attacker b.mover ≡ true → ((m : Ply) → IsLawful b m → ⊥) → IsTrue false ↔ Forces goal attacker b n
+still_own goal attacker b zero turn none = (λ is. absurd (false≢true is), λ f. absurd (on_own _ _ _ turn f))
+still_own goal attacker b (suc n) turn none = (λ is. absurd (false≢true is), λ f. absurd (let w = on_own _ _ _ turn f in none w.0 (w.1, w.2)))
+
+-- the defender stands where the goal wants it, or never will
+pub still_other : (goal : Goal) (attacker : Side) (b : PlainBoard) (n : ℕ) (there : Bool) → is_same_side attacker b.mover ≡ false → ((m : Ply) → IsLawful b m → ⊥) → (IsTrue there ↔ IsReached goal b) → IsTrue there ↔ Forces goal attacker b n
+still_other goal attacker b zero there turn none h = (λ is. to_other _ _ _ turn (h.0 is), λ f. h.1 (on_other _ _ _ turn f))
+still_other goal attacker b (suc n) there turn none h = (
+  λ is. to_other _ _ _ turn (inl (h.0 is)),
+  λ f. elim (on_other _ _ _ turn f) [ inl reached ↦ h.1 reached | inr w ↦ absurd (none w.0.0 w.0.1) ],
+)
+
+-- ---- one turn of the loop
+
+pub beq_same : (a b : Bool) → beq a b ≡ true → a ≡ b
+beq_same true true e = refl
+beq_same true false e = absurd (false≢true e)
+beq_same false true e = absurd (false≢true e)
+beq_same false false e = refl
+
+pub beq_apart : (a b : Bool) → beq a b ≡ false → a ≢ b
+beq_apart a b e same = false≢true (sym e ∙ ap (beq a) (sym same) ∙ beq_self a)
+  where
+    beq_self : (a : Bool) → beq a a ≡ true
+    beq_self true = refl
+    beq_self false = refl
+
+pub not_empty : (n : ℕ) → false ≡ eqb n 0 → 0 < n
+not_empty zero e = absurd (false≢true e)
+not_empty (suc n) e = omega arith
+
+-- after one move more, by the seats
+pub tried_next : (t : TableId) (a b c : Seat ℕ View) → Continues t a b → Continues t b c → (q : Question) (slots n : ℕ) (own : Bool) (ms : List Ply) (i : ℕ) (m : Ply) (x : PlainBoard) → i < length ms → m ≡ get_or ms i m → IsMove q.position m x
+    → All (IsTried q slots n (number a) own (added a b)) (take i ms) → (counts : Probe) → Asks (key_for (question x q.attacker q.goal)) (first_slot (key_for (question x q.attacker q.goal)) slots) slots n (number b) counts (added b c) → Goes own (Forces q.goal q.attacker x n)
+    → All (IsTried q slots n (number a) own (added a c)) (take (i + 1) ms)
+tried_next t a b c ab bc q slots n own ms i m x lt is move before counts asks goes =
+    let up : suc i ≡ i + 1 = omega arith in
+    subst (λ k. All (IsTried q slots n (number a) own (added a c)) (take k ms)) up
+    (subst (λ (l : List Call). All (IsTried q slots n (number a) own l) (take (suc i) ms)) (sym (added_more a b c ab.grew bc.grew))
+    (tried_more q slots n (number a) own (added a b) (added b c) ms i m x lt is move before (asked_below t a b (question x q.attacker q.goal) slots n counts ab.number (added b c) asks) goes))
+
+-- the last move is asked of behind the others
+pub asked_last : (t : TableId) (a b c : Seat ℕ View) → Continues t a b → Continues t b c → (q : Question) (slots n : ℕ) (counts : Probe) → Asks (key_for q) (first_slot (key_for q) slots) slots n (number b) counts (added b c) → IsAsked q slots (number a) (added a c)
+asked_last t a b c ab bc q slots n counts asks = subst (IsAsked q slots (number a)) (sym (added_more a b c ab.grew bc.grew)) (asked_behind q slots (number a) (added a b) (added b c) (asked_below t a b q slots n counts ab.number (added b c) asks))
+
+-- a defender that can move, with no ply left
+pub nothing_left : (goal : Goal) (attacker : Side) (b : PlainBoard) (n : ℕ) → n ≡ 0 → (xs : List Ply) → ListsLawful b xs → 0 < length xs → IsTrue false ↔ Forces goal attacker b n
+nothing_left goal attacker b zero e xs lists some = (λ is. absurd (false≢true is), λ f. absurd (neither (is_same_side attacker b.mover) f))
+  where
+    first : (ys : List Ply) → 0 < length ys → ((m : Ply) → Contains ys m → IsLawful b m) → (m : Ply) × IsLawful b m
+    first [] lt h = absurd (omega (arith, lt))
+    first (y ∷ ys) lt h = (y, h y (zero, omega arith, refl))
+    neither : (r : Bool) → MatchBool r ⊥ (IsReached goal b) → ⊥
+    neither true f = f
+    neither false f = let w = first xs some (λ m. (lists.exact m).0) in not_reached goal b w.0 w.1 f
+nothing_left goal attacker b (suc n) e xs lists some = absurd (omega (arith, e))
