@@ -1,8 +1,7 @@
 -- The positions below one.
-use Rattle.std.proofs.Common.{◌≡◌, ◌≢◌, ℕ, zero, suc, inl, inr, MatchBool, ◌+◌, ◌-◌, ◌<◌, ◌≤◌, ◌↔◌, IsTrue, Bool, true, false, not, eqb, List, [], ◌∷◌, ◌++◌, take, length, get_or, All, Contains, refl, sym, ap, ◌∙◌, subst, arith, cond}
+use Rattle.std.proofs.Common.{◌≡◌, ◌≢◌, ℕ, zero, suc, inl, inr, MatchBool, ◌+◌, ◌-◌, ◌<◌, ◌↔◌, IsTrue, Bool, true, false, not, eqb, List, [], ◌∷◌, ◌++◌, take, length, get_or, All, Contains, refl, sym, ap, ◌∙◌, subst, arith, cond}
 use mathlib.Core.Bool.{beq}
 use Rattle.std.proofs.lemmas.Bool.{false≢true}
-use Rattle.std.proofs.lemmas.Bool.Decides.{Decides-eqb}
 use Rattle.std.proofs.lemmas.List.Elements.{All-append, All-contains, Contains-append_left, Contains-append_right}
 use Rattle.std.proofs.Math.Seq.{take-suc}
 use Rattle.atomic_table.specs.Seated.{TableId}
@@ -15,7 +14,7 @@ use Rattle.moves.specs.declared.goal.Goal.TheVariants.{Mate, MateOrStale}
 use Rattle.moves.specs.Squares.{Ply}
 use Rattle.moves.specs.Moves.{IsMove, IsLawful}
 use Rattle.moves.specs.Order.{ListsLawful}
-use Rattle.moves.specs.Forces.{IsReached, OnTurn, Forces}
+use Rattle.moves.specs.Forces.{IsReached, Forces}
 use Rattle.moves.proofs.Keeps.{one_after}
 use Rattle.moves.proofs.Forcing.{on_own, to_own, on_other, to_other}
 use Rattle.slots.specs.declared.views.View.{View}
@@ -108,6 +107,7 @@ tried_more q slots n number own xs ys ms i m b lt is move before asked goes =
     tried : IsTried q slots n number own (xs ++ ys) m
     tried b' move' = subst (λ (z : PlainBoard). IsAsked (question z q.attacker q.goal) slots number (xs ++ ys) × Goes own (Forces q.goal q.attacker z n)) (one_after q.position m b b' move move')
         (asked_behind (question b q.attacker q.goal) slots number xs ys asked, goes)
+
     one : (x : Ply) → IsTried q slots n number own (xs ++ ys) x → All (IsTried q slots n number own (xs ++ ys)) (x ∷ [])
     one x h zero d small = h
     one x h (suc k) d small = absurd (omega arith)
@@ -238,6 +238,7 @@ nothing_left goal attacker b zero e xs lists some = (λ is. absurd (false≢true
     first : (ys : List Ply) → 0 < length ys → ((m : Ply) → Contains ys m → IsLawful b m) → (m : Ply) × IsLawful b m
     first [] lt h = absurd (omega (arith, lt))
     first (y ∷ ys) lt h = (y, h y (zero, omega arith, refl))
+
     neither : (r : Bool) → MatchBool r ⊥ (IsReached goal b) → ⊥
     neither true f = f
     neither false f = let w = first xs some (λ m. (lists.exact m).0) in not_reached goal b w.0 w.1 f

@@ -1,24 +1,22 @@
 -- What a decision's calls amount to.
-use Rattle.std.proofs.Common.{◌≡◌, ℕ, ◌+◌, ◌<◌, ◌≤◌, Bool, true, false, MatchBool, List, ◌++◌, All, refl, sym, ap, ◌∙◌, subst, arith}
+use Rattle.std.proofs.Common.{◌≡◌, ℕ, ◌+◌, ◌<◌, Bool, true, false, MatchBool, List, ◌++◌, All, refl, sym, ap, ◌∙◌, subst, arith}
 use Rattle.atomic_table.specs.Seated.{TableId}
 use Rattle.atomic_table.specs.declared.shared.Seat.{Seat}
 use Rattle.board.specs.Games.{is_same_side}
 use Rattle.board.specs.Board.{PlainBoard}
 use Rattle.moves.specs.Squares.{Ply}
-use Rattle.moves.specs.Moves.{IsMove, IsLawful}
-use Rattle.moves.specs.Forces.{OnTurn}
+use Rattle.moves.specs.Moves.{IsLawful}
 use Rattle.moves.proofs.Forcing.{to_own}
 use Rattle.slots.specs.declared.views.View.{View}
 use Rattle.slots.specs.declared.calls.Call.{Call}
 use Rattle.slots.specs.declared.calls.Act.TheVariants.{Asked, Offered}
 use Rattle.slots.specs.declared.calls.Probe.{Probe}
-use Rattle.slots.specs.Machine.{call}
 use Rattle.slots.specs.Promise.{number}
 use Rattle.entry.specs.Bounds.{Bounds}
 use Rattle.search.specs.declared.decision.Decision.{Decision}
 use Rattle.search.specs.Calls.{added, Continues}
 use Rattle.search.specs.Questions.{Question, question, entry_for, words_of, key_for, first_slot, Settles, said, IsMetWith}
-use Rattle.search.specs.Decisions.{Asks, IsAsked, IsProbeOf, OffersBoth, StoresAnswer, AsksBelow, Decides}
+use Rattle.search.specs.Decisions.{Asks, IsAsked, IsProbeOf, OffersBoth, AsksBelow, Decides}
 use Rattle.search.specs.Decisions.Asks.{first_decides, one_slot, second_decides, neither_decides}
 use Rattle.search.proofs.Calls.{added_more, continues_more}
 use Rattle.search.proofs.Slots.{begins_on, ends_behind}

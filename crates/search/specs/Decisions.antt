@@ -3,9 +3,8 @@ use Rattle.std.specs.Prelude.{◌≡◌, ℕ, ◌+◌, ◌<◌, ◌≤◌, Bool,
 use Rattle.board.specs.Board.{PlainBoard}
 use Rattle.moves.specs.Squares.{Ply}
 use Rattle.moves.specs.Moves.{IsMove, IsLawful}
-use Rattle.moves.specs.Forces.{OnTurn, Forces}
+use Rattle.moves.specs.Forces.{OnTurn}
 use Rattle.slots.specs.declared.calls.Call.{Call}
-use Rattle.slots.specs.declared.calls.Act.{Act}
 use Rattle.slots.specs.declared.calls.Act.TheVariants.{Asked, Offered}
 use Rattle.slots.specs.declared.calls.Probe.{Probe}
 use Rattle.slots.specs.declared.calls.Store.{Store}

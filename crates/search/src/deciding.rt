@@ -93,7 +93,10 @@ fn search(
             return Outcome { yes: own, expanded };
         }
     }
-    Outcome { yes: !own, expanded }
+    Outcome {
+        yes: !own,
+        expanded,
+    }
 }
 
 /// `decide`, on a board of three words.

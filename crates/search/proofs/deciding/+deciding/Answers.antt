@@ -1,4 +1,4 @@
-use Rattle.std.proofs.Common.{◌≡◌, ◌+◌, ◌-◌, ◌<◌, ◌≤◌, List, All, refl, sym, ◌∙◌, subst, arith, eqb, length}
+use Rattle.std.proofs.Common.{◌-◌, ◌<◌, List, All, sym, ◌∙◌, subst, arith, length}
 use Rattle.std.proofs.lemmas.Bool.Decides.{Decides-eqb}
 use Rattle.std.proofs.lemmas.List.{take_all}
 use Rattle.moves.specs.Squares.{Ply}

@@ -1,4 +1,4 @@
-use Rattle.std.proofs.Common.{◌≡◌, ℕ, ◌+◌, ◌*◌, ◌<◌, ◌-◌, take, Bool, All}
+use Rattle.std.proofs.Common.{◌+◌, ◌*◌, ◌<◌, ◌-◌, take, All}
 use Rattle.slots.specs.Promise.{slots_of, number}
 use Rattle.search.specs.Calls.{added, Continues, KnowsHistory}
 use Rattle.search.specs.Questions.{question}

@@ -1,5 +1,4 @@
 use Rattle.search.proofs.Below.{still_own, still_other}
-use Rattle.search.specs.Questions.{question}
 use Rattle.std.proofs.Common.{sym, ◌∙◌}
 use Rattle.search.proofs.deciding.stands_still.Goals as goal
 
