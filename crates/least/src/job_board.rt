@@ -66,9 +66,9 @@ impl<W: Wins> Least<W> {
         requires seat { IsJobSeatOf self.now seat.old }
         requires wins { JobWins W.wins self.now job }
         ensures seat { IsJobSeatOf self.now seat.new }
-        ensures best { IsBest W.wins self.now (least_known seat.new) }
-        ensures falls { least_known seat.new ≤ least_known seat.old }
         ensures lowered { least_known seat.new ≤ job }
+        ensures falls { least_known seat.new ≤ least_known seat.old }
+        ensures best { IsBest W.wins self.now (least_known seat.new) }
     {
         self.fetch_min(seat, u64::from(job));
     }
@@ -78,10 +78,10 @@ impl<W: Wins> Least<W> {
         requires seat { IsJobSeatOf self.now seat.old }
         requires job { job < self.now.jobs }
         ensures seat { IsJobSeatOf self.now seat.new }
-        ensures best { IsBest W.wins self.now (least_known seat.new) }
-        ensures falls { least_known seat.new ≤ least_known seat.old }
         ensures below { IsTrue result ↔ (least_known seat.new < job) }
         ensures wins { IsTrue result → JobWins W.wins self.now (least_known seat.new) }
+        ensures falls { least_known seat.new ≤ least_known seat.old }
+        ensures best { IsBest W.wins self.now (least_known seat.new) }
     {
         self.read(seat) < u64::from(job)
     }

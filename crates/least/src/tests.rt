@@ -1,8 +1,10 @@
 // The sizes that a job board takes, and two callers of one: that a seat learns of a job which another lowered is in no clause.
-ghost use Rattle.std.specs.Prelude.{◌≡◌, ◌⊎◌};
+ghost use Rattle.std.specs.Prelude.{◌≡◌, ◌⊎◌, ℕ, ◌<◌};
+ghost use Rattle.least.specs.Promise.{IsJobSeatOf, JobWins};
 
-use crate::{Least, MakeFault, Wins};
+use crate::{JobSeat, Least, MakeFault, Wins};
 use std::test::*;
+use std::thread::{Threads, join};
 
 // One job that wins.
 #[derive(Drop)]
@@ -78,5 +80,53 @@ fn the_lesser_job_stays(rt: HostRuntime) {
         least.lower(&mut two, second);
         assert!(rt; least.is_below(&mut one, 3) && !least.is_below(&mut one, 2));
         assert!(rt; least.finish(two) == 2);
+    }
+}
+
+fn with_lowered<W: Wins>(least: &Least<W>, mut seat: JobSeat<W>, job: u16) -> JobSeat<W>
+    requires seat { IsJobSeatOf least.now seat }
+    requires wins { JobWins W.wins least.now job }
+    ensures { IsJobSeatOf least.now result }
+{
+    least.lower(&mut seat, job);
+    seat
+}
+
+// A thread for each seat, which lowers a job.
+fn lowered_by_two<W: Wins + Send + Sync, R: Threads + Sync>(
+    rt: &R,
+    least: Least<W>,
+    one: JobSeat<W>,
+    two: JobSeat<W>,
+    first: u16,
+    second: u16,
+) -> u16
+    requires seats { IsJobSeatOf least one × IsJobSeatOf least two }
+    requires wins { JobWins W.wins least first × JobWins W.wins least second }
+{
+    let board = &least;
+    let (seat, _) = join(
+        rt,
+        move || -> JobSeat<W>
+            requires { IsJobSeatOf board.now one × JobWins W.wins board.now first }
+            ensures { IsJobSeatOf board.entry.now result }
+        { with_lowered(board, one, first) },
+        move || -> JobSeat<W>
+            requires { IsJobSeatOf board.now two × JobWins W.wins board.now second }
+        { with_lowered(board, two, second) },
+    );
+    least.finish(seat)
+}
+
+#[test]
+fn two_threads_lower(rt: HostRuntime) {
+    for (first, second) in [(2, 4), (4, 2)] {
+        let Ok((least, mut seats)) = Least::make(rt.alloc(), &Either(2, 4), 6, 2) else {
+            panic!(rt; "not made")
+        };
+        let (Some(two), Some(one)) = (seats.pop(), seats.pop()) else {
+            panic!(rt; "no seat")
+        };
+        assert!(rt; lowered_by_two(&rt, least, one, two, first, second) == 2);
     }
 }
