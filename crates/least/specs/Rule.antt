@@ -5,6 +5,7 @@ use lib.ListN.{get_elem?}
 use Rattle.atomic_table.specs.Table.{State, Me}
 use Rattle.least.specs.declared.views.JobView.{JobView}
 
+-- a seat's view, by the jobs that win, how many jobs there are, and the number that it knows
 abbrev pub view : {W : Type 0} → W → ℕ → ℕ → JobView W
 view won jobs known = record { wins = won; jobs = jobs; known = known }
 
