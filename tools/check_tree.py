@@ -321,7 +321,7 @@ def height(position, tree, goal):
 
 
 def answer(fen, source, goal="mate"):
-    """What is printed, and the status. `source` gives the input's bytes; a refused position is answered before it is asked."""
+    """What is printed, and the status. `source` gives the input's bytes; a refused position leaves it unasked."""
     try:
         position = read_position(fen)
         text = source()
@@ -354,6 +354,8 @@ CASES = [
     (FIRST, "b1b5#", "stale", "no"),
     (FIRST, "b1b5#", "mate", "no"),
     (FIRST, "b1b5{a6a5:b5a5#}", "mate", "no"),
+    (FIRST, "b1a1#", "mate", "no"),
+    (FIRST, "c4c5=", "stale", "no"),
     (FIRST, "c4c5{a6a5:b1a1=}", "stale", "no"),
     (CORNER, "c4c5q#", "mate", "yes 1"),
     (CORNER, "c4c5r#", "mate", "yes 1"),
@@ -362,6 +364,7 @@ CASES = [
     (CORNER, "f6f5#", "mate", "no"),
     (THIRD, "c1e1{b6a6:e1e6#,b6c6:e1e6#}", "mate", "yes 3"),
     (THIRD, "c1e1{b6a6:e1e6#}", "mate", "no"),
+    (THIRD, "c1e1{b6a6:e1d1{a6b6:d1d6#},b6c6:e1e6#}", "mate", "yes 5"),
     (THIRD, "c1e1{b6c6:e1e6#,b6a6:e1e6#}", "mate", "no"),
     # Black attacks, and is mated or stalemated at the root
     ("5r/6/6/1k4/6/K5 b", "f6f1#", "mate", "yes 1"),
@@ -398,6 +401,7 @@ CASES = [
     ("k5/6/6/6/6/B4K w", "", "mate", "refused: Letter"),
     ("k5/6/33/6/6/5K w", "", "mate", "refused: Run"),
     ("k05/6/6/6/6/5K w", "", "mate", "refused: Run"),
+    ("k5/6/6/6/6/4K0N w", "", "mate", "refused: Run"),
     ("k5/6/6/6/6/5K x", "", "mate", "refused: Side"),
     ("k5/6/6/6/6/5K ", "", "mate", "refused: Side"),
     ("6/6/6/6/6/5K w", "", "mate", "refused: Kings"),
