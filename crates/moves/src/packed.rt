@@ -2,7 +2,7 @@
 ghost use Rattle.std.specs.Prelude.{◌≡◌, ◌<◌, Some};
 ghost use Rattle.board.specs.Board.{unit_on, IsPosition};
 ghost use Rattle.board.specs.Games.{squares_of};
-ghost use Rattle.moves.specs.Words.{man_of, game_of_flags, mover_of_flags, IsFlags};
+ghost use Rattle.moves.specs.Words.{man_of, game_of_flags, mover_of_flags, IsFlags, unpacked, IsPacked};
 ghost use Rattle.moves.specs.Moves.{IsPseudoLegal, IsMove, IsLawful, after};
 
 use crate::plies::Move;
@@ -119,6 +119,14 @@ impl Board {
         ensures small { result < 13 }
     {
         code_on(&self.words, self.game(), square)
+    }
+
+    /// The words of the board.
+    pub fn words(&self) -> [u64; 3]
+        ensures value { unpacked result ≡ self.now }
+        ensures packed { IsPacked result }
+    {
+        self.words
     }
 
     /// The same board again.
