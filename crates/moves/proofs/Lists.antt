@@ -238,3 +238,7 @@ ListsLawful-from b n xs all lists = record {
     λ l. let h = HasParts-lawful b m l in lists.complete m (omega (arith, h.to, h.on_from, h.promotion)) l,
   );
 }
+
+-- where the empty list has all lawful moves there is none
+pub none_lawful : (b : PlainBoard) (n : ℕ) → squares_of b.game ≤ n → ListsBelow b (n * 36 * 5) [] → ((m : Ply) × IsLawful b m) → ⊥
+none_lawful b n all lists (m, l) = All-contains (λ _. ⊥) [] m (All-nil (λ _. ⊥)) (((ListsLawful-from b n [] all lists).exact m).1 l)

@@ -69,7 +69,13 @@ fn is_safe(mail: &Mailbox, guard: Guard, m: Move, unit: Unit) -> bool
 }
 
 /// Whether a move to a square that the unit reaches is lawful.
-fn is_lawful_to(mail: &Mailbox, guard: Guard, m: Move, unit: Unit, target: Option<Unit>) -> bool
+pub(crate) fn is_lawful_to(
+    mail: &Mailbox,
+    guard: Guard,
+    m: Move,
+    unit: Unit,
+    target: Option<Unit>,
+) -> bool
     requires position { IsPosition mail.now }
     requires guards { Guards mail.now guard }
     requires on_board { IsOnBoard mail.now.game m.from }
@@ -152,7 +158,7 @@ fn push_from(
 }
 
 /// The unit on a square, if it is the mover's.
-fn own_unit(mail: &Mailbox, number: u8) -> Option<Unit>
+pub(crate) fn own_unit(mail: &Mailbox, number: u8) -> Option<Unit>
     requires { number < squares_of mail.now.game }
     ensures { MatchOption result
         (is_of_side mail.now.mover (unit_on mail.now number) ≡ false)
@@ -189,7 +195,7 @@ pub fn lawful_on(board: &Board) -> ArrayVec<Move, 512>
 }
 
 /// Where the mover's king stands, and whether it is in check.
-fn guard_of(mail: &Mailbox) -> Guard
+pub(crate) fn guard_of(mail: &Mailbox) -> Guard
     requires { IsPosition mail.now }
     ensures { Guards mail.now result }
 {

@@ -6,11 +6,13 @@ ghost use Rattle.board.specs.Board.{IsPosition};
 ghost use Rattle.board.specs.Games.{IsPlayed, other_side};
 ghost use Rattle.moves.specs.Squares.{unit_at};
 ghost use Rattle.moves.specs.Reach.{IsAttacked, IsInCheck};
+ghost use Rattle.moves.specs.Moves.{IsLawful, GivesCheck};
 ghost use Rattle.moves.specs.Mailbox.{place_in, IsCell, IsNear};
 ghost use Rattle.moves.specs.Looking.{foe_of, Strikes, StrikesBy, IsStruck};
 
 use crate::mailbox::Mailbox;
-use crate::packed::Board;
+use crate::packed::{Board, after};
+use crate::plies::Move;
 use crate::steps::steps;
 use board::{Game, Kind, Mode, Side, Step, Unit};
 
@@ -130,4 +132,12 @@ pub fn mover_in_check(board: &Board) -> bool
         Some(cell) => king_attacked(&mail, cell, side),
         None => false,
     }
+}
+
+/// Whether the lawful move gives check.
+pub fn gives_check(board: &Board, m: Move) -> bool
+    requires { IsLawful board.now m }
+    ensures { IsTrue result ↔ GivesCheck board.now m }
+{
+    mover_in_check(&after(board, m))
 }
