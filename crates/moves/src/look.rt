@@ -176,5 +176,6 @@ pub fn gives_check(board: &Board, m: Move) -> bool
     requires { IsLawful board.now m }
     ensures { IsTrue result ↔ GivesCheck board.now m }
 {
-    mover_in_check(&after(board, m))
+    let next = after(board, m);
+    mover_in_check(&next)
 }
