@@ -7,7 +7,7 @@ ghost use Rattle.moves.specs.Moves.{IsLawful};
 ghost use Rattle.moves.specs.Listing.{ListsBelow};
 ghost use Rattle.moves.specs.Guard.{Guards};
 
-use crate::board_list::{Guard, guard_of, is_lawful_to, own_unit};
+use crate::board_list::{Guard, guard_of, is_lawful_to, own_unit, promotion_count};
 use crate::list::PROMOTIONS;
 use crate::mailbox::{Mailbox, cell_of, square_in};
 use crate::packed::Board;
@@ -37,11 +37,11 @@ fn has_move_to(
     ensures found { IsTrue result → (m : Ply) × IsLawful mail.now m }
     ensures none { result ≡ false → ListsBelow mail.now ((square_number mail.now.game from * 36 + square_number mail.now.game to + 1) * 5) [] }
 {
-    for promotion in &PROMOTIONS {
+    for i in 0..promotion_count(mail.game(), unit, to) {
         let m = Move {
             from,
             to,
-            promotion: *promotion,
+            promotion: PROMOTIONS[i],
         };
         if is_lawful_to(mail, guard, m, unit, target) {
             return true;

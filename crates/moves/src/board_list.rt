@@ -6,7 +6,7 @@ ghost use Rattle.board.specs.Board.{IsPosition, unit_on, is_of_side};
 ghost use Rattle.board.specs.Games.{squares_of};
 ghost use Rattle.moves.specs.Squares.{IsOnBoard, square_number, unit_at};
 ghost use Rattle.moves.specs.Reach.{Reaches, IsInCheck};
-ghost use Rattle.moves.specs.Moves.{IsPseudoLegal, IsLawful, after};
+ghost use Rattle.moves.specs.Moves.{Promotes, IsPseudoLegal, IsLawful, after};
 ghost use Rattle.moves.specs.Order.{ListsLawful};
 ghost use Rattle.moves.specs.Listing.{ListsBelow};
 ghost use Rattle.moves.specs.Mailbox.{place_in, IsCell};
@@ -17,11 +17,11 @@ use crate::list::PROMOTIONS;
 use crate::look::{king_attacked, king_cell};
 use crate::mailbox::{Mailbox, cell_of, square_in};
 use crate::packed::Board;
-use crate::plies::{Move, is_king, is_promoted_well};
+use crate::plies::{Move, is_king, is_promoted_well, promotes};
 use crate::squares::Square;
 use crate::targets::{lowest, targets, without};
 use arrayvec::ArrayVec;
-use board::{Kind, Unit};
+use board::{Game, Kind, Unit};
 
 /// What the mover's king asks of each move: the cell where it stands, and whether it is in check.
 #[derive(Clone, Copy)]
@@ -94,6 +94,15 @@ pub(crate) fn is_lawful_to(
     is_safe(mail, guard, m, unit)
 }
 
+/// How many of the promotions, from none on, a move of the unit to the square may name.
+pub(crate) fn promotion_count(game: Game, unit: Unit, to: Square) -> usize
+    ensures five { Promotes game unit to → result ≡ 5 }
+    ensures one { (Promotes game unit to → ⊥) → result ≡ 1 }
+    ensures within { (1 ≤ result) × (result ≤ 5) }
+{
+    if promotes(game, unit, to) { 5 } else { 1 }
+}
+
 /// Adds the lawful moves of the unit to a square that it reaches, on which `target` stands.
 fn push_to(
     mail: &Mailbox,
@@ -118,11 +127,11 @@ fn push_to(
     ensures few { array_vec_len moves.new ≤ array_vec_len moves.old + 5 }
     ensures one { (unit.kind ≡ Pawn → ⊥) → array_vec_len moves.new ≤ array_vec_len moves.old + 1 }
 {
-    for promotion in &PROMOTIONS {
+    for i in 0..promotion_count(mail.game(), unit, to) {
         let m = Move {
             from,
             to,
-            promotion: *promotion,
+            promotion: PROMOTIONS[i],
         };
         if is_lawful_to(mail, guard, m, unit, target) {
             moves.push(m);

@@ -4,5 +4,5 @@ use Rattle.moves.specs.Listing.{ListsBelow}
 use Rattle.moves.proofs.any_move.has_move_to.Given as given
 
 -- no promotion so far makes a lawful move
-abbrev pub invariant-loop-promotion : given.invariant-loop-promotion
-invariant-loop-promotion l = ListsBelow l.mail ((square_number l.mail.game l.from * 36 + square_number l.mail.game l.to) * 5 + l.promotion-index) []
+abbrev pub invariant-loop-i : given.invariant-loop-i
+invariant-loop-i l = ListsBelow l.mail ((square_number l.mail.game l.from * 36 + square_number l.mail.game l.to) * 5 + l.i) []
