@@ -14,7 +14,7 @@ use Rattle.board.specs.declared.step.Step.{Step}
 use Rattle.moves.specs.Reach.{ahead_of}
 use Rattle.moves.proofs.Rides.{same_place, size-ahead}
 
-six : (g : Game) (n : ℕ) → n < width_of g → n < 6
+pub six : (g : Game) (n : ℕ) → n < width_of g → n < 6
 six LosAlamos n h = h
 six Gardner n h = omega arith
 

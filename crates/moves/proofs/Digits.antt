@@ -56,3 +56,7 @@ module _ (word place code change moved : ℕ) (p : place < 16) (c : code < 16) (
       ∙ ap (λ n. bit_xor (digit word i) (digit n i)) whole
       ∙ ap (λ n. bit_xor (digit word i) n) (digit_elsewhere change place i small other)
       ∙ xor_zero_r (digit word i)
+
+-- a word moved down by whole digits
+pub digit_shifted : (word places i : ℕ) → digit (word / 2 ^ (4 * places)) i ≡ digit word (places + i)
+digit_shifted word places i = let at : 4 * places + 4 * i ≡ 4 * (places + i) = omega arith in ap (λ n. n % 16) (shr-shr word (4 * places) (4 * i) ∙ ap (λ e. word / 2 ^ e) at)
