@@ -1,8 +1,12 @@
 -- What is forced, from the list of lawful moves, round by round.
-use Rattle.std.proofs.Common.{◌≡◌, ℕ, ◌+◌, ◌-◌, ◌*◌, ◌<◌, ◌≤◌, ◌⊎◌, inl, inr, zero, suc, sym, ap, subst, ◌∙◌, arith, List, [], ◌∷◌, length, take, get_or, get_or-take, length-take, Bool, All, Contains, ◌↔◌, IsTrue}
+use Rattle.std.proofs.Common.{◌≡◌, ℕ, ◌+◌, ◌-◌, ◌*◌, ◌<◌, ◌≤◌, ◌⊎◌, inl, inr, zero, suc, sym, ap, subst, ◌∙◌, arith, List, [], ◌∷◌, length, take, get_or, get_or-take, length-take, Bool, All, Contains, ◌↔◌, IsTrue, true, false, refl}
+use Rattle.std.proofs.lemmas.Bool.{false≢true}
 use Rattle.std.proofs.lemmas.Grind.{common_steps, elements}
 use Rattle.std.proofs.lemmas.List.Elements.{All-append, All-contains, All-get_or}
 use Rattle.std.proofs.Math.Seq.{take-suc}
+use Rattle.board.specs.declared.game.Side.{Side}
+use Rattle.board.specs.declared.game.Side.TheVariants.{White, Black}
+use Rattle.board.specs.Games.{is_same_side}
 use Rattle.board.specs.Board.{PlainBoard}
 use Rattle.moves.specs.Squares.{Ply}
 use Rattle.moves.specs.declared.goal.Goal.{Goal}
@@ -10,7 +14,7 @@ use Rattle.moves.specs.Moves.{IsMove}
 use Rattle.moves.specs.Order.{IsPlyBefore, ListsLawful}
 use Rattle.moves.specs.Forces.{IsReached, Forces}
 use Rattle.moves.proofs.Keeps.{one_after}
-use Rattle.moves.proofs.Forcing.{on_own, to_own, same_side-self, twice, twice-double, Forces-even}
+use Rattle.moves.proofs.Forcing.{on_own, to_own, on_other, to_other, turn-own, same_side-self, twice, twice-double, Forces-even}
 use Rattle.search.specs.Answer.{Wins, IsLeastWin, ForcesNothing}
 
 -- ---- one move
@@ -20,6 +24,14 @@ pub wins_by : (goal : Goal) (b : PlainBoard) (n : ℕ) (m : Ply) (q : PlainBoard
 wins_by goal b n m q answer move h = (
   λ yes_is. (q, move, h.0 yes_is),
   λ (x, other, forces). h.1 (subst (λ (z : PlainBoard). Forces goal b.mover z (n - 1)) (one_after b m x q other move) forces),
+)
+
+-- a move wins within one ply where the position after it has reached the goal
+pub wins_from : (goal : Goal) (b : PlainBoard) (m : Ply) (q : PlainBoard) (r : Bool) → IsMove b m q → (IsTrue r ↔ IsReached goal q) → IsTrue r ↔ Wins goal b 1 m
+wins_from goal b m q r move h = (
+  λ won. (q, move, to_other _ ⊥ (IsReached goal q) (turn-own b.mover b m q move (same_side-self b.mover)) (h.0 won)),
+  λ (x, other, forces). let reached = on_other _ ⊥ (IsReached goal x) (turn-own b.mover b m x other (same_side-self b.mover)) forces in
+      h.1 (subst (IsReached goal) (one_after b m x q other move) reached),
 )
 
 -- on the attacker's turn a win is all that forces
@@ -98,3 +110,9 @@ module _ (goal : Goal) (b : PlainBoard) (n : ℕ) (xs : List Ply) (lists : Lists
       one : (x : Ply) → (Wins goal b n x → ⊥) → All (λ l. Wins goal b n l → ⊥) (x ∷ [])
       one x h zero d small = h
       one x h (suc k) d small = absurd (omega arith)
+
+pub same_mover : (s t : Side) → is_same_side s t ≡ true → s ≡ t
+same_mover White White e = refl
+same_mover White Black e = absurd (false≢true e)
+same_mover Black White e = absurd (false≢true e)
+same_mover Black Black e = refl

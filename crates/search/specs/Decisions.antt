@@ -61,4 +61,3 @@ pub record Decides (q : Question) (slots n number : ℕ) (d : Decision) (calls :
   pub at_once : Settles d.first n → (d.expanded ≡ 0) × All (IsProbeOf (key_for q)) calls
   pub searched : (Settles d.first n → ⊥) → OnTurn q.attacker q.position (0 < n → 0 < d.expanded) (0 < d.expanded)
   pub stored : 0 < d.expanded → StoresAnswer q slots n number d calls
-  pub below : 0 < d.expanded → 0 < n → ((m : Ply) × IsLawful q.position m) → AsksBelow q slots number d.yes calls
