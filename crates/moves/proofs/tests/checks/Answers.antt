@@ -1,4 +1,4 @@
-use Rattle.std.proofs.Common.{◌≡◌, None, subst, sym}
+use Rattle.std.proofs.Common.{None, subst, sym}
 use Rattle.board.specs.Board.{PlainBoard}
 use Rattle.moves.specs.Moves.{IsLawful}
 use Rattle.moves.proofs.tests.checks.Goals as goal
