@@ -1,5 +1,5 @@
 -- One look along each line: the first unit on it, and what its kind would take.
-use Rattle.std.proofs.Common.{◌≡◌, ℕ, ◌<◌, refl, sym, ap, subst, ◌∙◌, arith, ◌⊎◌, inl, inr, ◌↔◌, Bool, true, false, IsTrue, ◌&&◌, ◌||◌, Option, Some, None, IfSome, List, Any, All, Contains, length, get_or}
+use Rattle.std.proofs.Common.{◌≡◌, ℕ, ◌<◌, refl, sym, ap, subst, ◌∙◌, inl, inr, Bool, true, false, ◌&&◌, ◌||◌, Option, Some, None, IfSome, List, Any, All, Contains, length, get_or}
 use Rattle.std.specs.Ordering.{int_eq}
 use Rattle.std.specs.List.{list_all, list_any}
 use Rattle.std.proofs.lemmas.Bool.{false≢true, and_parts, or_cases}
@@ -16,13 +16,12 @@ use Rattle.board.specs.declared.game.Unit.{Unit as Man}
 use Rattle.board.specs.declared.step.Mode.{Mode}
 use Rattle.board.specs.declared.step.Mode.TheVariants.{Move, Capture, Both}
 use Rattle.board.specs.declared.step.Step.{Step}
-use Rattle.board.specs.Denotation.{terms_of, Denotes}
 use Rattle.board.specs.Games.{other_side, IsPlayed}
-use Rattle.board.specs.Board.{PlainBoard, unit_on, IsPosition, MayStandOn}
+use Rattle.board.specs.Board.{PlainBoard, IsPosition, MayStandOn}
 use Rattle.moves.specs.Squares.{Place, IsOnBoard, square_number, unit_at}
 use Rattle.moves.specs.Reach.{ahead_of, IsShift, IsStep}
 use Rattle.moves.specs.StepTables.{table_of}
-use Rattle.moves.specs.Looking.{foe_of, Strikes, StrikesBy, IsStruck, GoesAs, GoesAlong, IsHitAlong}
+use Rattle.moves.specs.Looking.{foe_of, IsStruck, GoesAs, GoesAlong, IsHitAlong}
 use Rattle.moves.proofs.TableTests.{table_of-exact}
 use Rattle.moves.proofs.Looking.{Strikes-here, Strikes-first, Strikes-single, Strikes-more, Strikes-onward, Strikes-nowhere}
 

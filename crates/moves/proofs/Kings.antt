@@ -1,16 +1,15 @@
 -- A side's king stands on one square.
-use Rattle.std.proofs.Common.{◌≡◌, ℕ, zero, suc, nat_eq, ◌+◌, ◌<◌, ◌≤◌, refl, sym, ap, subst, ◌∙◌, arith, ◌⊎◌, inl, inr, Bool, true, cond, List, length, get_or, take, Option, Some, None, IsTrue, ◌↔◌, count_by, get_or-take, length-take}
+use Rattle.std.proofs.Common.{◌≡◌, ℕ, zero, suc, nat_eq, ◌<◌, ◌≤◌, refl, sym, ap, subst, ◌∙◌, arith, inl, inr, Bool, true, cond, List, length, get_or, take, Option, Some, None, IsTrue, ◌↔◌, count_by, get_or-take, length-take}
 use Rattle.std.proofs.lemmas.Bool.{cases_order, eqb-true, eq-eqb}
 use Rattle.std.proofs.lemmas.List.Sums.{sum_by_more_le}
-use Rattle.board.specs.declared.game.Game.{Game}
 use Rattle.board.specs.declared.game.Side.{Side}
 use Rattle.board.specs.declared.game.Side.TheVariants.{White, Black}
 use Rattle.board.specs.declared.game.Kind.TheVariants.{King}
 use Rattle.board.specs.declared.game.Unit.{Unit as Man}
-use Rattle.board.specs.Games.{other_side, is_same_side}
-use Rattle.board.specs.Board.{PlainBoard, unit_on, is_king_of, IsPosition}
+use Rattle.board.specs.Games.{other_side}
+use Rattle.board.specs.Board.{PlainBoard, is_king_of, IsPosition}
 use Rattle.moves.specs.Squares.{Place, IsOnBoard, square_number, unit_at}
-use Rattle.moves.specs.Reach.{IsAttacked, IsCheckAt, IsInCheck}
+use Rattle.moves.specs.Reach.{IsAttacked, IsInCheck}
 use Rattle.moves.specs.Mailbox.{cell_of, place_in, code_in, IsCell, LaysOut}
 use Rattle.moves.specs.Words.{man_of}
 use Rattle.moves.proofs.Cells.{cell_cases, IsCell-cell_of, place_in-cell_of}

@@ -1,5 +1,5 @@
 -- A walk read backwards: what attacks a square is what a unit of the same kind would take from there.
-use Rattle.std.proofs.Common.{◌≡◌, ℕ, ◌+◌, ◌<◌, ℤ, pos, negsuc, ◌+ℤ◌, neg_ℤ, zero, suc, refl, sym, ap, subst, ◌∙◌, arith, ◌⊎◌, inl, inr, Bool, true, false, Option, Some, None, unwrap_or, List, [], ◌∷◌, Any, All, Contains, length, get_or, lit<}
+use Rattle.std.proofs.Common.{◌≡◌, ℕ, ◌<◌, ℤ, pos, negsuc, neg_ℤ, zero, suc, refl, sym, ap, subst, ◌∙◌, arith, ◌⊎◌, inl, inr, true, false, Some, None, unwrap_or, List, All, length, get_or}
 use Rattle.std.specs.Int.RustNames.{unsigned_abs}
 use Rattle.std.proofs.lemmas.Int.{ints}
 use Rattle.std.proofs.lemmas.Bool.{false≢true}
@@ -16,7 +16,7 @@ use Rattle.board.specs.declared.terms.Atom.{Atom}
 use Rattle.board.specs.declared.terms.Atom.TheVariants.{Wazir, Ferz}
 use Rattle.board.specs.declared.terms.Atom.TheVariants as atom
 use Rattle.board.specs.declared.terms.Term.{Term}
-use Rattle.board.specs.Denotation.{IsAtomLeap, IsTermStep, Denotes, terms_of, ListsSteps}
+use Rattle.board.specs.Denotation.{IsAtomLeap, Denotes, terms_of}
 use Rattle.board.specs.Games.{other_side, IsPlayed}
 use Rattle.board.specs.Board.{PlainBoard}
 use Rattle.moves.specs.Squares.{Place, IsOnBoard, unit_at}

@@ -6,7 +6,7 @@ use Rattle.board.specs.declared.game.Unit.{Unit as Man}
 use Rattle.board.specs.declared.step.Mode.TheVariants.{Move}
 use Rattle.board.specs.declared.step.Step.{Step}
 use Rattle.board.specs.Denotation.{terms_of, Denotes}
-use Rattle.board.specs.Games.{other_side, IsPlayed}
+use Rattle.board.specs.Games.{other_side}
 use Rattle.board.specs.Board.{PlainBoard}
 use Rattle.moves.specs.Squares.{Place, unit_at}
 use Rattle.moves.specs.Reach.{Leads}

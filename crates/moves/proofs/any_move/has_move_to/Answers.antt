@@ -4,7 +4,7 @@ use Rattle.moves.specs.declared.list.TheConstants.{PROMOTIONS}
 use Rattle.moves.specs.Squares.{Ply, square_number}
 use Rattle.moves.specs.Moves.{Promotes, IsLawful}
 use Rattle.moves.specs.Order.{promotion_number}
-use Rattle.moves.specs.Listing.{ply_number, ListsBelow}
+use Rattle.moves.specs.Listing.{ply_number}
 use Rattle.moves.proofs.Lists.{IsNumbered, numbered_promotion, ListsBelow-skip, ListsBelow-promoted}
 use Rattle.moves.proofs.any_move.has_move_to.Goals as goal
 

@@ -1,4 +1,4 @@
-use Rattle.std.proofs.Common.{◌≡◌, subst}
+use Rattle.std.proofs.Common.{subst}
 use Rattle.board.specs.Board.{PlainBoard}
 use Rattle.moves.specs.Reach.{IsInCheck}
 use Rattle.moves.proofs.Keeps.{one_after}

@@ -1,9 +1,5 @@
-use Rattle.std.proofs.Common.{◌≡◌, refl, sym, ◌∙◌}
-use Rattle.std.proofs.lemmas.Bool.{false≢true}
-use Rattle.board.specs.declared.game.Kind.{Kind}
 use Rattle.board.specs.declared.game.Kind.TheVariants.{Knight}
 use Rattle.moves.specs.Mailbox.{place_in}
-use Rattle.moves.specs.Looking.{IsStruck}
 use Rattle.moves.proofs.Looking.{IsAttacked-struck, none_struck}
 use Rattle.moves.proofs.Hits.{struck_played}
 use Rattle.moves.proofs.look.is_attacked.Goals as goal

@@ -1,4 +1,4 @@
-use Rattle.std.proofs.Common.{◌≡◌, All, take, true, sym, arith, ◌∙◌}
+use Rattle.std.proofs.Common.{◌≡◌, take, true, sym, arith, ◌∙◌}
 use Rattle.std.proofs.lemmas.Bool.{false≢true}
 use Rattle.std.proofs.lemmas.List.{take_all}
 use Rattle.std.proofs.lemmas.List.Elements.{All-more}
@@ -6,7 +6,7 @@ use Rattle.board.specs.declared.game.Kind.TheVariants.{Queen}
 use Rattle.moves.specs.StepTables.{table_of}
 use Rattle.moves.specs.Mailbox.{place_in}
 use Rattle.moves.specs.Looking.{IsHitAlong}
-use Rattle.moves.proofs.Hits.{IsStruck-hit, not_hit}
+use Rattle.moves.proofs.Hits.{not_hit}
 use Rattle.moves.proofs.look.is_hit.Goals as goal
 
 pub loop-step-preserved : goal.loop-step-preserved

@@ -1,5 +1,4 @@
 use Rattle.std.proofs.Common.{◌≡◌, ◌+◌, ◌<◌, ℕ, subst}
-use Rattle.board.specs.declared.game.Game.{Game}
 use Rattle.board.specs.Games.{width_of}
 use Rattle.moves.specs.Words.{digit}
 use Rattle.moves.specs.Mailbox.{IsRankLaid}

@@ -1,4 +1,4 @@
-use Rattle.std.proofs.Common.{◌≡◌, refl, subst}
+use Rattle.std.proofs.Common.{refl, subst}
 use Rattle.moves.specs.Mailbox.{LaysOut}
 use Rattle.moves.proofs.Kings.{white_in, black_in}
 use Rattle.moves.proofs.mailbox.Mailbox.has_king.Goals as goal

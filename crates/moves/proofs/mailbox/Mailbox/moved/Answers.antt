@@ -1,6 +1,6 @@
 use Rattle.std.proofs.Common.{◌≡◌, Some, sym, ap, subst, ◌∙◌, unwrap_or, set, length, arith}
 use Rattle.std.proofs.lemmas.List.{get_or-set_same, get_or-set_other, length-set}
-use Rattle.moves.specs.Squares.{Place, Ply}
+use Rattle.moves.specs.Squares.{Ply}
 use Rattle.moves.specs.Moves.{placed, after}
 use Rattle.moves.specs.Words.{man_of}
 use Rattle.moves.specs.Mailbox.{cell_of, LaysOut}
