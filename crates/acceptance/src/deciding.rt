@@ -1,7 +1,7 @@
 //! Decisions over small tables.
-use crate::tables::{Table, position};
+use crate::tables::{Table, learnt, nothing_of, position};
 use moves::Goal;
-use slots::Probe;
+use slots::{Probe, Store};
 
 const CORNERED: &str = "k5/6/2K3/6/6/1R4 w";
 
@@ -39,4 +39,32 @@ fn the_goal_is_asked_too(rt: HostRuntime) {
     let mut table = Table::make(&rt, rt.alloc(), 1);
     assert!(rt; table.decide(&cornered, Goal::MateOrStale, 1).yes);
     assert!(rt; !table.decide(&cornered, Goal::Mate, 1).yes);
+}
+
+// An entry that says nothing of its position.
+const NOTHING: [u64; 3] = [0x8000000000100000, 0, 0x00FF000007000000];
+
+const CORNERED_WITHIN_THREE: [u64; 3] = [
+    0x8000000000000030,
+    0x0000000100000000,
+    0x0003000007000000,
+];
+
+#[test]
+fn an_even_slot_keeps_what_is_worth_more(rt: HostRuntime) {
+    let cornered = position(&rt, CORNERED);
+    let three = learnt(&rt, rt.alloc(), &cornered, 2, true);
+    let within = learnt(&rt, rt.alloc(), &cornered, 2, false);
+    let nothing = nothing_of(&position(&rt, "k5/6/6/6/6/5K w"));
+    assert!(rt;
+        three == CORNERED_IN_THREE && within == CORNERED_WITHIN_THREE && nothing == NOTHING
+    );
+    let mut table = Table::make(&rt, rt.alloc(), 2);
+    assert!(rt; table.store(&rt, 0, nothing) == Store::Stored);
+    assert!(rt; table.store(&rt, 0, three) == Store::Stored);
+    assert!(rt; table.store(&rt, 0, nothing) == Store::Kept(CORNERED_IN_THREE));
+    assert!(rt; table.store(&rt, 0, three) == Store::Kept(CORNERED_IN_THREE));
+    assert!(rt; table.store(&rt, 0, within) == Store::Kept(CORNERED_IN_THREE));
+    assert!(rt; table.store(&rt, 1, three) == Store::Stored);
+    assert!(rt; table.store(&rt, 1, nothing) == Store::Stored);
 }

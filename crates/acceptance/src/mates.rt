@@ -4,6 +4,8 @@ use crate::solving::answer_text;
 use crate::tables::position;
 use moves::Goal;
 use search::solve;
+use std::alloc::Global;
+use std::process::Abort;
 use std::test::Fail;
 
 /// The goal, the limit in plies, the position, and the answer.
@@ -60,6 +62,38 @@ const MATES: [Case; 38] = [
     ),
 ];
 
+const LONG_MATES: [Case; 4] = [
+    (Goal::Mate, 9, "6/R5/3K1r/2QR1P/2p1k1/6 w", "9 d4e5"),
+    (Goal::Mate, 9, "2b1k/1p1Np/4P/pnP1Q/RN2K w", "9 b1d2"),
+    (Goal::Mate, 9, "r5/1p1kPP/p1r3/P5/RP2PQ/1N1KNR w", "9 b1c3"),
+    (Goal::Mate, 11, "3k1/1K1R1/1p3/2q1R/1b2n b", "11 d5d4"),
+];
+
+const NO_MATES: [Case; 7] = [
+    (Goal::Mate, 9, "k1NN1/4K/3R1/q4/5 b", "none within 9"),
+    (Goal::Mate, 9, "5/3Bn/k4/1RnK1/B4 w", "none within 9"),
+    (Goal::Mate, 9, "rQb1k/p2pp/p4/PPqB1/R3K w", "none within 9"),
+    (
+        Goal::Mate,
+        9,
+        "1rb1k/pp2p/2pq1/PPP2/1RBQK w",
+        "none within 9",
+    ),
+    (
+        Goal::Mate,
+        9,
+        "4kr/p1pp1p/P1Q2n/1p4/P1P1PP/R2KnR b",
+        "none within 9",
+    ),
+    (Goal::Mate, 9, "n1B1k/2pbp/4P/qP2K/4Q b", "none within 9"),
+    (
+        Goal::Mate,
+        9,
+        "r3kr/1pp3/P1npPp/6/R1P3/1NQ1KR b",
+        "none within 9",
+    ),
+];
+
 const STALEMATES: [Case; 12] = [
     (Goal::MateOrStale, 5, "2qK1/3B1/1k1NQ/3b1/r1Q2 w", "5 c1c5"),
     (Goal::MateOrStale, 5, "K4N/1R1N2/N5/5k/6/3N2 w", "1 a4c3"),
@@ -85,22 +119,31 @@ const STALEMATES: [Case; 12] = [
     (Goal::MateOrStale, 5, "2k3/6/1n1p1K/2q3/1R4/6 b", "5 c3e3"),
 ];
 
-#[test]
-fn mates(rt: HostRuntime) -> Result<(), Fail> {
-    for (goal, limit, text, answer) in MATES {
-        let answer_is = solve(rt.alloc(), &position(&rt, text), goal, limit, 1 << 14);
-        let got = answer_text(rt.alloc(), answer_is)?;
-        assert_eq!(rt; got.as_str(), answer, "{text}");
+fn check(rt: &impl Abort, alloc: Global, cases: &[Case]) -> Result<(), Fail> {
+    for (goal, limit, text, answer) in cases {
+        let found = solve(alloc, &position(rt, text), *goal, *limit, 1 << 16);
+        let got = answer_text(alloc, found)?;
+        assert_eq!(rt; got.as_str(), *answer, "{text}");
     }
     Ok(())
 }
 
 #[test]
+fn mates(rt: HostRuntime) -> Result<(), Fail> {
+    check(&rt, rt.alloc(), &MATES)
+}
+
+#[test]
+fn long_mates(rt: HostRuntime) -> Result<(), Fail> {
+    check(&rt, rt.alloc(), &LONG_MATES)
+}
+
+#[test]
+fn no_mates(rt: HostRuntime) -> Result<(), Fail> {
+    check(&rt, rt.alloc(), &NO_MATES)
+}
+
+#[test]
 fn mates_or_stalemates(rt: HostRuntime) -> Result<(), Fail> {
-    for (goal, limit, text, answer) in STALEMATES {
-        let answer_is = solve(rt.alloc(), &position(&rt, text), goal, limit, 1 << 14);
-        let got = answer_text(rt.alloc(), answer_is)?;
-        assert_eq!(rt; got.as_str(), answer, "{text}");
-    }
-    Ok(())
+    check(&rt, rt.alloc(), &STALEMATES)
 }

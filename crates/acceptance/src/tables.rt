@@ -1,10 +1,14 @@
 //! A table of true entries with one caller, for the tests.
-ghost use Rattle.std.specs.Prelude.{◌≡◌, ◌≤◌, ◌<◌, IfSome, MatchOption};
-ghost use Rattle.slots.specs.Promise.{slots_of, IsSeatOf, AllNew};
+ghost use Rattle.std.specs.Prelude.{◌≡◌, ◌≤◌, ◌+◌, ◌↔◌, IsTrue, IfSome};
+ghost use Rattle.board.specs.declared.game.Side.TheVariants.{White};
+ghost use Rattle.moves.specs.declared.goal.Goal.TheVariants.{Mate};
+ghost use Rattle.moves.specs.Forces.{Forces};
+ghost use Rattle.entry.specs.Packing.{entry_of};
+ghost use Rattle.slots.specs.Promise.{IsSeatOf, AllNew};
 ghost use Rattle.entry.specs.Truth.{IsTruePacking};
 
 use board::{Position, Side};
-use entry::{Entry, Interval, MateLore, interval_laws, key_of, meet, pack, slot_of};
+use entry::{Entry, Interval, MateLore, interval_laws, key_of, meet, pack};
 use moves::{Goal, read_sound};
 use search::{Decision, decide};
 use slots::{Probe, Seat, Slots, Store};
@@ -45,6 +49,7 @@ impl Table {
     /// White attacks.
     pub(crate) fn decide(&mut self, position: &Position, goal: Goal, n: u8) -> Decision
         requires { n ≤ 63 }
+        ensures { IsTrue result.yes ↔ Forces goal White position.now n }
     {
         decide(&self.slots, &mut self.seat, position, Side::White, goal, n)
     }
@@ -60,4 +65,80 @@ impl Table {
         assert!(rt; slot < self.slots.len());
         self.slots.store(&mut self.seat, slot, words)
     }
+}
+
+/// An entry of the position, for White and mate.
+fn entry(position: &Position, interval: Interval) -> Entry
+    ensures { result ≡ entry_of position.now White Mate interval }
+{
+    Entry {
+        position: *position,
+        attacker: Side::White,
+        goal: Goal::Mate,
+        interval,
+    }
+}
+
+/// The words of a mate within m + 1 plies, and if `fewest` is asked for not within m, where the decisions say so.
+fn words_of(
+    position: &Position,
+    m: u8,
+    fewest: bool,
+    within: Decision,
+    fewer: Decision,
+) -> Option<[u64; 3]>
+    requires plies { m ≤ 62 }
+    requires within { IsTrue within.yes ↔ Forces Mate White position.now (m + 1) }
+    requires fewer { IsTrue fewer.yes ↔ Forces Mate White position.now m }
+    ensures { IfSome result IsTruePacking }
+{
+    interval_laws();
+    if !within.yes {
+        return None;
+    }
+    let upto = Interval {
+        below: 0,
+        upto: Some(m + 1),
+    };
+    if !fewest {
+        return Some(pack(&entry(position, upto)));
+    }
+    if fewer.yes {
+        return None;
+    }
+    let below = Interval {
+        below: m + 1,
+        upto: None,
+    };
+    Some(pack(&entry(position, meet(upto, below))))
+}
+
+/// The words of a true entry: White forces mate within m + 1 plies, and if `fewest` is asked for not within m.
+pub(crate) fn learnt(
+    rt: &impl Abort,
+    alloc: Global,
+    position: &Position,
+    m: u8,
+    fewest: bool,
+) -> [u64; 3]
+    requires { m ≤ 62 }
+    ensures { IsTruePacking result }
+{
+    let mut table = Table::make(rt, alloc, 64);
+    let within = table.decide(position, Goal::Mate, m + 1);
+    let fewer = table.decide(position, Goal::Mate, m);
+    words_of(position, m, fewest, within, fewer).expect(rt, "a mate")
+}
+
+/// The words of an entry that says nothing of the position, so a true one.
+pub(crate) fn nothing_of(position: &Position) -> [u64; 3]
+    ensures { IsTruePacking result }
+{
+    pack(&entry(
+        position,
+        Interval {
+            below: 0,
+            upto: None,
+        },
+    ))
 }
