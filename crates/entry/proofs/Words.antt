@@ -75,7 +75,7 @@ pub record Fields (e : Entry) (three : List ℕ) : Type 0 where
   pub upto : get_or three 2 0 / 2 ^ 48 ≡ upto_byte e.interval.upto
   pub packed : IsPacked e.position (get_or three 0 0 % 2 ^ 48) (get_or three 1 0 % 2 ^ 48) (get_or three 2 0 % 2 ^ 48)
 
-width_le : (g : Game) → width_of g ≤ 6
+pub width_le : (g : Game) → width_of g ≤ 6
 width_le LosAlamos = omega arith
 width_le Gardner = omega arith
 

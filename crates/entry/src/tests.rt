@@ -122,6 +122,10 @@ fn preferences(rt: HostRuntime) {
     assert!(rt; prefers(known, FIRST) && prefers(known, known) && prefers(known, less));
     assert!(rt; !prefers(FIRST, known) && !prefers(less, known));
     assert!(rt; !prefers([0, 0, 0], FIRST) && !prefers(known, [0, 0, 0]));
+    // codes above 12, under intervals that would be preferred
+    let stray = [0x8000000000000030, 0x000300010000000D, 0x0003000007000000];
+    assert!(rt; !prefers(stray, stray) && !prefers(stray, FIRST));
+    assert!(rt; !prefers(known, [FIRST[0], 0xD, FIRST[2]]));
     assert!(rt;
         !prefers(known, [0, 1, 0])
             && MateLore::prefers(known, FIRST)
