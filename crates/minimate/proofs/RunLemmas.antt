@@ -5,7 +5,7 @@ use Rattle.minimate.specs.Refusal.{refusal_status}
 use Rattle.minimate.specs.Run.{Run, no_memory, RunsLine, Finishes, Refuses}
 use Rattle.minimate.specs.declared.line.Line.{Line}
 use Rattle.minimate.specs.declared.refusal.Refusal.{Refusal}
-use Rattle.minimate.specs.declared.refusal.Refusal.TheVariants.{Fields, Shape, Letter, Run as RunOfDigits, Side, Kings, Units, PawnRank, OtherInCheck, Limit, NoMemory}
+use Rattle.minimate.specs.declared.refusal.Refusal.TheVariants.{Fields, Shape, Letter, Run as RunOfDigits, Side, Kings, Units, PawnRank, OtherInCheck, Limit, Slots, NoMemory}
 
 -- a run that wrote a reply of status 0 or 1
 pub run_of_reply : (line : Line) (run : Run) (reply : Reply) → (reply.status ≡ 0) ⊎ (reply.status ≡ 1) → IsOutput line reply
@@ -70,6 +70,7 @@ refusal_cases Units = inr (λ e. cc, refl)
 refusal_cases PawnRank = inr (λ e. cc, refl)
 refusal_cases OtherInCheck = inr (λ e. cc, refl)
 refusal_cases Limit = inr (λ e. cc, refl)
+refusal_cases Slots = inr (λ e. cc, refl)
 refusal_cases NoMemory = inl refl
 
 -- a run that wrote a refusal, or the line for want of memory

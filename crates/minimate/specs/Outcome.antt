@@ -4,16 +4,17 @@ use Rattle.board.specs.Board.{PlainBoard}
 use Rattle.moves.specs.declared.goal.Goal.{Goal}
 use Rattle.search.specs.declared.answer.Answer.{Answer}
 use Rattle.search.specs.declared.fault.SolveFault.{SolveFault}
+use Rattle.search.specs.declared.fault.SolveFault.TheVariants as solve
 use Rattle.search.specs.Answer.{IsAnswer}
-use Rattle.search.specs.Limits.{limits_fault}
+use Rattle.search.specs.Limits.{values_fault}
 use Rattle.minimate.specs.Output.{Reply, answered, refused}
 use Rattle.minimate.specs.declared.refusal.Refusal.{Refusal}
 use Rattle.minimate.specs.declared.refusal.Refusal.TheVariants.{NoMemory}
 
--- the answer within a limit of any size, or the fault of the limit
-abbrev pub Solves : Goal → PlainBoard → ℕ → Result Answer SolveFault → Type 0
-Solves goal b limit (Ok answer) = (limits_fault limit ≡ None) × IsAnswer goal b limit answer
-Solves goal b limit (Err fault) = limits_fault limit ≡ Some fault
+-- for values of any size: the answer within the limit, or the first fault of the values, or want of memory
+abbrev pub Solves : Goal → PlainBoard → ℕ → ℕ → Result Answer SolveFault → Type 0
+Solves goal b limit slots (Ok answer) = (values_fault limit slots ≡ None) × IsAnswer goal b limit answer
+Solves goal b limit slots (Err fault) = (values_fault limit slots ≡ Some fault) ⊎ ((values_fault limit slots ≡ None) × (fault ≡ solve.NoMemory))
 
 -- a text is that of an answer, and a refusal is right or is want of memory
 abbrev pub Gives : {B : Type 0} → (B → List ℕ) → (Reply → Type 0) → Result B Refusal → Type 0

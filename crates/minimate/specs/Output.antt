@@ -15,7 +15,7 @@ use Rattle.moves.specs.Squares.{Ply}
 use Rattle.search.specs.declared.answer.Answer.{Answer}
 use Rattle.search.specs.declared.answer.Answer.TheVariants.{Mate, NoneWithin}
 use Rattle.search.specs.Answer.{IsAnswer}
-use Rattle.search.specs.Limits.{limits_fault}
+use Rattle.search.specs.Limits.{values_fault}
 use Rattle.minimate.specs.Refusal.{refusal_status, refusal_text, refusal_of_fen, refusal_of_solve}
 use Rattle.minimate.specs.declared.line.Line.{Line}
 use Rattle.minimate.specs.declared.line.Limits.{Limits}
@@ -53,9 +53,9 @@ moves_text moves = flat_map (λ m. line_of (move_text m)) moves
 
 -- ---- the reply to each command, at a position
 
--- the answer for a goal within the limit, or the refusal of a limit that is not searched
+-- the answer for a goal within the limit, or the refusal of the first value that is outside its limits
 abbrev pub ShowsAnswer : Goal → PlainBoard → Limits → Reply → Type 0
-ShowsAnswer goal b limits reply = MatchOption (limits_fault limits.limit)
+ShowsAnswer goal b limits reply = MatchOption (values_fault limits.limit limits.slots)
     ((answer : Answer) × IsAnswer goal b limits.limit answer × (reply ≡ answered (answer_text answer)))
     (λ fault. reply ≡ refused (refusal_of_solve fault))
 

@@ -1,24 +1,31 @@
 -- The commands, as `clap` reads them.
-use Rattle.std.specs.Prelude.{Some, true, codes, pos}
-use Rattle.clap.specs.Words.{App, Rule, new_app, new_rule, with_rule, with_subcommand}
+use Rattle.std.specs.Prelude.{[], ◌∷◌, Some, true, codes, pos}
+use Rattle.clap.specs.Words.{App, Rule, Text, new_app, new_rule, with_rule, with_subcommand}
 use Rattle.clap.specs.declared.builder.value_parser.ValueParser.TheVariants as parser
 
 -- one word that must be there
 abbrev pub fen_rule : Rule
 fen_rule = record (new_rule (codes "FEN")) { required = true }
 
--- a number of 32 bits after `--limit`, which must be there
-abbrev pub limit_rule : Rule
-limit_rule = record (new_rule (codes "limit")) {
-  long = Some (codes "limit");
+-- a number of 32 bits after `--name`
+abbrev pub number_rule : Text → Rule
+number_rule name = record (new_rule name) {
+  long = Some name;
   value_names = 1;
   parser = Some (parser.Signed (pos 0) (pos 4294967295));
-  required = true;
 }
 
--- `solve --limit N FEN`
+-- the limit, which must be there
+abbrev pub limit_rule : Rule
+limit_rule = record (number_rule (codes "limit")) { required = true }
+
+-- the slots, 64 where they are not given
+abbrev pub slots_rule : Rule
+slots_rule = record (number_rule (codes "slots")) { defaults = codes "64" ∷ [] }
+
+-- `solve --limit N [--slots S] FEN`
 abbrev pub solve_app : App
-solve_app = with_rule (with_rule (new_app (codes "solve")) limit_rule) fen_rule
+solve_app = with_rule (with_rule (with_rule (new_app (codes "solve")) limit_rule) slots_rule) fen_rule
 
 -- `moves FEN`
 abbrev pub moves_app : App

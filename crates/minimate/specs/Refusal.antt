@@ -5,7 +5,7 @@ use Rattle.board.specs.declared.fault.FenFault.TheVariants as fen
 use Rattle.search.specs.declared.fault.SolveFault.{SolveFault}
 use Rattle.search.specs.declared.fault.SolveFault.TheVariants as solve
 use Rattle.minimate.specs.declared.refusal.Refusal.{Refusal}
-use Rattle.minimate.specs.declared.refusal.Refusal.TheVariants.{Fields, Shape, Letter, Run, Side, Kings, Units, PawnRank, OtherInCheck, Limit, NoMemory}
+use Rattle.minimate.specs.declared.refusal.Refusal.TheVariants.{Fields, Shape, Letter, Run, Side, Kings, Units, PawnRank, OtherInCheck, Limit, Slots, NoMemory}
 
 -- the name that is printed
 abbrev pub refusal_text : Refusal → List ℕ
@@ -19,6 +19,7 @@ refusal_text Units = codes "Units"
 refusal_text PawnRank = codes "PawnRank"
 refusal_text OtherInCheck = codes "OtherInCheck"
 refusal_text Limit = codes "Limit"
+refusal_text Slots = codes "Slots"
 refusal_text NoMemory = codes "NoMemory"
 
 -- the status of a run that ends with it
@@ -41,3 +42,5 @@ refusal_of_fen fen.OtherInCheck = OtherInCheck
 -- the refusal of each fault of a solve
 abbrev pub refusal_of_solve : SolveFault → Refusal
 refusal_of_solve solve.Limit = Limit
+refusal_of_solve solve.Slots = Slots
+refusal_of_solve solve.NoMemory = NoMemory

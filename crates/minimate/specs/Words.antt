@@ -4,6 +4,7 @@ use Rattle.std.specs.Str.Parse.{IsNumeral, digits_value, without_leading_plus}
 use Rattle.clap.specs.Words.{Row, Text, fault_of, first_of, one_of, subcommand_of}
 use Rattle.minimate.specs.Program.{program}
 use Rattle.minimate.specs.declared.line.Line.{Line}
+use Rattle.minimate.specs.declared.line.Limits.{Limits}
 use Rattle.minimate.specs.declared.line.Action.{Action}
 use Rattle.minimate.specs.declared.line.Action.TheVariants.{Solve, Moves}
 
@@ -16,9 +17,14 @@ IsNumber text n = (IsNumeral 10 (without_leading_plus text) × (digits_value 10 
 abbrev pub HasNumber : Text → List Row → ℕ → Type 0
 HasNumber id rows n = (text : Text) × (one_of id rows ≡ Some text) × IsNumber text n
 
+-- the numbers that were found for the limits' names
+pub record HasLimits (rows : List Row) (limits : Limits) : Type 0 where
+  pub limit : HasNumber (codes "limit") rows limits.limit
+  pub slots : HasNumber (codes "slots") rows limits.slots
+
 -- the command of that name with the values that were found for it
 abbrev pub MeansAction : Text → List Row → Action → Type 0
-MeansAction name rows (Solve limits) = (name ≡ codes "solve") × HasNumber (codes "limit") rows limits.limit
+MeansAction name rows (Solve limits) = (name ≡ codes "solve") × HasLimits rows limits
 MeansAction name rows Moves = name ≡ codes "moves"
 
 -- the command's name and rows, as found, are the line's

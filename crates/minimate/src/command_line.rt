@@ -3,11 +3,12 @@ ghost use Rattle.std.specs.Prelude.{◌≡◌, ◌≢◌, false, IfErr, IfNone, 
 ghost use Rattle.clap.specs.declared.error.kind.ErrorKind.TheVariants.{OutOfMemory};
 ghost use Rattle.minimate.specs.declared.command_line.LineFault.TheVariants.{Words};
 ghost use Rattle.minimate.specs.declared.line.Line.{Line as TheLine};
+ghost use Rattle.minimate.specs.declared.line.Limits.{Limits as TheLimits};
 ghost use Rattle.minimate.specs.declared.line.Action.{Action as TheAction};
 ghost use Rattle.clap.specs.Words.{FailsBy, app_of, fault_of, first_of, found_of, kind_of, rows_of, rule_of, subcommand_of, subcommand_rows_of};
-ghost use Rattle.minimate.specs.Words.{HasLine, HasNumber, MeansAction, MeansLine, MeansNoLine};
+ghost use Rattle.minimate.specs.Words.{HasLimits, HasLine, HasNumber, MeansAction, MeansLine, MeansNoLine};
 ghost use Rattle.clap.specs.declared.builder.command.Command.TheViews.{out-Command as fields_of};
-ghost use Rattle.minimate.specs.Program.{fen_rule, limit_rule, solve_app, moves_app, program};
+ghost use Rattle.minimate.specs.Program.{fen_rule, number_rule, solve_app, moves_app, program};
 
 use crate::help;
 use crate::line::{Action, Limits, Line};
@@ -42,26 +43,28 @@ fn fen<'a>(alloc: Global) -> Arg<'a>
     Arg::new(alloc, "FEN").required(true).help(help::FEN)
 }
 
-fn limit<'a>(alloc: Global) -> Arg<'a>
-    ensures rule { rule_of result ≡ limit_rule }
+fn number<'a>(alloc: Global, name: &'a str, value_name: &'a str, help: &'a str) -> Arg<'a>
+    ensures rule { rule_of result ≡ number_rule name.entry.now }
     ensures local { result.global ≡ false }
 {
-    Arg::new(alloc, "limit")
-        .long("limit")
-        .value_name("N")
+    Arg::new(alloc, name)
+        .long(name)
+        .value_name(value_name)
         .value_parser(value_parser!(u32))
-        .required(true)
-        .help(help::LIMIT)
+        .help(help)
 }
 
 fn solve_command<'a>(alloc: Global) -> Result<Command<'a>, AllocError>
     ensures app { IfOk result (λ command. app_of command ≡ solve_app) }
     ensures local { IfOk result (λ command. (fields_of command).has_globals ≡ false) }
 {
+    let limit = number(alloc, "limit", "N", help::LIMIT).required(true);
+    let slots = number(alloc, "slots", "S", help::SLOTS).default_value("64");
     Command::new(alloc, "solve")
         .about(help::SOLVE)
         .after_help(help::SOLVE_NOTES)
-        .arg(limit(alloc))?
+        .arg(limit)?
+        .arg(slots)?
         .arg(fen(alloc))
 }
 
@@ -103,15 +106,22 @@ fn number_of(matches: &ArgMatches<'_>, id: &str) -> Option<u32>
     matches.get_one::<u32>(id)
 }
 
+fn limits(matches: &ArgMatches<'_>) -> Option<Limits>
+    ensures some { IfSome result (HasLimits (rows_of (found_of matches.now))) }
+    ensures none { IfNone result ((values : TheLimits) → HasLimits (rows_of (found_of matches.now)) values → ⊥) }
+{
+    Some(Limits {
+        limit: number_of(matches, "limit")?,
+        slots: number_of(matches, "slots")?,
+    })
+}
+
 fn action_of(name: &str, values: &ArgMatches<'_>) -> Option<Action>
     ensures some { IfSome result (MeansAction name.now (rows_of (found_of values.now))) }
     ensures none { IfNone result ((action : TheAction) → MeansAction name.now (rows_of (found_of values.now)) action → ⊥) }
 {
     match name {
-        "solve" => {
-            let limit = number_of(values, "limit")?;
-            Some(Action::Solve(Limits { limit }))
-        }
+        "solve" => Some(Action::Solve(limits(values)?)),
         "moves" => Some(Action::Moves),
         _ => None,
     }

@@ -42,5 +42,9 @@ of six are Los Alamos chess, five of five Gardner minichess.
 'k5/6/1K4/6/6/5R w': Black's king on a6, White's on b4, White's rook on f1, White to move.";
 
 pub const LIMIT: &str = "\
-The most plies to mate, 1 to 63; so far 1 alone is searched.
+The most plies to mate, 1 to 63.
 A ply is one move of one side.";
+
+pub const SLOTS: &str = "\
+How many slots the table of decided positions has, 1 to 1048576.
+It changes how long the search takes and how much memory, and never the answer.";

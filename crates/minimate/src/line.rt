@@ -17,9 +17,11 @@ pub enum Action {
     Moves,
 }
 
-/// How far to search, as the command line has it: any number that it can name.
+/// How far and with what to search, as the command line has it: any numbers that it can name.
 #[derive(Clone, Copy)]
 pub struct Limits {
     /// The most plies to mate.
     pub limit: u32,
+    /// The slots of the table that remembers decided positions.
+    pub slots: u32,
 }

@@ -24,6 +24,7 @@ pub enum Refusal {
 
     // of the values of `solve`
     Limit,
+    Slots,
 
     NoMemory,
 }
@@ -55,6 +56,7 @@ impl fmt::Display for Refusal {
             Refusal::PawnRank => write!(f, "PawnRank"),
             Refusal::OtherInCheck => write!(f, "OtherInCheck"),
             Refusal::Limit => write!(f, "Limit"),
+            Refusal::Slots => write!(f, "Slots"),
             Refusal::NoMemory => write!(f, "NoMemory"),
         }
     }
@@ -84,6 +86,8 @@ impl From<SolveFault> for Refusal {
     fn from(fault: SolveFault) -> Refusal {
         match fault {
             SolveFault::Limit => Refusal::Limit,
+            SolveFault::Slots => Refusal::Slots,
+            SolveFault::NoMemory => Refusal::NoMemory,
         }
     }
 }

@@ -12,13 +12,13 @@ use search::{Answer, SolveFault, solve};
 use std::alloc::{AllocError, Global};
 use std::fmt::Write;
 
-/// The answer within the limit. A number too great for the type of `solve` is outside its limits,
-/// and stays so as the type's greatest.
-fn answer_within(position: &Position, limits: Limits) -> Result<Answer, SolveFault>
-    ensures { Solves Mate position.now limits.limit result }
+/// The answer within the limits. A limit too great for the type of `solve` is outside those that are
+/// searched, and stays so as the type's greatest.
+fn answer_within(alloc: Global, position: &Position, limits: Limits) -> Result<Answer, SolveFault>
+    ensures { Solves Mate position.now limits.limit limits.slots result }
 {
     let limit = u8::try_from(limits.limit).unwrap_or(u8::MAX);
-    solve(position, Goal::Mate, limit)
+    solve(alloc, position, Goal::Mate, limit, limits.slots as usize)
 }
 
 fn answer_text(alloc: Global, answer: Answer) -> Result<String, AllocError>
@@ -47,7 +47,7 @@ pub fn reply(alloc: Global, line: &Line<'_>) -> Result<String, Refusal>
     let position = read_sound(line.fen)?;
     match line.action {
         Action::Solve(limits) => {
-            let answer = answer_within(&position, limits)?;
+            let answer = answer_within(alloc, &position, limits)?;
             Ok(answer_text(alloc, answer)?)
         }
         Action::Moves => {

@@ -13,6 +13,9 @@ const START_MOVES: &str = "b1a3\nb1c3\ne1d3\ne1f3\na2a3\nb2b3\nc2c3\nd2d3\ne2e3\
 
 const ROOK_MATES: &str = "k5/6/1K4/6/6/5R w";
 
+// The rook waits on the last rank but one; b1b5 would be stalemate.
+const ROOK_MATES_IN_THREE: &str = "k5/6/2K3/6/6/1R4 w";
+
 // Queen and rook both mate on the last rank.
 const PAWN_MATES: &str = "k4/2P2/1K3/5/5 w";
 
@@ -130,12 +133,35 @@ fn finds_mates_in_one(rt: HostRuntime) {
 
 #[test]
 fn finds_no_mate_in_one(rt: HostRuntime) {
-    // Mate takes three plies, and b1b5 is stalemate.
-    expect_answer(&rt, "1", "k5/6/2K3/6/6/1R4 w", "none within 1\n");
+    expect_answer(&rt, "1", ROOK_MATES_IN_THREE, "none within 1\n");
     expect_answer(&rt, "1", STALEMATED, "none within 1\n");
     // The side to move is mated.
     expect_answer(&rt, "1", "k4R/6/1K4/6/6/6 b", "none within 1\n");
     expect_answer(&rt, "1", START, "none within 1\n");
+}
+
+#[test]
+fn finds_mate_in_three(rt: HostRuntime) {
+    expect_answer(&rt, "2", ROOK_MATES_IN_THREE, "none within 2\n");
+    expect_answer(&rt, "3", ROOK_MATES_IN_THREE, "mate 3 c4c5\n");
+    expect_answer(&rt, "4", ROOK_MATES_IN_THREE, "mate 3 c4c5\n");
+    expect_answer(&rt, "5", STALEMATED, "none within 5\n");
+}
+
+#[test]
+fn answers_the_same_with_any_slots(rt: HostRuntime) {
+    for slots in ["1", "2", "64", "65", "4096"] {
+        let words = [
+            "minimate",
+            "solve",
+            "--limit",
+            "3",
+            "--slots",
+            slots,
+            ROOK_MATES_IN_THREE,
+        ];
+        expect(&rt, &words, 0, "mate 3 c4c5\n");
+    }
 }
 
 #[test]
@@ -183,6 +209,41 @@ fn refuses_limits(rt: HostRuntime) {
 }
 
 #[test]
+fn refuses_slots(rt: HostRuntime) {
+    // 4294967297 ends in a word that 32 bits would have read as 1, and so is no number of 32 bits.
+    for (slots, status, output) in [
+        ("0", 1, "refused: Slots\n"),
+        ("1048577", 1, "refused: Slots\n"),
+        ("4294967295", 1, "refused: Slots\n"),
+        ("4294967297", 2, ""),
+        ("x", 2, ""),
+    ] {
+        let words = [
+            "minimate", "solve", "--limit", "1", "--slots", slots, ROOK_MATES,
+        ];
+        expect(&rt, &words, status, output);
+    }
+}
+
+#[test]
+fn refuses_in_order(rt: HostRuntime) {
+    let fen = [
+        "minimate",
+        "solve",
+        "--limit",
+        "0",
+        "--slots",
+        "0",
+        OTHER_IN_CHECK,
+    ];
+    expect(&rt, &fen, 1, "refused: OtherInCheck\n");
+    let limit = [
+        "minimate", "solve", "--slots", "0", "--limit", "64", ROOK_MATES,
+    ];
+    expect(&rt, &limit, 1, "refused: Limit\n");
+}
+
+#[test]
 fn refuses_words(rt: HostRuntime) {
     expect_no_line(&rt, &[]);
     expect_no_line(&rt, &["minimate"]);
@@ -201,7 +262,7 @@ fn refuses_words(rt: HostRuntime) {
 fn refuses_what_has_not_come(rt: HostRuntime) {
     expect_no_line(&rt, &["minimate", "check", START]);
     expect_no_line(&rt, &["minimate", "tree", "--limit", "1", START]);
-    for option in ["--workers", "--slots", "--goal"] {
+    for option in ["--workers", "--goal"] {
         let words = ["minimate", "solve", "--limit", "1", option, "1", START];
         expect_no_line(&rt, &words);
     }
