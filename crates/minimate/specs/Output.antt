@@ -42,10 +42,11 @@ refused refusal = record { status = refusal_status refusal; text = line_of (code
 
 -- ---- the texts of answers
 
--- the plies and the first move, as `mate 1 f1f6`, or `none within 1`
-abbrev pub answer_text : Answer → List ℕ
-answer_text (Mate plies first) = codes "mate " ++ (decimal plies ++ (codes " " ++ line_of (move_text first)))
-answer_text (NoneWithin limit) = line_of (codes "none within " ++ decimal limit)
+-- the plies and the first move, as `mate 1 f1f6`, or `goal 1 b1b5` where stalemate is good too; or `none within 1`
+abbrev pub answer_text : Goal → Answer → List ℕ
+answer_text goal.Mate (Mate plies first) = codes "mate " ++ (decimal plies ++ (codes " " ++ line_of (move_text first)))
+answer_text goal.MateOrStale (Mate plies first) = codes "goal " ++ (decimal plies ++ (codes " " ++ line_of (move_text first)))
+answer_text goal (NoneWithin limit) = line_of (codes "none within " ++ decimal limit)
 
 -- each move on a line of its own
 abbrev pub moves_text : List Ply → List ℕ
@@ -56,16 +57,16 @@ moves_text moves = flat_map (λ m. line_of (move_text m)) moves
 -- the answer for a goal within the limit, or the refusal of the first value that is outside its limits
 abbrev pub ShowsAnswer : Goal → PlainBoard → Limits → Reply → Type 0
 ShowsAnswer goal b limits reply = MatchOption (values_fault limits.limit limits.slots)
-    ((answer : Answer) × IsAnswer goal b limits.limit answer × (reply ≡ answered (answer_text answer)))
+    ((answer : Answer) × IsAnswer goal b limits.limit answer × (reply ≡ answered (answer_text goal answer)))
     (λ fault. reply ≡ refused (refusal_of_solve fault))
 
 -- the lawful moves, in order
 abbrev pub ShowsMoves : PlainBoard → Reply → Type 0
 ShowsMoves b reply = (moves : List Ply) × ListsLawful b moves × (reply ≡ answered (moves_text moves))
 
--- the goal of a `solve` line is mate
+-- the reply of the command
 abbrev pub Shows : PlainBoard → Action → Reply → Type 0
-Shows b (Solve limits) reply = ShowsAnswer goal.Mate b limits reply
+Shows b (Solve goal limits) reply = ShowsAnswer goal b limits reply
 Shows b Moves reply = ShowsMoves b reply
 
 -- ---- the output of a line

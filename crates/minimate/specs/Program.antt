@@ -23,9 +23,17 @@ limit_rule = record (number_rule (codes "limit")) { required = true }
 abbrev pub slots_rule : Rule
 slots_rule = record (number_rule (codes "slots")) { defaults = codes "64" ∷ [] }
 
--- `solve --limit N [--slots S] FEN`
+-- a word after `--goal`, `mate` where none is given
+abbrev pub goal_rule : Rule
+goal_rule = record (new_rule (codes "goal")) {
+  long = Some (codes "goal");
+  value_names = 1;
+  defaults = codes "mate" ∷ [];
+}
+
+-- `solve --limit N [--slots S] [--goal GOAL] FEN`
 abbrev pub solve_app : App
-solve_app = with_rule (with_rule (with_rule (new_app (codes "solve")) limit_rule) slots_rule) fen_rule
+solve_app = with_rule (with_rule (with_rule (with_rule (new_app (codes "solve")) limit_rule) slots_rule) goal_rule) fen_rule
 
 -- `moves FEN`
 abbrev pub moves_app : App

@@ -2,6 +2,8 @@
 use Rattle.std.specs.Prelude.{◌≡◌, ◌≢◌, ◌⊎◌, ◌<◌, ◌^◌, ℕ, List, [], Option, Some, IsSomeAnd, codes}
 use Rattle.std.specs.Str.Parse.{IsNumeral, digits_value, without_leading_plus}
 use Rattle.clap.specs.Words.{Row, Text, fault_of, first_of, one_of, subcommand_of}
+use Rattle.moves.specs.declared.goal.Goal.{Goal}
+use Rattle.moves.specs.declared.goal.Goal.TheVariants.{Mate, MateOrStale}
 use Rattle.minimate.specs.Program.{program}
 use Rattle.minimate.specs.declared.line.Line.{Line}
 use Rattle.minimate.specs.declared.line.Limits.{Limits}
@@ -22,9 +24,18 @@ pub record HasLimits (rows : List Row) (limits : Limits) : Type 0 where
   pub limit : HasNumber (codes "limit") rows limits.limit
   pub slots : HasNumber (codes "slots") rows limits.slots
 
+-- the word of a goal
+abbrev pub goal_word : Goal → Text
+goal_word Mate = codes "mate"
+goal_word MateOrStale = codes "stale"
+
+-- the word that was found for `goal` is the goal's
+abbrev pub HasGoal : List Row → Goal → Type 0
+HasGoal rows goal = first_of (codes "goal") rows ≡ Some (goal_word goal)
+
 -- the command of that name with the values that were found for it
 abbrev pub MeansAction : Text → List Row → Action → Type 0
-MeansAction name rows (Solve limits) = (name ≡ codes "solve") × HasLimits rows limits
+MeansAction name rows (Solve goal limits) = (name ≡ codes "solve") × HasGoal rows goal × HasLimits rows limits
 MeansAction name rows Moves = name ≡ codes "moves"
 
 -- the command's name and rows, as found, are the line's

@@ -1,19 +1,21 @@
 //! The words of the command line.
 ghost use Rattle.std.specs.Prelude.{◌≡◌, ◌≢◌, false, IfErr, IfNone, IfOk, IfSome, None, Some, ℕ, codes, map};
+ghost use Rattle.moves.specs.declared.goal.Goal.{Goal as TheGoal};
 ghost use Rattle.clap.specs.declared.error.kind.ErrorKind.TheVariants.{OutOfMemory};
 ghost use Rattle.minimate.specs.declared.command_line.LineFault.TheVariants.{Words};
 ghost use Rattle.minimate.specs.declared.line.Line.{Line as TheLine};
 ghost use Rattle.minimate.specs.declared.line.Limits.{Limits as TheLimits};
 ghost use Rattle.minimate.specs.declared.line.Action.{Action as TheAction};
 ghost use Rattle.clap.specs.Words.{FailsBy, app_of, fault_of, first_of, found_of, kind_of, rows_of, rule_of, subcommand_of, subcommand_rows_of};
-ghost use Rattle.minimate.specs.Words.{HasLimits, HasLine, HasNumber, MeansAction, MeansLine, MeansNoLine};
+ghost use Rattle.minimate.specs.Words.{HasGoal, HasLimits, HasLine, HasNumber, MeansAction, MeansLine, MeansNoLine};
 ghost use Rattle.clap.specs.declared.builder.command.Command.TheViews.{out-Command as fields_of};
-ghost use Rattle.minimate.specs.Program.{fen_rule, number_rule, solve_app, moves_app, program};
+ghost use Rattle.minimate.specs.Program.{fen_rule, goal_rule, number_rule, solve_app, moves_app, program};
 
 use crate::help;
 use crate::line::{Action, Limits, Line};
 use clap::error::ErrorKind;
 use clap::{Arg, ArgMatches, Command, Error, value_parser};
+use moves::Goal;
 use std::alloc::{AllocError, Global};
 use std::convert::AsStr;
 
@@ -54,6 +56,17 @@ fn number<'a>(alloc: Global, name: &'a str, value_name: &'a str, help: &'a str) 
         .help(help)
 }
 
+fn goal<'a>(alloc: Global) -> Arg<'a>
+    ensures rule { rule_of result ≡ goal_rule }
+    ensures local { result.global ≡ false }
+{
+    Arg::new(alloc, "goal")
+        .long("goal")
+        .value_name("GOAL")
+        .default_value("mate")
+        .help(help::GOAL)
+}
+
 fn solve_command<'a>(alloc: Global) -> Result<Command<'a>, AllocError>
     ensures app { IfOk result (λ command. app_of command ≡ solve_app) }
     ensures local { IfOk result (λ command. (fields_of command).has_globals ≡ false) }
@@ -65,6 +78,7 @@ fn solve_command<'a>(alloc: Global) -> Result<Command<'a>, AllocError>
         .after_help(help::SOLVE_NOTES)
         .arg(limit)?
         .arg(slots)?
+        .arg(goal(alloc))?
         .arg(fen(alloc))
 }
 
@@ -116,12 +130,23 @@ fn limits(matches: &ArgMatches<'_>) -> Option<Limits>
     })
 }
 
+fn goal_of(matches: &ArgMatches<'_>) -> Option<Goal>
+    ensures some { IfSome result (HasGoal (rows_of (found_of matches.now))) }
+    ensures none { IfNone result ((goal : TheGoal) → HasGoal (rows_of (found_of matches.now)) goal → ⊥) }
+{
+    match matches.get_str("goal")? {
+        "mate" => Some(Goal::Mate),
+        "stale" => Some(Goal::MateOrStale),
+        _ => None,
+    }
+}
+
 fn action_of(name: &str, values: &ArgMatches<'_>) -> Option<Action>
     ensures some { IfSome result (MeansAction name.now (rows_of (found_of values.now))) }
     ensures none { IfNone result ((action : TheAction) → MeansAction name.now (rows_of (found_of values.now)) action → ⊥) }
 {
     match name {
-        "solve" => Some(Action::Solve(limits(values)?)),
+        "solve" => Some(Action::Solve(goal_of(values)?, limits(values)?)),
         "moves" => Some(Action::Moves),
         _ => None,
     }

@@ -12,17 +12,18 @@ Exit status:
   4  the output could not be written
 
 Example:
-  minimate solve --limit 1 'k5/6/1K4/6/6/5R w'";
+  minimate solve --limit 3 'k5/6/2K3/6/6/1R4 w'";
 
 pub const SOLVE: &str = "Find the fewest plies to mate and the first move";
 
 pub const SOLVE_NOTES: &str = "\
-The side to move attacks. The output is `mate 1 f1f6`, the fewest plies within which it forces mate
-and the least first move that keeps them, or `none within 1`. `minimate --help` lists the exit
-statuses.
+The side to move attacks. The output is `mate 3 c4c5`, the fewest plies within which it forces mate
+and the least first move that keeps them, or `none within 3`. With `--goal stale` it is
+`goal 1 b1b5`. `minimate --help` lists the exit statuses.
 
-Example:
-  minimate solve --limit 1 'k5/6/1K4/6/6/5R w'";
+Examples:
+  minimate solve --limit 3 'k5/6/2K3/6/6/1R4 w'
+  minimate solve --limit 1 --goal stale 'k5/6/2K3/6/6/1R4 w'";
 
 pub const MOVES: &str = "List the lawful moves";
 
@@ -42,8 +43,12 @@ of six are Los Alamos chess, five of five Gardner minichess.
 'k5/6/1K4/6/6/5R w': Black's king on a6, White's on b4, White's rook on f1, White to move.";
 
 pub const LIMIT: &str = "\
-The most plies to mate, 1 to 63.
+The most plies to the goal, 1 to 63.
 A ply is one move of one side.";
+
+pub const GOAL: &str = "\
+What the attacker plays for: `mate`, or `stale`, by which a stalemated defender
+is as good as a mated one.";
 
 pub const SLOTS: &str = "\
 How many slots the table of decided positions has, 1 to 1048576.

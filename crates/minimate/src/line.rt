@@ -1,4 +1,5 @@
 //! A command line that was read.
+use moves::Goal;
 
 /// A command and the position that it is about.
 #[derive(Clone, Copy)]
@@ -11,8 +12,8 @@ pub struct Line<'a> {
 /// A command with its values.
 #[derive(Clone, Copy)]
 pub enum Action {
-    /// The fewest plies to mate, and the first move.
-    Solve(Limits),
+    /// The fewest plies to the goal, and the first move.
+    Solve(Goal, Limits),
     /// Each lawful move.
     Moves,
 }
@@ -20,7 +21,7 @@ pub enum Action {
 /// How far and with what to search, as the command line has it: any numbers that it can name.
 #[derive(Clone, Copy)]
 pub struct Limits {
-    /// The most plies to mate.
+    /// The most plies to the goal.
     pub limit: u32,
     /// The slots of the table that remembers decided positions.
     pub slots: u32,

@@ -1,6 +1,5 @@
 //! The reply to a line: the text of its answer, or why there is none.
 ghost use Rattle.std.specs.Prelude.{◌≡◌, IfOk, string_bytes};
-ghost use Rattle.moves.specs.declared.goal.Goal.TheVariants.{Mate};
 ghost use Rattle.minimate.specs.Outcome.{Solves, Gives};
 ghost use Rattle.minimate.specs.Output.{answer_text, moves_text, IsOutput};
 
@@ -14,18 +13,26 @@ use std::fmt::Write;
 
 /// The answer within the limits. A limit too great for the type of `solve` is outside those that are
 /// searched, and stays so as the type's greatest.
-fn answer_within(alloc: Global, position: &Position, limits: Limits) -> Result<Answer, SolveFault>
-    ensures { Solves Mate position.now limits.limit limits.slots result }
+fn answer_within(
+    alloc: Global,
+    position: &Position,
+    goal: Goal,
+    limits: Limits,
+) -> Result<Answer, SolveFault>
+    ensures { Solves goal position.now limits.limit limits.slots result }
 {
     let limit = u8::try_from(limits.limit).unwrap_or(u8::MAX);
-    solve(alloc, position, Goal::Mate, limit, limits.slots as usize)
+    solve(alloc, position, goal, limit, limits.slots as usize)
 }
 
-fn answer_text(alloc: Global, answer: Answer) -> Result<String, AllocError>
-    ensures { IfOk result (λ text. string_bytes text ≡ answer_text answer) }
+fn answer_text(alloc: Global, goal: Goal, answer: Answer) -> Result<String, AllocError>
+    ensures { IfOk result (λ text. string_bytes text ≡ answer_text goal answer) }
 {
     match answer {
-        Answer::Mate { plies, first } => format!(in alloc; "mate {plies} {first}\n"),
+        Answer::Mate { plies, first } => match goal {
+            Goal::Mate => format!(in alloc; "mate {plies} {first}\n"),
+            Goal::MateOrStale => format!(in alloc; "goal {plies} {first}\n"),
+        },
         Answer::NoneWithin(limit) => format!(in alloc; "none within {limit}\n"),
     }
 }
@@ -46,9 +53,9 @@ pub fn reply(alloc: Global, line: &Line<'_>) -> Result<String, Refusal>
 {
     let position = read_sound(line.fen)?;
     match line.action {
-        Action::Solve(limits) => {
-            let answer = answer_within(alloc, &position, limits)?;
-            Ok(answer_text(alloc, answer)?)
+        Action::Solve(goal, limits) => {
+            let answer = answer_within(alloc, &position, goal, limits)?;
+            Ok(answer_text(alloc, goal, answer)?)
         }
         Action::Moves => {
             let moves = lawful(&position);

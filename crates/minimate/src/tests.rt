@@ -149,6 +149,20 @@ fn finds_mate_in_three(rt: HostRuntime) {
 }
 
 #[test]
+fn plays_for_the_goal(rt: HostRuntime) {
+    for (goal, limit, fen, output) in [
+        ("stale", "1", ROOK_MATES_IN_THREE, "goal 1 b1b5\n"),
+        ("stale", "3", ROOK_MATES_IN_THREE, "goal 1 b1b5\n"),
+        ("mate", "1", ROOK_MATES_IN_THREE, "none within 1\n"),
+        ("mate", "3", ROOK_MATES_IN_THREE, "mate 3 c4c5\n"),
+        ("stale", "5", STALEMATED, "none within 5\n"),
+    ] {
+        let words = ["minimate", "solve", "--goal", goal, "--limit", limit, fen];
+        expect(&rt, &words, 0, output);
+    }
+}
+
+#[test]
 fn answers_the_same_with_any_slots(rt: HostRuntime) {
     for slots in ["1", "2", "64", "65", "4096"] {
         let words = [
@@ -256,16 +270,18 @@ fn refuses_words(rt: HostRuntime) {
     for limit in ["x", "", "-1", "1.0", "4294967296"] {
         expect_no_line(&rt, &["minimate", "solve", "--limit", limit, START]);
     }
+    for goal in ["", "Mate", "mates", "stalemate", "1"] {
+        let words = ["minimate", "solve", "--limit", "1", "--goal", goal, START];
+        expect_no_line(&rt, &words);
+    }
 }
 
 #[test]
 fn refuses_what_has_not_come(rt: HostRuntime) {
     expect_no_line(&rt, &["minimate", "check", START]);
     expect_no_line(&rt, &["minimate", "tree", "--limit", "1", START]);
-    for option in ["--workers", "--goal"] {
-        let words = ["minimate", "solve", "--limit", "1", option, "1", START];
-        expect_no_line(&rt, &words);
-    }
+    let workers = ["minimate", "solve", "--limit", "1", "--workers", "1", START];
+    expect_no_line(&rt, &workers);
 }
 
 #[test]

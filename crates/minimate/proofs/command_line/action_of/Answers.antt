@@ -1,6 +1,7 @@
 use Rattle.std.proofs.Common.{◌≡◌, ◌∙◌, List, ℕ, ap, arith, codes, refl, slice_index, sym}
 use Rattle.clap.specs.Words.{Row, Text, found_of, rows_of}
-use Rattle.minimate.specs.Words.{HasLimits, MeansAction}
+use Rattle.minimate.specs.Words.{HasGoal, HasLimits, MeansAction}
+use Rattle.moves.specs.declared.goal.Goal.{Goal}
 use Rattle.minimate.specs.declared.line.Limits.{Limits}
 use Rattle.minimate.specs.declared.line.Action.{Action}
 use Rattle.minimate.specs.declared.line.Action.TheVariants.{Solve, Moves}
@@ -10,11 +11,20 @@ use Rattle.minimate.proofs.command_line.action_of.Goals as goal
 two_names : (name a b : Text) (m n : ℕ) → name ≡ a → name ≡ b → slice_index a 0 ≡ m → slice_index b 0 ≡ n → (m ≡ n → ⊥) → ⊥
 two_names name a b m n p q first second apart = apart (sym first ∙ ap (λ (t : Text). slice_index t 0) (sym p ∙ q) ∙ second)
 
--- without limits, `solve` means nothing
-no_solve : (name : Text) (rows : List Row) (action : Action) → name ≡ codes "solve" → ((limits : Limits) → HasLimits rows limits → ⊥) → MeansAction name rows action → ⊥
-no_solve name rows (Solve limits) is none means = none limits means.1
+-- without a goal, `solve` means nothing
+no_solve : (name : Text) (rows : List Row) (action : Action) → name ≡ codes "solve" → ((goal : Goal) → HasGoal rows goal → ⊥) → MeansAction name rows action → ⊥
+no_solve name rows (Solve goal limits) is none means = none goal means.1
 no_solve name rows Moves is none means = two_names name (codes "solve") (codes "moves") 115 109 is means refl refl (λ e. absurd (omega arith))
+
+-- without limits, `solve` means nothing
+no_limits : (name : Text) (rows : List Row) (action : Action) → name ≡ codes "solve" → ((limits : Limits) → HasLimits rows limits → ⊥) → MeansAction name rows action → ⊥
+no_limits name rows (Solve goal limits) is none means = none limits means.2
+no_limits name rows Moves is none means = two_names name (codes "solve") (codes "moves") 115 109 is means refl refl (λ e. absurd (omega arith))
+
+pub returns-in_err-goal_of-in-solve-clause-none : goal.returns-in_err-goal_of-in-solve-clause-none
+returns-in_err-goal_of-in-solve-clause-none c =
+    rw c.from_residual.ensures (λ action means. no_solve c.args.name.now (rows_of (found_of c.args.values.now)) action c.in-solve.is c.in_err-goal_of-in-solve.ensures.none means)
 
 pub returns-in_err-limits-in-solve-clause-none : goal.returns-in_err-limits-in-solve-clause-none
 returns-in_err-limits-in-solve-clause-none c =
-    rw c.from_residual.ensures (λ action means. no_solve c.args.name.now (rows_of (found_of c.args.values.now)) action c.in-solve.is c.in_err-limits-in-solve.ensures.none means)
+    rw c.from_residual-in_err-limits-in-solve.ensures (λ action means. no_limits c.args.name.now (rows_of (found_of c.args.values.now)) action c.in-solve.is c.in_err-limits-in-solve.ensures.none means)
