@@ -39,6 +39,10 @@ solve_app = with_rule (with_rule (with_rule (with_rule (new_app (codes "solve"))
 abbrev pub moves_app : App
 moves_app = with_rule (new_app (codes "moves")) fen_rule
 
+-- `check [--goal GOAL] FEN`
+abbrev pub check_app : App
+check_app = with_rule (with_rule (new_app (codes "check")) goal_rule) fen_rule
+
 -- the program without its commands
 abbrev pub bare_app : App
 bare_app = let new = new_app (codes "minimate") in
@@ -46,4 +50,4 @@ bare_app = let new = new_app (codes "minimate") in
 
 -- the program, whose first word is one of its commands
 abbrev pub program : App
-program = with_subcommand (with_subcommand bare_app solve_app.top) moves_app.top
+program = with_subcommand (with_subcommand (with_subcommand bare_app solve_app.top) moves_app.top) check_app.top

@@ -8,7 +8,7 @@ use Rattle.minimate.specs.Program.{program}
 use Rattle.minimate.specs.declared.line.Line.{Line}
 use Rattle.minimate.specs.declared.line.Limits.{Limits}
 use Rattle.minimate.specs.declared.line.Action.{Action}
-use Rattle.minimate.specs.declared.line.Action.TheVariants.{Solve, Moves}
+use Rattle.minimate.specs.declared.line.Action.TheVariants.{Solve, Moves, Check}
 
 -- the text is the number: decimal digits, perhaps after a plus, below 2^32
 abbrev pub IsNumber : Text → ℕ → Type 0
@@ -37,6 +37,7 @@ HasGoal rows goal = first_of (codes "goal") rows ≡ Some (goal_word goal)
 abbrev pub MeansAction : Text → List Row → Action → Type 0
 MeansAction name rows (Solve goal limits) = (name ≡ codes "solve") × HasGoal rows goal × HasLimits rows limits
 MeansAction name rows Moves = name ≡ codes "moves"
+MeansAction name rows (Check goal) = (name ≡ codes "check") × HasGoal rows goal
 
 -- the command's name and rows, as found, are the line's
 abbrev pub MeansFound : Text × List Row → Line → Type 0

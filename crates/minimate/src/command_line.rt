@@ -9,7 +9,7 @@ ghost use Rattle.minimate.specs.declared.line.Action.{Action as TheAction};
 ghost use Rattle.clap.specs.Words.{FailsBy, app_of, fault_of, first_of, found_of, kind_of, rows_of, rule_of, subcommand_of, subcommand_rows_of};
 ghost use Rattle.minimate.specs.Words.{HasGoal, HasLimits, HasLine, HasNumber, MeansAction, MeansLine, MeansNoLine};
 ghost use Rattle.clap.specs.declared.builder.command.Command.TheViews.{out-Command as fields_of};
-ghost use Rattle.minimate.specs.Program.{fen_rule, goal_rule, number_rule, solve_app, moves_app, program};
+ghost use Rattle.minimate.specs.Program.{fen_rule, goal_rule, number_rule, solve_app, moves_app, check_app, program};
 
 use crate::help;
 use crate::line::{Action, Limits, Line};
@@ -92,6 +92,17 @@ fn moves_command<'a>(alloc: Global) -> Result<Command<'a>, AllocError>
         .arg(fen(alloc))
 }
 
+fn check_command<'a>(alloc: Global) -> Result<Command<'a>, AllocError>
+    ensures app { IfOk result (λ command. app_of command ≡ check_app) }
+    ensures local { IfOk result (λ command. (fields_of command).has_globals ≡ false) }
+{
+    Command::new(alloc, "check")
+        .about(help::CHECK)
+        .after_help(help::CHECK_NOTES)
+        .arg(goal(alloc))?
+        .arg(fen(alloc))
+}
+
 /// The program's commands.
 fn command<'a>(alloc: Global) -> Result<Command<'a>, AllocError>
     ensures { IfOk result (λ command. app_of command ≡ program) }
@@ -102,7 +113,8 @@ fn command<'a>(alloc: Global) -> Result<Command<'a>, AllocError>
         .after_help(help::PROGRAM_NOTES)
         .subcommand_required(true)
         .subcommand(solve_command(alloc)?)?
-        .subcommand(moves_command(alloc)?)
+        .subcommand(moves_command(alloc)?)?
+        .subcommand(check_command(alloc)?)
 }
 
 /// What `clap` makes of the words.
@@ -148,6 +160,7 @@ fn action_of(name: &str, values: &ArgMatches<'_>) -> Option<Action>
     match name {
         "solve" => Some(Action::Solve(goal_of(values)?, limits(values)?)),
         "moves" => Some(Action::Moves),
+        "check" => Some(Action::Check(goal_of(values)?)),
         _ => None,
     }
 }

@@ -9,7 +9,7 @@ Exit status:
   1  refused; the output says why, as `refused: Kings`
   2  the words are no command, or they ask for help
   3  out of memory; the output is `refused: NoMemory`
-  4  the output could not be written
+  4  the input could not be read or the output not be written
 
 Example:
   minimate solve --limit 3 'k5/6/2K3/6/6/1R4 w'";
@@ -34,6 +34,18 @@ that order; squares go by ranks, a1, b1 and so on. `minimate --help` lists the e
 
 Example:
   minimate moves 'rnqknr/pppppp/6/6/PPPPPP/RNQKNR w'";
+
+pub const CHECK: &str = "Check a tree of moves that is read from the input";
+
+pub const CHECK_NOTES: &str = "\
+The input is one tree, perhaps with a line feed after it, of at most 1048576 bytes in all: a move of
+the attacker, then # for mate, = for stalemate, or in braces each lawful reply in order, a colon and
+the tree that meets it. The output is `yes 3`, the plies within which the tree forces the goal, or
+`no`. What is no tree is refused with the offset at which it goes wrong, and so is a tree in which
+more than 32 moves of the attacker are nested. `minimate --help` lists the exit statuses.
+
+Example:
+  echo 'c4c5{a6a5:b1a1#}' | minimate check 'k5/6/2K3/6/6/1R4 w'";
 
 pub const FEN: &str = "\
 The position as one word, so quote it: the ranks from the last one down, with / between

@@ -16,6 +16,8 @@ pub enum Action {
     Solve(Goal, Limits),
     /// Each lawful move.
     Moves,
+    /// In how many plies the tree of the input wins, if it wins.
+    Check(Goal),
 }
 
 /// How far and with what to search, as the command line has it: any numbers that it can name.

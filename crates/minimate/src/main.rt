@@ -11,6 +11,7 @@ mod run;
 #[cfg(test)]
 mod tests;
 mod transfer;
+mod trouble;
 
 use crate::device::Counted;
 use std::process::ExitCode;

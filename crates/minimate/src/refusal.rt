@@ -1,12 +1,13 @@
 //! What stands after `refused: `.
 ghost use Rattle.std.specs.Prelude.{◌≡◌, Some};
-ghost use Rattle.minimate.specs.Refusal.{refusal_status, refusal_text, refusal_of_fen, refusal_of_solve};
+ghost use Rattle.minimate.specs.Refusal.{refusal_status, refusal_text, refusal_of_fen, refusal_of_solve, refusal_of_tree};
 ghost use Rattle.minimate.specs.declared.refusal.Refusal.TheVariants.{NoMemory as no_memory};
 
 use board::FenFault;
 use search::SolveFault;
 use std::alloc::AllocError;
 use std::fmt;
+use wintree::TreeFault;
 
 /// Why a line was not answered, by the name that is printed.
 #[derive(Clone, Copy, Debug, PartialEq, Eq)]
@@ -25,6 +26,11 @@ pub enum Refusal {
     // of the values of `solve`
     Limit,
     Slots,
+
+    // of the input of `check`
+    TooLong,
+    Grammar(usize),
+    Deep,
 
     NoMemory,
 }
@@ -57,6 +63,9 @@ impl fmt::Display for Refusal {
             Refusal::OtherInCheck => write!(f, "OtherInCheck"),
             Refusal::Limit => write!(f, "Limit"),
             Refusal::Slots => write!(f, "Slots"),
+            Refusal::TooLong => write!(f, "TooLong"),
+            Refusal::Grammar(offset) => write!(f, "Grammar at offset {offset}"),
+            Refusal::Deep => write!(f, "Deep"),
             Refusal::NoMemory => write!(f, "NoMemory"),
         }
     }
@@ -88,6 +97,18 @@ impl From<SolveFault> for Refusal {
             SolveFault::Limit => Refusal::Limit,
             SolveFault::Slots => Refusal::Slots,
             SolveFault::NoMemory => Refusal::NoMemory,
+        }
+    }
+}
+
+impl From<TreeFault> for Refusal {
+    ghost from_gives = { λ fault refusal. refusal ≡ refusal_of_tree fault };
+
+    fn from(fault: TreeFault) -> Refusal {
+        match fault {
+            TreeFault::Grammar(offset) => Refusal::Grammar(offset),
+            TreeFault::Deep => Refusal::Deep,
+            TreeFault::NoMemory => Refusal::NoMemory,
         }
     }
 }

@@ -3,6 +3,7 @@ ghost use Rattle.std.specs.Prelude.{◌≡◌, None, Some, IfOk};
 
 use crate::device::{Counted, Failed, Sink, Source};
 use crate::run::run;
+use crate::transfer::MOST_INPUT;
 use std::alloc::{AllocError, Global};
 use std::process::Abort;
 use std::test::Fail;
@@ -23,20 +24,30 @@ const STALEMATED: &str = "k5/2Q3/6/6/6/5K b";
 
 const OTHER_IN_CHECK: &str = "k4R/6/1K4/6/6/6 w";
 
-/// A reader that fails at once.
+/// A reader that gives `left` of its bytes, and then fails.
 #[derive(Drop)]
-struct Failing {
+struct Breaking<'a> {
+    bytes: &'a [u8],
+    left: usize,
     failures: u64,
 }
 
-impl Source for Failing {
-    ghost remaining = { λ _. None };
+impl Source for Breaking<'_> {
+    ghost remaining = { λ reader. Some reader.bytes.now };
 
     ghost failures = { λ reader. reader.failures };
 
-    fn read(&mut self, _buffer: &mut [u8]) -> Result<usize, Failed> {
-        self.failures += 1;
-        Err(Failed)
+    fn read(&mut self, buffer: &mut [u8]) -> Result<usize, Failed> {
+        if self.left == 0 {
+            self.failures += 1;
+            return Err(Failed);
+        }
+        let most = self.left.min(buffer.len()).min(self.bytes.len());
+        let (given, rest) = self.bytes.split_at(most);
+        buffer[..most].copy_from_slice(given);
+        self.bytes = rest;
+        self.left -= most;
+        Ok(most)
     }
 }
 
@@ -94,13 +105,36 @@ impl std::io::Write for Deaf {
     }
 }
 
-/// Runs the words, and expects a status and an output.
-fn expect<R: Abort + AllocGlobal>(rt: &R, words: &[&str], status: u8, output: &str) {
-    let mut reader = Counted::new(b"".as_slice());
+/// Runs the words over an input, and expects a status and an output.
+fn expect_with<R: Abort + AllocGlobal>(
+    rt: &R,
+    words: &[&str],
+    input: &[u8],
+    status: u8,
+    output: &str,
+) {
+    let mut reader = Counted::new(input);
     let mut writer = Counted::new(Vec::new(rt.alloc()));
     let answered = run(rt.alloc(), words, &mut reader, &mut writer);
     assert_eq!(rt; answered, status);
     assert_eq!(rt; writer.device.as_slice(), output.as_bytes());
+}
+
+/// Runs the words with no input, and expects a status and an output.
+fn expect<R: Abort + AllocGlobal>(rt: &R, words: &[&str], status: u8, output: &str) {
+    expect_with(rt, words, b"", status, output);
+}
+
+/// Checks a tree, and expects a status and an output.
+fn expect_check<R: Abort + AllocGlobal>(rt: &R, fen: &str, tree: &str, status: u8, output: &str) {
+    let words = ["minimate", "check", fen];
+    expect_with(rt, &words, tree.as_bytes(), status, output);
+}
+
+/// Checks a tree for a goal, and expects an output with status 0.
+fn expect_check_for<R: Abort + AllocGlobal>(rt: &R, goal: &str, tree: &str, output: &str) {
+    let words = ["minimate", "check", "--goal", goal, ROOK_MATES_IN_THREE];
+    expect_with(rt, &words, tree.as_bytes(), 0, output);
 }
 
 /// Solves within a limit, and expects an output with status 0.
@@ -113,10 +147,11 @@ fn expect_moves<R: Abort + AllocGlobal>(rt: &R, fen: &str, output: &str) {
     expect(rt, &["minimate", "moves", fen], 0, output);
 }
 
-/// Expects both commands to refuse the position, whatever the limit.
+/// Expects each command to refuse the position, whatever the limit and the input.
 fn expect_refused<R: Abort + AllocGlobal>(rt: &R, fen: &str, output: &str) {
     expect(rt, &["minimate", "moves", fen], 1, output);
     expect(rt, &["minimate", "solve", "--limit", "0", fen], 1, output);
+    expect(rt, &["minimate", "check", fen], 1, output);
 }
 
 /// Expects the words to mean no line: nothing is written.
@@ -266,6 +301,8 @@ fn refuses_words(rt: HostRuntime) {
     expect_no_line(&rt, &["minimate", "play", START]);
     expect_no_line(&rt, &["minimate", "moves"]);
     expect_no_line(&rt, &["minimate", "moves", START, START]);
+    expect_no_line(&rt, &["minimate", "check"]);
+    expect_no_line(&rt, &["minimate", "check", "--limit", "1", START]);
     expect_no_line(&rt, &["minimate", "solve", START]);
     for limit in ["x", "", "-1", "1.0", "4294967296"] {
         expect_no_line(&rt, &["minimate", "solve", "--limit", limit, START]);
@@ -273,12 +310,12 @@ fn refuses_words(rt: HostRuntime) {
     for goal in ["", "Mate", "mates", "stalemate", "1"] {
         let words = ["minimate", "solve", "--limit", "1", "--goal", goal, START];
         expect_no_line(&rt, &words);
+        expect_no_line(&rt, &["minimate", "check", "--goal", goal, START]);
     }
 }
 
 #[test]
 fn refuses_what_has_not_come(rt: HostRuntime) {
-    expect_no_line(&rt, &["minimate", "check", START]);
     expect_no_line(&rt, &["minimate", "tree", "--limit", "1", START]);
     let workers = ["minimate", "solve", "--limit", "1", "--workers", "1", START];
     expect_no_line(&rt, &workers);
@@ -313,12 +350,104 @@ fn stops_at_a_failed_write(rt: HostRuntime) -> Result<(), Fail> {
 }
 
 #[test]
-fn asks_the_reader_for_nothing(rt: HostRuntime) {
-    let words = ["minimate", "solve", "--limit", "1", ROOK_MATES];
-    let mut reader = Failing { failures: 0 };
+fn checks_trees(rt: HostRuntime) {
+    expect_check(&rt, ROOK_MATES_IN_THREE, "c4c5{a6a5:b1a1#}", 0, "yes 3\n");
+    expect_check(&rt, ROOK_MATES_IN_THREE, "c4c5#", 0, "no\n");
+    expect_check(&rt, PAWN_MATES, "c4c5q#", 0, "yes 1\n");
+    expect_check(&rt, PAWN_MATES, "c4c5r#", 0, "yes 1\n");
+    // Two replies, and one of them left out.
+    let fen = "1k4/5R/6/6/6/2R2K w";
+    expect_check(&rt, fen, "c1e1{b6a6:e1e6#,b6c6:e1e6#}", 0, "yes 3\n");
+    expect_check(&rt, fen, "c1e1{b6a6:e1e6#}", 0, "no\n");
+}
+
+#[test]
+fn takes_one_line_feed_off_the_end(rt: HostRuntime) {
+    expect_check(&rt, ROOK_MATES_IN_THREE, "c4c5{a6a5:b1a1#}\n", 0, "yes 3\n");
+    let two = "refused: Grammar at offset 16\n";
+    expect_check(&rt, ROOK_MATES_IN_THREE, "c4c5{a6a5:b1a1#}\n\n", 1, two);
+    let first = "refused: Grammar at offset 0\n";
+    expect_check(&rt, ROOK_MATES_IN_THREE, "\nc4c5#", 1, first);
+    expect_check(&rt, ROOK_MATES_IN_THREE, "\n", 1, first);
+    expect_check(&rt, ROOK_MATES_IN_THREE, "", 1, first);
+}
+
+#[test]
+fn checks_trees_for_the_goal(rt: HostRuntime) {
+    expect_check_for(&rt, "stale", "b1b5=", "yes 1\n");
+    expect_check_for(&rt, "mate", "b1b5=", "no\n");
+    expect_check_for(&rt, "stale", "b1b5#", "no\n");
+    expect_check_for(&rt, "stale", "c4c5{a6a5:b1a1#}", "yes 3\n");
+    expect_check(&rt, ROOK_MATES_IN_THREE, "b1b5=", 0, "no\n");
+}
+
+#[test]
+fn refuses_what_is_no_tree(rt: HostRuntime) -> Result<(), Fail> {
+    let no_reply = "refused: Grammar at offset 5\n";
+    expect_check(&rt, ROOK_MATES_IN_THREE, "c4c5{}", 1, no_reply);
+
+    // 31 and 32 moves of the attacker, each in braces after the one before.
+    let mut nested = String::new(rt.alloc());
+    for _ in 0..31 {
+        nested.push_str("a1a2{a3a4:")?;
+    }
+    let cut = "refused: Grammar at offset 310\n";
+    expect_check(&rt, ROOK_MATES_IN_THREE, nested.as_str(), 1, cut);
+    nested.push_str("a1a2{a3a4:")?;
+    let deep = "refused: Deep\n";
+    expect_check(&rt, ROOK_MATES_IN_THREE, nested.as_str(), 1, deep);
+    Ok(())
+}
+
+#[test]
+fn takes_at_most_a_mebibyte(rt: HostRuntime) -> Result<(), Fail> {
+    let words = ["minimate", "check", ROOK_MATES_IN_THREE];
+    let most = vec![in rt.alloc(); b'x'; MOST_INPUT]?;
+    let first = "refused: Grammar at offset 0\n";
+    expect_with(&rt, &words, most.as_slice(), 1, first);
+    let above = vec![in rt.alloc(); b'\n'; MOST_INPUT + 1]?;
+    expect_with(&rt, &words, above.as_slice(), 1, "refused: TooLong\n");
+    Ok(())
+}
+
+#[test]
+fn stops_at_a_failed_read(rt: HostRuntime) {
+    for left in [0, 3, 16] {
+        let words = ["minimate", "check", ROOK_MATES_IN_THREE];
+        let mut reader = Breaking {
+            bytes: b"c4c5{a6a5:b1a1#}",
+            left,
+            failures: 0,
+        };
+        let mut writer = Counted::new(Vec::new(rt.alloc()));
+        let status = run(rt.alloc(), words.as_slice(), &mut reader, &mut writer);
+        assert_eq!(rt; status, 4);
+        assert_eq!(rt; reader.failures, 1);
+        assert_eq!(rt; writer.device.as_slice(), b"".as_slice());
+    }
+}
+
+/// Runs the words over a reader that fails at once, and expects that it isn't asked.
+fn expect_unread<R: Abort + AllocGlobal>(rt: &R, words: &[&str], status: u8, output: &str) {
+    let mut reader = Breaking {
+        bytes: b"",
+        left: 0,
+        failures: 0,
+    };
     let mut writer = Counted::new(Vec::new(rt.alloc()));
-    let status = run(rt.alloc(), words.as_slice(), &mut reader, &mut writer);
-    assert_eq!(rt; status, 0);
+    let answered = run(rt.alloc(), words, &mut reader, &mut writer);
+    assert_eq!(rt; answered, status);
     assert_eq!(rt; reader.failures, 0);
-    assert_eq!(rt; writer.device.as_slice(), b"mate 1 f1f6\n".as_slice());
+    assert_eq!(rt; writer.device.as_slice(), output.as_bytes());
+}
+
+#[test]
+fn asks_the_reader_for_nothing(rt: HostRuntime) {
+    let solve = ["minimate", "solve", "--limit", "1", ROOK_MATES];
+    expect_unread(&rt, &solve, 0, "mate 1 f1f6\n");
+    expect_unread(&rt, &["minimate", "moves", START], 0, START_MOVES);
+    let check = ["minimate", "check", OTHER_IN_CHECK];
+    expect_unread(&rt, &check, 1, "refused: OtherInCheck\n");
+    let no_goal = ["minimate", "check", "--goal", "x", ROOK_MATES];
+    expect_unread(&rt, &no_goal, 2, "");
 }
