@@ -2,10 +2,16 @@
 #![tactic(auto)]
 
 #[cfg(test)]
+mod deciding;
+#[cfg(test)]
 mod leaves;
+#[cfg(test)]
+mod mates;
 #[cfg(test)]
 mod perft;
 #[cfg(test)]
 mod rules;
 #[cfg(test)]
 mod solving;
+#[cfg(test)]
+mod tables;

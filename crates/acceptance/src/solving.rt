@@ -1,10 +1,13 @@
-//! Answers of a solve within one ply.
+//! Answers of a solve.
 use moves::{Goal, read_sound};
 use search::{Answer, SolveFault, solve};
 use std::alloc::{AllocError, Global};
 use std::test::Fail;
 
-fn answer_text(alloc: Global, answer: Result<Answer, SolveFault>) -> Result<String, AllocError> {
+pub(crate) fn answer_text(
+    alloc: Global,
+    answer: Result<Answer, SolveFault>,
+) -> Result<String, AllocError> {
     let Ok(answer) = answer else {
         return format!(in alloc; "refused");
     };
@@ -31,7 +34,27 @@ fn solves_within_one_ply(rt: HostRuntime) -> Result<(), Fail> {
         ("k5/6/1K4/6/6/5R w", Goal::Mate, 64, "refused"),
     ] {
         let position = read_sound(text.as_bytes()).expect(&rt, "a position");
-        let got = answer_text(rt.alloc(), solve(&position, goal, limit))?;
+        let got = answer_text(rt.alloc(), solve(rt.alloc(), &position, goal, limit, 64))?;
+        assert_eq!(rt; got.as_str(), answer, "{text}");
+    }
+    Ok(())
+}
+
+#[test]
+fn solves_by_rounds(rt: HostRuntime) -> Result<(), Fail> {
+    for (text, limit, slots, answer) in [
+        // the rook's move to b5 is stalemate
+        ("k5/6/2K3/6/6/1R4 w", 2, 64, "none within 2"),
+        ("k5/6/2K3/6/6/1R4 w", 3, 64, "3 c4c5"),
+        ("k5/6/2K3/6/6/1R4 w", 4, 64, "3 c4c5"),
+        ("k5/6/2K3/6/6/1R4 w", 3, 1, "3 c4c5"),
+        ("k5/2Q3/6/6/6/5K b", 5, 64, "none within 5"),
+        ("k5/6/1K4/6/6/5R w", 1, 0, "refused"),
+        ("k5/6/1K4/6/6/5R w", 1, 1_048_577, "refused"),
+    ] {
+        let position = read_sound(text.as_bytes()).expect(&rt, "a position");
+        let answer_is = solve(rt.alloc(), &position, Goal::Mate, limit, slots);
+        let got = answer_text(rt.alloc(), answer_is)?;
         assert_eq!(rt; got.as_str(), answer, "{text}");
     }
     Ok(())

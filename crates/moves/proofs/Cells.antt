@@ -1,5 +1,5 @@
 -- Cells and steps: where a step from a square leads on the board with its border.
-use Rattle.std.proofs.Common.{◌≡◌, ◌≢◌, ℕ, ◌+◌, ◌-◌, ◌*◌, ◌/◌, ◌%◌, ◌<◌, ◌≤◌, ℤ, pos, negsuc, ◌+ℤ◌, ◌*ℤ◌, neg_ℤ, zero, suc, refl, sym, ap, subst, ◌∙◌, arith, ◌⊎◌, inl, inr}
+use Rattle.std.proofs.Common.{◌≡◌, ℕ, ◌+◌, ◌*◌, ◌<◌, ◌≤◌, ℤ, pos, negsuc, ◌+ℤ◌, ◌*ℤ◌, sym, subst, arith, ◌⊎◌, inl, inr}
 use Rattle.std.specs.Int.RustNames.{unsigned_abs}
 use Rattle.std.proofs.lemmas.Int.{ints}
 use Rattle.std.proofs.lemmas.Bool.{cases_lt}
@@ -14,7 +14,7 @@ use Rattle.board.specs.declared.step.Step.{Step}
 use Rattle.moves.specs.Reach.{ahead_of}
 use Rattle.moves.proofs.Rides.{same_place, size-ahead}
 
-six : (g : Game) (n : ℕ) → n < width_of g → n < 6
+pub six : (g : Game) (n : ℕ) → n < width_of g → n < 6
 six LosAlamos n h = h
 six Gardner n h = omega arith
 

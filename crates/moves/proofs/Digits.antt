@@ -1,7 +1,7 @@
 -- Four bits of a word, and how an exclusive or changes them.
-use Rattle.std.proofs.Common.{◌≡◌, ◌≢◌, ℕ, ◌+◌, ◌-◌, ◌*◌, ◌/◌, ◌%◌, ◌^◌, ◌<◌, ◌≤◌, zero, suc, refl, sym, ap, subst, ◌∙◌, arith, ◌⊎◌, inl, inr}
-use Rattle.std.proofs.Math.Nat.{mul_assoc, mul_comm, mul-mod_left}
-use Rattle.std.proofs.lemmas.Nat.{pow_pos, pow-add, shl-shr, shr-shr, shr_le, xor_shr, xor_mod, shl_whole}
+use Rattle.std.proofs.Common.{◌≡◌, ◌≢◌, ℕ, ◌+◌, ◌-◌, ◌*◌, ◌/◌, ◌%◌, ◌^◌, ◌<◌, suc, sym, ap, subst, ◌∙◌, arith, inl, inr}
+use Rattle.std.proofs.Math.Nat.{mul_assoc, mul-mod_left}
+use Rattle.std.proofs.lemmas.Nat.{pow-add, shl-shr, shr-shr, shr_le, xor_shr, xor_mod, shl_whole}
 use Rattle.std.proofs.lemmas.Bool.{cases_order}
 use Rattle.std.specs.Int.Bits.{xor_self, xor_assoc, xor_zero_l, xor_zero_r}
 use Rattle.std.specs.Int.RustNames.{bit_xor}
@@ -56,3 +56,7 @@ module _ (word place code change moved : ℕ) (p : place < 16) (c : code < 16) (
       ∙ ap (λ n. bit_xor (digit word i) (digit n i)) whole
       ∙ ap (λ n. bit_xor (digit word i) n) (digit_elsewhere change place i small other)
       ∙ xor_zero_r (digit word i)
+
+-- a word moved down by whole digits
+pub digit_shifted : (word places i : ℕ) → digit (word / 2 ^ (4 * places)) i ≡ digit word (places + i)
+digit_shifted word places i = let at : 4 * places + 4 * i ≡ 4 * (places + i) = omega arith in ap (λ n. n % 16) (shr-shr word (4 * places) (4 * i) ∙ ap (λ e. word / 2 ^ e) at)

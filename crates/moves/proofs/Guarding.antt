@@ -1,6 +1,6 @@
 -- The mover's king, and the moves that keep it safe.
-use Rattle.std.proofs.Common.{◌≡◌, ℕ, ◌+◌, ◌*◌, ◌/◌, ◌%◌, ◌<◌, ◌≤◌, zero, suc, refl, sym, ap, subst, ◌∙◌, arith, ◌⊎◌, inl, inr, ◌↔◌, IsTrue, Bool, true, false, ◌&&◌, not, cond, List, length, get_or, take, Option, Some, None, IsSome, IfSome, unwrap_or, count_by}
-use Rattle.std.proofs.lemmas.Bool.{false≢true, and_parts, false_from_ne_true, cases_lt}
+use Rattle.std.proofs.Common.{◌≡◌, ℕ, ◌+◌, ◌/◌, ◌%◌, ◌<◌, ◌≤◌, zero, suc, refl, sym, ap, subst, ◌∙◌, arith, ◌↔◌, IsTrue, Bool, true, false, not, List, length, get_or, take, Option, Some, None, IsSome, IfSome, unwrap_or, count_by}
+use Rattle.std.proofs.lemmas.Bool.{false≢true, and_parts, false_from_ne_true}
 use Rattle.std.proofs.lemmas.List.{take_all}
 use Rattle.std.proofs.lemmas.List.Sums.{count_by_more_no}
 use Rattle.std.proofs.lemmas.Option.{same_Some}
@@ -11,17 +11,14 @@ use Rattle.board.specs.declared.game.Side.TheVariants.{White, Black}
 use Rattle.board.specs.declared.game.Kind.{Kind}
 use Rattle.board.specs.declared.game.Kind.TheVariants.{King, Queen, Rook, Bishop, Knight, Pawn}
 use Rattle.board.specs.declared.game.Unit.{Unit as Man}
-use Rattle.board.specs.Games.{width_of, squares_of, other_side, is_same_side}
+use Rattle.board.specs.Games.{squares_of, is_same_side}
 use Rattle.board.specs.Board.{PlainBoard, unit_on, is_king, is_king_of, IsPosition, MayStandOn}
 use Rattle.moves.specs.Squares.{Place, Ply, IsOnBoard, square_number, unit_at}
 use Rattle.moves.specs.Reach.{IsInCheck}
-use Rattle.moves.specs.Moves.{Promotes, IsPromotion, IsSomeKing, IsPseudoLegal, IsMove, IsLawful, placed, after}
+use Rattle.moves.specs.Moves.{Promotes, IsPromotion, IsSomeKing, IsPseudoLegal, IsLawful, after}
 use Rattle.moves.specs.Mailbox.{cell_of, place_in, IsCell}
-use Rattle.moves.specs.declared.board_list.Guard.{Guard}
-use Rattle.moves.specs.Guard.{Guards}
 use Rattle.moves.proofs.Cells.{IsCell-cell_of, place_in-cell_of}
 use Rattle.moves.proofs.Laying.{unit_at-to, unit_at-other}
-use Rattle.moves.proofs.Keeps.{to_on_board, one_mover}
 use Rattle.moves.proofs.Kings.{king_of}
 
 -- ---- the king stands somewhere

@@ -17,7 +17,7 @@ use Rattle.moves.specs.Squares.{Place, Ply, IsOnBoard, square_number, unit_at}
 use Rattle.moves.specs.declared.list.TheConstants.{PROMOTIONS}
 use Rattle.board.specs.declared.game.Unit.{Unit as Man}
 use Rattle.std.proofs.lemmas.Option.{same_Some}
-use Rattle.moves.specs.Moves.{IsPromotion, IsLawful}
+use Rattle.moves.specs.Moves.{Promotes, IsPromotion, IsLawful}
 use Rattle.moves.specs.Order.{promotion_number, ListsLawful}
 use Rattle.moves.specs.Listing.{ply_number, ListsBelow}
 use Rattle.moves.proofs.Listed.{same_number, number_within}
@@ -153,6 +153,12 @@ pub first_promotion : (b : PlainBoard) (m : Ply) (u : Man) → unit_at b m.from 
 first_promotion b m u stands piece l zero e = omega arith
 first_promotion b m u stands piece l (suc i) e = absurd (piece (promoted_pawn b m u stands (omega arith) l))
 
+-- a lawful move that names a promotion is a pawn's to its last rank
+promotes_to : (b : PlainBoard) (m : Ply) (u : Man) → unit_at b m.from ≡ Some u → 0 < promotion_number m.promotion → IsLawful b m → Promotes b.game u m.to
+promotes_to b m u stands h (q, move) =
+    let same : move.unit ≡ u = same_Some move.unit u (sym move.pseudo.stands ∙ stands) in
+    subst (λ x. Promotes b.game x m.to) same (move.pseudo.named.0 (is_some_numbered m.promotion h))
+
 -- ---- squares from which, or to which, no move goes
 
 -- the move's numbers, where it is lawful
@@ -188,6 +194,22 @@ ListsBelow-unreached b n xs u from to on_from on_to at stands unreached lists =
     let same_from : m.from ≡ from = same_number b.game m.from from numbered.from on_from f in
     let same_to : m.to ≡ to = same_number b.game m.to to numbered.to on_to (t ∙ sym at) in
     unreached (subst (λ x. Reaches b u from x (unit_at b x)) same_to (reaches_from b u from stands m l same_from)))
+
+-- once the promotions are tried that a move between two squares may name, all moves between them are listed
+pub ListsBelow-promoted : (b : PlainBoard) (n i : ℕ) (xs : List Ply) (u : Man) (from to : Place) → IsOnBoard b.game from → IsOnBoard b.game to → square_number b.game to ≡ n → unit_at b from ≡ Some u → i ≤ 5 → (Promotes b.game u to → i ≡ 5) → 1 ≤ i
+    → ListsBelow b ((square_number b.game from * 36 + n) * 5 + i) xs → ListsBelow b ((square_number b.game from * 36 + n + 1) * 5) xs
+ListsBelow-promoted b n i xs u from to on_from on_to at stands few five first lists =
+    ListsBelow-jump b _ _ xs (omega arith) lists (λ m low high l.
+    let parts = HasParts-lawful b m l in
+    let small : n < 36 = omega (arith, within_board b.game to on_to) in
+    let f : square_number b.game m.from ≡ square_number b.game from = omega (arith, parts.to, parts.promotion) in
+    let t : square_number b.game m.to ≡ n = omega (arith, parts.to, parts.promotion) in
+    let named : i ≤ promotion_number m.promotion = omega arith in
+    let numbered = IsNumbered-lawful b m l in
+    let same_from : m.from ≡ from = same_number b.game m.from from numbered.from on_from f in
+    let same_to : m.to ≡ to = same_number b.game m.to to numbered.to on_to (t ∙ sym at) in
+    let all : i ≡ 5 = five (subst (Promotes b.game u) same_to (promotes_to b m u (ap (unit_at b) same_from ∙ stands) (omega arith) l)) in
+    omega (arith, parts.promotion))
 
 pub ListsBelow-all_to : (b : PlainBoard) (f n : ℕ) (xs : List Ply) → squares_of b.game ≤ n → n ≤ 36 → ListsBelow b ((f * 36 + n) * 5) xs → ListsBelow b ((f + 1) * 36 * 5) xs
 ListsBelow-all_to b f n xs all le lists =
@@ -238,3 +260,7 @@ ListsLawful-from b n xs all lists = record {
     λ l. let h = HasParts-lawful b m l in lists.complete m (omega (arith, h.to, h.on_from, h.promotion)) l,
   );
 }
+
+-- where the empty list has all lawful moves there is none
+pub none_lawful : (b : PlainBoard) (n : ℕ) → squares_of b.game ≤ n → ListsBelow b (n * 36 * 5) [] → ((m : Ply) × IsLawful b m) → ⊥
+none_lawful b n all lists (m, l) = All-contains (λ _. ⊥) [] m (All-nil (λ _. ⊥)) (((ListsLawful-from b n [] all lists).exact m).1 l)

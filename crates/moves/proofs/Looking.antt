@@ -1,5 +1,5 @@
 -- A walk read backwards: what attacks a square is what a unit of the same kind would take from there.
-use Rattle.std.proofs.Common.{◌≡◌, ℕ, ◌+◌, ◌<◌, ℤ, pos, negsuc, ◌+ℤ◌, neg_ℤ, zero, suc, refl, sym, ap, subst, ◌∙◌, arith, ◌⊎◌, inl, inr, Bool, true, false, Option, Some, None, unwrap_or, List, [], ◌∷◌, Any, All, Contains, length, get_or, lit<}
+use Rattle.std.proofs.Common.{◌≡◌, ℕ, ◌<◌, ℤ, pos, negsuc, neg_ℤ, zero, suc, refl, sym, ap, subst, ◌∙◌, arith, ◌⊎◌, inl, inr, true, false, Some, None, unwrap_or, List, All, length, get_or}
 use Rattle.std.specs.Int.RustNames.{unsigned_abs}
 use Rattle.std.proofs.lemmas.Int.{ints}
 use Rattle.std.proofs.lemmas.Bool.{false≢true}
@@ -16,7 +16,7 @@ use Rattle.board.specs.declared.terms.Atom.{Atom}
 use Rattle.board.specs.declared.terms.Atom.TheVariants.{Wazir, Ferz}
 use Rattle.board.specs.declared.terms.Atom.TheVariants as atom
 use Rattle.board.specs.declared.terms.Term.{Term}
-use Rattle.board.specs.Denotation.{IsAtomLeap, IsTermStep, Denotes, terms_of, ListsSteps}
+use Rattle.board.specs.Denotation.{IsAtomLeap, Denotes, terms_of}
 use Rattle.board.specs.Games.{other_side, IsPlayed}
 use Rattle.board.specs.Board.{PlainBoard}
 use Rattle.moves.specs.Squares.{Place, IsOnBoard, unit_at}
@@ -147,6 +147,12 @@ module _ (b : PlainBoard) (u : Man) (step : Step) (s t : Place) (on : IsOnBoard 
   pub Strikes-here : unit_at b t ≡ Some (foe_of u) → Strikes b u step s
   Strikes-here e = record { to = t; leads = once on a; stands = e }
 
+  pub Strikes-first : (v : Man) → unit_at b t ≡ Some v → Strikes b u step s → v ≡ foe_of u
+  Strikes-first v e w = elim (Leads-through b u.side step s t w.to on a w.leads) [
+    | inl same ↦ some_same (sym e ∙ ap (unit_at b) same ∙ w.stands)
+    | inr more ↦ absurd (no_Some (sym more.1 ∙ e))
+  ]
+
   pub Strikes-blocked : (v : Man) → unit_at b t ≡ Some v → (v ≡ foe_of u → ⊥) → Strikes b u step s → ⊥
   Strikes-blocked v e other w = elim (Leads-through b u.side step s t w.to on a w.leads) [
     | inl same ↦ other (some_same (sym e ∙ ap (unit_at b) same ∙ w.stands))
@@ -183,17 +189,19 @@ module _ (b : PlainBoard) (u : Man) (s : Place) where
   pub not_struck : All (λ x. StrikesBy b u s x → ⊥) (table_of u.kind) → IsStruck b u s → ⊥
   not_struck none w = All-contains (λ x. StrikesBy b u s x → ⊥) (table_of u.kind) w.step none ((table_of-exact u.kind w.step).1 w.denoted) w.strikes
 
-abbrev pub all_kinds : List Kind
-all_kinds = King ∷ Queen ∷ Rook ∷ Bishop ∷ Knight ∷ Pawn ∷ []
+is_knight : (k : Kind) → (k ≡ Knight) ⊎ (k ≡ Knight → ⊥)
+is_knight King = inr (λ e. cc)
+is_knight Queen = inr (λ e. cc)
+is_knight Rook = inr (λ e. cc)
+is_knight Bishop = inr (λ e. cc)
+is_knight Knight = inl refl
+is_knight Pawn = inr (λ e. cc)
 
-has_kind : (k : Kind) → Contains all_kinds k
-has_kind King = (0, lit< tt, refl)
-has_kind Queen = (1, lit< tt, refl)
-has_kind Rook = (2, lit< tt, refl)
-has_kind Bishop = (3, lit< tt, refl)
-has_kind Knight = (4, lit< tt, refl)
-has_kind Pawn = (5, lit< tt, refl)
-
-pub not_attacked : (b : PlainBoard) (t : Place) (me : Side) → IsOnBoard b.game t → All (λ k. IsPlayed b.game k × IsStruck b (record { side = me; kind = k }) t → ⊥) all_kinds → IsAttacked b t (other_side me) → ⊥
-not_attacked b t me on none (s, a) =
-    All-contains (λ k. IsPlayed b.game k × IsStruck b (record { side = me; kind = k }) t → ⊥) all_kinds a.unit.kind none (has_kind a.unit.kind) (IsStruck-attacked b t me on s a)
+-- where no other kind attacks, a knight does
+pub none_struck : (b : PlainBoard) (t : Place) (me : Side) → IsOnBoard b.game t → ((k : Kind) → (k ≡ Knight → ⊥) → IsStruck b (record { side = me; kind = k }) t → ⊥) → IsAttacked b t (other_side me) → IsStruck b (record { side = me; kind = Knight }) t
+none_struck b t me on none (s, a) =
+    let struck = (IsStruck-attacked b t me on s a).1 in
+    elim (is_knight a.unit.kind) [
+      | inl e ↦ subst (λ k. IsStruck b (record { side = me; kind = k }) t) e struck
+      | inr other ↦ absurd (none a.unit.kind other struck)
+    ]

@@ -1,5 +1,5 @@
 -- A unit that stands in no line with its king leaves it safe, whatever it does.
-use Rattle.std.proofs.Common.{◌≡◌, ℕ, ◌+◌, ◌<◌, ◌≤◌, ℤ, pos, negsuc, ◌+ℤ◌, zero, suc, refl, sym, ap, subst, ◌∙◌, arith, ◌⊎◌, inl, inr, Bool, true, false, ◌&&◌, ◌||◌, not, leb, List, Contains, Option, Some, None, unwrap_or, IfSome}
+use Rattle.std.proofs.Common.{◌≡◌, ◌+◌, ◌≤◌, ℤ, pos, negsuc, zero, suc, refl, sym, ap, subst, ◌∙◌, arith, ◌⊎◌, inl, inr, Bool, true, false, ◌&&◌, ◌||◌, not, leb, Option, Some, None, unwrap_or, IfSome}
 use Rattle.std.specs.Int.RustNames.{unsigned_abs}
 use Rattle.std.specs.List.{list_all}
 use Rattle.std.proofs.lemmas.Int.{ints}
@@ -18,7 +18,7 @@ use Rattle.board.specs.Games.{other_side}
 use Rattle.board.specs.Denotation.{Denotes, terms_of}
 use Rattle.board.specs.Board.{PlainBoard, IsPosition}
 use Rattle.moves.specs.Squares.{Place, Ply, IsOnBoard, square_number, unit_at}
-use Rattle.moves.specs.Reach.{ahead_of, IsShift, IsStep, Leads, AttacksFrom, IsAttacked, IsInCheck}
+use Rattle.moves.specs.Reach.{ahead_of, IsStep, Leads, IsInCheck}
 use Rattle.moves.specs.Reach.Leads.{once, again}
 use Rattle.moves.specs.Moves.{IsPromotion, IsPseudoLegal, placed, after}
 use Rattle.moves.specs.StepTables.{table_of}

@@ -1,5 +1,5 @@
 -- What one turn of a walk adds to a set of cells, from the next cell v.
-use Rattle.std.proofs.Common.{◌≡◌, ℕ, ◌+◌, ◌*◌, ◌^◌, ◌%◌, ◌<◌, w64, sym, ap, subst, ◌∙◌, ◌⊎◌, inl, inr, true, false, Bool, IsTrue, ◌↔◌, Option, Some, None, arith}
+use Rattle.std.proofs.Common.{◌≡◌, ℕ, ◌+◌, ◌*◌, ◌^◌, ◌%◌, ◌<◌, w64, sym, ap, subst, ◌∙◌, ◌⊎◌, inl, inr, true, Bool, IsTrue, ◌↔◌, None, arith}
 use Rattle.std.specs.Int.{bit_at}
 use Rattle.std.specs.Int.RustNames.{bit_or}
 use Rattle.std.proofs.Common.{zero, suc, refl, List, [], ◌∷◌, length, get_or, take, Any, get_or-take, length-take}
@@ -10,7 +10,7 @@ use Rattle.board.specs.declared.game.Unit.{Unit as Man}
 use Rattle.board.specs.declared.step.Step.{Step}
 use Rattle.board.specs.Board.{PlainBoard}
 use Rattle.moves.specs.Squares.{Place, IsOnBoard, unit_at}
-use Rattle.moves.specs.Reach.{IsStep, Leads, Allows, ReachesBy}
+use Rattle.moves.specs.Reach.{IsStep, Allows}
 use Rattle.moves.specs.Reach.Leads.{once, again}
 use Rattle.moves.specs.Mailbox.{cell_of, place_in, IsCell}
 use Rattle.board.specs.Games.{IsPlayed}

@@ -1,26 +1,24 @@
 -- The list of a unit's moves as its cells are read from the lowest on.
-use Rattle.std.proofs.Common.{◌≡◌, ◌≢◌, ℕ, ◌+◌, ◌-◌, ◌*◌, ◌^◌, ◌%◌, ◌<◌, ◌≤◌, w64, zero, suc, refl, sym, ap, subst, ◌∙◌, arith, ◌⊎◌, inl, inr, ◌↔◌, List, length, Option, Some}
+use Rattle.std.proofs.Common.{◌≡◌, ◌≢◌, ℕ, ◌+◌, ◌-◌, ◌*◌, ◌^◌, ◌%◌, ◌<◌, ◌≤◌, w64, zero, suc, refl, sym, ap, subst, ◌∙◌, arith, inl, inr, ◌↔◌, List, Some}
 use Rattle.std.specs.Int.{bit_at, bit_not}
 use Rattle.std.specs.Int.RustNames.{bit_and}
-use Rattle.std.proofs.lemmas.Bool.{cases_eq, cases_lt, cases_order}
+use Rattle.std.proofs.lemmas.Bool.{cases_lt, cases_order}
 use Rattle.std.proofs.lemmas.Nat.{and_le_l}
-use Rattle.std.proofs.lemmas.Nat.Bits.{bit_at-zero, bit_at_above, bit_at_clear_same, bit_at_clear_other}
-use Rattle.std.proofs.lemmas.Option.{same_Some}
+use Rattle.std.proofs.lemmas.Nat.Bits.{bit_at-zero, bit_at_above, bit_at_clear_same}
 use Rattle.board.specs.declared.game.Game.{Game}
 use Rattle.board.specs.declared.game.Game.TheVariants.{LosAlamos, Gardner}
 use Rattle.board.specs.declared.game.Kind.TheVariants.{Pawn}
 use Rattle.board.specs.declared.game.Unit.{Unit as Man}
-use Rattle.board.specs.Games.{width_of, squares_of}
+use Rattle.board.specs.Games.{squares_of}
 use Rattle.board.specs.Board.{PlainBoard}
 use Rattle.moves.specs.Squares.{Place, Ply, IsOnBoard, square_number, unit_at}
 use Rattle.moves.specs.Reach.{Reaches}
-use Rattle.moves.specs.Moves.{IsLawful}
-use Rattle.moves.specs.Listing.{ListsBelow, ply_number}
+use Rattle.moves.specs.Listing.{ListsBelow}
 use Rattle.moves.specs.Mailbox.{cell_of, place_in, IsCell}
 use Rattle.moves.specs.Targets.{Has, IsTarget}
 use Rattle.moves.proofs.Cells.{IsCell-cell_of, place_in-cell_of, cell_small}
 use Rattle.moves.proofs.Listed.{same_number, number_within}
-use Rattle.moves.proofs.Lists.{ListsBelow-jump, ListsBelow-all_to, IsNumbered-lawful, HasParts-lawful, within_board, reaches_from}
+use Rattle.moves.proofs.Lists.{ListsBelow-jump, ListsBelow-all_to, IsNumbered-lawful, HasParts-lawful, reaches_from}
 use Rattle.moves.proofs.Room.{share, share-more, share-most, share-step, squares_36}
 
 -- cells are ordered as their squares' numbers are

@@ -1,15 +1,15 @@
 -- A table of steps against the terms of a kind: a test that computes, and what it says.
-use Rattle.std.proofs.Common.{◌≡◌, ℕ, ◌+◌, ◌<◌, ◌≤◌, ℤ, pos, negsuc, zero, suc, refl, sym, ap, subst, ◌∙◌, arith, ◌⊎◌, inl, inr, Bool, true, false, ◌&&◌, ◌||◌, not, eqb, List, [], ◌∷◌, length, get_or, Any, All, Contains, IsTrue, ◌↔◌}
+use Rattle.std.proofs.Common.{◌≡◌, ℕ, ◌+◌, ◌<◌, ◌≤◌, ℤ, pos, negsuc, zero, suc, refl, sym, subst, ◌∙◌, arith, ◌⊎◌, inl, inr, Bool, true, false, ◌&&◌, ◌||◌, not, eqb, List, get_or, Any, Contains, IsTrue, ◌↔◌}
 use Rattle.std.proofs.Common.{◌<ℤ◌}
 use Rattle.std.specs.Int.RustNames.{unsigned_abs}
 use Rattle.std.proofs.lemmas.Int.{ints}
 use Rattle.std.specs.Ordering.{int_eq}
 use Rattle.std.specs.List.{list_all, list_any}
 use Rattle.std.specs.Bool.{Decides}
-use Rattle.std.proofs.lemmas.Bool.{false≢true, and_parts, and_from, or_cases, or_left, or_right, cases_Bool}
+use Rattle.std.proofs.lemmas.Bool.{false≢true, and_parts, and_from, or_cases, or_left, or_right}
 use Rattle.std.proofs.lemmas.Bool.Decides.{Decides-eqb, Decides-int_eq}
 use Rattle.std.proofs.lemmas.List.Sums.{AllPass-from_list_all}
-use Rattle.std.proofs.lemmas.List.Folds.{Any-from_list_any, list_any-from_Any}
+use Rattle.std.proofs.lemmas.List.Folds.{Any-from_list_any}
 use Rattle.std.proofs.lemmas.List.Elements.{All-contains}
 use Rattle.board.specs.declared.step.Mode.{Mode}
 use Rattle.board.specs.declared.step.Mode.TheVariants.{Move, Capture, Both}
@@ -19,7 +19,7 @@ use Rattle.board.specs.declared.terms.Atom.TheVariants.{Wazir, Ferz, Knight}
 use Rattle.board.specs.declared.terms.Term.{Term}
 use Rattle.board.specs.declared.game.Kind.{Kind}
 use Rattle.board.specs.declared.game.Kind.TheVariants as kind
-use Rattle.board.specs.Denotation.{IsLeap, IsAtomLeap, IsTermLeap, IsTermStep, Denotes, terms_of}
+use Rattle.board.specs.Denotation.{IsLeap, IsAtomLeap, IsTermStep, Denotes, terms_of}
 use Rattle.board.proofs.Leaps.{goes_somewhere}
 use Rattle.moves.specs.Mailbox.{IsNear}
 use Rattle.moves.specs.StepTables.{table_of}

@@ -1,5 +1,5 @@
 -- Laws of what is forced.
-use Rattle.std.specs.Prelude.{◌≡◌, ℕ, suc, ◌+◌, ◌*◌, ◌↔◌, true}
+use Rattle.std.specs.Prelude.{◌≡◌, ℕ, ◌+◌, ◌*◌, ◌↔◌, true}
 use Rattle.board.specs.declared.game.Side.{Side}
 use Rattle.board.specs.Games.{is_same_side}
 use Rattle.board.specs.Board.{PlainBoard}

@@ -72,6 +72,10 @@ pub record IsMove (b : PlainBoard) (m : Ply) (q : PlainBoard) : Type 0 where
 abbrev pub IsLawful : PlainBoard → Ply → Type 0
 IsLawful b m = (q : PlainBoard) × IsMove b m q
 
+-- the move gives check: it leads to a board whose mover is in check
+abbrev pub GivesCheck : PlainBoard → Ply → Type 0
+GivesCheck b m = (q : PlainBoard) × IsMove b m q × IsInCheck q q.mover
+
 -- the side to move is mated
 pub record IsMated (b : PlainBoard) : Type 0 where
   pub check : IsInCheck b b.mover

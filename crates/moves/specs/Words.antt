@@ -1,5 +1,5 @@
 -- A board in three words: four bits a square, two ranks a word, and the side and the game in word 0.
-use Rattle.std.specs.Prelude.{◌≡◌, ℕ, ◌+◌, ◌*◌, ◌/◌, ◌%◌, ◌^◌, ◌<◌, ◌≤◌, List, [], ◌∷◌, Option, Some, None, cond, nat_lt, nat_eq, map, slice_index_or}
+use Rattle.std.specs.Prelude.{◌≡◌, ℕ, ◌*◌, ◌/◌, ◌%◌, ◌^◌, ◌<◌, List, [], ◌∷◌, Option, Some, None, cond, nat_lt, nat_eq, map, slice_index_or}
 use Rattle.std.specs.List.{range_with_len}
 use Rattle.board.specs.declared.game.Game.{Game}
 use Rattle.board.specs.declared.game.Game.TheVariants.{LosAlamos, Gardner}

@@ -6,7 +6,7 @@ ghost use Rattle.board.specs.Board.{IsPosition, unit_on, is_of_side};
 ghost use Rattle.board.specs.Games.{squares_of};
 ghost use Rattle.moves.specs.Squares.{IsOnBoard, square_number, unit_at};
 ghost use Rattle.moves.specs.Reach.{Reaches, IsInCheck};
-ghost use Rattle.moves.specs.Moves.{IsPseudoLegal, IsLawful, after};
+ghost use Rattle.moves.specs.Moves.{Promotes, IsPseudoLegal, IsLawful, after};
 ghost use Rattle.moves.specs.Order.{ListsLawful};
 ghost use Rattle.moves.specs.Listing.{ListsBelow};
 ghost use Rattle.moves.specs.Mailbox.{place_in, IsCell};
@@ -17,11 +17,11 @@ use crate::list::PROMOTIONS;
 use crate::look::{king_attacked, king_cell};
 use crate::mailbox::{Mailbox, cell_of, square_in};
 use crate::packed::Board;
-use crate::plies::{Move, is_king, is_promoted_well};
+use crate::plies::{Move, is_king, is_promoted_well, promotes};
 use crate::squares::Square;
 use crate::targets::{lowest, targets, without};
 use arrayvec::ArrayVec;
-use board::{Kind, Unit};
+use board::{Game, Kind, Unit};
 
 /// What the mover's king asks of each move: the cell where it stands, and whether it is in check.
 #[derive(Clone, Copy)]
@@ -69,7 +69,13 @@ fn is_safe(mail: &Mailbox, guard: Guard, m: Move, unit: Unit) -> bool
 }
 
 /// Whether a move to a square that the unit reaches is lawful.
-fn is_lawful_to(mail: &Mailbox, guard: Guard, m: Move, unit: Unit, target: Option<Unit>) -> bool
+pub(crate) fn is_lawful_to(
+    mail: &Mailbox,
+    guard: Guard,
+    m: Move,
+    unit: Unit,
+    target: Option<Unit>,
+) -> bool
     requires position { IsPosition mail.now }
     requires guards { Guards mail.now guard }
     requires on_board { IsOnBoard mail.now.game m.from }
@@ -86,6 +92,15 @@ fn is_lawful_to(mail: &Mailbox, guard: Guard, m: Move, unit: Unit, target: Optio
         return false;
     }
     is_safe(mail, guard, m, unit)
+}
+
+/// How many of the promotions, from none on, a move of the unit to the square may name.
+pub(crate) fn promotion_count(game: Game, unit: Unit, to: Square) -> usize
+    ensures five { Promotes game unit to → result ≡ 5 }
+    ensures one { (Promotes game unit to → ⊥) → result ≡ 1 }
+    ensures within { (1 ≤ result) × (result ≤ 5) }
+{
+    if promotes(game, unit, to) { 5 } else { 1 }
 }
 
 /// Adds the lawful moves of the unit to a square that it reaches, on which `target` stands.
@@ -112,11 +127,11 @@ fn push_to(
     ensures few { array_vec_len moves.new ≤ array_vec_len moves.old + 5 }
     ensures one { (unit.kind ≡ Pawn → ⊥) → array_vec_len moves.new ≤ array_vec_len moves.old + 1 }
 {
-    for promotion in &PROMOTIONS {
+    for i in 0..promotion_count(mail.game(), unit, to) {
         let m = Move {
             from,
             to,
-            promotion: *promotion,
+            promotion: PROMOTIONS[i],
         };
         if is_lawful_to(mail, guard, m, unit, target) {
             moves.push(m);
@@ -152,7 +167,7 @@ fn push_from(
 }
 
 /// The unit on a square, if it is the mover's.
-fn own_unit(mail: &Mailbox, number: u8) -> Option<Unit>
+pub(crate) fn own_unit(mail: &Mailbox, number: u8) -> Option<Unit>
     requires { number < squares_of mail.now.game }
     ensures { MatchOption result
         (is_of_side mail.now.mover (unit_on mail.now number) ≡ false)
@@ -189,7 +204,7 @@ pub fn lawful_on(board: &Board) -> ArrayVec<Move, 512>
 }
 
 /// Where the mover's king stands, and whether it is in check.
-fn guard_of(mail: &Mailbox) -> Guard
+pub(crate) fn guard_of(mail: &Mailbox) -> Guard
     requires { IsPosition mail.now }
     ensures { Guards mail.now result }
 {

@@ -1,18 +1,21 @@
 //! Check as the king sees it: a square is attacked by what a unit of the same kind would take from there.
-ghost use Rattle.std.specs.Prelude.{◌≡◌, ◌<◌, ◌+◌, ◌↔◌, IsTrue, MatchOption, Some, ℕ};
+ghost use Rattle.std.specs.Prelude.{◌≡◌, ◌<◌, ◌+◌, ◌↔◌, IsTrue, MatchOption, Some, ℕ, true, false};
 ghost use Rattle.std.specs.Int.RustNames.{unsigned_abs};
-ghost use Rattle.board.specs.declared.game.Kind.TheVariants.{King};
+ghost use Rattle.board.specs.declared.game.Kind.{Kind};
+ghost use Rattle.board.specs.declared.game.Kind.TheVariants.{King, Knight};
 ghost use Rattle.board.specs.Board.{IsPosition};
-ghost use Rattle.board.specs.Games.{IsPlayed, other_side};
+ghost use Rattle.board.specs.Games.{other_side};
 ghost use Rattle.moves.specs.Squares.{unit_at};
 ghost use Rattle.moves.specs.Reach.{IsAttacked, IsInCheck};
+ghost use Rattle.moves.specs.Moves.{IsLawful, GivesCheck};
 ghost use Rattle.moves.specs.Mailbox.{place_in, IsCell, IsNear};
-ghost use Rattle.moves.specs.Looking.{foe_of, Strikes, StrikesBy, IsStruck};
+ghost use Rattle.moves.specs.Looking.{foe_of, Strikes, StrikesBy, IsStruck, GoesAs, GoesAlong, IsHitAlong};
 
 use crate::mailbox::Mailbox;
-use crate::packed::Board;
+use crate::packed::{Board, after};
+use crate::plies::Move;
 use crate::steps::steps;
-use board::{Game, Kind, Mode, Side, Step, Unit};
+use board::{Kind, Mode, Side, Step, Unit};
 
 /// Whether the units are of one kind and of two sides.
 fn is_foe(unit: Unit, other: Unit) -> bool
@@ -63,37 +66,73 @@ fn is_struck(mail: &Mailbox, unit: Unit, cell: u8) -> bool
     false
 }
 
-/// Whether the game plays with the kind.
-fn is_played(game: Game, kind: Kind) -> bool
-    ensures { IsTrue result ↔ IsPlayed game kind }
+/// Whether a step may capture and goes the way of another. Where it has to go far, only a rider's does.
+fn goes_as(own: &Step, step: &Step, near: bool) -> bool
+    ensures { IsTrue result ↔ GoesAs own.now step.now near }
 {
-    match kind {
-        Kind::Bishop => game == Game::Gardner,
-        _ => true,
-    }
+    own.mode != Mode::Move && own.dx == step.dx && own.dy == step.dy && (near || own.rider)
 }
 
-const KINDS: [Kind; 6] = [
-    Kind::King,
-    Kind::Queen,
-    Kind::Rook,
-    Kind::Bishop,
-    Kind::Knight,
-    Kind::Pawn,
-];
-
-/// Whether some unit of the other side attacks the cell.
-fn is_attacked(mail: &Mailbox, cell: u8, side: Side) -> bool
-    requires { IsCell mail.now.game cell }
-    ensures { IsTrue result ↔ IsAttacked mail.now (place_in cell) (other_side side) }
+/// Whether some step of the kind does.
+fn goes_along(kind: Kind, step: &Step, near: bool) -> bool
+    ensures { IsTrue result ↔ GoesAlong kind step.now near }
 {
-    let game = mail.game();
-    for kind in &KINDS {
-        if is_played(game, *kind) && is_struck(mail, Unit { side, kind: *kind }, cell) {
+    for own in steps(kind) {
+        if goes_as(own, step, near) {
             return true;
         }
     }
     false
+}
+
+/// Whether the unit is of the other side.
+fn is_enemy(unit: Unit, side: Side) -> bool
+    ensures { IsTrue result ↔ (unit.side ≡ other_side side) }
+{
+    unit.side == side.other()
+}
+
+/// Whether the first unit on the step's line from the cell would come to the cell.
+fn is_hit_along(mail: &Mailbox, side: Side, step: &Step, cell: u8, near: bool) -> bool
+    requires cell { IsCell mail.now.game cell }
+    requires near { IsNear step.now }
+    requires goes { 0 < unsigned_abs step.now.dx + unsigned_abs step.now.dy }
+    ensures { IsTrue result ↔ IsHitAlong mail.now side step.now (place_in cell) near }
+{
+    let Some(to) = mail.next(side, step, cell) else {
+        return false;
+    };
+    if let Some(unit) = mail.unit_in(to) {
+        return is_enemy(unit, side) && goes_along(unit.kind, step, near);
+    }
+    is_hit_along(mail, side, step, to, false)
+}
+
+/// Whether some unit of the other side, knights apart, attacks the cell: one look along each line.
+fn is_hit(mail: &Mailbox, cell: u8, side: Side) -> bool
+    requires { IsCell mail.now.game cell }
+    ensures hit { IsTrue result → (k : Kind) × IsStruck mail.now (record { side = side; kind = k }) (place_in cell) }
+    ensures none { result ≡ false → (k : Kind) → (k ≡ Knight → ⊥) → IsStruck mail.now (record { side = side; kind = k }) (place_in cell) → ⊥ }
+{
+    for step in steps(Kind::Queen) {
+        if is_hit_along(mail, side, step, cell, true) {
+            return true;
+        }
+    }
+    false
+}
+
+/// Whether some unit of the other side attacks the cell.
+fn is_attacked(mail: &Mailbox, cell: u8, side: Side) -> bool
+    requires cell { IsCell mail.now.game cell }
+    requires position { IsPosition mail.now }
+    ensures { IsTrue result ↔ IsAttacked mail.now (place_in cell) (other_side side) }
+{
+    let knight = Unit {
+        side,
+        kind: Kind::Knight,
+    };
+    is_hit(mail, cell, side) || is_struck(mail, knight, cell)
 }
 
 /// The cell of the side's king.
@@ -130,4 +169,13 @@ pub fn mover_in_check(board: &Board) -> bool
         Some(cell) => king_attacked(&mail, cell, side),
         None => false,
     }
+}
+
+/// Whether the lawful move gives check.
+pub fn gives_check(board: &Board, m: Move) -> bool
+    requires { IsLawful board.now m }
+    ensures { IsTrue result ↔ GivesCheck board.now m }
+{
+    let next = after(board, m);
+    mover_in_check(&next)
 }

@@ -1,5 +1,5 @@
 //! A board laid out cell by cell with a border round it, on which steps are taken.
-ghost use Rattle.std.specs.Prelude.{◌≡◌, ◌<◌, ◌≤◌, ◌+◌, ◌-◌, ◌*◌, ◌%◌, ◌↔◌, ℕ, IsTrue, MatchOption, Some, slice_index, ℤ, pos, ◌+ℤ◌, ◌*ℤ◌};
+ghost use Rattle.std.specs.Prelude.{◌≡◌, ◌<◌, ◌≤◌, ◌+◌, ◌-◌, ◌*◌, ◌%◌, ◌↔◌, ◌⊎◌, ℕ, IsTrue, MatchOption, Some, ℤ, pos, ◌+ℤ◌, ◌*ℤ◌};
 ghost use Rattle.std.specs.Int.RustNames.{unsigned_abs};
 ghost use Rattle.board.specs.declared.game.Kind.TheVariants.{King};
 ghost use Rattle.board.specs.Board.{IsPosition, unit_on};
@@ -7,14 +7,14 @@ ghost use Rattle.board.specs.Games.{width_of, squares_of};
 ghost use Rattle.moves.specs.Squares.{Place, IsOnBoard, square_number, unit_at};
 ghost use Rattle.moves.specs.Reach.{ahead_of, IsStep};
 ghost use Rattle.moves.specs.Moves.{IsPseudoLegal, after};
-ghost use Rattle.moves.specs.Words.{man_of};
-ghost use Rattle.moves.specs.Mailbox.{cell_of, place_in, IsAway, IsCell, IsNear, IsLaid};
+ghost use Rattle.moves.specs.Words.{digit};
+ghost use Rattle.moves.specs.Mailbox.{cell_of, place_in, code_in, IsAway, IsCell, IsNear, IsLaid};
 
 use crate::packed::Board;
 use crate::plies::Move;
 use crate::reach::ranks_up;
 use crate::squares::Square;
-use crate::words::{code_of, unit_of};
+use crate::words::{code_of, digit, unit_of};
 use board::{Game, Side, Step, Unit};
 use std::marker::Model;
 
@@ -27,7 +27,7 @@ const WHITE_KING: u8 = 1;
 
 const BLACK_KING: u8 = 7;
 
-/// How many cells there are: two ranks of border on each side of the board's, and the last two files of each rank.
+/// How many cells there are: eight for each rank of the board, and for two ranks of border on each side of them.
 const CELLS: usize = 80;
 
 /// A board and its cells. A rank takes eight cells, the first square's is the 18th.
@@ -67,16 +67,36 @@ fn cell_away(side: Side, step: &Step, cell: u8) -> u8
     (i16::from(cell) + offset(side, step)) as u8
 }
 
-/// Lays out the squares of a rank.
+/// The eight cells of a rank, four bits each, of a word that begins with the codes of its squares.
+fn bordered(game: Game, codes: u64) -> u64
+    ensures files { (file : ℕ) → file < width_of game → digit result (file + 1) ≡ digit codes file }
+    ensures before { digit result 0 ≡ 15 }
+    ensures behind { (i : ℕ) → i < 8 → width_of game < i → digit result i ≡ 15 }
+{
+    match game {
+        Game::LosAlamos => codes % 0x100_0000 * 16 + 0xF000_000F,
+        Game::Gardner => codes % 0x10_0000 * 16 + 0xFF00_000F,
+    }
+}
+
+/// Writes the eight cells of a rank.
+fn write_rank(cells: &mut [u8; CELLS], rank: u8, word: u64)
+    requires { rank < 6 }
+    ensures there { (k : ℕ) → k < 8 → code_in cells.new (8 * (rank + 2) + k) ≡ digit word k }
+    ensures elsewhere { (i : ℕ) → (i < 8 * (rank + 2)) ⊎ (8 * (rank + 2) + 8 ≤ i) → code_in cells.new i ≡ code_in cells.old i }
+{
+    for k in 0..8 {
+        cells[(8 * (rank + 2) + k) as usize] = digit(word, k);
+    }
+}
+
+/// Lays out a rank.
 fn lay_rank(board: &Board, rank: u8, cells: &mut [u8; CELLS])
     requires rank { rank < width_of board.now.game }
-    requires laid { IsLaid board.now cells.old (width_of board.now.game * rank) }
-    ensures { IsLaid board.now cells.new (width_of board.now.game * (rank + 1)) }
+    requires laid { IsLaid board.now cells.old rank }
+    ensures { IsLaid board.now cells.new (rank + 1) }
 {
-    let width = board.game().width();
-    for file in 0..width {
-        cells[(17 + 8 * rank + file) as usize] = board.code(width * rank + file);
-    }
+    write_rank(cells, rank, bordered(board.game(), board.rank(rank)));
 }
 
 /// The cell of a square.

@@ -1,8 +1,8 @@
 //! A position in three words.
-ghost use Rattle.std.specs.Prelude.{◌≡◌, ◌<◌, Some};
+ghost use Rattle.std.specs.Prelude.{◌≡◌, ◌<◌, ◌+◌, ◌*◌, ℕ, Some};
 ghost use Rattle.board.specs.Board.{unit_on, IsPosition};
-ghost use Rattle.board.specs.Games.{squares_of};
-ghost use Rattle.moves.specs.Words.{man_of, game_of_flags, mover_of_flags, IsFlags};
+ghost use Rattle.board.specs.Games.{width_of, squares_of};
+ghost use Rattle.moves.specs.Words.{digit, man_of, game_of_flags, mover_of_flags, IsFlags, unpacked, IsPacked};
 ghost use Rattle.moves.specs.Moves.{IsPseudoLegal, IsMove, IsLawful, after};
 
 use crate::plies::Move;
@@ -119,6 +119,25 @@ impl Board {
         ensures small { result < 13 }
     {
         code_on(&self.words, self.game(), square)
+    }
+
+    /// The words of the board.
+    pub fn words(&self) -> [u64; 3]
+        ensures value { unpacked result ≡ self.now }
+        ensures packed { IsPacked result }
+    {
+        self.words
+    }
+
+    /// The codes of a rank's squares, four bits each from the lowest on. What stands above them is not theirs.
+    pub(crate) fn rank(&self, rank: u8) -> u64
+        requires { rank < width_of self.now.game }
+        ensures stands { (file : ℕ) → file < width_of self.now.game
+            → man_of (digit result file) ≡ unit_on self.now (width_of self.now.game * rank + file) }
+        ensures code { (file : ℕ) → file < width_of self.now.game → digit result file < 13 }
+    {
+        let word = self.words[(rank / 2) as usize];
+        word >> (4 * self.game().width() * (rank % 2))
     }
 
     /// The same board again.

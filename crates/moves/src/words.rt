@@ -7,7 +7,7 @@ ghost use Rattle.moves.specs.Words.{digit, word_of, place_of, code_on, man_of};
 use board::{Game, Kind, Side, Unit};
 
 /// The code at a place of the word.
-fn digit(word: u64, place: u8) -> u8
+pub(crate) fn digit(word: u64, place: u8) -> u8
     requires { place < 16 }
     ensures value { result ≡ digit word place }
     ensures small { result < 16 }

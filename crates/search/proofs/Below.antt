@@ -1,9 +1,8 @@
 -- The positions below one.
-use Rattle.std.proofs.Common.{◌≡◌, ◌≢◌, ℕ, zero, suc, inl, inr, MatchBool, ◌+◌, ◌-◌, ◌<◌, ◌≤◌, ◌↔◌, IsTrue, Bool, true, false, not, eqb, List, [], ◌∷◌, ◌++◌, take, length, get_or, All, Contains, refl, sym, ap, ◌∙◌, subst, arith, cond}
+use Rattle.std.proofs.Common.{◌≡◌, ◌≢◌, ℕ, zero, suc, inl, inr, MatchBool, ◌⊎◌, ◌+◌, ◌-◌, ◌<◌, ◌↔◌, IsTrue, Bool, true, false, not, eqb, List, [], ◌∷◌, ◌++◌, take, length, get_or, All, Contains, refl, sym, ap, ◌∙◌, subst, arith, cond}
 use mathlib.Core.Bool.{beq}
 use Rattle.std.proofs.lemmas.Bool.{false≢true}
-use Rattle.std.proofs.lemmas.Bool.Decides.{Decides-eqb}
-use Rattle.std.proofs.lemmas.List.Elements.{All-append, All-contains, Contains-append_left, Contains-append_right}
+use Rattle.std.proofs.lemmas.List.Elements.{All-append, All-contains, Contains-append_left, Contains-append_right, Contains-get_or}
 use Rattle.std.proofs.Math.Seq.{take-suc}
 use Rattle.atomic_table.specs.Seated.{TableId}
 use Rattle.atomic_table.specs.declared.shared.Seat.{Seat}
@@ -15,7 +14,7 @@ use Rattle.moves.specs.declared.goal.Goal.TheVariants.{Mate, MateOrStale}
 use Rattle.moves.specs.Squares.{Ply}
 use Rattle.moves.specs.Moves.{IsMove, IsLawful}
 use Rattle.moves.specs.Order.{ListsLawful}
-use Rattle.moves.specs.Forces.{IsReached, OnTurn, Forces}
+use Rattle.moves.specs.Forces.{IsReached, Forces}
 use Rattle.moves.proofs.Keeps.{one_after}
 use Rattle.moves.proofs.Forcing.{on_own, to_own, on_other, to_other}
 use Rattle.slots.specs.declared.views.View.{View}
@@ -29,21 +28,8 @@ use Rattle.search.specs.Calls.{added, BeginsWith, Continues}
 use Rattle.search.specs.Questions.{Question, question, key_for, first_slot}
 use Rattle.search.specs.Decisions.{Asks, IsAsked, RestsOnOne, AsksBelow}
 use Rattle.search.specs.Decisions.Asks.{first_decides, one_slot, second_decides, neither_decides}
+use Rattle.search.specs.Below.{Goes, Ends, IsTried, IsEnded}
 use Rattle.search.proofs.Calls.{added_more}
-
--- what an answer says that doesn't end the search: no on the attacker's turn, yes on the defender's
-abbrev pub Goes : Bool → Type 0 → Type 0
-Goes true P = P → ⊥
-Goes false P = P
-
--- what an answer says that ends it
-abbrev pub Ends : Bool → Type 0 → Type 0
-Ends true P = P
-Ends false P = P → ⊥
-
--- the position after the move was asked of, and didn't end the search
-abbrev pub IsTried : Question → ℕ → ℕ → ℕ → Bool → List Call → Ply → Type 0
-IsTried q slots n number own calls m = (b : PlainBoard) → IsMove q.position m b → IsAsked (question b q.attacker q.goal) slots number calls × Goes own (Forces q.goal q.attacker b n)
 
 -- ---- an answer below
 
@@ -108,6 +94,7 @@ tried_more q slots n number own xs ys ms i m b lt is move before asked goes =
     tried : IsTried q slots n number own (xs ++ ys) m
     tried b' move' = subst (λ (z : PlainBoard). IsAsked (question z q.attacker q.goal) slots number (xs ++ ys) × Goes own (Forces q.goal q.attacker z n)) (one_after q.position m b b' move move')
         (asked_behind (question b q.attacker q.goal) slots number xs ys asked, goes)
+
     one : (x : Ply) → IsTried q slots n number own (xs ++ ys) x → All (IsTried q slots n number own (xs ++ ys)) (x ∷ [])
     one x h zero d small = h
     one x h (suc k) d small = absurd (omega arith)
@@ -150,53 +137,93 @@ module _ (q : Question) (slots number n : ℕ) where
   rests_not true turn r = false≢true (on_own _ _ _ (sym turn) r)
   rests_not false turn r = false≢true (sym (on_other _ _ _ (sym turn) r))
 
-  module _ (xs : List Ply) (lists : ListsLawful q.position xs) where
-    gone : (own : Bool) (k : ℕ) (calls : List Call) → own ≡ is_same_side q.attacker q.position.mover → 0 < length xs → All (IsTried q slots k number own calls) xs → IsTrue (not own) ↔ IsForced (suc k)
-    gone true k calls turn some all = (
-      λ is. absurd (false≢true is),
-      λ f. absurd (let w = on_own _ _ _ (sym turn) f in
-          (All-contains (IsTried q slots k number true calls) xs w.0 all ((lists.exact w.0).1 (w.1, w.2)) w.1 w.2).1 w.3),
-    )
-    gone false k calls turn some all = (
-      λ _. to_other _ _ _ (sym turn) (inr ((listed some, λ m b move. (All-contains (IsTried q slots k number false calls) xs m all ((lists.exact m).1 (b, move)) b move).1))),
-      λ _. refl,
-    )
-      where
-        listed : 0 < length xs → (m : Ply) × IsLawful q.position m
-        listed lt = first xs lt (λ m. (lists.exact m).0)
-          where
-            first : (ys : List Ply) → 0 < length ys → ((m : Ply) → Contains ys m → IsLawful q.position m) → (m : Ply) × IsLawful q.position m
-            first [] lt h = absurd (omega (arith, lt))
-            first (y ∷ ys) lt h = (y, h y (zero, omega arith, refl))
+  gone : (own : Bool) (k : ℕ) (calls : List Call) → own ≡ is_same_side q.attacker q.position.mover → (m : Ply) × IsLawful q.position m → ((m : Ply) → IsLawful q.position m → IsTried q slots k number own calls m) → IsTrue (not own) ↔ IsForced (suc k)
+  gone true k calls turn some all = (
+    λ is. absurd (false≢true is),
+    λ f. absurd (let w = on_own _ _ _ (sym turn) f in (all w.0 (w.1, w.2) w.1 w.2).1 w.3),
+  )
+  gone false k calls turn some all = (
+    λ _. to_other _ _ _ (sym turn) (inr (some, λ m b move. (all m (b, move) b move).1)),
+    λ _. refl,
+  )
 
-    -- no answer below ends it
-    pub gone_answer : (own : Bool) (calls : List Call) → own ≡ is_same_side q.attacker q.position.mover → 0 < n → 0 < length xs → All (IsTried q slots (n - 1) number own calls) xs → IsTrue (not own) ↔ IsForced n
-    gone_answer own calls turn plies some all = let up : suc (n - 1) ≡ n = omega arith in subst (λ k. IsTrue (not own) ↔ IsForced k) up (gone own (n - 1) calls turn some all)
+  -- no answer below ends it
+  pub gone_answer : (own : Bool) (calls : List Call) → own ≡ is_same_side q.attacker q.position.mover → 0 < n → (m : Ply) × IsLawful q.position m → ((m : Ply) → IsLawful q.position m → IsTried q slots (n - 1) number own calls m) → IsTrue (not own) ↔ IsForced n
+  gone_answer own calls turn plies some all = let up : suc (n - 1) ≡ n = omega arith in subst (λ k. IsTrue (not own) ↔ IsForced k) up (gone own (n - 1) calls turn some all)
 
-    pub gone_below : (own : Bool) (calls : List Call) → own ≡ is_same_side q.attacker q.position.mover → All (IsTried q slots (n - 1) number own calls) xs → AsksBelow q slots number (not own) calls
-    gone_below own calls turn all = record {
-      some = λ r. absurd (rests_not own turn r);
-      every = λ _ m b move. (All-contains (IsTried q slots (n - 1) number own calls) xs m all ((lists.exact m).1 (b, move)) b move).0;
-    }
+  pub gone_below : (own : Bool) (calls : List Call) → own ≡ is_same_side q.attacker q.position.mover → ((m : Ply) → IsLawful q.position m → IsTried q slots (n - 1) number own calls m) → AsksBelow q slots number (not own) calls
+  gone_below own calls turn all = record {
+    some = λ r. absurd (rests_not own turn r);
+    every = λ _ m b move. (all m (b, move) b move).0;
+  }
 
-    -- an empty list has no lawful move
-    pub none_listed : length xs ≡ 0 → (m : Ply) → IsLawful q.position m → ⊥
-    none_listed e m lawful = let h = (lists.exact m).1 lawful in absurd (omega (arith, h.1))
+-- an empty list has no lawful move, and another has one
+pub none_listed : (b : PlainBoard) (xs : List Ply) → ListsLawful b xs → length xs ≡ 0 → (m : Ply) → IsLawful b m → ⊥
+none_listed b xs lists e m lawful = let h = (lists.exact m).1 lawful in absurd (omega (arith, h.1))
 
--- ---- no lawful move
+pub some_listed : (b : PlainBoard) (xs : List Ply) → ListsLawful b xs → 0 < length xs → (m : Ply) × IsLawful b m
+some_listed b xs lists lt = first xs lt (λ m. (lists.exact m).0)
+  where
+    first : (ys : List Ply) → 0 < length ys → ((m : Ply) → Contains ys m → IsLawful b m) → (m : Ply) × IsLawful b m
+    first [] lt h = absurd (omega (arith, lt))
+    first (y ∷ ys) lt h = (y, h y (zero, omega arith, refl))
 
--- the attacker forces nothing
-pub still_own : (goal : Goal) (attacker : Side) (b : PlainBoard) (n : ℕ) → is_same_side attacker b.mover ≡ true → ((m : Ply) → IsLawful b m → ⊥) → IsTrue false ↔ Forces goal attacker b n
-still_own goal attacker b zero turn none = (λ is. absurd (false≢true is), λ f. absurd (on_own _ _ _ turn f))
-still_own goal attacker b (suc n) turn none = (λ is. absurd (false≢true is), λ f. absurd (let w = on_own _ _ _ turn f in none w.0 (w.1, w.2)))
+pub all_listed : (b : PlainBoard) (xs : List Ply) → ListsLawful b xs → All (IsLawful b) xs
+all_listed b xs lists k d lt = (lists.exact (get_or xs k d)).0 (Contains-get_or xs k d lt)
 
--- the defender stands where the goal wants it, or never will
-pub still_other : (goal : Goal) (attacker : Side) (b : PlainBoard) (n : ℕ) (there : Bool) → is_same_side attacker b.mover ≡ false → ((m : Ply) → IsLawful b m → ⊥) → (IsTrue there ↔ IsReached goal b) → IsTrue there ↔ Forces goal attacker b n
-still_other goal attacker b zero there turn none h = (λ is. to_other _ _ _ turn (h.0 is), λ f. h.1 (on_other _ _ _ turn f))
-still_other goal attacker b (suc n) there turn none h = (
-  λ is. to_other _ _ _ turn (inl (h.0 is)),
-  λ f. elim (on_other _ _ _ turn f) [ inl reached ↦ h.1 reached | inr w ↦ absurd (none w.0.0 w.0.1) ],
-)
+-- ---- two lists of moves
+
+pub same_or_not : (a b : Bool) → (a ≡ b) ⊎ (a ≢ b)
+same_or_not true true = inl refl
+same_or_not true false = inr (λ e. false≢true (sym e))
+same_or_not false true = inr false≢true
+same_or_not false false = inl refl
+
+pub other_of : (a b : Bool) → a ≢ b → not b ≡ a
+other_of true true h = absurd (h refl)
+other_of true false h = refl
+other_of false true h = refl
+other_of false false h = absurd (h refl)
+
+pub not_self : (a : Bool) → not a ≢ a
+not_self true e = false≢true e
+not_self false e = false≢true (sym e)
+
+module _ (t : TableId) (a b c : Seat ℕ View) (ab : Continues t a b) (bc : Continues t b c) (q : Question) (slots n : ℕ) where
+  tried_behind : (own : Bool) (m : Ply) → IsTried q slots n (number b) own (added b c) m → IsTried q slots n (number a) own (added a c) m
+  tried_behind own m h x move =
+      let w = h x move in
+      (subst (IsAsked (question x q.attacker q.goal) slots (number a)) (sym (added_more a b c ab.grew bc.grew)) (asked_behind (question x q.attacker q.goal) slots (number a) (added a b) (added b c) (subst (λ k. IsAsked (question x q.attacker q.goal) slots k (added b c)) ab.number w.0)), w.1)
+
+  tried_before : (own : Bool) (m : Ply) → IsTried q slots n (number a) own (added a b) m → IsTried q slots n (number a) own (added a c) m
+  tried_before own m h = subst (λ (l : List Call). IsTried q slots n (number a) own l m) (sym (added_more a b c ab.grew bc.grew)) (tried_on q slots n (number a) own (added a b) (added b c) m h)
+
+  -- each lawful move was tried in one list or the other
+  pub both_tried : (own : Bool) (xs fs ls : List Ply) → ListsLawful q.position xs → ((m : Ply) → Contains xs m → Contains fs m ⊎ Contains ls m) → All (IsTried q slots n (number a) own (added a b)) fs → All (IsTried q slots n (number b) own (added b c)) ls
+      → (m : Ply) → IsLawful q.position m → IsTried q slots n (number a) own (added a c) m
+  both_tried own xs fs ls lists parts before after m lawful = elim (parts m ((lists.exact m).1 lawful)) [
+    | inl f ↦ tried_before own m (All-contains (IsTried q slots n (number a) own (added a b)) fs m before f)
+    | inr l ↦ tried_behind own m (All-contains (IsTried q slots n (number b) own (added b c)) ls m after l)
+  ]
+
+  pub ended_behind : (own : Bool) → IsEnded q slots n (number b) own (added b c) → IsEnded q slots n (number a) own (added a c)
+  ended_behind own (m, x, move, asked, end) = (m, x, move, subst (IsAsked (question x q.attacker q.goal) slots (number a)) (sym (added_more a b c ab.grew bc.grew)) (asked_behind (question x q.attacker q.goal) slots (number a) (added a b) (added b c) (subst (λ k. IsAsked (question x q.attacker q.goal) slots k (added b c)) ab.number asked)), end)
+
+-- what the moves of both lists say
+module _ (q : Question) (slots n number : ℕ) (calls : List Call) (answer : Bool) (plies : 0 < n) (some : (m : Ply) × IsLawful q.position m)
+    (ended : answer ≡ is_same_side q.attacker q.position.mover → IsEnded q slots (n - 1) number answer calls)
+    (tried : answer ≢ is_same_side q.attacker q.position.mover → (m : Ply) → IsLawful q.position m → IsTried q slots (n - 1) number (is_same_side q.attacker q.position.mover) calls m) where
+  pub said_answer : IsTrue answer ↔ Forces q.goal q.attacker q.position n
+  said_answer = elim (same_or_not answer (is_same_side q.attacker q.position.mover)) [
+    | inl same ↦ let e = ended same in ended_answer q slots number n answer same plies e.0 e.1 e.2 e.4
+    | inr apart ↦ subst (λ (r : Bool). IsTrue r ↔ Forces q.goal q.attacker q.position n) (other_of answer (is_same_side q.attacker q.position.mover) apart) (gone_answer q slots number n (is_same_side q.attacker q.position.mover) calls refl plies some (tried apart))
+  ]
+
+  pub said_below : AsksBelow q slots number answer calls
+  said_below = elim (same_or_not answer (is_same_side q.attacker q.position.mover)) [
+    | inl same ↦ let e = ended same in ended_below q slots number n answer same e.0 e.1 e.2 calls e.3
+    | inr apart ↦ subst (λ (r : Bool). AsksBelow q slots number r calls) (other_of answer (is_same_side q.attacker q.position.mover) apart) (gone_below q slots number n (is_same_side q.attacker q.position.mover) calls refl (tried apart))
+  ]
 
 -- ---- one turn of the loop
 
@@ -231,14 +258,14 @@ tried_next t a b c ab bc q slots n own ms i m x lt is move before counts asks go
 pub asked_last : (t : TableId) (a b c : Seat ℕ View) → Continues t a b → Continues t b c → (q : Question) (slots n : ℕ) (counts : Probe) → Asks (key_for q) (first_slot (key_for q) slots) slots n (number b) counts (added b c) → IsAsked q slots (number a) (added a c)
 asked_last t a b c ab bc q slots n counts asks = subst (IsAsked q slots (number a)) (sym (added_more a b c ab.grew bc.grew)) (asked_behind q slots (number a) (added a b) (added b c) (asked_below t a b q slots n counts ab.number (added b c) asks))
 
--- a defender that can move, with no ply left
-pub nothing_left : (goal : Goal) (attacker : Side) (b : PlainBoard) (n : ℕ) → n ≡ 0 → (xs : List Ply) → ListsLawful b xs → 0 < length xs → IsTrue false ↔ Forces goal attacker b n
-nothing_left goal attacker b zero e xs lists some = (λ is. absurd (false≢true is), λ f. absurd (neither (is_same_side attacker b.mover) f))
+-- the answer of now holds for any number of plies, where there is no lawful move
+pub now_answer : (goal : Goal) (attacker : Side) (b : PlainBoard) (n : ℕ) (there : Bool) → ((m : Ply) → IsLawful b m → ⊥) → (IsTrue there ↔ Forces goal attacker b 0) → IsTrue there ↔ Forces goal attacker b n
+now_answer goal attacker b zero there none h = h
+now_answer goal attacker b (suc n) there none h = by_turn (is_same_side attacker b.mover) refl
   where
-    first : (ys : List Ply) → 0 < length ys → ((m : Ply) → Contains ys m → IsLawful b m) → (m : Ply) × IsLawful b m
-    first [] lt h = absurd (omega (arith, lt))
-    first (y ∷ ys) lt h = (y, h y (zero, omega arith, refl))
-    neither : (r : Bool) → MatchBool r ⊥ (IsReached goal b) → ⊥
-    neither true f = f
-    neither false f = let w = first xs some (λ m. (lists.exact m).0) in not_reached goal b w.0 w.1 f
-nothing_left goal attacker b (suc n) e xs lists some = absurd (omega (arith, e))
+    by_turn : (r : Bool) → is_same_side attacker b.mover ≡ r → IsTrue there ↔ Forces goal attacker b (suc n)
+    by_turn true turn = (λ is. absurd (on_own _ ⊥ (IsReached goal b) turn (h.0 is)), λ f. absurd (let w = on_own _ _ _ turn f in none w.0 (w.1, w.2)))
+    by_turn false turn = (
+      λ is. to_other _ _ _ turn (inl (on_other _ ⊥ (IsReached goal b) turn (h.0 is))),
+      λ f. elim (on_other _ _ _ turn f) [ inl reached ↦ h.1 (to_other _ ⊥ (IsReached goal b) turn reached) | inr w ↦ absurd (none w.0.0 w.0.1) ],
+    )

@@ -1,5 +1,5 @@
 -- The calls that a seat adds.
-use Rattle.std.proofs.Common.{◌≡◌, ◌≢◌, ℕ, List, [], ◌∷◌, ◌++◌, length, drop, All, refl, sym, ap, ◌∙◌, subst, arith, append_assoc, append-nil}
+use Rattle.std.proofs.Common.{◌≡◌, ℕ, List, [], ◌∷◌, ◌++◌, length, drop, refl, sym, ap, ◌∙◌, subst, arith, append_assoc, append-nil}
 use Rattle.std.proofs.Math.Seq.{drop-append_seam}
 use Rattle.std.proofs.lemmas.List.Elements.{All-append}
 use Rattle.atomic_table.specs.Seated.{TableId}
@@ -7,7 +7,7 @@ use Rattle.atomic_table.specs.declared.shared.Seat.{Seat}
 use Rattle.slots.specs.declared.views.View.{View}
 use Rattle.slots.specs.declared.calls.Call.{Call}
 use Rattle.slots.specs.declared.calls.Act.{Act}
-use Rattle.slots.specs.Machine.{calls_by, part, call}
+use Rattle.slots.specs.Machine.{calls_by, call}
 use Rattle.slots.specs.Steps.{HitFits}
 use Rattle.slots.specs.Promise.{number, all_seen, all_mine, IsSeatOf, Called, Grew}
 use Rattle.slots.proofs.Grows.{grew_none, grew_by, grew_more}

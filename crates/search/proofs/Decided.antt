@@ -1,24 +1,22 @@
 -- What a decision's calls amount to.
-use Rattle.std.proofs.Common.{◌≡◌, ℕ, ◌+◌, ◌<◌, ◌≤◌, Bool, true, false, MatchBool, List, ◌++◌, All, refl, sym, ap, ◌∙◌, subst, arith}
+use Rattle.std.proofs.Common.{◌≡◌, ℕ, ◌+◌, ◌<◌, Bool, true, false, MatchBool, List, ◌++◌, All, refl, sym, ap, ◌∙◌, subst, arith}
 use Rattle.atomic_table.specs.Seated.{TableId}
 use Rattle.atomic_table.specs.declared.shared.Seat.{Seat}
 use Rattle.board.specs.Games.{is_same_side}
 use Rattle.board.specs.Board.{PlainBoard}
 use Rattle.moves.specs.Squares.{Ply}
-use Rattle.moves.specs.Moves.{IsMove, IsLawful}
-use Rattle.moves.specs.Forces.{OnTurn}
+use Rattle.moves.specs.Moves.{IsLawful}
 use Rattle.moves.proofs.Forcing.{to_own}
 use Rattle.slots.specs.declared.views.View.{View}
 use Rattle.slots.specs.declared.calls.Call.{Call}
 use Rattle.slots.specs.declared.calls.Act.TheVariants.{Asked, Offered}
 use Rattle.slots.specs.declared.calls.Probe.{Probe}
-use Rattle.slots.specs.Machine.{call}
 use Rattle.slots.specs.Promise.{number}
 use Rattle.entry.specs.Bounds.{Bounds}
 use Rattle.search.specs.declared.decision.Decision.{Decision}
 use Rattle.search.specs.Calls.{added, Continues}
 use Rattle.search.specs.Questions.{Question, question, entry_for, words_of, key_for, first_slot, Settles, said, IsMetWith}
-use Rattle.search.specs.Decisions.{Asks, IsAsked, IsProbeOf, OffersBoth, StoresAnswer, AsksBelow, Decides}
+use Rattle.search.specs.Decisions.{Asks, IsAsked, IsProbeOf, OffersBoth, AsksBelow, Decides}
 use Rattle.search.specs.Decisions.Asks.{first_decides, one_slot, second_decides, neither_decides}
 use Rattle.search.proofs.Calls.{added_more, continues_more}
 use Rattle.search.proofs.Slots.{begins_on, ends_behind}
@@ -45,7 +43,6 @@ decided_at_once q key slot slots n number answer first calls k s a probes settle
   at_once = λ _. (refl, subst (λ (z : List ℕ). All (IsProbeOf z) calls) k probes);
   searched = λ silent. absurd (silent settles);
   stored = λ lt. absurd (omega (arith, lt));
-  below = λ lt. absurd (omega (arith, lt));
 }
 
 -- the attacker has no ply left
@@ -56,7 +53,6 @@ decided_unmoved q key slot slots n number answer first calls k s a silent zero_p
   at_once = λ settles. absurd (silent settles);
   searched = λ _. to_own _ _ _ turn (λ lt. absurd (omega (arith, lt, zero_plies)));
   stored = λ lt. absurd (omega (arith, lt));
-  below = λ lt. absurd (omega (arith, lt));
 }
 
 on_either : (r : Bool) (P Q : Type 0) → P → Q → MatchBool r P Q
@@ -80,9 +76,9 @@ below_within q slots number answer xs ys zs a = record {
 
 -- what was searched, by its calls in three parts
 decided_by_parts : (q : Question) (key : List ℕ) (slot slots n number : ℕ) (d : Decision) (xs ys zs : List Call) (words : List ℕ) (i : Bounds) → key ≡ key_for q → slot ≡ first_slot key slots → Asks key slot slots n number d.first xs
-    → (Settles d.first n → ⊥) → 0 < d.expanded → (0 < n → ((m : Ply) × IsLawful q.position m) → AsksBelow q slots number d.yes ys)
+    → (Settles d.first n → ⊥) → 0 < d.expanded
     → IsMetWith d.first (said d.yes n) i → words ≡ words_of (entry_for q i) → OffersBoth slot slots number words zs → Decides q slots n number d ((xs ++ ys) ++ zs)
-decided_by_parts q key slot slots n number d xs ys zs words i k s a silent some below met is offers = record {
+decided_by_parts q key slot slots n number d xs ys zs words i k s a silent some met is offers = record {
   asked = asks_on _ _ _ _ _ _ (xs ++ ys) zs (asks_on _ _ _ _ _ _ xs ys (asks_as q key slot slots n number d.first xs k s a));
   at_once = λ settles. absurd (silent settles);
   searched = λ _. on_either (is_same_side q.attacker q.position.mover) (0 < n → 0 < d.expanded) (0 < d.expanded) (λ _. some) some;
@@ -92,16 +88,21 @@ decided_by_parts q key slot slots n number d xs ys zs words i k s a silent some 
     offers = offers_behind _ slots number _ (xs ++ ys) zs
         (subst (λ (z : List ℕ). OffersBoth (first_slot (key_for q) slots) slots number z zs) is (subst (λ z. OffersBoth z slots number words zs) (s ∙ ap (λ (z : List ℕ). first_slot z slots) k) offers));
   };
-  below = λ _ plies moves. below_within q slots number d.yes xs ys zs (below plies moves);
 }
 
 -- the same by the seats between
 pub decided_searched : (t : TableId) (a b c e : Seat ℕ View) (q : Question) (key : List ℕ) (slot slots n : ℕ) (d : Decision) (words : List ℕ) → Continues t a b → Continues t b c → Continues t c e → key ≡ key_for q → slot ≡ first_slot key slots
-    → Asks key slot slots n (number a) d.first (added a b) → (Settles d.first n → ⊥) → 0 < d.expanded → (0 < n → ((m : Ply) × IsLawful q.position m) → AsksBelow q slots (number b) d.yes (added b c))
+    → Asks key slot slots n (number a) d.first (added a b) → (Settles d.first n → ⊥) → 0 < d.expanded
     → (i : Bounds) × IsMetWith d.first (said d.yes n) i × (words ≡ words_of (entry_for q i)) → OffersBoth slot slots (number c) words (added c e) → Decides q slots n (number a) d (added a e)
-decided_searched t a b c e q key slot slots n d words ab bc ce k s asks silent some below met offers =
+decided_searched t a b c e q key slot slots n d words ab bc ce k s asks silent some met offers =
     let parts : added a e ≡ (added a b ++ added b c) ++ added c e = added_more a c e (continues_more t a b c ab bc).grew ce.grew ∙ ap (λ (l : List Call). l ++ added c e) (added_more a b c ab.grew bc.grew) in
     subst (Decides q slots n (number a) d) (sym parts)
     (decided_by_parts q key slot slots n (number a) d (added a b) (added b c) (added c e) words met.0 k s asks silent some
-    (λ plies moves. subst (λ z. AsksBelow q slots z d.yes (added b c)) ab.number (below plies moves))
     met.1 met.2 (subst (λ z. OffersBoth slot slots z words (added c e)) (bc.number ∙ ab.number) offers))
+
+-- what is asked below is among the calls of the whole
+pub asks_within : (t : TableId) (a b c e : Seat ℕ View) (q : Question) (slots : ℕ) (answer : Bool) → Continues t a b → Continues t b c → Continues t c e → AsksBelow q slots (number b) answer (added b c) → AsksBelow q slots (number a) answer (added a e)
+asks_within t a b c e q slots answer ab bc ce below =
+    let parts : added a e ≡ (added a b ++ added b c) ++ added c e = added_more a c e (continues_more t a b c ab bc).grew ce.grew ∙ ap (λ (l : List Call). l ++ added c e) (added_more a b c ab.grew bc.grew) in
+    subst (AsksBelow q slots (number a) answer) (sym parts)
+    (below_within q slots (number a) answer (added a b) (added b c) (added c e) (subst (λ z. AsksBelow q slots z answer (added b c)) ab.number below))

@@ -1,5 +1,5 @@
 -- What replies say.
-use Rattle.std.proofs.Common.{◌≡◌, ◌≢◌, ℕ, ◌<◌, ◌≤◌, ◌+◌, ◌-◌, ◌↔◌, IsTrue, Bool, true, false, List, Option, Some, None, refl, sym, ap, ◌∙◌, subst, arith}
+use Rattle.std.proofs.Common.{◌≡◌, ℕ, ◌<◌, ◌≤◌, ◌-◌, ◌↔◌, IsTrue, Bool, true, false, List, Option, Some, None, refl, sym, ap, ◌∙◌, subst, arith}
 use Rattle.std.specs.Option.{IfSome}
 use Rattle.std.proofs.lemmas.Bool.{false≢true}
 use Rattle.board.specs.Board.{IsPosition}
@@ -9,11 +9,11 @@ use Rattle.slots.specs.declared.calls.Probe.TheVariants.{Hit, Vacant, Other, Bus
 use Rattle.slots.specs.declared.calls.Act.TheVariants.{Asked}
 use Rattle.slots.specs.Steps.{HitFits}
 use Rattle.entry.specs.declared.entries.Entry.{Entry}
-use Rattle.entry.specs.Bounds.{Bounds, bounds_of, meeting, AreConsistent}
+use Rattle.entry.specs.Bounds.{Bounds, bounds_of}
 use Rattle.entry.specs.Packing.{Packing}
 use Rattle.entry.specs.Keys.{key_words}
 use Rattle.entry.specs.Truth.{IsRight, IsTruePacking}
-use Rattle.entry.specs.Laws.{SameQuestion, MeetingIsRight}
+use Rattle.entry.specs.Laws.{MeetingIsRight}
 use Rattle.entry.proofs.Questions.{one_entry}
 use Rattle.entry.proofs.Truths.{hit_right, yes_right, no_right, raise}
 use Rattle.search.specs.Questions.{Question, entry_for, words_of, key_for, EndsBy, Says, RepliesThat, Settles, said, IsMetWith, IsWhole, Tells}

@@ -1,5 +1,5 @@
 -- Two calls in turn, and what a probe of both slots adds.
-use Rattle.std.proofs.Common.{◌≡◌, ℕ, ◌+◌, ◌<◌, ◌≤◌, Bool, true, false, List, [], ◌∷◌, ◌++◌, All, Option, Some, None, refl, sym, ap, ◌∙◌, subst, arith}
+use Rattle.std.proofs.Common.{◌≡◌, ℕ, ◌+◌, ◌<◌, ◌≤◌, Bool, true, false, List, [], ◌∷◌, ◌++◌, All, Option, Some, None, refl, sym, ap, ◌∙◌, subst}
 use Rattle.std.specs.Option.{is_some, MatchOption}
 use Rattle.std.proofs.lemmas.List.Elements.{All-append}
 use Rattle.atomic_table.specs.Seated.{TableId}
@@ -12,7 +12,7 @@ use Rattle.slots.specs.declared.calls.Probe.{Probe}
 use Rattle.slots.specs.declared.calls.Store.{Store}
 use Rattle.slots.specs.Machine.{call}
 use Rattle.slots.specs.Promise.{number}
-use Rattle.search.specs.Calls.{added, BeginsWith, EndsWith, Continues}
+use Rattle.search.specs.Calls.{added, BeginsWith, Continues}
 use Rattle.search.specs.Questions.{Settles, RepliesThat}
 use Rattle.search.specs.Decisions.{Asks, IsProbeOf, OffersBoth}
 use Rattle.search.specs.Decisions.Asks.{first_decides, one_slot, second_decides, neither_decides}

@@ -3,9 +3,8 @@ use Rattle.std.specs.Prelude.{◌≡◌, ℕ, ◌+◌, ◌<◌, ◌≤◌, Bool,
 use Rattle.board.specs.Board.{PlainBoard}
 use Rattle.moves.specs.Squares.{Ply}
 use Rattle.moves.specs.Moves.{IsMove, IsLawful}
-use Rattle.moves.specs.Forces.{OnTurn, Forces}
+use Rattle.moves.specs.Forces.{OnTurn}
 use Rattle.slots.specs.declared.calls.Call.{Call}
-use Rattle.slots.specs.declared.calls.Act.{Act}
 use Rattle.slots.specs.declared.calls.Act.TheVariants.{Asked, Offered}
 use Rattle.slots.specs.declared.calls.Probe.{Probe}
 use Rattle.slots.specs.declared.calls.Store.{Store}
@@ -62,4 +61,3 @@ pub record Decides (q : Question) (slots n number : ℕ) (d : Decision) (calls :
   pub at_once : Settles d.first n → (d.expanded ≡ 0) × All (IsProbeOf (key_for q)) calls
   pub searched : (Settles d.first n → ⊥) → OnTurn q.attacker q.position (0 < n → 0 < d.expanded) (0 < d.expanded)
   pub stored : 0 < d.expanded → StoresAnswer q slots n number d calls
-  pub below : 0 < d.expanded → 0 < n → ((m : Ply) × IsLawful q.position m) → AsksBelow q slots number d.yes calls

@@ -1,5 +1,5 @@
 -- What a solve accepts.
-use Rattle.std.specs.Prelude.{◌≡◌, ◌⊎◌, ℕ, nat_lt, ◌||◌, Option, None, Some, if◌then◌else◌}
+use Rattle.std.specs.Prelude.{ℕ, nat_lt, ◌||◌, Option, None, Some, if◌then◌else◌}
 use Rattle.slots.specs.declared.table.TheConstants.{MOST_SLOTS}
 use Rattle.search.specs.declared.answer.TheConstants.{MOST_LIMIT}
 use Rattle.search.specs.declared.fault.SolveFault.{SolveFault}

@@ -1,5 +1,5 @@
 -- What is asked of the table, and what its replies say.
-use Rattle.std.specs.Prelude.{◌≡◌, ℕ, ◌+◌, ◌*◌, ◌/◌, ◌<◌, ◌≤◌, ◌⊎◌, Bool, true, false, List, [], ◌∷◌, Option, Some, None}
+use Rattle.std.specs.Prelude.{◌≡◌, ℕ, ◌+◌, ◌*◌, ◌/◌, ◌<◌, ◌≤◌, Bool, true, false, List, [], ◌∷◌, Option, Some, None}
 use Rattle.board.specs.declared.game.Side.{Side}
 use Rattle.board.specs.Board.{PlainBoard}
 use Rattle.moves.specs.declared.goal.Goal.{Goal}

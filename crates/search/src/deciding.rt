@@ -1,37 +1,39 @@
 //! Whether an attacker forces the goal within so many plies.
-ghost use Rattle.std.specs.Prelude.{◌≡◌, ◌<◌, ◌≤◌, ◌+◌, ◌↔◌, IsTrue, List, ℕ, true, false};
+ghost use Rattle.std.specs.Prelude.{◌≡◌, ◌≢◌, ◌<◌, ◌≤◌, ◌-◌, ◌↔◌, IsTrue, All};
 ghost use Rattle.board.specs.Games.{is_same_side};
 ghost use Rattle.moves.specs.Squares.{Ply};
 ghost use Rattle.moves.specs.Moves.{IsLawful};
-ghost use Rattle.moves.specs.Forces.{IsReached, OnTurn, Forces};
+ghost use Rattle.moves.specs.Forces.{IsReached, Forces};
 ghost use Rattle.slots.specs.Promise.{slots_of, number, IsSeatOf};
 ghost use Rattle.search.specs.Calls.{added, Continues, KnowsHistory};
 ghost use Rattle.search.specs.Questions.{question};
 ghost use Rattle.search.specs.Decisions.{Decides, AsksBelow};
+ghost use Rattle.search.specs.Below.{IsTried, IsEnded};
 
 use crate::asking::{ask, first_slot, key_on, settled};
 use crate::decision::Decision;
+use crate::order::{InOrder, put_in_order};
 use crate::storing::{answer_words, offer};
 use board::{Position, Side};
 use entry::MateLore;
-use moves::{Board, Goal, after, lawful_on, mover_in_check};
+use moves::{Board, Goal, Move, after, has_lawful_move, lawful_on, mover_in_check};
 use slots::{Seat, Slots};
 
 /// What the positions below say.
+#[derive(Clone, Copy)]
 struct Outcome {
     yes: bool,
     expanded: u64,
 }
 
-/// Whether a side that has no lawful move is where the goal wants it.
+/// Whether the side to move is where the goal wants it.
 fn is_reached(board: &Board, goal: Goal) -> bool
-    requires { (m : Ply) → IsLawful board.now m → ⊥ }
     ensures { IsTrue result ↔ IsReached goal board.now }
 {
     let check = mover_in_check(board);
     match goal {
-        Goal::Mate => check,
-        Goal::MateOrStale => true,
+        Goal::Mate => check && !has_lawful_move(board),
+        Goal::MateOrStale => !has_lawful_move(board),
     }
 }
 
@@ -42,10 +44,9 @@ fn is_turn_of(attacker: Side, board: &Board) -> bool
     attacker == board.mover()
 }
 
-/// The answer where the side to move has no lawful move.
-fn stands_still(board: &Board, attacker: Side, goal: Goal, n: u8) -> bool
-    requires { (m : Ply) → IsLawful board.now m → ⊥ }
-    ensures { IsTrue result ↔ Forces goal attacker board.now n }
+/// The answer with no ply left, or for a side that has no lawful move: whether the goal is reached now.
+fn answer_now(board: &Board, attacker: Side, goal: Goal) -> bool
+    ensures { IsTrue result ↔ Forces goal attacker board.now 0 }
 {
     if is_turn_of(attacker, board) {
         return false;
@@ -53,7 +54,57 @@ fn stands_still(board: &Board, attacker: Side, goal: Goal, n: u8) -> bool
     is_reached(board, goal)
 }
 
-/// Decides by the positions after the lawful moves.
+/// Whether the attacker, who is to move, reaches the goal by its next move. The table is not asked.
+fn wins_at_once(board: &Board, goal: Goal) -> bool
+    ensures { IsTrue result ↔ Forces goal board.now.mover board.now 1 }
+{
+    let moves = lawful_on(board);
+    for m in moves.as_slice() {
+        let next = after(board, *m);
+        if is_reached(&next, goal) {
+            return true;
+        }
+    }
+    false
+}
+
+/// Tries the moves in turn, until one ends the search: on the attacker's turn a move that wins, on the defender's one that
+/// escapes.
+#[cycle(deciding)]
+fn try_moves(
+    slots: &Slots<MateLore>,
+    seat: &mut Seat,
+    board: &Board,
+    attacker: Side,
+    goal: Goal,
+    n: u8,
+    moves: &[Move],
+) -> Outcome
+    requires seat { IsSeatOf slots.now seat.old }
+    requires history { KnowsHistory seat.old }
+    requires plies { (0 < n) × (n ≤ 63) }
+    requires lawful { All (IsLawful board.now) moves.now }
+    ensures continues { Continues slots.now seat.old seat.new }
+    ensures history { KnowsHistory seat.new }
+    ensures ended { result.yes ≡ is_same_side attacker board.now.mover → IsEnded (question board.now attacker goal) (slots_of slots.now) (n - 1) (number seat.old) result.yes (added seat.old seat.new) }
+    ensures tried { result.yes ≢ is_same_side attacker board.now.mover → All (IsTried (question board.now attacker goal) (slots_of slots.now) (n - 1) (number seat.old) (is_same_side attacker board.now.mover) (added seat.old seat.new)) moves.now }
+{
+    let own = is_turn_of(attacker, board);
+    let mut expanded: u64 = 0;
+    for m in moves {
+        let below = decide_on(slots, seat, &after(board, *m), attacker, goal, n - 1, false);
+        expanded = expanded.saturating_add(below.expanded);
+        if below.yes == own {
+            return Outcome { yes: own, expanded };
+        }
+    }
+    Outcome {
+        yes: !own,
+        expanded,
+    }
+}
+
+/// Decides by the positions after the lawful moves, each of which is asked of.
 #[cycle(deciding)]
 fn search(
     slots: &Slots<MateLore>,
@@ -66,34 +117,75 @@ fn search(
     requires seat { IsSeatOf slots.now seat.old }
     requires history { KnowsHistory seat.old }
     requires plies { n ≤ 63 }
-    requires turn { OnTurn attacker board.now (0 < n) (0 ≤ n) }
     ensures continues { Continues slots.now seat.old seat.new }
     ensures history { KnowsHistory seat.new }
     ensures answer { IsTrue result.yes ↔ Forces goal attacker board.now n }
     ensures expanded { 0 < result.expanded }
     ensures below { 0 < n → ((m : Ply) × IsLawful board.now m) → AsksBelow (question board.now attacker goal) (slots_of slots.now) (number seat.old) result.yes (added seat.old seat.new) }
 {
-    let own = is_turn_of(attacker, board);
-    let moves = lawful_on(board);
-    let mut expanded: u64 = 1;
-    if moves.is_empty() {
-        let yes = stands_still(board, attacker, goal, n);
-        return Outcome { yes, expanded };
-    }
     if n == 0 {
         return Outcome {
-            yes: false,
-            expanded,
+            yes: answer_now(board, attacker, goal),
+            expanded: 1,
         };
     }
-    for m in moves.as_slice() {
-        let below = decide_on(slots, seat, &after(board, *m), attacker, goal, n - 1);
-        expanded = expanded.saturating_add(below.expanded);
-        if below.yes == own {
-            return Outcome { yes: own, expanded };
-        }
+    let moves = lawful_on(board);
+    if moves.is_empty() {
+        return Outcome {
+            yes: answer_now(board, attacker, goal),
+            expanded: 1,
+        };
     }
-    Outcome { yes: !own, expanded }
+    let InOrder { first, later } = put_in_order(
+        board,
+        is_turn_of(attacker, board),
+        moves.as_slice(),
+    );
+    let tried = try_moves(slots, seat, board, attacker, goal, n, first.as_slice());
+    if tried.yes == is_turn_of(attacker, board) {
+        return Outcome {
+            yes: tried.yes,
+            expanded: tried.expanded.saturating_add(1),
+        };
+    }
+    let rest = try_moves(slots, seat, board, attacker, goal, n, later.as_slice());
+    Outcome {
+        yes: rest.yes,
+        expanded: tried
+            .expanded
+            .saturating_add(rest.expanded)
+            .saturating_add(1),
+    }
+}
+
+/// Decides by the positions below. Where each of those need not be asked of, the last move of the attacker is tried without
+/// the table.
+#[cycle(deciding)]
+fn expand(
+    slots: &Slots<MateLore>,
+    seat: &mut Seat,
+    board: &Board,
+    attacker: Side,
+    goal: Goal,
+    n: u8,
+    asks_below: bool,
+) -> Outcome
+    requires seat { IsSeatOf slots.now seat.old }
+    requires history { KnowsHistory seat.old }
+    requires plies { n ≤ 63 }
+    ensures continues { Continues slots.now seat.old seat.new }
+    ensures history { KnowsHistory seat.new }
+    ensures answer { IsTrue result.yes ↔ Forces goal attacker board.now n }
+    ensures expanded { 0 < result.expanded }
+    ensures below { IsTrue asks_below → 0 < n → ((m : Ply) × IsLawful board.now m) → AsksBelow (question board.now attacker goal) (slots_of slots.now) (number seat.old) result.yes (added seat.old seat.new) }
+{
+    if !asks_below && n == 1 && is_turn_of(attacker, board) {
+        return Outcome {
+            yes: wins_at_once(board, goal),
+            expanded: 1,
+        };
+    }
+    search(slots, seat, board, attacker, goal, n)
 }
 
 /// `decide`, on a board of three words.
@@ -105,6 +197,7 @@ pub(crate) fn decide_on(
     attacker: Side,
     goal: Goal,
     n: u8,
+    asks_below: bool,
 ) -> Decision
     requires seat { IsSeatOf slots.now seat.old }
     requires plies { n ≤ 63 }
@@ -112,6 +205,7 @@ pub(crate) fn decide_on(
     ensures history { KnowsHistory seat.new }
     ensures answer { IsTrue result.yes ↔ Forces goal attacker board.now n }
     ensures calls { Decides (question board.now attacker goal) (slots_of slots.now) n (number seat.old) result (added seat.old seat.new) }
+    ensures below { IsTrue asks_below → 0 < result.expanded → 0 < n → ((m : Ply) × IsLawful board.now m) → AsksBelow (question board.now attacker goal) (slots_of slots.now) (number seat.old) result.yes (added seat.old seat.new) }
 {
     let key = key_on(board, attacker, goal);
     let slot = first_slot(slots, key);
@@ -130,7 +224,7 @@ pub(crate) fn decide_on(
             first,
         };
     }
-    let Outcome { yes, expanded } = search(slots, seat, board, attacker, goal, n);
+    let Outcome { yes, expanded } = expand(slots, seat, board, attacker, goal, n, asks_below);
     let words = answer_words(board, attacker, goal, n, yes, first);
     offer(slots, seat, slot, words);
     Decision {
@@ -156,6 +250,7 @@ pub fn decide(
     ensures history { KnowsHistory seat.new }
     ensures answer { IsTrue result.yes ↔ Forces goal attacker position.now n }
     ensures calls { Decides (question position.now attacker goal) (slots_of slots.now) n (number seat.old) result (added seat.old seat.new) }
+    ensures below { 0 < result.expanded → 0 < n → ((m : Ply) × IsLawful position.now m) → AsksBelow (question position.now attacker goal) (slots_of slots.now) (number seat.old) result.yes (added seat.old seat.new) }
 {
-    decide_on(slots, seat, &Board::of(position), attacker, goal, n)
+    decide_on(slots, seat, &Board::of(position), attacker, goal, n, true)
 }

@@ -33,7 +33,7 @@ fn least_win(
     let attacker = board.mover();
     let moves = lawful_on(board);
     for m in moves.as_slice() {
-        if decide_on(slots, seat, &after(board, *m), attacker, goal, n - 1).yes {
+        if decide_on(slots, seat, &after(board, *m), attacker, goal, n - 1, false).yes {
             return Some(*m);
         }
     }

@@ -1,4 +1,4 @@
-use Rattle.std.proofs.Common.{◌≡◌, ◌↔◌, IsTrue, Some, ap, subst, ◌∙◌}
+use Rattle.std.proofs.Common.{◌↔◌, IsTrue, ap, subst, ◌∙◌}
 use Rattle.moves.specs.Reach.{IsInCheck}
 use Rattle.moves.proofs.Kings.{king_of}
 use Rattle.moves.proofs.Guarding.{no_kingless}

@@ -1,4 +1,4 @@
-use Rattle.std.proofs.Common.{◌≡◌, refl, sym, ap, subst, ◌∙◌, ◌↔◌, IsSome, IfSome}
+use Rattle.std.proofs.Common.{sym, subst, ◌∙◌, ◌↔◌, IsSome, IfSome}
 use Rattle.std.proofs.lemmas.Bool.{false≢true}
 use Rattle.moves.specs.Moves.{Promotes, IsPromotion, IsSomeKing, IsPseudoLegal}
 use Rattle.moves.proofs.Guarding.{lawful_if_safe, promotes_well}

@@ -1,9 +1,8 @@
-use Rattle.std.proofs.Common.{◌≡◌, ◌<◌, ◌+◌, ◌*◌, sym, ap, subst, ◌∙◌, arith, ◌↔◌, ℕ}
-use Rattle.board.specs.Games.{width_of}
+use Rattle.std.proofs.Common.{◌≡◌, ◌+◌, ◌*◌, sym, ap, subst, ◌∙◌, arith, ◌↔◌, ℕ}
 use Rattle.moves.specs.Squares.{IsOnBoard, square_number, unit_at}
 use Rattle.moves.specs.Reach.{Reaches}
 use Rattle.moves.specs.Listing.{ListsBelow}
-use Rattle.moves.specs.Mailbox.{place_in, IsCell}
+use Rattle.moves.specs.Mailbox.{place_in}
 use Rattle.moves.specs.Targets.{Has, IsTarget}
 use Rattle.moves.proofs.Cells.{place_in-cell_of, small_width}
 use Rattle.moves.proofs.Scanning.{IsScanned-start, next_target, next_lists, next_room, IsScanned-more, IsScanned-end}

@@ -5,9 +5,9 @@ use Rattle.moves.specs.Squares.{square_number}
 use Rattle.moves.specs.Listing.{ListsBelow}
 use Rattle.moves.proofs.board_list.push_to.Given as given
 
-abbrev pub invariant-loop-promotion : given.invariant-loop-promotion
-invariant-loop-promotion l = record {
-  lists : ListsBelow l.mail ((square_number l.mail.game l.from * 36 + square_number l.mail.game l.to) * 5 + l.promotion-index) l.moves.items;
-  few : array_vec_len l.moves ≤ array_vec_len l.fn.moves + l.promotion-index;
-  one : (l.fn.unit.kind ≡ Pawn → ⊥) → array_vec_len l.moves ≤ array_vec_len l.fn.moves + min 1 l.promotion-index;
+abbrev pub invariant-loop-i : given.invariant-loop-i
+invariant-loop-i l = record {
+  lists : ListsBelow l.mail ((square_number l.mail.game l.from * 36 + square_number l.mail.game l.to) * 5 + l.i) l.moves.items;
+  few : array_vec_len l.moves ≤ array_vec_len l.fn.moves + l.i;
+  one : (l.fn.unit.kind ≡ Pawn → ⊥) → array_vec_len l.moves ≤ array_vec_len l.fn.moves + min 1 l.i;
 }

@@ -1,4 +1,4 @@
-use Rattle.std.proofs.Common.{◌≡◌, All, take, refl, subst, sym, arith, ◌∙◌, ◌↔◌, length, get_or}
+use Rattle.std.proofs.Common.{◌≡◌, take, refl, sym, arith, ◌∙◌}
 use Rattle.std.proofs.lemmas.Bool.{false≢true}
 use Rattle.std.proofs.lemmas.List.{take_all}
 use Rattle.std.proofs.lemmas.List.Elements.{All-more}

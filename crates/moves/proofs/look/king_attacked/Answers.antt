@@ -1,4 +1,3 @@
-use Rattle.std.proofs.Common.{◌≡◌}
 use Rattle.moves.specs.Mailbox.{place_in}
 use Rattle.moves.proofs.Kings.{check_at, check_from}
 use Rattle.moves.proofs.look.king_attacked.Goals as goal

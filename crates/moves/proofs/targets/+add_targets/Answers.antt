@@ -1,4 +1,4 @@
-use Rattle.std.proofs.Common.{◌≡◌, ◌⊎◌, ◌↔◌, IsTrue, refl, sym, subst, arith, ◌∙◌}
+use Rattle.std.proofs.Common.{◌↔◌, IsTrue, sym, arith, ◌∙◌}
 use Rattle.std.proofs.lemmas.Bool.{false≢true}
 use Rattle.moves.specs.Squares.{unit_at}
 use Rattle.moves.specs.Reach.{Allows}

@@ -1,9 +1,7 @@
-use Rattle.std.proofs.Common.{◌≡◌, ℕ, ◌↔◌, Any, take, sym, subst, arith, length}
+use Rattle.std.proofs.Common.{◌≡◌, take, arith}
 use Rattle.std.proofs.lemmas.List.{take_all}
-use Rattle.board.specs.declared.step.Step.{Step}
 use Rattle.moves.specs.StepTables.{table_of}
 use Rattle.moves.specs.Mailbox.{place_in}
-use Rattle.moves.specs.Targets.{Has, IsTargetBy}
 use Rattle.moves.proofs.Reached.{same_within, Has-more, Has-all}
 use Rattle.moves.proofs.targets.targets.Goals as goal
 

@@ -1,4 +1,4 @@
-use Rattle.std.proofs.Common.{◌≡◌, ◌⊎◌, inl, inr}
+use Rattle.std.proofs.Common.{inl, inr}
 use Rattle.moves.proofs.Reached.{Has-with}
 use Rattle.moves.proofs.targets.with_cell.Goals as goal
 

@@ -1,6 +1,5 @@
-use Rattle.std.proofs.Common.{◌+◌, sym, ◌∙◌, subst, arith}
+use Rattle.std.proofs.Common.{arith}
 use Rattle.slots.specs.Promise.{number, slots_of}
-use Rattle.search.specs.Calls.{added}
 use Rattle.search.proofs.Calls.{continues_more}
 use Rattle.search.proofs.TwoProbes.{two_added, unsettled_by, settled_by, asks_second, asks_neither, both_ask, asks_once, asks_alone, one_asks}
 use Rattle.search.proofs.asking.ask.Goals as goal

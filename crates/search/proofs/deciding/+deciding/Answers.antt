@@ -1,8 +1,11 @@
-use Rattle.std.proofs.Common.{◌≡◌, ◌+◌, ◌-◌, ◌<◌, ◌≤◌, List, All, refl, sym, ◌∙◌, subst, arith, eqb, length}
+use Rattle.std.proofs.Common.{◌-◌, ◌<◌, List, All, sym, ◌∙◌, subst, arith, length, ◌≡◌, Bool, ◌↔◌, IsTrue, ◌⊎◌, Contains}
 use Rattle.std.proofs.lemmas.Bool.Decides.{Decides-eqb}
 use Rattle.std.proofs.lemmas.List.{take_all}
 use Rattle.moves.specs.Squares.{Ply}
-use Rattle.moves.specs.Order.{ListsLawful}
+use Rattle.board.specs.declared.game.Side.{Side}
+use Rattle.board.specs.Games.{is_same_side}
+use Rattle.moves.specs.Moves.{IsLawful}
+use Rattle.moves.specs.Forces.{Forces}
 use Rattle.slots.specs.Promise.{slots_of, number}
 use Rattle.slots.specs.Steps.{HitFits}
 use Rattle.slots.specs.declared.calls.Act.TheVariants.{Asked}
@@ -12,8 +15,10 @@ use Rattle.search.specs.Calls.{added}
 use Rattle.search.specs.Questions.{question}
 use Rattle.search.proofs.Calls.{continues_none, continues_more}
 use Rattle.search.proofs.Replies.{reply_is_right}
-use Rattle.search.proofs.Below.{IsTried, goes_by, ends_by, beq_same, beq_apart, not_empty, nothing_left, none_listed, tried_next, asked_last, ended_answer, ended_below, gone_answer, gone_below}
-use Rattle.search.proofs.Decided.{decided_at_once, decided_searched}
+use Rattle.search.specs.Below.{IsTried, IsEnded}
+use Rattle.search.proofs.Below.{goes_by, ends_by, beq_same, beq_apart, not_empty, not_self, none_listed, some_listed, all_listed, tried_next, asked_last, both_tried, ended_behind, said_answer, said_below, now_answer}
+use Rattle.search.proofs.Winning.{same_mover}
+use Rattle.search.proofs.Decided.{decided_at_once, decided_searched, asks_within}
 use Rattle.search.proofs.deciding.+deciding.Goals as goal
 
 pub decide_on-returns-in-Some-clause-answer : goal.decide_on-returns-in-Some-clause-answer
@@ -27,93 +32,145 @@ decide_on-returns-in-Some-clause-calls t c =
     c.key_on-key.ensures.value c.first_slot-slot.ensures.value c.ask-first.ensures.asked c.ask-first.ensures.probes (c.in-Some.yes, c.in-Some.ensures)
 
 pub decide_on-returns-clause-continues : goal.decide_on-returns-clause-continues
-decide_on-returns-clause-continues t c = continues_more _ _ _ _ (continues_more _ _ _ _ c.ask-first.ensures.continues c.search-yes.ensures.continues) c.offer.ensures.continues
+decide_on-returns-clause-continues t c = continues_more _ _ _ _ (continues_more _ _ _ _ c.ask-first.ensures.continues c.expand-yes.ensures.continues) c.offer.ensures.continues
 
 pub decide_on-returns-clause-calls : goal.decide_on-returns-clause-calls
 decide_on-returns-clause-calls t c =
-    decided_searched c.args.slots.now c.args.seat.now c.ask-first.new.seat c.search-yes.new.seat c.offer.new.seat (question c.args.board.now c.args.attacker c.args.goal) c.key_on-key.result c.first_slot-slot.result (slots_of c.args.slots.now) c.args.n
-    (record { yes = c.search-yes.result.yes; expanded = c.search-yes.result.expanded; first = c.ask-first.result }) c.answer_words-words.result
-    c.ask-first.ensures.continues c.search-yes.ensures.continues c.offer.ensures.continues c.key_on-key.ensures.value c.first_slot-slot.ensures.value c.ask-first.ensures.asked
-    c.in_default.ensures c.search-yes.ensures.expanded c.search-yes.ensures.below c.answer_words-words.ensures.met c.offer.ensures.offered
+    decided_searched c.args.slots.now c.args.seat.now c.ask-first.new.seat c.expand-yes.new.seat c.offer.new.seat (question c.args.board.now c.args.attacker c.args.goal) c.key_on-key.result c.first_slot-slot.result (slots_of c.args.slots.now) c.args.n
+    (record { yes = c.expand-yes.result.yes; expanded = c.expand-yes.result.expanded; first = c.ask-first.result }) c.answer_words-words.result
+    c.ask-first.ensures.continues c.expand-yes.ensures.continues c.offer.ensures.continues c.key_on-key.ensures.value c.first_slot-slot.ensures.value c.ask-first.ensures.asked
+    c.in_default.ensures c.expand-yes.ensures.expanded c.answer_words-words.ensures.met c.offer.ensures.offered
 
-pub search-stands_still-yes-requires : goal.search-stands_still-yes-requires
-search-stands_still-yes-requires t c =
-    none_listed (question c.args.board.now c.args.attacker c.args.goal) (slots_of c.args.slots.now) (number c.args.seat.now) c.args.n c.lawful_on-moves.result.items c.lawful_on-moves.ensures
-    ((Decides-eqb (length c.lawful_on-moves.result.items) 0).0 (sym c.is_empty.ensures ∙ c.if-is_empty.true))
+pub decide_on-returns-clause-below : goal.decide_on-returns-clause-below
+decide_on-returns-clause-below t c = λ asks some plies moves.
+    asks_within c.args.slots.now c.args.seat.now c.ask-first.new.seat c.expand-yes.new.seat c.offer.new.seat (question c.args.board.now c.args.attacker c.args.goal) (slots_of c.args.slots.now) c.expand-yes.result.yes
+    c.ask-first.ensures.continues c.expand-yes.ensures.continues c.offer.ensures.continues (c.expand-yes.ensures.below asks plies moves)
 
-pub search-returns-then-is_empty-clause-below : goal.search-returns-then-is_empty-clause-below
-search-returns-then-is_empty-clause-below t c = λ _ moves. absurd
-    (none_listed (question c.args.board.now c.args.attacker c.args.goal) (slots_of c.args.slots.now) (number c.args.seat.now) c.args.n c.lawful_on-moves.result.items c.lawful_on-moves.ensures
-    ((Decides-eqb (length c.lawful_on-moves.result.items) 0).0 (sym c.is_empty.ensures ∙ c.if-is_empty.true)) moves.0 moves.1)
+pub expand-returns-then-is_turn_of-clause-answer : goal.expand-returns-then-is_turn_of-clause-answer
+expand-returns-then-is_turn_of-clause-answer t c =
+    let one_ply : 1 ≡ c.args.n = omega (arith, c.if-n-eq1.true) in
+    let side = same_mover c.args.attacker c.args.board.now.mover (sym c.is_turn_of.ensures ∙ c.if-is_turn_of.true) in
+    subst (λ k. IsTrue c.wins_at_once.result ↔ Forces c.args.goal c.args.attacker c.args.board.now k) one_ply
+    (subst (λ (s : Side). IsTrue c.wins_at_once.result ↔ Forces c.args.goal s c.args.board.now 1) (sym side) c.wins_at_once.ensures)
+
+pub search-put_in_order-first-requires : goal.search-put_in_order-first-requires
+search-put_in_order-first-requires t c = record {
+  lawful = subst (All (IsLawful c.args.board.now)) (sym c.as_slice.ensures.value) (all_listed c.args.board.now c.lawful_on-moves.result.items c.lawful_on-moves.ensures);
+  room = c.as_slice.ensures.fits;
+}
+
+pub search-try_moves-rest-requires : goal.search-try_moves-rest-requires
+search-try_moves-rest-requires t c =
+    let some = c.if-n-eq0.false in
+    (omega (arith, c.decreases), (c.try_moves-tried.ensures.continues.seat, (c.try_moves-tried.ensures.history, ((omega arith, c.requires.plies), subst (All (IsLawful c.args.board.now)) (sym c.as_slice-3.ensures.value) c.put_in_order-first.ensures.later))))
 
 pub search-returns-then-n-eq0-clause-answer : goal.search-returns-then-n-eq0-clause-answer
 search-returns-then-n-eq0-clause-answer t c =
-    nothing_left c.args.goal c.args.attacker c.args.board.now c.args.n (omega (arith, c.if-n-eq0.true)) c.lawful_on-moves.result.items c.lawful_on-moves.ensures
-    (not_empty (length c.lawful_on-moves.result.items) c.if-is_empty.ensures)
+    let none : 0 ≡ c.args.n = omega (arith, c.if-n-eq0.true) in
+    subst (λ k. IsTrue c.answer_now.result ↔ Forces c.args.goal c.args.attacker c.args.board.now k) none c.answer_now.ensures
 
-pub search-loop-m-init : goal.search-loop-m-init
-search-loop-m-init t c = record {
-  continues = continues_none c.args.slots.now c.args.seat.now c.requires.seat;
-  history = c.requires.history;
-  expanded = omega arith;
-  tried = λ k d lt. absurd (omega (arith, lt));
-}
+pub search-returns-then-is_empty-clause-answer : goal.search-returns-then-is_empty-clause-answer
+search-returns-then-is_empty-clause-answer t c =
+    now_answer c.args.goal c.args.attacker c.args.board.now c.args.n c.answer_now-then-is_empty.result
+    (none_listed c.args.board.now c.lawful_on-moves.result.items c.lawful_on-moves.ensures ((Decides-eqb (length c.lawful_on-moves.result.items) 0).0 (sym c.is_empty.ensures ∙ c.if-is_empty.true)))
+    c.answer_now-then-is_empty.ensures
 
-pub search-loop-m-preserved : goal.search-loop-m-preserved
-search-loop-m-preserved t c =
-    let more = c.saturating_add-expanded.ensures in
-    let before = c.loop-m.invariant.expanded in
-    record {
-      continues = continues_more _ _ _ _ c.loop-m.invariant.continues c.decide_on-below.ensures.continues;
-      history = c.decide_on-below.ensures.history;
-      expanded = omega arith;
-      tried = tried_next c.args.slots.now c.args.seat.now c.loop-m.seat c.decide_on-below.new.seat c.loop-m.invariant.continues c.decide_on-below.ensures.continues
-          (question c.args.board.now c.args.attacker c.args.goal) (slots_of c.args.slots.now) (c.args.n - 1) c.is_turn_of-own.result c.as_slice-m-items.result.now c.loop-m.m-index c.m-item.result c.after.result
-          c.loop-m-test.true c.m-item.is c.after.ensures c.loop-m.invariant.tried c.decide_on-below.result.first c.decide_on-below.ensures.calls.asked
-          (goes_by c.is_turn_of-own.result c.decide_on-below.result.yes _ c.decide_on-below.ensures.answer (beq_apart _ _ c.if-below-own.false));
-    }
+pub search-returns-then-is_empty-clause-below : goal.search-returns-then-is_empty-clause-below
+search-returns-then-is_empty-clause-below t c = λ _ moves. absurd
+    (none_listed c.args.board.now c.lawful_on-moves.result.items c.lawful_on-moves.ensures ((Decides-eqb (length c.lawful_on-moves.result.items) 0).0 (sym c.is_empty.ensures ∙ c.if-is_empty.true)) moves.0 moves.1)
 
-pub search-after-requires : goal.search-after-requires
-search-after-requires t c =
-    ((subst (ListsLawful c.args.board.now) (sym c.as_slice-m-items.ensures.value) c.lawful_on-moves.ensures).exact c.m-item.result).0 (c.loop-m.m-index, c.loop-m-test.true, sym c.m-item.is)
-
-pub search-decide_on-below-requires : goal.search-decide_on-below-requires
-search-decide_on-below-requires t c =
+pub search-returns-then-tried-is_turn_of-clause-answer : goal.search-returns-then-tried-is_turn_of-clause-answer
+search-returns-then-tried-is_turn_of-clause-answer t c =
     let some = c.if-n-eq0.false in
-    let most = c.requires.plies in
-    (omega (arith, c.decreases), (c.loop-m.invariant.continues.seat, omega arith))
+    let same = beq_same _ _ c.if-tried-is_turn_of.true ∙ c.is_turn_of-2.ensures in
+    said_answer (question c.args.board.now c.args.attacker c.args.goal) (slots_of c.args.slots.now) c.args.n (number c.args.seat.now) (added c.args.seat.now c.try_moves-tried.new.seat) c.try_moves-tried.result.yes (omega arith)
+    (some_listed c.args.board.now c.lawful_on-moves.result.items c.lawful_on-moves.ensures (not_empty (length c.lawful_on-moves.result.items) c.if-is_empty.ensures))
+    c.try_moves-tried.ensures.ended (λ apart. absurd (apart same))
 
-pub search-returns-then-below-own-clause-continues : goal.search-returns-then-below-own-clause-continues
-search-returns-then-below-own-clause-continues t c = continues_more _ _ _ _ c.loop-m.invariant.continues c.decide_on-below.ensures.continues
+pub search-returns-then-tried-is_turn_of-clause-below : goal.search-returns-then-tried-is_turn_of-clause-below
+search-returns-then-tried-is_turn_of-clause-below t c = λ plies moves.
+    let same = beq_same _ _ c.if-tried-is_turn_of.true ∙ c.is_turn_of-2.ensures in
+    said_below (question c.args.board.now c.args.attacker c.args.goal) (slots_of c.args.slots.now) c.args.n (number c.args.seat.now) (added c.args.seat.now c.try_moves-tried.new.seat) c.try_moves-tried.result.yes plies
+    moves c.try_moves-tried.ensures.ended (λ apart. absurd (apart same))
 
-pub search-returns-then-below-own-clause-answer : goal.search-returns-then-below-own-clause-answer
-search-returns-then-below-own-clause-answer t c =
-    let some = c.if-n-eq0.false in
-    ended_answer (question c.args.board.now c.args.attacker c.args.goal) (slots_of c.args.slots.now) (number c.args.seat.now) c.args.n c.is_turn_of-own.result c.is_turn_of-own.ensures (omega arith) c.m-item.result c.after.result c.after.ensures
-    (ends_by c.is_turn_of-own.result c.decide_on-below.result.yes _ c.decide_on-below.ensures.answer (beq_same _ _ c.if-below-own.true))
-
-pub search-returns-then-below-own-clause-expanded : goal.search-returns-then-below-own-clause-expanded
-search-returns-then-below-own-clause-expanded t c =
-    let more = c.saturating_add-expanded.ensures in
-    let before = c.loop-m.invariant.expanded in
-    omega arith
-
-pub search-returns-then-below-own-clause-below : goal.search-returns-then-below-own-clause-below
-search-returns-then-below-own-clause-below t c = λ _ _.
-    ended_below (question c.args.board.now c.args.attacker c.args.goal) (slots_of c.args.slots.now) (number c.args.seat.now) c.args.n c.is_turn_of-own.result c.is_turn_of-own.ensures c.m-item.result c.after.result c.after.ensures _
-    (asked_last c.args.slots.now c.args.seat.now c.loop-m.seat c.decide_on-below.new.seat c.loop-m.invariant.continues c.decide_on-below.ensures.continues (question c.after.result c.args.attacker c.args.goal) (slots_of c.args.slots.now) (c.args.n - 1)
-    c.decide_on-below.result.first c.decide_on-below.ensures.calls.asked)
+pub search-returns-clause-continues : goal.search-returns-clause-continues
+search-returns-clause-continues t c = continues_more _ _ _ _ c.try_moves-tried.ensures.continues c.try_moves-rest.ensures.continues
 
 pub search-returns-clause-answer : goal.search-returns-clause-answer
 search-returns-clause-answer t c =
     let some = c.if-n-eq0.false in
-    let all = c.loop-m-test.false in
-    gone_answer (question c.args.board.now c.args.attacker c.args.goal) (slots_of c.args.slots.now) (number c.args.seat.now) c.args.n c.as_slice-m-items.result.now (subst (ListsLawful c.args.board.now) (sym c.as_slice-m-items.ensures.value) c.lawful_on-moves.ensures)
-    c.is_turn_of-own.result (added c.args.seat.now c.loop-m.seat) c.is_turn_of-own.ensures (omega arith) (subst (λ (l : List Ply). 0 < length l) (sym c.as_slice-m-items.ensures.value) (not_empty (length c.lawful_on-moves.result.items) c.if-is_empty.ensures))
-    (subst (All (IsTried (question c.args.board.now c.args.attacker c.args.goal) (slots_of c.args.slots.now) (c.args.n - 1) (number c.args.seat.now) c.is_turn_of-own.result (added c.args.seat.now c.loop-m.seat))) (take_all c.loop-m.m-index c.as_slice-m-items.result.now c.loop-m-test.false) c.loop-m.invariant.tried)
+    said_answer (question c.args.board.now c.args.attacker c.args.goal) (slots_of c.args.slots.now) c.args.n (number c.args.seat.now) (added c.args.seat.now c.try_moves-rest.new.seat) c.try_moves-rest.result.yes (omega arith)
+    (some_listed c.args.board.now c.lawful_on-moves.result.items c.lawful_on-moves.ensures (not_empty (length c.lawful_on-moves.result.items) c.if-is_empty.ensures))
+    (λ same. ended_behind c.args.slots.now c.args.seat.now c.try_moves-tried.new.seat c.try_moves-rest.new.seat c.try_moves-tried.ensures.continues c.try_moves-rest.ensures.continues (question c.args.board.now c.args.attacker c.args.goal) (slots_of c.args.slots.now) (c.args.n - 1)
+    c.try_moves-rest.result.yes (c.try_moves-rest.ensures.ended same))
+    (λ apart. both_tried c.args.slots.now c.args.seat.now c.try_moves-tried.new.seat c.try_moves-rest.new.seat c.try_moves-tried.ensures.continues c.try_moves-rest.ensures.continues (question c.args.board.now c.args.attacker c.args.goal) (slots_of c.args.slots.now) (c.args.n - 1)
+    (is_same_side c.args.attacker c.args.board.now.mover) c.lawful_on-moves.result.items c.put_in_order-first.result.first.items c.put_in_order-first.result.later.items c.lawful_on-moves.ensures
+    (subst (λ (l : List Ply). (m : Ply) → Contains l m → Contains c.put_in_order-first.result.first.items m ⊎ Contains c.put_in_order-first.result.later.items m) c.as_slice.ensures.value c.put_in_order-first.ensures.all)
+    (subst (All (IsTried (question c.args.board.now c.args.attacker c.args.goal) (slots_of c.args.slots.now) (c.args.n - 1) (number c.args.seat.now) (is_same_side c.args.attacker c.args.board.now.mover) (added c.args.seat.now c.try_moves-tried.new.seat))) c.as_slice-2.ensures.value
+    (c.try_moves-tried.ensures.tried (λ same. beq_apart _ _ c.if-tried-is_turn_of.false (same ∙ sym c.is_turn_of-2.ensures))))
+    (subst (All (IsTried (question c.args.board.now c.args.attacker c.args.goal) (slots_of c.args.slots.now) (c.args.n - 1) (number c.try_moves-tried.new.seat) (is_same_side c.args.attacker c.args.board.now.mover) (added c.try_moves-tried.new.seat c.try_moves-rest.new.seat))) c.as_slice-3.ensures.value
+    (c.try_moves-rest.ensures.tried apart)))
 
 pub search-returns-clause-below : goal.search-returns-clause-below
-search-returns-clause-below t c = λ _ _.
-    gone_below (question c.args.board.now c.args.attacker c.args.goal) (slots_of c.args.slots.now) (number c.args.seat.now) c.args.n c.as_slice-m-items.result.now (subst (ListsLawful c.args.board.now) (sym c.as_slice-m-items.ensures.value) c.lawful_on-moves.ensures)
-    c.is_turn_of-own.result (added c.args.seat.now c.loop-m.seat) c.is_turn_of-own.ensures
-    (subst (All (IsTried (question c.args.board.now c.args.attacker c.args.goal) (slots_of c.args.slots.now) (c.args.n - 1) (number c.args.seat.now) c.is_turn_of-own.result (added c.args.seat.now c.loop-m.seat))) (take_all c.loop-m.m-index c.as_slice-m-items.result.now c.loop-m-test.false) c.loop-m.invariant.tried)
+search-returns-clause-below t c = λ plies moves.
+    said_below (question c.args.board.now c.args.attacker c.args.goal) (slots_of c.args.slots.now) c.args.n (number c.args.seat.now) (added c.args.seat.now c.try_moves-rest.new.seat) c.try_moves-rest.result.yes plies moves
+    (λ same. ended_behind c.args.slots.now c.args.seat.now c.try_moves-tried.new.seat c.try_moves-rest.new.seat c.try_moves-tried.ensures.continues c.try_moves-rest.ensures.continues (question c.args.board.now c.args.attacker c.args.goal) (slots_of c.args.slots.now) (c.args.n - 1)
+    c.try_moves-rest.result.yes (c.try_moves-rest.ensures.ended same))
+    (λ apart. both_tried c.args.slots.now c.args.seat.now c.try_moves-tried.new.seat c.try_moves-rest.new.seat c.try_moves-tried.ensures.continues c.try_moves-rest.ensures.continues (question c.args.board.now c.args.attacker c.args.goal) (slots_of c.args.slots.now) (c.args.n - 1)
+    (is_same_side c.args.attacker c.args.board.now.mover) c.lawful_on-moves.result.items c.put_in_order-first.result.first.items c.put_in_order-first.result.later.items c.lawful_on-moves.ensures
+    (subst (λ (l : List Ply). (m : Ply) → Contains l m → Contains c.put_in_order-first.result.first.items m ⊎ Contains c.put_in_order-first.result.later.items m) c.as_slice.ensures.value c.put_in_order-first.ensures.all)
+    (subst (All (IsTried (question c.args.board.now c.args.attacker c.args.goal) (slots_of c.args.slots.now) (c.args.n - 1) (number c.args.seat.now) (is_same_side c.args.attacker c.args.board.now.mover) (added c.args.seat.now c.try_moves-tried.new.seat))) c.as_slice-2.ensures.value
+    (c.try_moves-tried.ensures.tried (λ same. beq_apart _ _ c.if-tried-is_turn_of.false (same ∙ sym c.is_turn_of-2.ensures))))
+    (subst (All (IsTried (question c.args.board.now c.args.attacker c.args.goal) (slots_of c.args.slots.now) (c.args.n - 1) (number c.try_moves-tried.new.seat) (is_same_side c.args.attacker c.args.board.now.mover) (added c.try_moves-tried.new.seat c.try_moves-rest.new.seat))) c.as_slice-3.ensures.value
+    (c.try_moves-rest.ensures.tried apart)))
+
+pub try_moves-after-requires : goal.try_moves-after-requires
+try_moves-after-requires t c = subst (IsLawful c.args.board.now) (sym c.m-item.is) (c.requires.lawful c.loop-m.m-index c.m-item.result c.loop-m-test.true)
+
+pub try_moves-decide_on-below-requires : goal.try_moves-decide_on-below-requires
+try_moves-decide_on-below-requires t c =
+    let some = c.requires.plies.0 in
+    let most = c.requires.plies.1 in
+    (omega (arith, c.decreases), (c.loop-m.invariant.continues.seat, omega arith))
+
+pub try_moves-loop-m-init : goal.try_moves-loop-m-init
+try_moves-loop-m-init t c = record {
+  continues = continues_none c.args.slots.now c.args.seat.now c.requires.seat;
+  history = c.requires.history;
+  tried = λ k d lt. absurd (omega (arith, lt));
+}
+
+pub try_moves-loop-m-preserved : goal.try_moves-loop-m-preserved
+try_moves-loop-m-preserved t c =
+    record {
+      continues = continues_more _ _ _ _ c.loop-m.invariant.continues c.decide_on-below.ensures.continues;
+      history = c.decide_on-below.ensures.history;
+      tried = tried_next c.args.slots.now c.args.seat.now c.loop-m.seat c.decide_on-below.new.seat c.loop-m.invariant.continues c.decide_on-below.ensures.continues
+          (question c.args.board.now c.args.attacker c.args.goal) (slots_of c.args.slots.now) (c.args.n - 1) c.is_turn_of-own.result c.args.moves.now c.loop-m.m-index c.m-item.result c.after.result
+          c.loop-m-test.true c.m-item.is c.after.ensures c.loop-m.invariant.tried c.decide_on-below.result.first c.decide_on-below.ensures.calls.asked
+          (goes_by c.is_turn_of-own.result c.decide_on-below.result.yes _ c.decide_on-below.ensures.answer (beq_apart _ _ c.if-below-own.false));
+    }
+
+pub try_moves-returns-then-below-own-clause-continues : goal.try_moves-returns-then-below-own-clause-continues
+try_moves-returns-then-below-own-clause-continues t c = continues_more _ _ _ _ c.loop-m.invariant.continues c.decide_on-below.ensures.continues
+
+pub try_moves-returns-then-below-own-clause-ended : goal.try_moves-returns-then-below-own-clause-ended
+try_moves-returns-then-below-own-clause-ended t c = λ _. (
+  c.m-item.result,
+  c.after.result,
+  c.after.ensures,
+  asked_last c.args.slots.now c.args.seat.now c.loop-m.seat c.decide_on-below.new.seat c.loop-m.invariant.continues c.decide_on-below.ensures.continues (question c.after.result c.args.attacker c.args.goal) (slots_of c.args.slots.now) (c.args.n - 1)
+      c.decide_on-below.result.first c.decide_on-below.ensures.calls.asked,
+  ends_by c.is_turn_of-own.result c.decide_on-below.result.yes _ c.decide_on-below.ensures.answer (beq_same _ _ c.if-below-own.true),
+)
+
+pub try_moves-returns-then-below-own-clause-tried : goal.try_moves-returns-then-below-own-clause-tried
+try_moves-returns-then-below-own-clause-tried t c = λ apart. absurd (apart c.is_turn_of-own.ensures)
+
+pub try_moves-returns-clause-ended : goal.try_moves-returns-clause-ended
+try_moves-returns-clause-ended t c = λ same. absurd (not_self c.is_turn_of-own.result (same ∙ sym c.is_turn_of-own.ensures))
+
+pub try_moves-returns-clause-tried : goal.try_moves-returns-clause-tried
+try_moves-returns-clause-tried t c = λ _.
+    subst (λ (own : Bool). All (IsTried (question c.args.board.now c.args.attacker c.args.goal) (slots_of c.args.slots.now) (c.args.n - 1) (number c.args.seat.now) own (added c.args.seat.now c.loop-m.seat)) c.args.moves.now) c.is_turn_of-own.ensures
+    (subst (All (IsTried (question c.args.board.now c.args.attacker c.args.goal) (slots_of c.args.slots.now) (c.args.n - 1) (number c.args.seat.now) c.is_turn_of-own.result (added c.args.seat.now c.loop-m.seat))) (take_all c.loop-m.m-index c.args.moves.now c.loop-m-test.false) c.loop-m.invariant.tried)

@@ -1,6 +1,6 @@
 use Rattle.std.proofs.Common.{sym, subst}
 use Rattle.entry.specs.Truth.{IsRight}
-use Rattle.search.specs.Questions.{question, said}
+use Rattle.search.specs.Questions.{question}
 use Rattle.search.proofs.Replies.{asked_for, hit_is_right, said_is_right, met_is_right, true_words}
 use Rattle.search.proofs.storing.answer_words.Goals as goal
 

@@ -1,7 +1,5 @@
-use Rattle.std.proofs.Common.{◌≡◌, ap, subst, sym, inl, inr}
-use Rattle.board.specs.declared.game.Game.{Game}
-use Rattle.board.specs.Board.{PlainBoard}
-use Rattle.moves.specs.Mailbox.{IsCell, LaysOut}
+use Rattle.std.proofs.Common.{subst, inl, inr}
+use Rattle.moves.specs.Mailbox.{LaysOut}
 use Rattle.moves.proofs.Cells.{cell_cases, shift_in}
 use Rattle.moves.proofs.mailbox.Mailbox.next.Goals as goal
 

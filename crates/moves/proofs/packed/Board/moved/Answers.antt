@@ -1,11 +1,8 @@
-use Rattle.std.proofs.Common.{◌≡◌, ◌≢◌, ◌<◌, ℕ, set, Some, unwrap_or, sym, ap, subst, ◌∙◌}
-use Rattle.board.specs.declared.game.Game.{Game}
+use Rattle.std.proofs.Common.{◌≡◌, ◌≢◌, set, Some, unwrap_or, sym, ap, subst, ◌∙◌}
 use Rattle.board.specs.Board.{PlainBoard, IsPosition}
-use Rattle.board.specs.Games.{squares_of}
-use Rattle.moves.specs.Squares.{Place, Ply, IsOnBoard, square_number}
+use Rattle.moves.specs.Squares.{Ply, square_number}
 use Rattle.moves.specs.Moves.{placed, after}
 use Rattle.moves.proofs.Keeps.{to_on_board, other_square, IsPosition-after}
-use Rattle.moves.proofs.Listed.{number_within}
 use Rattle.moves.specs.Words.{man_of, game_of, unpacked, IsPacked}
 use Rattle.moves.proofs.Packing.{IsPut, made, unpacked_end, IsPacked-end}
 use Rattle.moves.proofs.packed.Board.moved.Goals as goal

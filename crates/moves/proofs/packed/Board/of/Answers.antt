@@ -1,4 +1,4 @@
-use Rattle.std.proofs.Common.{◌≡◌, ℕ, ap, subst, ◌∙◌, arith}
+use Rattle.std.proofs.Common.{◌≡◌, ap, subst, ◌∙◌, arith}
 use Rattle.board.specs.Games.{squares_of}
 use Rattle.moves.proofs.Packing.{IsPut, IsFilled, IsFilled-more, IsPacked-of, unpacked_of}
 use Rattle.moves.proofs.packed.Board.of.Goals as goal

@@ -1,4 +1,3 @@
-use Rattle.std.proofs.Common.{◌≡◌, length}
 use Rattle.moves.proofs.Packing.{IsFilled}
 use Rattle.moves.proofs.packed.Board.of.Given as goal
 

@@ -1,0 +1,3 @@
+pub mod JobBoard
+pub mod Rule
+pub mod Promise

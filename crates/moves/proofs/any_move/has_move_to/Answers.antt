@@ -1,0 +1,30 @@
+use Rattle.std.proofs.Common.{◌≡◌, ℕ, ◌+◌, ◌*◌, get_or, None, refl, sym, ap, ◌∙◌, arith, add_assoc, [], subst}
+use Rattle.std.proofs.lemmas.Bool.{false≢true}
+use Rattle.moves.specs.declared.list.TheConstants.{PROMOTIONS}
+use Rattle.moves.specs.Squares.{Ply, square_number}
+use Rattle.moves.specs.Moves.{Promotes, IsLawful}
+use Rattle.moves.specs.Order.{promotion_number}
+use Rattle.moves.specs.Listing.{ply_number}
+use Rattle.moves.proofs.Lists.{IsNumbered, numbered_promotion, ListsBelow-skip, ListsBelow-promoted}
+use Rattle.moves.proofs.any_move.has_move_to.Goals as goal
+
+pub loop-i-preserved : goal.loop-i-preserved
+loop-i-preserved c =
+    let b = c.args.mail.now in
+    let i = c.loop-i.i in
+    let n : ℕ = (square_number b.game c.args.from * 36 + square_number b.game c.args.to) * 5 in
+    let m : Ply = record { from = c.args.from; to = c.args.to; promotion = get_or PROMOTIONS i None } in
+    let at : promotion_number m.promotion ≡ i = numbered_promotion i (omega (arith, c.promotion_count-i-end.ensures.within.1)) in
+    let numbered : IsNumbered b m = record { from = c.requires.from_on_board; to = c.requires.to_on_board; promotion = omega arith } in
+    let here : ply_number b.game m ≡ n + i = ap (λ x. n + x) at in
+    let unlawful : IsLawful b m → ⊥ = λ l. false≢true (sym c.if-is_lawful_to.false ∙ c.is_lawful_to.ensures.1 l) in
+    rw (← add_assoc n i 1) (ListsBelow-skip b (n + i) [] m c.loop-i.invariant numbered here unlawful)
+
+pub returns-clause-none : goal.returns-clause-none
+returns-clause-none c = λ _.
+    let b = c.args.mail.now in
+    let i = c.loop-i.i in
+    let end : i ≡ c.promotion_count-i-end.result = omega arith in
+    let five : Promotes b.game c.args.unit c.args.to → i ≡ 5 = λ p. end ∙ c.promotion_count-i-end.ensures.five (subst (λ g. Promotes g c.args.unit c.args.to) (sym c.game.ensures.value) p) in
+    ListsBelow-promoted b (square_number b.game c.args.to) i [] c.args.unit c.args.from c.args.to c.requires.from_on_board c.requires.to_on_board refl c.requires.stands
+    (omega (arith, end, c.promotion_count-i-end.ensures.within.1)) five (omega (arith, end, c.promotion_count-i-end.ensures.within.0)) c.loop-i.invariant

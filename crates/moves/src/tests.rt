@@ -1,0 +1,59 @@
+//! Calls on boards of three words, on positions worked out by hand.
+use crate::{Board, Move, Square, gives_check, has_lawful_move, is_lawful, read_sound};
+use std::process::Abort;
+
+fn board(rt: &impl Abort, text: &str) -> Board {
+    Board::of(&read_sound(text.as_bytes()).expect(rt, "a position"))
+}
+
+#[test]
+fn shows_words(rt: HostRuntime) {
+    let los_alamos = board(&rt, "rnqknr/pppppp/6/6/PPPPPP/RNQKNR w");
+    assert_eq!(rt;
+        los_alamos.words(),
+        [0x0000_6666_6635_1253, 0, 0x0000_9B78_B9CC_CCCC]
+    );
+    let gardner = board(&rt, "rnbqk/ppppp/5/PPPPP/RNBQK b");
+    assert_eq!(rt;
+        gardner.words(),
+        [0x0005_0066_6661_2453, 0x0000_00CC_CCC0_0000, 0x7_8AB9]
+    );
+}
+
+#[test]
+fn finds_a_lawful_move(rt: HostRuntime) {
+    for (text, has_move) in [
+        ("rnqknr/pppppp/6/6/PPPPPP/RNQKNR w", true),
+        // ways out of check
+        ("kR4/1p4/6/6/6/K5 b", true),
+        // mate, and stalemate
+        ("k4R/6/1K4/6/6/6 b", false),
+        ("k5/2Q3/6/6/6/5K b", false),
+    ] {
+        assert_eq!(rt; has_lawful_move(&board(&rt, text)), has_move, "{text}");
+    }
+}
+
+/// Whether the move from one square to the other, which must be lawful, gives check.
+fn checks(rt: &impl Abort, text: &str, from: Square, to: Square) -> bool {
+    let position = read_sound(text.as_bytes()).expect(rt, "a position");
+    let m = Move {
+        from,
+        to,
+        promotion: None,
+    };
+    if !is_lawful(&position, m) {
+        panic!(rt; "not lawful")
+    }
+    gives_check(&Board::of(&position), m)
+}
+
+#[test]
+fn finds_moves_that_give_check(rt: HostRuntime) {
+    let f1 = Square { file: 5, rank: 0 };
+    let f6 = Square { file: 5, rank: 5 };
+    let e1 = Square { file: 4, rank: 0 };
+    let text = "k5/6/1K4/6/6/5R w";
+    assert!(rt; checks(&rt, text, f1, f6));
+    assert!(rt; !checks(&rt, text, f1, e1));
+}

@@ -1,0 +1,35 @@
+use Rattle.std.proofs.Common.{◌↔◌, ◌-◌, All, IsTrue, sym, ◌∙◌, subst}
+use Rattle.std.proofs.lemmas.Bool.{false≢true}
+use Rattle.std.proofs.lemmas.List.{take_all}
+use Rattle.board.specs.declared.game.Side.{Side}
+use Rattle.moves.specs.Forces.{Forces}
+use Rattle.moves.specs.Order.{ListsLawful}
+use Rattle.search.specs.Answer.{Wins}
+use Rattle.search.proofs.Winning.{wins_by, answer_at, none_next, none_wins}
+use Rattle.search.proofs.solving.least_win.Goals as goal
+
+pub after-requires : goal.after-requires
+after-requires c =
+    ((subst (ListsLawful c.args.board.now) (sym c.as_slice-m-items.ensures.value) c.lawful_on-moves.ensures).exact c.m-item.result).0 (c.loop-m.m-index, c.loop-m-test.true, sym c.m-item.is)
+
+pub returns-then-decide_on-clause-least : goal.returns-then-decide_on-clause-least
+returns-then-decide_on-clause-least c =
+    let decided = wins_by c.args.goal c.args.board.now c.args.n c.m-item.result c.after.result c.decide_on.result.yes c.after.ensures
+    (subst (λ (side : Side). IsTrue c.decide_on.result.yes ↔ Forces c.args.goal side c.after.result (c.args.n - 1)) c.mover-attacker.ensures c.decide_on.ensures.answer) in
+    answer_at c.args.goal c.args.board.now c.args.n c.as_slice-m-items.result.now (subst (ListsLawful c.args.board.now) (sym c.as_slice-m-items.ensures.value) c.lawful_on-moves.ensures)
+    c.loop-m.m-index c.m-item.result c.loop-m-test.true c.m-item.is c.loop-m.invariant.none (decided.0 c.if-decide_on.true)
+
+pub loop-m-preserved : goal.loop-m-preserved
+loop-m-preserved c =
+    let decided = wins_by c.args.goal c.args.board.now c.args.n c.m-item.result c.after.result c.decide_on.result.yes c.after.ensures
+    (subst (λ (side : Side). IsTrue c.decide_on.result.yes ↔ Forces c.args.goal side c.after.result (c.args.n - 1)) c.mover-attacker.ensures c.decide_on.ensures.answer) in
+    record {
+      seat = c.decide_on.ensures.continues.seat;
+      none = none_next c.args.goal c.args.board.now c.args.n c.as_slice-m-items.result.now (subst (ListsLawful c.args.board.now) (sym c.as_slice-m-items.ensures.value) c.lawful_on-moves.ensures)
+          c.loop-m.m-index c.m-item.result c.loop-m-test.true c.m-item.is (λ w. false≢true (sym c.if-decide_on.false ∙ decided.1 w)) c.loop-m.invariant.none;
+    }
+
+pub returns-clause-least : goal.returns-clause-least
+returns-clause-least c =
+    none_wins c.args.goal c.args.board.now c.args.n c.as_slice-m-items.result.now (subst (ListsLawful c.args.board.now) (sym c.as_slice-m-items.ensures.value) c.lawful_on-moves.ensures)
+    (subst (All (λ m. Wins c.args.goal c.args.board.now c.args.n m → ⊥)) (take_all c.loop-m.m-index c.as_slice-m-items.result.now c.loop-m-test.false) c.loop-m.invariant.none)
