@@ -1,4 +1,5 @@
 pub mod Device
+pub mod Input
 pub mod Refusal
 pub mod Output
 pub mod Outcome

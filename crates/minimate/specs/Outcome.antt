@@ -1,21 +1,49 @@
 -- How the work on a reply may end.
-use Rattle.std.specs.Prelude.{◌≡◌, ◌⊎◌, ℕ, List, None, Some, Result, Ok, Err}
+use Rattle.std.specs.Prelude.{◌≡◌, ◌⊎◌, ⊤, ℕ, List, Option, None, Some, IfSome, Result, Ok, Err}
 use Rattle.board.specs.Board.{PlainBoard}
 use Rattle.moves.specs.declared.goal.Goal.{Goal}
 use Rattle.search.specs.declared.answer.Answer.{Answer}
 use Rattle.search.specs.declared.fault.SolveFault.{SolveFault}
+use Rattle.search.specs.declared.fault.SolveFault.TheVariants as solve
 use Rattle.search.specs.Answer.{IsAnswer}
-use Rattle.search.specs.Limits.{limits_fault}
-use Rattle.minimate.specs.Output.{Reply, answered, refused}
+use Rattle.search.specs.Limits.{values_fault}
+use Rattle.minimate.specs.Output.{Reply, answered, refused, input_of, IsOutput}
+use Rattle.minimate.specs.declared.line.Line.{Line}
 use Rattle.minimate.specs.declared.refusal.Refusal.{Refusal}
-use Rattle.minimate.specs.declared.refusal.Refusal.TheVariants.{NoMemory}
+use Rattle.minimate.specs.declared.refusal.Refusal.TheVariants.{TooLong, NoMemory}
+use Rattle.minimate.specs.declared.transfer.InputFault.{InputFault}
+use Rattle.minimate.specs.declared.transfer.InputFault.TheVariants as input
+use Rattle.minimate.specs.declared.trouble.Trouble.{Trouble}
+use Rattle.minimate.specs.declared.trouble.Trouble.TheVariants.{Refused, ReadFailed}
 
--- the answer within a limit of any size, or the fault of the limit
-abbrev pub Solves : Goal → PlainBoard → ℕ → Result Answer SolveFault → Type 0
-Solves goal b limit (Ok answer) = (limits_fault limit ≡ None) × IsAnswer goal b limit answer
-Solves goal b limit (Err fault) = limits_fault limit ≡ Some fault
+-- for values of any size: the answer within the limit, or the first fault of the values, or want of memory
+abbrev pub Solves : Goal → PlainBoard → ℕ → ℕ → Result Answer SolveFault → Type 0
+Solves goal b limit slots (Ok answer) = (values_fault limit slots ≡ None) × IsAnswer goal b limit answer
+Solves goal b limit slots (Err fault) = (values_fault limit slots ≡ Some fault) ⊎ ((values_fault limit slots ≡ None) × (fault ≡ solve.NoMemory))
 
 -- a text is that of an answer, and a refusal is right or is want of memory
 abbrev pub Gives : {B : Type 0} → (B → List ℕ) → (Reply → Type 0) → Result B Refusal → Type 0
 Gives bytes Is (Ok text) = Is (answered (bytes text))
 Gives bytes Is (Err refusal) = (refusal ≡ NoMemory) ⊎ Is (refused refusal)
+
+-- the same, where a failed read says nothing
+abbrev pub GivesIfRead : {B : Type 0} → (B → List ℕ) → (Reply → Type 0) → Result B Trouble → Type 0
+GivesIfRead bytes Is (Ok text) = Is (answered (bytes text))
+GivesIfRead bytes Is (Err (Refused refusal)) = (refusal ≡ NoMemory) ⊎ Is (refused refusal)
+GivesIfRead bytes Is (Err ReadFailed) = ⊤
+
+-- a reply to the line, where the input that it reads is known
+abbrev pub GivesReply : {B : Type 0} → (B → List ℕ) → Line → Option (List ℕ) → Result B Trouble → Type 0
+GivesReply bytes line known result =
+    IfSome (input_of line.action known) (λ input. GivesIfRead bytes (IsOutput line input) result)
+
+-- how many reads failed
+abbrev pub reads_failed : {B : Type 0} → Result B Trouble → ℕ
+reads_failed (Err ReadFailed) = 1
+reads_failed _ = 0
+
+-- the trouble of each fault of the input
+abbrev pub trouble_of : InputFault → Trouble
+trouble_of input.ReadFailed = ReadFailed
+trouble_of input.TooLong = Refused TooLong
+trouble_of input.NoMemory = Refused NoMemory

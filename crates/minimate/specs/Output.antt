@@ -1,5 +1,5 @@
 -- What the program writes for a line, and the status that it ends with.
-use Rattle.std.specs.Prelude.{◌≡◌, ◌⊎◌, ℕ, List, [], ◌∷◌, ◌++◌, MatchOption, codes}
+use Rattle.std.specs.Prelude.{◌≡◌, ◌⊎◌, ℕ, List, [], ◌∷◌, ◌++◌, ◌≢◌, ◌≤◌, nat_lt, length, Option, None, Some, MatchBool, MatchOption, SomeIff, codes}
 use Rattle.std.specs.List.{flat_map}
 use Rattle.std.specs.Fmt.{decimal}
 use Rattle.board.specs.declared.fault.FenFault.{FenFault}
@@ -15,13 +15,22 @@ use Rattle.moves.specs.Squares.{Ply}
 use Rattle.search.specs.declared.answer.Answer.{Answer}
 use Rattle.search.specs.declared.answer.Answer.TheVariants.{Mate, NoneWithin}
 use Rattle.search.specs.Answer.{IsAnswer}
-use Rattle.search.specs.Limits.{limits_fault}
-use Rattle.minimate.specs.Refusal.{refusal_status, refusal_text, refusal_of_fen, refusal_of_solve}
+use Rattle.search.specs.Limits.{values_fault}
+use Rattle.wintree.specs.declared.fault.TreeFault.{TreeFault}
+use Rattle.wintree.specs.declared.fault.TreeFault.TheVariants as tree
+use Rattle.wintree.specs.Offset.{IsFaultOf}
+use Rattle.wintree.specs.Plan.{Plan, depth}
+use Rattle.wintree.specs.Text.{TreeText}
+use Rattle.wintree.specs.Wins.{Wins, height}
+use Rattle.minimate.specs.Input.{without_line_feed}
+use Rattle.minimate.specs.Refusal.{refusal_status, refusal_text, refusal_of_fen, refusal_of_solve, refusal_of_tree}
 use Rattle.minimate.specs.declared.line.Line.{Line}
 use Rattle.minimate.specs.declared.line.Limits.{Limits}
 use Rattle.minimate.specs.declared.line.Action.{Action}
-use Rattle.minimate.specs.declared.line.Action.TheVariants.{Solve, Moves}
+use Rattle.minimate.specs.declared.line.Action.TheVariants.{Solve, Moves, Check}
 use Rattle.minimate.specs.declared.refusal.Refusal.{Refusal}
+use Rattle.minimate.specs.declared.refusal.Refusal.TheVariants.{TooLong}
+use Rattle.minimate.specs.declared.transfer.TheConstants.{MOST_INPUT}
 
 -- what is written, and the status
 pub record Reply : Type 0 where
@@ -42,31 +51,62 @@ refused refusal = record { status = refusal_status refusal; text = line_of (code
 
 -- ---- the texts of answers
 
--- the plies and the first move, as `mate 1 f1f6`, or `none within 1`
-abbrev pub answer_text : Answer → List ℕ
-answer_text (Mate plies first) = codes "mate " ++ (decimal plies ++ (codes " " ++ line_of (move_text first)))
-answer_text (NoneWithin limit) = line_of (codes "none within " ++ decimal limit)
+-- the plies and the first move, as `mate 1 f1f6`, or `goal 1 b1b5` where stalemate is good too; or `none within 1`
+abbrev pub answer_text : Goal → Answer → List ℕ
+answer_text goal.Mate (Mate plies first) = codes "mate " ++ (decimal plies ++ (codes " " ++ line_of (move_text first)))
+answer_text goal.MateOrStale (Mate plies first) = codes "goal " ++ (decimal plies ++ (codes " " ++ line_of (move_text first)))
+answer_text goal (NoneWithin limit) = line_of (codes "none within " ++ decimal limit)
 
 -- each move on a line of its own
 abbrev pub moves_text : List Ply → List ℕ
 moves_text moves = flat_map (λ m. line_of (move_text m)) moves
 
+-- in how many plies a tree wins, as `yes 3`, or `no`
+abbrev pub checked_text : Option ℕ → List ℕ
+checked_text None = line_of (codes "no")
+checked_text (Some plies) = line_of (codes "yes " ++ decimal plies)
+
 -- ---- the reply to each command, at a position
 
--- the answer for a goal within the limit, or the refusal of a limit that is not searched
+-- the answer for a goal within the limit, or the refusal of the first value that is outside its limits
 abbrev pub ShowsAnswer : Goal → PlainBoard → Limits → Reply → Type 0
-ShowsAnswer goal b limits reply = MatchOption (limits_fault limits.limit)
-    ((answer : Answer) × IsAnswer goal b limits.limit answer × (reply ≡ answered (answer_text answer)))
+ShowsAnswer goal b limits reply = MatchOption (values_fault limits.limit limits.slots)
+    ((answer : Answer) × IsAnswer goal b limits.limit answer × (reply ≡ answered (answer_text goal answer)))
     (λ fault. reply ≡ refused (refusal_of_solve fault))
 
 -- the lawful moves, in order
 abbrev pub ShowsMoves : PlainBoard → Reply → Type 0
 ShowsMoves b reply = (moves : List Ply) × ListsLawful b moves × (reply ≡ answered (moves_text moves))
 
--- the goal of a `solve` line is mate
-abbrev pub Shows : PlainBoard → Action → Reply → Type 0
-Shows b (Solve limits) reply = ShowsAnswer goal.Mate b limits reply
-Shows b Moves reply = ShowsMoves b reply
+-- the height of a plan that wins for the goal, or that it doesn't win
+abbrev pub ShowsPlan : Goal → PlainBoard → Plan → Reply → Type 0
+ShowsPlan goal b plan reply =
+    (plies : Option ℕ) × SomeIff plies (Wins goal b plan) (height plan) × (reply ≡ answered (checked_text plies))
+
+-- the text is that of the plan, in which at most 32 of the attacker's moves are nested
+abbrev pub IsTreeText : List ℕ → Plan → Type 0
+IsTreeText text plan = TreeText text plan × (depth plan ≤ 32)
+
+-- the text is no such plan's, and this is its fault
+abbrev pub IsTreeFault : List ℕ → TreeFault → Type 0
+IsTreeFault text fault = IsFaultOf text fault × (fault ≢ tree.NoMemory)
+
+-- what is said of the text's plan, or the refusal of the text's fault
+abbrev pub ShowsTree : Goal → PlainBoard → List ℕ → Reply → Type 0
+ShowsTree goal b text reply =
+    ((plan : Plan) × IsTreeText text plan × ShowsPlan goal b plan reply)
+    ⊎ ((fault : TreeFault) × IsTreeFault text fault × (reply ≡ refused (refusal_of_tree fault)))
+
+-- the same of the input without a line feed at its end, or that the input is too long
+abbrev pub ShowsCheck : Goal → PlainBoard → List ℕ → Reply → Type 0
+ShowsCheck goal b input reply =
+    MatchBool (nat_lt MOST_INPUT (length input)) (reply ≡ refused TooLong) (ShowsTree goal b (without_line_feed input) reply)
+
+-- the reply of the command
+abbrev pub Shows : PlainBoard → Action → List ℕ → Reply → Type 0
+Shows b (Solve goal limits) input reply = ShowsAnswer goal b limits reply
+Shows b Moves input reply = ShowsMoves b reply
+Shows b (Check goal) input reply = ShowsCheck goal b input reply
 
 -- ---- the output of a line
 
@@ -74,8 +114,13 @@ Shows b Moves reply = ShowsMoves b reply
 abbrev pub IsSoundText : List ℕ → PlainBoard → Type 0
 IsSoundText text b = IsPosition b × IsFenText text b × IsSound b
 
--- the reply to a line: its command's at the sound position of its text, or the refusal of its text's fault
-abbrev pub IsOutput : Line → Reply → Type 0
-IsOutput line reply =
-    ((b : PlainBoard) × IsSoundText line.fen.now b × Shows b line.action reply)
+-- the reply to a line with this input: its command's at the sound position of its text, or the refusal of its text's fault
+abbrev pub IsOutput : Line → List ℕ → Reply → Type 0
+IsOutput line input reply =
+    ((b : PlainBoard) × IsSoundText line.fen.now b × Shows b line.action input reply)
     ⊎ ((fault : FenFault) × IsSoundFault line.fen.now fault × (reply ≡ refused (refusal_of_fen fault)))
+
+-- what is known of the input that a command reads: all but `check` read none
+abbrev pub input_of : Action → Option (List ℕ) → Option (List ℕ)
+input_of (Check goal) known = known
+input_of _ known = Some []

@@ -1,11 +1,14 @@
 -- The words that stand after `refused: `.
-use Rattle.std.specs.Prelude.{ℕ, List, codes}
+use Rattle.std.specs.Prelude.{ℕ, List, ◌++◌, codes}
+use Rattle.std.specs.Fmt.{decimal}
 use Rattle.board.specs.declared.fault.FenFault.{FenFault}
 use Rattle.board.specs.declared.fault.FenFault.TheVariants as fen
 use Rattle.search.specs.declared.fault.SolveFault.{SolveFault}
 use Rattle.search.specs.declared.fault.SolveFault.TheVariants as solve
+use Rattle.wintree.specs.declared.fault.TreeFault.{TreeFault}
+use Rattle.wintree.specs.declared.fault.TreeFault.TheVariants as tree
 use Rattle.minimate.specs.declared.refusal.Refusal.{Refusal}
-use Rattle.minimate.specs.declared.refusal.Refusal.TheVariants.{Fields, Shape, Letter, Run, Side, Kings, Units, PawnRank, OtherInCheck, Limit, NoMemory}
+use Rattle.minimate.specs.declared.refusal.Refusal.TheVariants.{Fields, Shape, Letter, Run, Side, Kings, Units, PawnRank, OtherInCheck, Limit, Slots, TooLong, Grammar, Deep, NoMemory}
 
 -- the name that is printed
 abbrev pub refusal_text : Refusal → List ℕ
@@ -19,6 +22,10 @@ refusal_text Units = codes "Units"
 refusal_text PawnRank = codes "PawnRank"
 refusal_text OtherInCheck = codes "OtherInCheck"
 refusal_text Limit = codes "Limit"
+refusal_text Slots = codes "Slots"
+refusal_text TooLong = codes "TooLong"
+refusal_text (Grammar offset) = codes "Grammar at offset " ++ decimal offset
+refusal_text Deep = codes "Deep"
 refusal_text NoMemory = codes "NoMemory"
 
 -- the status of a run that ends with it
@@ -41,3 +48,11 @@ refusal_of_fen fen.OtherInCheck = OtherInCheck
 -- the refusal of each fault of a solve
 abbrev pub refusal_of_solve : SolveFault → Refusal
 refusal_of_solve solve.Limit = Limit
+refusal_of_solve solve.Slots = Slots
+refusal_of_solve solve.NoMemory = NoMemory
+
+-- the refusal of each fault of a tree's text
+abbrev pub refusal_of_tree : TreeFault → Refusal
+refusal_of_tree (tree.Grammar offset) = Grammar offset
+refusal_of_tree tree.Deep = Deep
+refusal_of_tree tree.NoMemory = NoMemory

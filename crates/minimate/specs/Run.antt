@@ -1,16 +1,19 @@
--- What a run of the program does: its status, and what it writes.
-use Rattle.std.specs.Prelude.{◌≡◌, ◌⊎◌, ◌↔◌, ◌-◌, ◌<◌, ◌≤◌, ℕ, List, [], Option}
+-- What a run of the program does: its status, and what it reads and writes.
+use Rattle.std.specs.Prelude.{◌≡◌, ◌⊎◌, ◌↔◌, ◌+◌, ◌-◌, ◌<◌, ◌≤◌, ℕ, List, [], Option, IfSome}
 use Rattle.std.specs.Io.KnownBytes.{Appends}
 use Rattle.clap.specs.Words.{Text}
 use Rattle.minimate.specs.Device.{AppendsBeginning}
-use Rattle.minimate.specs.Output.{Reply, IsOutput, refused}
+use Rattle.board.specs.Board.{PlainBoard}
+use Rattle.moves.specs.declared.goal.Goal.{Goal}
+use Rattle.minimate.specs.Output.{Reply, IsSoundText, IsOutput, input_of, refused}
 use Rattle.minimate.specs.Words.{MeansLine, MeansNoLine}
 use Rattle.minimate.specs.declared.line.Line.{Line}
+use Rattle.minimate.specs.declared.line.Action.TheVariants.{Check}
 use Rattle.minimate.specs.declared.refusal.Refusal.{Refusal}
 use Rattle.minimate.specs.declared.refusal.Refusal.TheVariants.{NoMemory}
 
--- what was seen of a run
-pub record Run : Type 0 where
+-- what was seen of a run's writer, and the status
+pub record Ending : Type 0 where
   -- what was written before it and after it, where the writer tells
   pub before : Option (List ℕ)
   pub after : Option (List ℕ)
@@ -18,69 +21,101 @@ pub record Run : Type 0 where
   pub failed_writes : ℕ
   pub status : ℕ
 
--- the run, from the writer before it and after it, and its status
-abbrev pub run_of : {K : Type 0} → (K → Option (List ℕ)) → (K → ℕ) → K → K → ℕ → Run
-run_of contents failures old new status = record {
+-- the ending, from the writer before it and after it, and the status
+abbrev pub ending_of : {K : Type 0} → (K → Option (List ℕ)) → (K → ℕ) → K → K → ℕ → Ending
+ending_of contents failures old new status = record {
   before = contents old;
   after = contents new;
   failed_writes = failures new - failures old;
   status = status;
 }
 
--- the run wrote all of a text
-abbrev pub Writes : Run → List ℕ → Type 0
-Writes run text = Appends run.before run.after text
+-- what was seen of a run
+pub record Run : Type 0 where
+  -- the bytes that the reader had before it, where it tells
+  pub input : Option (List ℕ)
+  -- how many of its reads failed
+  pub failed_reads : ℕ
+  pub ending : Ending
 
--- the run wrote a beginning of a text
-abbrev pub WritesBeginning : Run → List ℕ → Type 0
-WritesBeginning run text = AppendsBeginning run.before run.after text
+-- the run, from the reader before it and after it, and its ending
+abbrev pub run_of : {S : Type 0} → (S → Option (List ℕ)) → (S → ℕ) → S → S → Ending → Run
+run_of remaining failures old new ending = record {
+  input = remaining old;
+  failed_reads = failures new - failures old;
+  ending = ending;
+}
 
--- some reply to the line is so
-abbrev pub HasReply : Line → (Reply → Type 0) → Type 0
-HasReply line Is = (reply : Reply) × IsOutput line reply × Is reply
+-- all of a text was written
+abbrev pub Writes : Ending → List ℕ → Type 0
+Writes ending text = Appends ending.before ending.after text
+
+-- a beginning of a text was written
+abbrev pub WritesBeginning : Ending → List ℕ → Type 0
+WritesBeginning ending text = AppendsBeginning ending.before ending.after text
+
+-- some reply to the line is so, where the input that the line reads is known
+abbrev pub HasReply : Line → Run → (Reply → Type 0) → Type 0
+HasReply line run Is =
+    IfSome (input_of line.action run.input) (λ input. (reply : Reply) × IsOutput line input reply × Is reply)
+
+-- the line reads the input: it is a `check` at a sound position
+abbrev pub MayRead : Line → Type 0
+MayRead line = ((goal : Goal) × (line.action ≡ Check goal)) × ((b : PlainBoard) × IsSoundText line.fen.now b)
 
 -- the line that is written for want of memory
 abbrev pub no_memory : List ℕ
 no_memory = (refused NoMemory).text
 
+-- how many reads and writes failed
+abbrev pub failures_of : Run → ℕ
+failures_of run = run.failed_reads + run.ending.failed_writes
+
 -- the run is one of the line
 pub record RunsLine (line : Line) (run : Run) : Type 0 where
   -- no other status comes, and so never 2
-  pub status_known : (run.status ≡ 0) ⊎ (run.status ≡ 1) ⊎ (run.status ≡ 3) ⊎ (run.status ≡ 4)
+  pub status_known : (run.ending.status ≡ 0) ⊎ (run.ending.status ≡ 1) ⊎ (run.ending.status ≡ 3) ⊎ (run.ending.status ≡ 4)
   -- 0 and 1: the status and the output are the line's
-  pub answered : (run.status ≡ 0) ⊎ (run.status ≡ 1)
-      → HasReply line (λ reply. (run.status ≡ reply.status) × Writes run reply.text)
+  pub answered : (run.ending.status ≡ 0) ⊎ (run.ending.status ≡ 1)
+      → HasReply line run (λ reply. (run.ending.status ≡ reply.status) × Writes run.ending reply.text)
   -- 3: want of memory, and nothing else is written
-  pub out_of_memory : run.status ≡ 3 → Writes run no_memory
-  -- 4: exactly where a write failed
-  pub failed : (run.status ≡ 4) ↔ (0 < run.failed_writes)
+  pub out_of_memory : run.ending.status ≡ 3 → Writes run.ending no_memory
+  -- 4: exactly where a read or a write failed
+  pub failed : (run.ending.status ≡ 4) ↔ (0 < failures_of run)
   -- and nothing is tried again
-  pub once : run.failed_writes ≤ 1
+  pub once : failures_of run ≤ 1
+  -- after a failed read nothing is written
+  pub failed_read : 0 < run.failed_reads → Writes run.ending []
   -- after a failed write a beginning of the output, or of the line for want of memory
-  pub failed_write : 0 < run.failed_writes
-      → WritesBeginning run no_memory ⊎ HasReply line (λ reply. WritesBeginning run reply.text)
+  pub failed_write : 0 < run.ending.failed_writes
+      → WritesBeginning run.ending no_memory ⊎ HasReply line run (λ reply. WritesBeginning run.ending reply.text)
 
 -- ---- the steps of a run
 
 -- how a text was written: all of it with no failure and the status that was asked, or a beginning of it with one failure and status 4
-abbrev pub Finishes : Run → List ℕ → ℕ → Type 0
-Finishes run text asked =
-    (Writes run text × (run.failed_writes ≡ 0) × (run.status ≡ asked))
-    ⊎ (WritesBeginning run text × (run.failed_writes ≡ 1) × (run.status ≡ 4))
+abbrev pub Finishes : Ending → List ℕ → ℕ → Type 0
+Finishes ending text asked =
+    (Writes ending text × (ending.failed_writes ≡ 0) × (ending.status ≡ asked))
+    ⊎ (WritesBeginning ending text × (ending.failed_writes ≡ 1) × (ending.status ≡ 4))
 
 -- how a refusal was written: as it is, or as want of memory
-abbrev pub Refuses : Run → Refusal → Type 0
-Refuses run refusal = Finishes run (refused refusal).text (refused refusal).status ⊎ Finishes run no_memory 3
+abbrev pub Refuses : Ending → Refusal → Type 0
+Refuses ending refusal = Finishes ending (refused refusal).text (refused refusal).status ⊎ Finishes ending no_memory 3
 
 -- ---- a run of words
 
--- the words mean no line: status 2, and nothing is written
+-- the words mean no line: status 2, nothing is written, and nothing fails
 abbrev pub RefusesWords : List Text → Run → Type 0
-RefusesWords words run = MeansNoLine words × (run.status ≡ 2) × Writes run [] × (run.failed_writes ≡ 0)
+RefusesWords words run =
+    MeansNoLine words × (run.ending.status ≡ 2) × Writes run.ending [] × (failures_of run ≡ 0)
 
--- want of memory while the words were read: the line for want of memory is written
+-- want of memory while the words were read: no read fails, and the line for want of memory is written
 abbrev pub GivesUp : Run → Type 0
-GivesUp run = Finishes run no_memory 3
+GivesUp run = (run.failed_reads ≡ 0) × Finishes run.ending no_memory 3
+
+-- the words mean a line that reads the input
+abbrev pub MayReadFor : List Text → Type 0
+MayReadFor words = (line : Line) × MeansLine words line × MayRead line
 
 -- the words mean no line, or memory is wanting, or the run is one of the line that the words mean
 abbrev pub RunsWords : List Text → Run → Type 0

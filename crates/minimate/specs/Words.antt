@@ -2,10 +2,13 @@
 use Rattle.std.specs.Prelude.{◌≡◌, ◌≢◌, ◌⊎◌, ◌<◌, ◌^◌, ℕ, List, [], Option, Some, IsSomeAnd, codes}
 use Rattle.std.specs.Str.Parse.{IsNumeral, digits_value, without_leading_plus}
 use Rattle.clap.specs.Words.{Row, Text, fault_of, first_of, one_of, subcommand_of}
+use Rattle.moves.specs.declared.goal.Goal.{Goal}
+use Rattle.moves.specs.declared.goal.Goal.TheVariants.{Mate, MateOrStale}
 use Rattle.minimate.specs.Program.{program}
 use Rattle.minimate.specs.declared.line.Line.{Line}
+use Rattle.minimate.specs.declared.line.Limits.{Limits}
 use Rattle.minimate.specs.declared.line.Action.{Action}
-use Rattle.minimate.specs.declared.line.Action.TheVariants.{Solve, Moves}
+use Rattle.minimate.specs.declared.line.Action.TheVariants.{Solve, Moves, Check}
 
 -- the text is the number: decimal digits, perhaps after a plus, below 2^32
 abbrev pub IsNumber : Text → ℕ → Type 0
@@ -16,10 +19,25 @@ IsNumber text n = (IsNumeral 10 (without_leading_plus text) × (digits_value 10 
 abbrev pub HasNumber : Text → List Row → ℕ → Type 0
 HasNumber id rows n = (text : Text) × (one_of id rows ≡ Some text) × IsNumber text n
 
+-- the numbers that were found for the limits' names
+pub record HasLimits (rows : List Row) (limits : Limits) : Type 0 where
+  pub limit : HasNumber (codes "limit") rows limits.limit
+  pub slots : HasNumber (codes "slots") rows limits.slots
+
+-- the word of a goal
+abbrev pub goal_word : Goal → Text
+goal_word Mate = codes "mate"
+goal_word MateOrStale = codes "stale"
+
+-- the word that was found for `goal` is the goal's
+abbrev pub HasGoal : List Row → Goal → Type 0
+HasGoal rows goal = first_of (codes "goal") rows ≡ Some (goal_word goal)
+
 -- the command of that name with the values that were found for it
 abbrev pub MeansAction : Text → List Row → Action → Type 0
-MeansAction name rows (Solve limits) = (name ≡ codes "solve") × HasNumber (codes "limit") rows limits.limit
+MeansAction name rows (Solve goal limits) = (name ≡ codes "solve") × HasGoal rows goal × HasLimits rows limits
 MeansAction name rows Moves = name ≡ codes "moves"
+MeansAction name rows (Check goal) = (name ≡ codes "check") × HasGoal rows goal
 
 -- the command's name and rows, as found, are the line's
 abbrev pub MeansFound : Text × List Row → Line → Type 0

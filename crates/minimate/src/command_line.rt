@@ -1,18 +1,21 @@
 //! The words of the command line.
 ghost use Rattle.std.specs.Prelude.{◌≡◌, ◌≢◌, false, IfErr, IfNone, IfOk, IfSome, None, Some, ℕ, codes, map};
+ghost use Rattle.moves.specs.declared.goal.Goal.{Goal as TheGoal};
 ghost use Rattle.clap.specs.declared.error.kind.ErrorKind.TheVariants.{OutOfMemory};
 ghost use Rattle.minimate.specs.declared.command_line.LineFault.TheVariants.{Words};
 ghost use Rattle.minimate.specs.declared.line.Line.{Line as TheLine};
+ghost use Rattle.minimate.specs.declared.line.Limits.{Limits as TheLimits};
 ghost use Rattle.minimate.specs.declared.line.Action.{Action as TheAction};
 ghost use Rattle.clap.specs.Words.{FailsBy, app_of, fault_of, first_of, found_of, kind_of, rows_of, rule_of, subcommand_of, subcommand_rows_of};
-ghost use Rattle.minimate.specs.Words.{HasLine, HasNumber, MeansAction, MeansLine, MeansNoLine};
+ghost use Rattle.minimate.specs.Words.{HasGoal, HasLimits, HasLine, HasNumber, MeansAction, MeansLine, MeansNoLine};
 ghost use Rattle.clap.specs.declared.builder.command.Command.TheViews.{out-Command as fields_of};
-ghost use Rattle.minimate.specs.Program.{fen_rule, limit_rule, solve_app, moves_app, program};
+ghost use Rattle.minimate.specs.Program.{fen_rule, goal_rule, number_rule, solve_app, moves_app, check_app, program};
 
 use crate::help;
 use crate::line::{Action, Limits, Line};
 use clap::error::ErrorKind;
 use clap::{Arg, ArgMatches, Command, Error, value_parser};
+use moves::Goal;
 use std::alloc::{AllocError, Global};
 use std::convert::AsStr;
 
@@ -42,26 +45,40 @@ fn fen<'a>(alloc: Global) -> Arg<'a>
     Arg::new(alloc, "FEN").required(true).help(help::FEN)
 }
 
-fn limit<'a>(alloc: Global) -> Arg<'a>
-    ensures rule { rule_of result ≡ limit_rule }
+fn number<'a>(alloc: Global, name: &'a str, value_name: &'a str, help: &'a str) -> Arg<'a>
+    ensures rule { rule_of result ≡ number_rule name.entry.now }
     ensures local { result.global ≡ false }
 {
-    Arg::new(alloc, "limit")
-        .long("limit")
-        .value_name("N")
+    Arg::new(alloc, name)
+        .long(name)
+        .value_name(value_name)
         .value_parser(value_parser!(u32))
-        .required(true)
-        .help(help::LIMIT)
+        .help(help)
+}
+
+fn goal<'a>(alloc: Global) -> Arg<'a>
+    ensures rule { rule_of result ≡ goal_rule }
+    ensures local { result.global ≡ false }
+{
+    Arg::new(alloc, "goal")
+        .long("goal")
+        .value_name("GOAL")
+        .default_value("mate")
+        .help(help::GOAL)
 }
 
 fn solve_command<'a>(alloc: Global) -> Result<Command<'a>, AllocError>
     ensures app { IfOk result (λ command. app_of command ≡ solve_app) }
     ensures local { IfOk result (λ command. (fields_of command).has_globals ≡ false) }
 {
+    let limit = number(alloc, "limit", "N", help::LIMIT).required(true);
+    let slots = number(alloc, "slots", "S", help::SLOTS).default_value("64");
     Command::new(alloc, "solve")
         .about(help::SOLVE)
         .after_help(help::SOLVE_NOTES)
-        .arg(limit(alloc))?
+        .arg(limit)?
+        .arg(slots)?
+        .arg(goal(alloc))?
         .arg(fen(alloc))
 }
 
@@ -75,6 +92,17 @@ fn moves_command<'a>(alloc: Global) -> Result<Command<'a>, AllocError>
         .arg(fen(alloc))
 }
 
+fn check_command<'a>(alloc: Global) -> Result<Command<'a>, AllocError>
+    ensures app { IfOk result (λ command. app_of command ≡ check_app) }
+    ensures local { IfOk result (λ command. (fields_of command).has_globals ≡ false) }
+{
+    Command::new(alloc, "check")
+        .about(help::CHECK)
+        .after_help(help::CHECK_NOTES)
+        .arg(goal(alloc))?
+        .arg(fen(alloc))
+}
+
 /// The program's commands.
 fn command<'a>(alloc: Global) -> Result<Command<'a>, AllocError>
     ensures { IfOk result (λ command. app_of command ≡ program) }
@@ -85,7 +113,8 @@ fn command<'a>(alloc: Global) -> Result<Command<'a>, AllocError>
         .after_help(help::PROGRAM_NOTES)
         .subcommand_required(true)
         .subcommand(solve_command(alloc)?)?
-        .subcommand(moves_command(alloc)?)
+        .subcommand(moves_command(alloc)?)?
+        .subcommand(check_command(alloc)?)
 }
 
 /// What `clap` makes of the words.
@@ -103,16 +132,35 @@ fn number_of(matches: &ArgMatches<'_>, id: &str) -> Option<u32>
     matches.get_one::<u32>(id)
 }
 
+fn limits(matches: &ArgMatches<'_>) -> Option<Limits>
+    ensures some { IfSome result (HasLimits (rows_of (found_of matches.now))) }
+    ensures none { IfNone result ((values : TheLimits) → HasLimits (rows_of (found_of matches.now)) values → ⊥) }
+{
+    Some(Limits {
+        limit: number_of(matches, "limit")?,
+        slots: number_of(matches, "slots")?,
+    })
+}
+
+fn goal_of(matches: &ArgMatches<'_>) -> Option<Goal>
+    ensures some { IfSome result (HasGoal (rows_of (found_of matches.now))) }
+    ensures none { IfNone result ((goal : TheGoal) → HasGoal (rows_of (found_of matches.now)) goal → ⊥) }
+{
+    match matches.get_str("goal")? {
+        "mate" => Some(Goal::Mate),
+        "stale" => Some(Goal::MateOrStale),
+        _ => None,
+    }
+}
+
 fn action_of(name: &str, values: &ArgMatches<'_>) -> Option<Action>
     ensures some { IfSome result (MeansAction name.now (rows_of (found_of values.now))) }
     ensures none { IfNone result ((action : TheAction) → MeansAction name.now (rows_of (found_of values.now)) action → ⊥) }
 {
     match name {
-        "solve" => {
-            let limit = number_of(values, "limit")?;
-            Some(Action::Solve(Limits { limit }))
-        }
+        "solve" => Some(Action::Solve(goal_of(values)?, limits(values)?)),
         "moves" => Some(Action::Moves),
+        "check" => Some(Action::Check(goal_of(values)?)),
         _ => None,
     }
 }

@@ -1,4 +1,5 @@
 //! A command line that was read.
+use moves::Goal;
 
 /// A command and the position that it is about.
 #[derive(Clone, Copy)]
@@ -11,15 +12,19 @@ pub struct Line<'a> {
 /// A command with its values.
 #[derive(Clone, Copy)]
 pub enum Action {
-    /// The fewest plies to mate, and the first move.
-    Solve(Limits),
+    /// The fewest plies to the goal, and the first move.
+    Solve(Goal, Limits),
     /// Each lawful move.
     Moves,
+    /// In how many plies the tree of the input wins, if it wins.
+    Check(Goal),
 }
 
-/// How far to search, as the command line has it: any number that it can name.
+/// How far and with what to search, as the command line has it: any numbers that it can name.
 #[derive(Clone, Copy)]
 pub struct Limits {
-    /// The most plies to mate.
+    /// The most plies to the goal.
     pub limit: u32,
+    /// The slots of the table that remembers decided positions.
+    pub slots: u32,
 }

@@ -11,6 +11,7 @@ mod run;
 #[cfg(test)]
 mod tests;
 mod transfer;
+mod trouble;
 
 use crate::device::Counted;
 use std::process::ExitCode;
@@ -22,11 +23,13 @@ fn words(rt: &HostRuntime) -> io::Result<Vec<String>> {
     Ok(words)
 }
 
-/// Says on standard error why the words are no line, or prints the help that they ask for.
+/// Says on standard error why the words are no line, or prints the help that they ask for. The parser
+/// takes any word for a goal.
 fn explain(rt: &HostRuntime, words: &[String]) {
-    if let Err(error) = command_line::matches(rt.alloc(), words) {
-        let _ = eprint!(rt; "{error}");
-    }
+    let _ = match command_line::matches(rt.alloc(), words) {
+        Ok(_) => eprintln!(rt; "error: the goal is neither `mate` nor `stale`"),
+        Err(error) => eprint!(rt; "{error}"),
+    };
 }
 
 fn main(rt: HostRuntime) -> ExitCode {

@@ -1,12 +1,13 @@
 //! What stands after `refused: `.
 ghost use Rattle.std.specs.Prelude.{◌≡◌, Some};
-ghost use Rattle.minimate.specs.Refusal.{refusal_status, refusal_text, refusal_of_fen, refusal_of_solve};
+ghost use Rattle.minimate.specs.Refusal.{refusal_status, refusal_text, refusal_of_fen, refusal_of_solve, refusal_of_tree};
 ghost use Rattle.minimate.specs.declared.refusal.Refusal.TheVariants.{NoMemory as no_memory};
 
 use board::FenFault;
 use search::SolveFault;
 use std::alloc::AllocError;
 use std::fmt;
+use wintree::TreeFault;
 
 /// Why a line was not answered, by the name that is printed.
 #[derive(Clone, Copy, Debug, PartialEq, Eq)]
@@ -24,6 +25,12 @@ pub enum Refusal {
 
     // of the values of `solve`
     Limit,
+    Slots,
+
+    // of the input of `check`
+    TooLong,
+    Grammar(usize),
+    Deep,
 
     NoMemory,
 }
@@ -55,6 +62,10 @@ impl fmt::Display for Refusal {
             Refusal::PawnRank => write!(f, "PawnRank"),
             Refusal::OtherInCheck => write!(f, "OtherInCheck"),
             Refusal::Limit => write!(f, "Limit"),
+            Refusal::Slots => write!(f, "Slots"),
+            Refusal::TooLong => write!(f, "TooLong"),
+            Refusal::Grammar(offset) => write!(f, "Grammar at offset {offset}"),
+            Refusal::Deep => write!(f, "Deep"),
             Refusal::NoMemory => write!(f, "NoMemory"),
         }
     }
@@ -84,6 +95,20 @@ impl From<SolveFault> for Refusal {
     fn from(fault: SolveFault) -> Refusal {
         match fault {
             SolveFault::Limit => Refusal::Limit,
+            SolveFault::Slots => Refusal::Slots,
+            SolveFault::NoMemory => Refusal::NoMemory,
+        }
+    }
+}
+
+impl From<TreeFault> for Refusal {
+    ghost from_gives = { λ fault refusal. refusal ≡ refusal_of_tree fault };
+
+    fn from(fault: TreeFault) -> Refusal {
+        match fault {
+            TreeFault::Grammar(offset) => Refusal::Grammar(offset),
+            TreeFault::Deep => Refusal::Deep,
+            TreeFault::NoMemory => Refusal::NoMemory,
         }
     }
 }

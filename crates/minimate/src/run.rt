@@ -1,7 +1,7 @@
 //! A run of the program over any reader and writer.
-ghost use Rattle.std.specs.Prelude.{◌≡◌, ◌<◌, IfOk, map, string_bytes};
+ghost use Rattle.std.specs.Prelude.{◌≡◌, ◌⊎◌, ◌<◌, IfOk, map, string_bytes};
 ghost use Rattle.minimate.specs.Output.{refused};
-ghost use Rattle.minimate.specs.Run.{run_of, RunsLine, RunsWords, Finishes, Refuses, no_memory};
+ghost use Rattle.minimate.specs.Run.{ending_of, run_of, MayRead, MayReadFor, RunsLine, RunsWords, Finishes, Refuses, no_memory};
 
 use crate::command_line::{LineFault, read_line};
 use crate::device::{Sink, Source};
@@ -9,6 +9,7 @@ use crate::line::Line;
 use crate::refusal::Refusal;
 use crate::reply::reply;
 use crate::transfer::write_all;
+use crate::trouble::Trouble;
 use std::alloc::{AllocError, Global};
 use std::convert::AsStr;
 
@@ -23,27 +24,31 @@ const FAILED: u8 = 4;
 
 const NO_MEMORY: &[u8] = b"refused: NoMemory\n";
 
-/// Answers a line: writes its output, and gives its status. No command reads the input.
+/// Answers a line: writes its output, and gives its status. No line but a `check` at a sound
+/// position asks the reader for anything.
 pub fn run_line<S: Source, K: Sink>(
     alloc: Global,
     line: &Line<'_>,
-    _reader: &mut S,
+    reader: &mut S,
     writer: &mut K,
 ) -> u8
-    requires { K.failures writer.old < u64.MAX }
-    ensures unread { _reader.new ≡ _reader.old }
-    ensures runs { RunsLine line.now (run_of K.contents K.failures writer.old writer.new result) }
+    requires reads { S.failures reader.old < u64.MAX }
+    requires writes { K.failures writer.old < u64.MAX }
+    ensures unread { MayRead line.now ⊎ (reader.new ≡ reader.old) }
+    ensures runs { RunsLine line.now (run_of S.remaining S.failures reader.old reader.new
+        (ending_of K.contents K.failures writer.old writer.new result)) }
 {
-    match reply(alloc, line) {
+    match reply(alloc, line, reader) {
         Ok(text) => finish(writer, text.as_bytes(), ANSWERED),
-        Err(refusal) => refuse(alloc, writer, refusal),
+        Err(Trouble::Refused(refusal)) => refuse(alloc, writer, refusal),
+        Err(Trouble::ReadFailed) => FAILED,
     }
 }
 
 /// Writes the text, and gives the status where all of it was taken.
 fn finish<K: Sink>(writer: &mut K, text: &[u8], status: u8) -> u8
     requires { K.failures writer.old < u64.MAX }
-    ensures { Finishes (run_of K.contents K.failures writer.old writer.new result) text.now status }
+    ensures { Finishes (ending_of K.contents K.failures writer.old writer.new result) text.now status }
 {
     match write_all(writer, text) {
         Ok(()) => status,
@@ -54,7 +59,7 @@ fn finish<K: Sink>(writer: &mut K, text: &[u8], status: u8) -> u8
 /// Writes why there is no answer. The line for want of memory is written without taking memory.
 fn refuse<K: Sink>(alloc: Global, writer: &mut K, refusal: Refusal) -> u8
     requires { K.failures writer.old < u64.MAX }
-    ensures { Refuses (run_of K.contents K.failures writer.old writer.new result) refusal }
+    ensures { Refuses (ending_of K.contents K.failures writer.old writer.new result) refusal }
 {
     match refused_text(alloc, refusal) {
         Ok(text) => finish(writer, text.as_bytes(), refusal.status()),
@@ -65,7 +70,7 @@ fn refuse<K: Sink>(alloc: Global, writer: &mut K, refusal: Refusal) -> u8
 /// Writes the line for want of memory, without taking memory.
 pub fn give_up_for_memory<K: Sink>(writer: &mut K) -> u8
     requires { K.failures writer.old < u64.MAX }
-    ensures { Finishes (run_of K.contents K.failures writer.old writer.new result) no_memory 3 }
+    ensures { Finishes (ending_of K.contents K.failures writer.old writer.new result) no_memory 3 }
 {
     finish(writer, NO_MEMORY, OUT_OF_MEMORY)
 }
@@ -83,9 +88,11 @@ pub fn run<W: AsStr, S: Source, K: Sink>(
     reader: &mut S,
     writer: &mut K,
 ) -> u8
-    requires { K.failures writer.old < u64.MAX }
-    ensures unread { reader.new ≡ reader.old }
-    ensures runs { RunsWords (map W.text words.now) (run_of K.contents K.failures writer.old writer.new result) }
+    requires reads { S.failures reader.old < u64.MAX }
+    requires writes { K.failures writer.old < u64.MAX }
+    ensures unread { MayReadFor (map W.text words.now) ⊎ (reader.new ≡ reader.old) }
+    ensures runs { RunsWords (map W.text words.now) (run_of S.remaining S.failures reader.old reader.new
+        (ending_of K.contents K.failures writer.old writer.new result)) }
 {
     match read_line(alloc, words) {
         Ok(line) => run_line(alloc, &line, reader, writer),

@@ -3,6 +3,7 @@ ghost use Rattle.std.specs.Prelude.{◌≡◌, None, Some, IfOk};
 
 use crate::device::{Counted, Failed, Sink, Source};
 use crate::run::run;
+use crate::transfer::MOST_INPUT;
 use std::alloc::{AllocError, Global};
 use std::process::Abort;
 use std::test::Fail;
@@ -13,6 +14,9 @@ const START_MOVES: &str = "b1a3\nb1c3\ne1d3\ne1f3\na2a3\nb2b3\nc2c3\nd2d3\ne2e3\
 
 const ROOK_MATES: &str = "k5/6/1K4/6/6/5R w";
 
+// The rook waits on the last rank but one; b1b5 would be stalemate.
+const ROOK_MATES_IN_THREE: &str = "k5/6/2K3/6/6/1R4 w";
+
 // Queen and rook both mate on the last rank.
 const PAWN_MATES: &str = "k4/2P2/1K3/5/5 w";
 
@@ -20,20 +24,30 @@ const STALEMATED: &str = "k5/2Q3/6/6/6/5K b";
 
 const OTHER_IN_CHECK: &str = "k4R/6/1K4/6/6/6 w";
 
-/// A reader that fails at once.
+/// A reader that gives `left` of its bytes, and then fails.
 #[derive(Drop)]
-struct Failing {
+struct Breaking<'a> {
+    bytes: &'a [u8],
+    left: usize,
     failures: u64,
 }
 
-impl Source for Failing {
-    ghost remaining = { λ _. None };
+impl Source for Breaking<'_> {
+    ghost remaining = { λ reader. Some reader.bytes.now };
 
     ghost failures = { λ reader. reader.failures };
 
-    fn read(&mut self, _buffer: &mut [u8]) -> Result<usize, Failed> {
-        self.failures += 1;
-        Err(Failed)
+    fn read(&mut self, buffer: &mut [u8]) -> Result<usize, Failed> {
+        if self.left == 0 {
+            self.failures += 1;
+            return Err(Failed);
+        }
+        let most = self.left.min(buffer.len()).min(self.bytes.len());
+        let (given, rest) = self.bytes.split_at(most);
+        buffer[..most].copy_from_slice(given);
+        self.bytes = rest;
+        self.left -= most;
+        Ok(most)
     }
 }
 
@@ -91,13 +105,36 @@ impl std::io::Write for Deaf {
     }
 }
 
-/// Runs the words, and expects a status and an output.
-fn expect<R: Abort + AllocGlobal>(rt: &R, words: &[&str], status: u8, output: &str) {
-    let mut reader = Counted::new(b"".as_slice());
+/// Runs the words over an input, and expects a status and an output.
+fn expect_with<R: Abort + AllocGlobal>(
+    rt: &R,
+    words: &[&str],
+    input: &[u8],
+    status: u8,
+    output: &str,
+) {
+    let mut reader = Counted::new(input);
     let mut writer = Counted::new(Vec::new(rt.alloc()));
     let answered = run(rt.alloc(), words, &mut reader, &mut writer);
     assert_eq!(rt; answered, status);
     assert_eq!(rt; writer.device.as_slice(), output.as_bytes());
+}
+
+/// Runs the words with no input, and expects a status and an output.
+fn expect<R: Abort + AllocGlobal>(rt: &R, words: &[&str], status: u8, output: &str) {
+    expect_with(rt, words, b"", status, output);
+}
+
+/// Checks a tree, and expects a status and an output.
+fn expect_check<R: Abort + AllocGlobal>(rt: &R, fen: &str, tree: &str, status: u8, output: &str) {
+    let words = ["minimate", "check", fen];
+    expect_with(rt, &words, tree.as_bytes(), status, output);
+}
+
+/// Checks a tree for a goal, and expects an output with status 0.
+fn expect_check_for<R: Abort + AllocGlobal>(rt: &R, goal: &str, tree: &str, output: &str) {
+    let words = ["minimate", "check", "--goal", goal, ROOK_MATES_IN_THREE];
+    expect_with(rt, &words, tree.as_bytes(), 0, output);
 }
 
 /// Solves within a limit, and expects an output with status 0.
@@ -110,10 +147,11 @@ fn expect_moves<R: Abort + AllocGlobal>(rt: &R, fen: &str, output: &str) {
     expect(rt, &["minimate", "moves", fen], 0, output);
 }
 
-/// Expects both commands to refuse the position, whatever the limit.
+/// Expects each command to refuse the position, whatever the limit and the input.
 fn expect_refused<R: Abort + AllocGlobal>(rt: &R, fen: &str, output: &str) {
     expect(rt, &["minimate", "moves", fen], 1, output);
     expect(rt, &["minimate", "solve", "--limit", "0", fen], 1, output);
+    expect(rt, &["minimate", "check", fen], 1, output);
 }
 
 /// Expects the words to mean no line: nothing is written.
@@ -130,12 +168,49 @@ fn finds_mates_in_one(rt: HostRuntime) {
 
 #[test]
 fn finds_no_mate_in_one(rt: HostRuntime) {
-    // Mate takes three plies, and b1b5 is stalemate.
-    expect_answer(&rt, "1", "k5/6/2K3/6/6/1R4 w", "none within 1\n");
+    expect_answer(&rt, "1", ROOK_MATES_IN_THREE, "none within 1\n");
     expect_answer(&rt, "1", STALEMATED, "none within 1\n");
     // The side to move is mated.
     expect_answer(&rt, "1", "k4R/6/1K4/6/6/6 b", "none within 1\n");
     expect_answer(&rt, "1", START, "none within 1\n");
+}
+
+#[test]
+fn finds_mate_in_three(rt: HostRuntime) {
+    expect_answer(&rt, "2", ROOK_MATES_IN_THREE, "none within 2\n");
+    expect_answer(&rt, "3", ROOK_MATES_IN_THREE, "mate 3 c4c5\n");
+    expect_answer(&rt, "4", ROOK_MATES_IN_THREE, "mate 3 c4c5\n");
+    expect_answer(&rt, "5", STALEMATED, "none within 5\n");
+}
+
+#[test]
+fn plays_for_the_goal(rt: HostRuntime) {
+    for (goal, limit, fen, output) in [
+        ("stale", "1", ROOK_MATES_IN_THREE, "goal 1 b1b5\n"),
+        ("stale", "3", ROOK_MATES_IN_THREE, "goal 1 b1b5\n"),
+        ("mate", "1", ROOK_MATES_IN_THREE, "none within 1\n"),
+        ("mate", "3", ROOK_MATES_IN_THREE, "mate 3 c4c5\n"),
+        ("stale", "5", STALEMATED, "none within 5\n"),
+    ] {
+        let words = ["minimate", "solve", "--goal", goal, "--limit", limit, fen];
+        expect(&rt, &words, 0, output);
+    }
+}
+
+#[test]
+fn answers_the_same_with_any_slots(rt: HostRuntime) {
+    for slots in ["1", "2", "64", "65", "4096"] {
+        let words = [
+            "minimate",
+            "solve",
+            "--limit",
+            "3",
+            "--slots",
+            slots,
+            ROOK_MATES_IN_THREE,
+        ];
+        expect(&rt, &words, 0, "mate 3 c4c5\n");
+    }
 }
 
 #[test]
@@ -183,6 +258,41 @@ fn refuses_limits(rt: HostRuntime) {
 }
 
 #[test]
+fn refuses_slots(rt: HostRuntime) {
+    // 4294967297 ends in a word that 32 bits would have read as 1, and so is no number of 32 bits.
+    for (slots, status, output) in [
+        ("0", 1, "refused: Slots\n"),
+        ("1048577", 1, "refused: Slots\n"),
+        ("4294967295", 1, "refused: Slots\n"),
+        ("4294967297", 2, ""),
+        ("x", 2, ""),
+    ] {
+        let words = [
+            "minimate", "solve", "--limit", "1", "--slots", slots, ROOK_MATES,
+        ];
+        expect(&rt, &words, status, output);
+    }
+}
+
+#[test]
+fn refuses_in_order(rt: HostRuntime) {
+    let fen = [
+        "minimate",
+        "solve",
+        "--limit",
+        "0",
+        "--slots",
+        "0",
+        OTHER_IN_CHECK,
+    ];
+    expect(&rt, &fen, 1, "refused: OtherInCheck\n");
+    let limit = [
+        "minimate", "solve", "--slots", "0", "--limit", "64", ROOK_MATES,
+    ];
+    expect(&rt, &limit, 1, "refused: Limit\n");
+}
+
+#[test]
 fn refuses_words(rt: HostRuntime) {
     expect_no_line(&rt, &[]);
     expect_no_line(&rt, &["minimate"]);
@@ -191,20 +301,24 @@ fn refuses_words(rt: HostRuntime) {
     expect_no_line(&rt, &["minimate", "play", START]);
     expect_no_line(&rt, &["minimate", "moves"]);
     expect_no_line(&rt, &["minimate", "moves", START, START]);
+    expect_no_line(&rt, &["minimate", "check"]);
+    expect_no_line(&rt, &["minimate", "check", "--limit", "1", START]);
     expect_no_line(&rt, &["minimate", "solve", START]);
     for limit in ["x", "", "-1", "1.0", "4294967296"] {
         expect_no_line(&rt, &["minimate", "solve", "--limit", limit, START]);
+    }
+    for goal in ["", "Mate", "mates", "stalemate", "1"] {
+        let words = ["minimate", "solve", "--limit", "1", "--goal", goal, START];
+        expect_no_line(&rt, &words);
+        expect_no_line(&rt, &["minimate", "check", "--goal", goal, START]);
     }
 }
 
 #[test]
 fn refuses_what_has_not_come(rt: HostRuntime) {
-    expect_no_line(&rt, &["minimate", "check", START]);
     expect_no_line(&rt, &["minimate", "tree", "--limit", "1", START]);
-    for option in ["--workers", "--slots", "--goal"] {
-        let words = ["minimate", "solve", "--limit", "1", option, "1", START];
-        expect_no_line(&rt, &words);
-    }
+    let workers = ["minimate", "solve", "--limit", "1", "--workers", "1", START];
+    expect_no_line(&rt, &workers);
 }
 
 #[test]
@@ -236,12 +350,104 @@ fn stops_at_a_failed_write(rt: HostRuntime) -> Result<(), Fail> {
 }
 
 #[test]
-fn asks_the_reader_for_nothing(rt: HostRuntime) {
-    let words = ["minimate", "solve", "--limit", "1", ROOK_MATES];
-    let mut reader = Failing { failures: 0 };
+fn checks_trees(rt: HostRuntime) {
+    expect_check(&rt, ROOK_MATES_IN_THREE, "c4c5{a6a5:b1a1#}", 0, "yes 3\n");
+    expect_check(&rt, ROOK_MATES_IN_THREE, "c4c5#", 0, "no\n");
+    expect_check(&rt, PAWN_MATES, "c4c5q#", 0, "yes 1\n");
+    expect_check(&rt, PAWN_MATES, "c4c5r#", 0, "yes 1\n");
+    // Two replies, and one of them left out.
+    let fen = "1k4/5R/6/6/6/2R2K w";
+    expect_check(&rt, fen, "c1e1{b6a6:e1e6#,b6c6:e1e6#}", 0, "yes 3\n");
+    expect_check(&rt, fen, "c1e1{b6a6:e1e6#}", 0, "no\n");
+}
+
+#[test]
+fn takes_one_line_feed_off_the_end(rt: HostRuntime) {
+    expect_check(&rt, ROOK_MATES_IN_THREE, "c4c5{a6a5:b1a1#}\n", 0, "yes 3\n");
+    let two = "refused: Grammar at offset 16\n";
+    expect_check(&rt, ROOK_MATES_IN_THREE, "c4c5{a6a5:b1a1#}\n\n", 1, two);
+    let first = "refused: Grammar at offset 0\n";
+    expect_check(&rt, ROOK_MATES_IN_THREE, "\nc4c5#", 1, first);
+    expect_check(&rt, ROOK_MATES_IN_THREE, "\n", 1, first);
+    expect_check(&rt, ROOK_MATES_IN_THREE, "", 1, first);
+}
+
+#[test]
+fn checks_trees_for_the_goal(rt: HostRuntime) {
+    expect_check_for(&rt, "stale", "b1b5=", "yes 1\n");
+    expect_check_for(&rt, "mate", "b1b5=", "no\n");
+    expect_check_for(&rt, "stale", "b1b5#", "no\n");
+    expect_check_for(&rt, "stale", "c4c5{a6a5:b1a1#}", "yes 3\n");
+    expect_check(&rt, ROOK_MATES_IN_THREE, "b1b5=", 0, "no\n");
+}
+
+#[test]
+fn refuses_what_is_no_tree(rt: HostRuntime) -> Result<(), Fail> {
+    let no_reply = "refused: Grammar at offset 5\n";
+    expect_check(&rt, ROOK_MATES_IN_THREE, "c4c5{}", 1, no_reply);
+
+    // 31 and 32 moves of the attacker, each in braces after the one before.
+    let mut nested = String::new(rt.alloc());
+    for _ in 0..31 {
+        nested.push_str("a1a2{a3a4:")?;
+    }
+    let cut = "refused: Grammar at offset 310\n";
+    expect_check(&rt, ROOK_MATES_IN_THREE, nested.as_str(), 1, cut);
+    nested.push_str("a1a2{a3a4:")?;
+    let deep = "refused: Deep\n";
+    expect_check(&rt, ROOK_MATES_IN_THREE, nested.as_str(), 1, deep);
+    Ok(())
+}
+
+#[test]
+fn takes_at_most_a_mebibyte(rt: HostRuntime) -> Result<(), Fail> {
+    let words = ["minimate", "check", ROOK_MATES_IN_THREE];
+    let most = vec![in rt.alloc(); b'x'; MOST_INPUT]?;
+    let first = "refused: Grammar at offset 0\n";
+    expect_with(&rt, &words, most.as_slice(), 1, first);
+    let above = vec![in rt.alloc(); b'\n'; MOST_INPUT + 1]?;
+    expect_with(&rt, &words, above.as_slice(), 1, "refused: TooLong\n");
+    Ok(())
+}
+
+#[test]
+fn stops_at_a_failed_read(rt: HostRuntime) {
+    for left in [0, 3, 16] {
+        let words = ["minimate", "check", ROOK_MATES_IN_THREE];
+        let mut reader = Breaking {
+            bytes: b"c4c5{a6a5:b1a1#}",
+            left,
+            failures: 0,
+        };
+        let mut writer = Counted::new(Vec::new(rt.alloc()));
+        let status = run(rt.alloc(), words.as_slice(), &mut reader, &mut writer);
+        assert_eq!(rt; status, 4);
+        assert_eq!(rt; reader.failures, 1);
+        assert_eq!(rt; writer.device.as_slice(), b"".as_slice());
+    }
+}
+
+/// Runs the words over a reader that fails at once, and expects that it isn't asked.
+fn expect_unread<R: Abort + AllocGlobal>(rt: &R, words: &[&str], status: u8, output: &str) {
+    let mut reader = Breaking {
+        bytes: b"",
+        left: 0,
+        failures: 0,
+    };
     let mut writer = Counted::new(Vec::new(rt.alloc()));
-    let status = run(rt.alloc(), words.as_slice(), &mut reader, &mut writer);
-    assert_eq!(rt; status, 0);
+    let answered = run(rt.alloc(), words, &mut reader, &mut writer);
+    assert_eq!(rt; answered, status);
     assert_eq!(rt; reader.failures, 0);
-    assert_eq!(rt; writer.device.as_slice(), b"mate 1 f1f6\n".as_slice());
+    assert_eq!(rt; writer.device.as_slice(), output.as_bytes());
+}
+
+#[test]
+fn asks_the_reader_for_nothing(rt: HostRuntime) {
+    let solve = ["minimate", "solve", "--limit", "1", ROOK_MATES];
+    expect_unread(&rt, &solve, 0, "mate 1 f1f6\n");
+    expect_unread(&rt, &["minimate", "moves", START], 0, START_MOVES);
+    let check = ["minimate", "check", OTHER_IN_CHECK];
+    expect_unread(&rt, &check, 1, "refused: OtherInCheck\n");
+    let no_goal = ["minimate", "check", "--goal", "x", ROOK_MATES];
+    expect_unread(&rt, &no_goal, 2, "");
 }

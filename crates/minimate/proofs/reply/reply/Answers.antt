@@ -1,0 +1,28 @@
+use Rattle.std.proofs.Common.{rules, Global, Ok, string_bytes}
+use Rattle.minimate.specs.Output.{IsSoundText, ShowsAnswer}
+use Rattle.minimate.specs.declared.line.Action.TheVariants.{Solve, Check}
+use Rattle.minimate.proofs.ReplyLemmas.{fault_gives, gives_reply, refusal_gives}
+use Rattle.minimate.proofs.reply.reply.Goals as goal
+
+pub returns-in_err-position-clause-given : goal.returns-in_err-position-clause-given
+returns-in_err-position-clause-given g c = fault_gives _ c.args.line.now _ _ c.in_err-position.field-0.0 c.in_err-position.ensures.fault c.from_residual.ensures
+
+pub returns-in_err-solve_text-in-Solve-clause-given : goal.returns-in_err-solve_text-in-Solve-clause-given
+returns-in_err-solve_text-in-Solve-clause-given g c =
+    let sound : IsSoundText c.args.line.now.fen.now c.in_ok-position.position = search rules in
+    gives_reply (string_bytes {Z = Global}) c.args.line.now (g.S.Source.remaining c.args.reader.now) c.in_ok-position.position (Solve c.in-Solve.goal c.in-Solve.limits)
+    c.from_residual-in_err-solve_text-in-Solve.result sound c.in-Solve.is
+    (refusal_gives (string_bytes {Z = Global}) (ShowsAnswer c.in-Solve.goal c.in_ok-position.position c.in-Solve.limits)
+    c.from_residual-in_err-solve_text-in-Solve.result c.in_err-solve_text-in-Solve.field-0.0 c.in_err-solve_text-in-Solve.ensures
+    c.from_residual-in_err-solve_text-in-Solve.ensures)
+
+pub returns-in_ok-solve_text-in-Solve-clause-given : goal.returns-in_ok-solve_text-in-Solve-clause-given
+returns-in_ok-solve_text-in-Solve-clause-given g c =
+    let sound : IsSoundText c.args.line.now.fen.now c.in_ok-position.position = search rules in
+    gives_reply (string_bytes {Z = Global}) c.args.line.now (g.S.Source.remaining c.args.reader.now) c.in_ok-position.position (Solve c.in-Solve.goal c.in-Solve.limits)
+    (Ok c.in_ok-solve_text-in-Solve.field-0) sound c.in-Solve.is c.in_ok-solve_text-in-Solve.ensures
+
+pub returns-in-Check-clause-given : goal.returns-in-Check-clause-given
+returns-in-Check-clause-given g c =
+    let sound : IsSoundText c.args.line.now.fen.now c.in_ok-position.position = search rules in
+    gives_reply _ c.args.line.now _ c.in_ok-position.position (Check c.in-Check.goal) _ sound c.in-Check.is c.check_text.ensures.shown
