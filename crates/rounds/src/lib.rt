@@ -1,6 +1,8 @@
 //! The root moves of a solve as jobs, which workers steal from one another, round by round.
 #![tactic(auto)]
 
+#[cfg(test)]
+mod begin_tests;
 mod bench;
 mod deal;
 mod fault;
@@ -11,6 +13,10 @@ mod settling;
 mod share;
 mod sharing;
 mod solving;
+#[cfg(test)]
+mod table_tests;
+#[cfg(test)]
+mod tests;
 mod verdict;
 mod work;
 
