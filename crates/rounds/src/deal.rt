@@ -9,8 +9,8 @@ use std::marker::{Brand, PhantomData};
 use std::sync::Wait;
 use std::thread;
 
-/// How many jobs a round has. Each call of `round` picks it.
-pub trait Count {
+/// How many jobs a round has: each call of `round` picks it, since a deque's rule can name no value.
+pub(crate) trait Count {
     ghost jobs: { ℕ };
 }
 
@@ -18,7 +18,8 @@ impl Count for Brand {
     ghost jobs = { 0 };
 }
 
-pub struct Jobs<J> {
+/// The rule of a deque: each task is a job of the round.
+pub(crate) struct Jobs<J> {
     of: PhantomData<J>,
 }
 
@@ -34,18 +35,20 @@ impl<J: Count> Outcome<u16, ()> for Jobs<J> {
     ghost then = { λ _ xs _. All (λ x. x < J.jobs) xs };
 }
 
-pub type Owner<J> = Worker<u16, Global, (), Jobs<J>>;
+pub(crate) type Owner<J> = Worker<u16, Global, (), Jobs<J>>;
 
-pub type Thief<J> = Stealer<u16, Global, (), Jobs<J>>;
+pub(crate) type Thief<J> = Stealer<u16, Global, (), Jobs<J>>;
 
 /// A deque with the jobs `from`, `from + step`, `from + 2 * step` and so on.
-pub fn deal<J: Count>(
+pub(crate) fn deal<J: Count>(
     alloc: Global,
     from: u16,
     step: u16,
     count: u16,
 ) -> Result<Owner<J>, AllocError>
-    requires { (0 < step) × (count ≤ 512) × (step ≤ 512) × (count ≡ J.jobs) }
+    requires step { (0 < step) × (step ≤ 512) }
+    requires few { count ≤ 512 }
+    requires jobs { count ≡ J.jobs }
 {
     let mut local = Owner::fifo_as(alloc, usize::from(count))?;
     let mut job = from;
@@ -58,6 +61,7 @@ pub fn deal<J: Count>(
     Ok(local)
 }
 
+/// A job of another thread's deque, without waiting.
 fn steal<J: Count>(thief: &Thief<J>) -> Steal<u16>
     ensures { MatchSteal result (Unit {0}) (Unit {0}) (λ x. x < J.jobs) }
 {
@@ -65,7 +69,7 @@ fn steal<J: Count>(thief: &Thief<J>) -> Steal<u16>
     thief.steal_as::<Jobs<J>>(&mut pass)
 }
 
-// A job that some thief finds. `None` where each deque was found empty.
+/// A job that some thief finds. `None` where each deque was found empty.
 fn steal_any<J: Count, R: Wait>(rt: &R, thieves: &Vec<Thief<J>>) -> Option<u16>
     ensures { IfSome result (λ x. x < J.jobs) }
 {
@@ -87,7 +91,7 @@ fn steal_any<J: Count, R: Wait>(rt: &R, thieves: &Vec<Thief<J>>) -> Option<u16>
 }
 
 /// A job of one's own deque, or else one that is stolen.
-pub fn next_job<J: Count, R: Wait>(
+pub(crate) fn next_job<J: Count, R: Wait>(
     rt: &R,
     local: &mut Owner<J>,
     thieves: &Vec<Thief<J>>,

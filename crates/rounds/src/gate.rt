@@ -14,8 +14,8 @@ pub trait Gate: Sync {
 
 /// The gate that does nothing.
 #[derive(Clone, Copy, PartialEq, Eq, Debug)]
-pub struct Idle;
+pub struct NoGate;
 
-impl Gate for Idle {
+impl Gate for NoGate {
     fn begin(&self, _round: u8, _job: u16, _slots: &Slots<MateLore>, _seat: &mut Seat) {}
 }

@@ -21,6 +21,5 @@ mod verdict;
 mod work;
 
 pub use fault::SolveFault;
-pub use gate::{Gate, Idle};
-pub use root::RootJobs;
+pub use gate::{Gate, NoGate};
 pub use solving::{MOST_WORKERS, solve};

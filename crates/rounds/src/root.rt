@@ -14,7 +14,7 @@ use slots::{Seat, Slots};
 
 /// The jobs that win in a round: those whose moves win within so many plies.
 #[derive(Clone, Copy)]
-pub struct RootJobs {
+pub(crate) struct RootJobs {
     pub position: Position,
     pub goal: Goal,
     pub plies: u8,

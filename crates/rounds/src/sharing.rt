@@ -69,7 +69,9 @@ pub(crate) fn share_out<J: Count, T: Gate>(
 pub(crate) fn all_thieves<J: Count>(
     alloc: Global,
     shares: &Vec<Share<J>>,
-) -> Result<Vec<Thief<J>>, AllocError> {
+) -> Result<Vec<Thief<J>>, AllocError>
+    ensures { IfOk result (λ v. length v.items ≡ length shares.now.items) }
+{
     let mut thieves = Vec::with_capacity(alloc, shares.len())?;
     for share in shares {
         let thief = share.local.stealer()?;

@@ -1,6 +1,6 @@
 //! That an answer is found, with few workers and many, and the first fault of several.
-use crate::{Gate, Idle, SolveFault, solve};
-use board::{Position, read_fen};
+use crate::{Gate, NoGate, SolveFault, solve};
+use board::{Kind, Position, read_fen};
 use moves::{Goal, Move, Square};
 use search::Answer;
 use std::alloc::Global;
@@ -9,12 +9,16 @@ use std::sync::Wait;
 use std::test::*;
 use std::thread::Threads;
 
-// White mates in three plies by c4c5, job 15 of 17. The move b1b5 is stalemate.
-pub(crate) fn root(rt: &impl Abort) -> Position {
-    let Ok(position) = read_fen(b"k5/6/2K3/6/6/1R4 w") else {
+fn read(rt: &impl Abort, text: &[u8]) -> Position {
+    let Ok(position) = read_fen(text) else {
         panic!(rt; "no position")
     };
     position
+}
+
+// White mates in three plies by c4c5, job 15 of 17. The move b1b5 is stalemate.
+pub(crate) fn root(rt: &impl Abort) -> Position {
+    read(rt, b"k5/6/2K3/6/6/1R4 w")
 }
 
 // c4c5 in three plies.
@@ -47,8 +51,38 @@ pub(crate) fn solved<T: Gate, R: Threads + Wait + Abort + Sync>(
 fn the_same_answer_by_any_number_of_workers(rt: HostRuntime) {
     for workers in [1, 2, 16] {
         for slots in [1, 64] {
-            assert!(rt; solved(&rt, rt.alloc(), workers, slots, &Idle) == expected());
+            assert!(rt; solved(&rt, rt.alloc(), workers, slots, &NoGate) == expected());
         }
+    }
+}
+
+// A queen and a rook both mate, and a queen is the least.
+#[test]
+fn the_least_of_two_moves_that_mate(rt: HostRuntime) {
+    let position = read(&rt, b"k4/2P2/1K3/5/5 w");
+    let promotion = Move {
+        from: Square { file: 2, rank: 3 },
+        to: Square { file: 2, rank: 4 },
+        promotion: Some(Kind::Queen),
+    };
+    for workers in [1, 2, 16] {
+        let answer = solve(
+            &rt,
+            rt.alloc(),
+            &position,
+            Goal::Mate,
+            1,
+            workers,
+            64,
+            &NoGate,
+        );
+        assert!(rt;
+            answer
+                == Ok(Answer::Mate {
+                    plies: 1,
+                    first: promotion
+                })
+        );
     }
 }
 
@@ -64,7 +98,7 @@ fn none_within_two_plies(rt: HostRuntime) {
             2,
             workers,
             64,
-            &Idle,
+            &NoGate,
         );
         assert!(rt; answer == Ok(Answer::NoneWithin(2)));
     }
@@ -85,7 +119,7 @@ fn stalemate_wins_for_the_other_goal(rt: HostRuntime) {
         1,
         2,
         64,
-        &Idle,
+        &NoGate,
     );
     assert!(rt;
         answer
@@ -117,7 +151,7 @@ fn the_first_fault(rt: HostRuntime) {
             limit,
             workers,
             slots,
-            &Idle,
+            &NoGate,
         );
         assert!(rt; answer == Err(fault));
     }
