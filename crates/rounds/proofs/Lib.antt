@@ -1,0 +1,4 @@
+pub mod Deals
+pub mod Jobs
+pub mod Lists
+pub mod Rows

@@ -1,0 +1,46 @@
+-- A row of verdicts, read and written at a job.
+use Rattle.std.proofs.Common.{◌≡◌, ◌≢◌, ℕ, ◌+◌, ◌<◌, List, length, get_or, sym, ap, subst, ◌∙◌, arith}
+use Rattle.std.proofs.lemmas.Grind.{common_steps, elements}
+use mathlib.Core.Logic.{dite}
+use native.Mathlib.Decide.{ℕ_discrete}
+use lib.ListN.{set}
+use Rattle.rounds.specs.declared.verdict.Verdict.{Verdict}
+use Rattle.rounds.specs.declared.verdict.Verdict.TheVariants.{Open}
+use Rattle.rounds.specs.Verdicts.{IsRight, AreRight}
+
+-- within a row no default is read
+same_default : (row : List Verdict) (i : ℕ) (d v : Verdict) → i < length row → v ≡ get_or row i v → get_or row i d ≡ v
+same_default row i d v h e = grind (arith, common_steps, elements)
+
+set_here : (row : List Verdict) (i : ℕ) (d v : Verdict) → i < length row → get_or (set row i v) i d ≡ v
+set_here row i d v h = grind (arith, common_steps, elements)
+
+set_there : (row : List Verdict) (i k : ℕ) (d v : Verdict) → k ≢ i → get_or (set row i v) k d ≡ get_or row k d
+set_there row i k d v h = grind (arith, common_steps, elements)
+
+set_length : (row : List Verdict) (i : ℕ) (v : Verdict) → length (set row i v) ≡ length row
+set_length row i v = grind (arith, common_steps, elements)
+
+module _ (win : ℕ → Type 0) (row : List Verdict) (right : AreRight win row) where
+  -- what is read of a job is right
+  pub row_says : (at job n : ℕ) (v : Verdict) → at ≡ job → length row ≡ n → job < n → v ≡ get_or row at v → IsRight (win job) v
+  row_says at job n v same count h e =
+      subst (IsRight (win job)) (same_default row job Open v (omega (arith, count, h)) (e ∙ ap (λ i. get_or row i v) same)) (right job)
+
+  row_right : (job : ℕ) (v : Verdict) → job < length row → IsRight (win job) v → AreRight win (set row job v)
+  row_right job v h is k = dite (ℕ_discrete k job)
+      (λ e. subst (λ i. IsRight (win i) (get_or (set row job v) i Open)) (sym e) (subst (IsRight (win job)) (sym (set_here row job Open v h)) is))
+      (λ other. subst (IsRight (win k)) (sym (set_there row job k Open v other)) (right k))
+
+  -- a row with one right verdict more
+  pub row_with : (at job n : ℕ) (v : Verdict) → at ≡ job → length row ≡ n → job < n → IsRight (win job) v → (length (set row at v) ≡ n) × AreRight win (set row at v)
+  row_with at job n v same count h is = (
+    set_length row at v ∙ count,
+    subst (λ i. AreRight win (set row i v)) (sym same) (row_right job v (omega (arith, count, h)) is),
+  )
+
+-- none of the jobs below one, nor that one
+pub none_next : (win : ℕ → Type 0) (i : ℕ) → (win i → ⊥) → ((k : ℕ) → k < i → win k → ⊥) → (k : ℕ) → k < i + 1 → win k → ⊥
+none_next win i last before k h w = dite (ℕ_discrete k i)
+    (λ e. last (subst win e w))
+    (λ other. before k (omega (arith, h, other)) w)

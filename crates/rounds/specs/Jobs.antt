@@ -1,0 +1,15 @@
+-- The jobs of a round: the lawful moves of the root, by number.
+use Rattle.std.specs.Prelude.{◌≡◌, ℕ, List, slice_get, Some}
+use Rattle.board.specs.Board.{PlainBoard}
+use Rattle.moves.specs.declared.goal.Goal.{Goal}
+use Rattle.moves.specs.Squares.{Ply}
+use Rattle.moves.specs.Order.{ListsLawful}
+use Rattle.search.specs.Answer.{Wins}
+
+-- the move with this number wins within n plies
+abbrev pub JobWins : Goal → PlainBoard → ℕ → List Ply → ℕ → Type 0
+JobWins goal b n moves job = (m : Ply) × (slice_get moves job ≡ Some m) × Wins goal b n m
+
+-- the same, of the list of lawful moves
+abbrev pub RootJobWins : Goal → PlainBoard → ℕ → ℕ → Type 0
+RootJobWins goal b n job = (moves : List Ply) × ListsLawful b moves × JobWins goal b n moves job

@@ -1,0 +1,4 @@
+pub mod Jobs
+pub mod Verdicts
+pub mod Shares
+pub mod Limits

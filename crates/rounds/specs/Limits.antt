@@ -1,0 +1,11 @@
+-- What a solve by workers accepts.
+use Rattle.std.specs.Prelude.{ℕ, nat_lt, ◌||◌, Option, None, Some, if◌then◌else◌}
+use Rattle.rounds.specs.declared.fault.SolveFault.{SolveFault}
+use Rattle.rounds.specs.declared.fault.SolveFault.TheVariants.{Limit, Workers, Slots}
+
+-- the first fault of these values: a limit outside 1 to 63 plies, workers outside 1 to 16, slots outside 1 to 1,048,576
+abbrev pub limits_fault : ℕ → ℕ → ℕ → Option SolveFault
+limits_fault limit workers slots =
+    if nat_lt limit 1 || nat_lt 63 limit then Some Limit
+    else (if nat_lt workers 1 || nat_lt 16 workers then Some Workers
+    else (if nat_lt slots 1 || nat_lt 1048576 slots then Some Slots else None))

@@ -1,0 +1,102 @@
+//! That each job is begun once, and by more than one thread.
+use crate::Gate;
+use crate::tests::{expected, solved};
+use entry::MateLore;
+use slots::{Seat, Slots};
+use std::alloc::{AllocError, Global};
+use std::sync::atomic::{AtomicBool, AtomicU64, Ordering};
+use std::test::*;
+use std::thread;
+
+// How often each of the root's 17 jobs is begun in rounds 1 and 3, and how often any is.
+#[derive(Drop)]
+struct Record {
+    first: Vec<AtomicU64>,
+    third: Vec<AtomicU64>,
+    all: AtomicU64,
+}
+
+fn counters(alloc: Global) -> Result<Vec<AtomicU64>, AllocError> {
+    let mut row = Vec::with_capacity(alloc, 17)?;
+    for _ in 0..17 {
+        row.push(AtomicU64::new(0))?;
+    }
+    Ok(row)
+}
+
+fn count(row: &Vec<AtomicU64>, job: usize) -> u64 {
+    match row.get(job) {
+        Some(begun) => begun.load(Ordering::SeqCst),
+        None => 99,
+    }
+}
+
+impl Gate for Record {
+    fn begin(&self, round: u8, job: u16, _slots: &Slots<MateLore>, _seat: &mut Seat) {
+        self.all.fetch_add(1, Ordering::SeqCst);
+        let row = if round == 1 { &self.first } else { &self.third };
+        if let Some(begun) = row.get(usize::from(job)) {
+            begun.fetch_add(1, Ordering::SeqCst);
+        }
+    }
+}
+
+#[test]
+fn each_job_is_begun_once(rt: HostRuntime) -> Result<(), Fail> {
+    for workers in [1, 2, 16] {
+        let gate = Record {
+            first: counters(rt.alloc())?,
+            third: counters(rt.alloc())?,
+            all: AtomicU64::new(0),
+        };
+        assert!(rt; solved(&rt, rt.alloc(), workers, 64, &gate) == expected());
+        for job in 0..17 {
+            assert!(rt; count(&gate.first, job) == 1);
+        }
+        for job in 0..16 {
+            assert!(rt; count(&gate.third, job) == 1);
+        }
+        let last = count(&gate.third, 16);
+        assert!(rt; last <= 1 && gate.all.load(Ordering::SeqCst) == 33 + last);
+    }
+    Ok(())
+}
+
+// Waits until the number is greater than this, for so many turns at most. Whether it came.
+pub(crate) fn comes_above(number: &AtomicU64, least: u64) -> bool {
+    for _ in 0..1_000_000 {
+        if number.load(Ordering::SeqCst) > least {
+            return true;
+        }
+        thread::yield_now();
+    }
+    false
+}
+
+// Holds the first job begun in round 1 until a second one of that round has begun.
+#[derive(Drop)]
+struct Hold {
+    begun: AtomicU64,
+    gave_up: AtomicBool,
+}
+
+impl Gate for Hold {
+    fn begin(&self, round: u8, _job: u16, _slots: &Slots<MateLore>, _seat: &mut Seat) {
+        if round != 1 || self.begun.fetch_add(1, Ordering::SeqCst) > 0 {
+            return;
+        }
+        if !comes_above(&self.begun, 1) {
+            self.gave_up.store(true, Ordering::SeqCst);
+        }
+    }
+}
+
+#[test]
+fn a_second_job_begins_while_the_first_is_held(rt: HostRuntime) {
+    let gate = Hold {
+        begun: AtomicU64::new(0),
+        gave_up: AtomicBool::new(false),
+    };
+    assert!(rt; solved(&rt, rt.alloc(), 2, 64, &gate) == expected());
+    assert!(rt; !gate.gave_up.load(Ordering::SeqCst));
+}

@@ -1,0 +1,105 @@
+//! The deques of a round: each task is a job of the round.
+ghost use Rattle.std.specs.Prelude.{◌≡◌, ℕ, ◌+◌, ◌<◌, ◌≤◌, All, IfSome, IfOk};
+ghost use Rattle.crossbeam_deque.specs.Steals.{MatchSteal};
+
+use crossbeam_deque::protocol::{Outcome, Protocol};
+use crossbeam_deque::{Steal, Stealer, Worker};
+use std::alloc::{AllocError, Global};
+use std::marker::{Brand, PhantomData};
+use std::sync::Wait;
+use std::thread;
+
+/// How many jobs a round has: each call of `round` picks it, since a deque's rule can name no value.
+pub(crate) trait Count {
+    ghost jobs: { ℕ };
+}
+
+impl Count for Brand {
+    ghost jobs = { 0 };
+}
+
+/// The rule of a deque: each task is a job of the round.
+pub(crate) struct Jobs<J> {
+    of: PhantomData<J>,
+}
+
+impl<J: Count> Protocol<u16, ()> for Jobs<J> {
+    ghost holds = { λ items _. All (λ x. x < J.jobs) items };
+
+    ghost first = { tt };
+
+    ghost guest = { tt };
+}
+
+impl<J: Count> Outcome<u16, ()> for Jobs<J> {
+    ghost then = { λ _ xs _. All (λ x. x < J.jobs) xs };
+}
+
+pub(crate) type Owner<J> = Worker<u16, Global, (), Jobs<J>>;
+
+pub(crate) type Thief<J> = Stealer<u16, Global, (), Jobs<J>>;
+
+/// A deque with the jobs `from`, `from + step`, `from + 2 * step` and so on.
+pub(crate) fn deal<J: Count>(
+    alloc: Global,
+    from: u16,
+    step: u16,
+    count: u16,
+) -> Result<Owner<J>, AllocError>
+    requires step { (0 < step) × (step ≤ 512) }
+    requires few { count ≤ 512 }
+    requires jobs { count ≡ J.jobs }
+{
+    let mut local = Owner::fifo_as(alloc, usize::from(count))?;
+    let mut job = from;
+    while job < count {
+        let Ok(()) = local.push_as::<Jobs<J>>(job) else {
+            unreachable!()
+        };
+        job += step;
+    }
+    Ok(local)
+}
+
+/// A job of another thread's deque, without waiting.
+fn steal<J: Count>(thief: &Thief<J>) -> Steal<u16>
+    ensures { MatchSteal result (Unit {0}) (Unit {0}) (λ x. x < J.jobs) }
+{
+    let mut pass = thief.pass();
+    thief.steal_as::<Jobs<J>>(&mut pass)
+}
+
+/// A job that some thief finds. `None` where each deque was found empty.
+fn steal_any<J: Count, R: Wait>(rt: &R, thieves: &Vec<Thief<J>>) -> Option<u16>
+    ensures { IfSome result (λ x. x < J.jobs) }
+{
+    for _ in rt.forever() {
+        let mut again = false;
+        for thief in thieves {
+            match steal(thief) {
+                Steal::Success(job) => return Some(job),
+                Steal::Retry => again = true,
+                Steal::Empty => {}
+            }
+        }
+        if !again {
+            return None;
+        }
+        thread::yield_now();
+    }
+    unreachable!()
+}
+
+/// A job of one's own deque, or else one that is stolen.
+pub(crate) fn next_job<J: Count, R: Wait>(
+    rt: &R,
+    local: &mut Owner<J>,
+    thieves: &Vec<Thief<J>>,
+) -> Option<u16>
+    ensures { IfSome result (λ x. x < J.jobs) }
+{
+    match local.pop_as::<Jobs<J>>() {
+        Some(job) => Some(job),
+        None => steal_any(rt, thieves),
+    }
+}
