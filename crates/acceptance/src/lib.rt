@@ -4,6 +4,8 @@
 #[cfg(test)]
 mod deciding;
 #[cfg(test)]
+mod held;
+#[cfg(test)]
 mod leaves;
 #[cfg(test)]
 mod mates;
