@@ -17,3 +17,5 @@ mod rules;
 mod solving;
 #[cfg(test)]
 mod tables;
+#[cfg(test)]
+mod winning;

@@ -1,12 +1,13 @@
 //! Mates of both games, with the answers of an independent program: a plain search that forgets nothing it has decided, whose
 //! answers on 480 positions are those of Fairy-Stockfish's `go mate`. `bench/mates/cases.tsv` has these and harder ones.
-use crate::solving::answer_text;
+use crate::solving::{answer_text, solved};
 use crate::tables::position;
 use moves::Goal;
-use search::solve;
 use std::alloc::Global;
 use std::process::Abort;
+use std::sync::Wait;
 use std::test::Fail;
+use std::thread::Threads;
 
 /// The goal, the limit in plies, the position, and the answer.
 type Case = (Goal, u8, &'static str, &'static str);
@@ -119,9 +120,9 @@ const STALEMATES: [Case; 12] = [
     (Goal::MateOrStale, 5, "2k3/6/1n1p1K/2q3/1R4/6 b", "5 c3e3"),
 ];
 
-fn check(rt: &impl Abort, alloc: Global, cases: &[Case]) -> Result<(), Fail> {
+fn check<R: Threads + Wait + Abort + Sync>(rt: &R, alloc: Global, cases: &[Case]) -> Result<(), Fail> {
     for (goal, limit, text, answer) in cases {
-        let found = solve(alloc, &position(rt, text), *goal, *limit, 1 << 16);
+        let found = solved(rt, alloc, &position(rt, text), *goal, *limit, 1 << 16);
         let got = answer_text(alloc, found)?;
         assert_eq!(rt; got.as_str(), *answer, "{text}");
     }

@@ -1,8 +1,24 @@
 //! Answers of a solve.
+use board::Position;
 use moves::{Goal, read_sound};
-use search::{Answer, SolveFault, solve};
+use rounds::{NoGate, SolveFault, solve};
+use search::Answer;
 use std::alloc::{AllocError, Global};
+use std::sync::Wait;
 use std::test::Fail;
+use std::thread::Threads;
+
+/// The answer of one worker and the test's own thread.
+pub(crate) fn solved<R: Threads + Wait + Sync>(
+    rt: &R,
+    alloc: Global,
+    position: &Position,
+    goal: Goal,
+    limit: u8,
+    slots: usize,
+) -> Result<Answer, SolveFault> {
+    solve(rt, alloc, position, goal, limit, 1, slots, &NoGate)
+}
 
 pub(crate) fn answer_text(
     alloc: Global,
@@ -34,7 +50,7 @@ fn solves_within_one_ply(rt: HostRuntime) -> Result<(), Fail> {
         ("k5/6/1K4/6/6/5R w", Goal::Mate, 64, "refused"),
     ] {
         let position = read_sound(text.as_bytes()).expect(&rt, "a position");
-        let got = answer_text(rt.alloc(), solve(rt.alloc(), &position, goal, limit, 64))?;
+        let got = answer_text(rt.alloc(), solved(&rt, rt.alloc(), &position, goal, limit, 64))?;
         assert_eq!(rt; got.as_str(), answer, "{text}");
     }
     Ok(())
@@ -53,7 +69,7 @@ fn solves_by_rounds(rt: HostRuntime) -> Result<(), Fail> {
         ("k5/6/1K4/6/6/5R w", 1, 1_048_577, "refused"),
     ] {
         let position = read_sound(text.as_bytes()).expect(&rt, "a position");
-        let answer_is = solve(rt.alloc(), &position, Goal::Mate, limit, slots);
+        let answer_is = solved(&rt, rt.alloc(), &position, Goal::Mate, limit, slots);
         let got = answer_text(rt.alloc(), answer_is)?;
         assert_eq!(rt; got.as_str(), answer, "{text}");
     }

@@ -55,6 +55,7 @@ fn answer_now(board: &Board, attacker: Side, goal: Goal) -> bool
 }
 
 /// Whether the attacker, who is to move, reaches the goal by its next move. The table is not asked.
+#[inline(never)]
 fn wins_at_once(board: &Board, goal: Goal) -> bool
     ensures { IsTrue result ↔ Forces goal board.now.mover board.now 1 }
 {
@@ -104,8 +105,10 @@ fn try_moves(
     }
 }
 
-/// Decides by the positions after the lawful moves, each of which is asked of.
+/// Decides by the positions after the lawful moves, each of which is asked of. A function clears its frame at each call, so the
+/// lists of moves are kept out of the frame of `decide_asking`, which most often ends at a hit.
 #[cycle(deciding)]
+#[inline(never)]
 fn search(
     slots: &Slots<MateLore>,
     seat: &mut Seat,

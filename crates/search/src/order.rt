@@ -21,6 +21,7 @@ fn is_urgent(board: &Board, own: bool, m: Move) -> bool
 }
 
 /// The moves in two lists.
+#[inline(never)]
 pub(crate) fn put_in_order(board: &Board, own: bool, moves: &[Move]) -> InOrder
     requires lawful { All (IsLawful board.now) moves.now }
     requires room { length moves.now ≤ 512 }

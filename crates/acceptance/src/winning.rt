@@ -1,0 +1,75 @@
+//! Winning trees that the search built: their texts, and what the checker says of them.
+ghost use Rattle.std.specs.Prelude.{◌≡◌, ◌<◌, ◌≤◌, ◌×◌};
+ghost use Rattle.search.specs.Answer.{IsFewest};
+
+use crate::solving::solved;
+use crate::tables::position;
+use board::Position;
+use moves::Goal;
+use search::Answer;
+use std::process::Abort;
+use std::sync::Wait;
+use std::test::Fail;
+use std::thread::Threads;
+use trees::winning_tree;
+use wintree::{Tree, check, tree_text};
+
+/// The tree of a position where the side to move forces the goal within nine plies.
+fn tree_of<R: Threads + Wait + Abort + AllocGlobal + Sync>(
+    rt: &R,
+    position: &Position,
+    goal: Goal,
+    slots: usize,
+) -> Tree
+    requires { (0 < slots) × (slots ≤ 1048576) }
+{
+    let answer = match solved(rt, rt.alloc(), position, goal, 9, 64) {
+        Ok(answer) => answer,
+        Err(_) => panic!(rt; "refused"),
+    };
+    match answer {
+        Answer::Mate { plies, .. } => {
+            winning_tree(rt.alloc(), position, goal, plies, slots).expect(rt, "memory")
+        }
+        Answer::NoneWithin(_) => panic!(rt; "no mate"),
+    }
+}
+
+// Each of these positions has one reply at most to its best move; the trees were worked out by hand.
+#[test]
+fn trees_of_worked_positions(rt: HostRuntime) -> Result<(), Fail> {
+    for (text, goal, tree, plies) in [
+        ("k5/6/1K4/6/6/5R w", Goal::Mate, "f1f6#", 1),
+        ("k4/2P2/1K3/5/5 w", Goal::Mate, "c4c5q#", 1),
+        ("k5/6/2K3/6/6/1R4 w", Goal::Mate, "c4c5{a6a5:b1a1#}", 3),
+        ("k5/6/2K3/6/6/1R4 w", Goal::MateOrStale, "b1b5=", 1),
+        // c1a1 leaves b6c6 alone, and comes before the other moves of the rook that mate in three too
+        ("1k4/5R/6/6/6/2R2K w", Goal::Mate, "c1a1{b6c6:a1a6#}", 3),
+    ] {
+        let root = position(&rt, text);
+        for slots in [1, 2, 64] {
+            let built = tree_of(&rt, &root, goal, slots);
+            let bytes = tree_text(rt.alloc(), &built)?;
+            assert_eq!(rt; bytes.as_slice(), tree.as_bytes(), "{text}");
+            assert_eq!(rt; check(&root, &built, goal), Some(plies), "{text}");
+        }
+    }
+    Ok(())
+}
+
+// Mates in five and seven plies, with the answers of an independent program.
+#[test]
+fn trees_of_longer_mates_win(rt: HostRuntime) {
+    for (text, plies) in [
+        ("2qK1/3B1/1k1NQ/3b1/r1Q2 w", 5),
+        ("4r/P1pk1/B1N2/3b1/3K1 b", 5),
+        ("1n1K1/kN3/5/3N1/4q b", 5),
+        ("5k/3K2/6/6/1q4/r5 b", 5),
+        ("1K1k1/qR3/5/5/5 w", 7),
+        ("6/5q/6/6/1k4/4K1 b", 7),
+    ] {
+        let root = position(&rt, text);
+        let built = tree_of(&rt, &root, Goal::Mate, 4096);
+        assert_eq!(rt; check(&root, &built, Goal::Mate), Some(plies), "{text}");
+    }
+}
