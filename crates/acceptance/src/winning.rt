@@ -1,6 +1,5 @@
 //! Winning trees that the search built: their texts, and what the checker says of them.
-ghost use Rattle.std.specs.Prelude.{◌≡◌, ◌<◌, ◌≤◌, ◌×◌};
-ghost use Rattle.search.specs.Answer.{IsFewest};
+ghost use Rattle.std.specs.Prelude.{◌<◌, ◌≤◌};
 
 use crate::solving::solved;
 use crate::tables::position;

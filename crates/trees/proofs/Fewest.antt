@@ -13,7 +13,7 @@ use Rattle.wintree.proofs.Forced.{forced_for_mover}
 use Rattle.trees.specs.Best.{IsBest, EachBest}
 use Rattle.trees.proofs.Forcing.{some_ply, best_forces, two_plies}
 
-first_reply : (goal : Goal) (q : PlainBoard) (replies : Replies) → EachBest goal q replies → (r : Ply) × IsLawful q r
+pub first_reply : (goal : Goal) (q : PlainBoard) (replies : Replies) → EachBest goal q replies → (r : Ply) × IsLawful q r
 first_reply goal q (last r plan) each = (r, (each.0, each.1))
 first_reply goal q (more r plan replies) each = (r, (each.0.0, each.0.1))
 

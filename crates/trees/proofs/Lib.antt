@@ -1,3 +1,4 @@
 pub mod Forcing
 pub mod Fewest
 pub mod Lists
+pub mod Unique

@@ -56,7 +56,7 @@ module _ {X : Type 0} (R : X → X → Type 0) (one_way : (a b : X) → R a b �
       (λ z. (later_too x xs y ys in_order first (λ w. (same w).0) z, later_too y ys x xs also (sym first) (λ w. (same w).1) z)) in
       ap (λ z. z ∷ xs) first ∙ ap (λ zs. y ∷ zs) rest
 
-lower_once : (f f' t t' p p' : ℕ) → (f < f') ⊎ ((f ≡ f') × (t < t')) ⊎ ((f ≡ f') × (t ≡ t') × (p < p')) → (f' < f) ⊎ ((f' ≡ f) × (t' < t)) ⊎ ((f' ≡ f) × (t' ≡ t) × (p' < p)) → ⊥
+pub lower_once : (f f' t t' p p' : ℕ) → (f < f') ⊎ ((f ≡ f') × (t < t')) ⊎ ((f ≡ f') × (t ≡ t') × (p < p')) → (f' < f) ⊎ ((f' ≡ f) × (t' < t)) ⊎ ((f' ≡ f) × (t' ≡ t) × (p' < p)) → ⊥
 lower_once f f' t t' p p' (inl a) (inl b) = omega (arith, a, b)
 lower_once f f' t t' p p' (inl a) (inr (inl b)) = omega (arith, a, b.0)
 lower_once f f' t t' p p' (inl a) (inr (inr b)) = omega (arith, a, b.0)
