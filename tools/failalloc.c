@@ -1,46 +1,74 @@
-// Preloaded into a program, refuses its request for memory number FAIL_AT, and at the end writes to
-// the file FAIL_LOG how many requests there were, and 1 where one was refused.
+// Preloaded into a program, refuses its request for memory number FAIL_AT. At the end it writes to the file FAIL_LOG how many
+// requests there were, 1 where one was refused, and how many blocks of memory were never given back.
 #define _GNU_SOURCE
+#include <errno.h>
 #include <stdio.h>
 #include <stdlib.h>
+#include <sys/syscall.h>
+#include <unistd.h>
 
 extern void *__libc_malloc(size_t);
 extern void *__libc_calloc(size_t, size_t);
 extern void *__libc_realloc(void *, size_t);
 extern void *__libc_memalign(size_t, size_t);
+extern void __libc_free(void *);
 
-static long fail_at = -1, seen = 0, refused = 0;
+// Threads request memory too, so these are counted by atomic steps.
+static long fail_at = -1, seen = 0, refused = 0, live = 0;
 
 static int refuses(void) {
     if (fail_at < 0) {
         const char *number = getenv("FAIL_AT");
         fail_at = number ? atol(number) : 0;
     }
-    seen += 1;
-    if (seen != fail_at) return 0;
+    if (__atomic_add_fetch(&seen, 1, __ATOMIC_SEQ_CST) != fail_at) return 0;
     refused = 1;
+    errno = ENOMEM; // the C library asserts it
     return 1;
 }
 
-void *malloc(size_t size) { return refuses() ? NULL : __libc_malloc(size); }
+static void *given(void *block) {
+    if (block) __atomic_add_fetch(&live, 1, __ATOMIC_SEQ_CST);
+    return block;
+}
 
-void *calloc(size_t count, size_t size) { return refuses() ? NULL : __libc_calloc(count, size); }
+void *malloc(size_t size) { return refuses() ? NULL : given(__libc_malloc(size)); }
 
-void *realloc(void *block, size_t size) { return refuses() ? NULL : __libc_realloc(block, size); }
+void *calloc(size_t count, size_t size) { return refuses() ? NULL : given(__libc_calloc(count, size)); }
 
-void *aligned_alloc(size_t align, size_t size) { return refuses() ? NULL : __libc_memalign(align, size); }
+void *realloc(void *block, size_t size) {
+    if (refuses()) return NULL;
+    void *moved = __libc_realloc(block, size);
+    return block ? moved : given(moved);
+}
+
+void *aligned_alloc(size_t align, size_t size) { return refuses() ? NULL : given(__libc_memalign(align, size)); }
 
 int posix_memalign(void **block, size_t align, size_t size) {
     if (refuses()) return 12; // ENOMEM
-    *block = __libc_memalign(align, size);
+    *block = given(__libc_memalign(align, size));
     return *block ? 0 : 12;
 }
 
-__attribute__((destructor)) static void report(void) {
-    long requests = seen, was_refused = refused;
+void free(void *block) {
+    if (block) __atomic_sub_fetch(&live, 1, __ATOMIC_SEQ_CST);
+    __libc_free(block);
+}
+
+static void report(void) {
+    long requests = seen, was_refused = refused, left = live;
     const char *name = getenv("FAIL_LOG");
     FILE *log = name ? fopen(name, "w") : NULL;
     if (!log) return;
-    fprintf(log, "%ld %ld\n", requests, was_refused);
+    fprintf(log, "%ld %ld %ld\n", requests, was_refused, left);
     fclose(log);
+}
+
+__attribute__((destructor)) static void at_exit(void) { report(); }
+
+// A program may end without the destructors.
+void _exit(int status) {
+    report();
+    syscall(SYS_exit_group, status);
+    __builtin_unreachable();
 }

@@ -120,7 +120,11 @@ const STALEMATES: [Case; 12] = [
     (Goal::MateOrStale, 5, "2k3/6/1n1p1K/2q3/1R4/6 b", "5 c3e3"),
 ];
 
-fn check<R: Threads + Wait + Abort + Sync>(rt: &R, alloc: Global, cases: &[Case]) -> Result<(), Fail> {
+fn check<R: Threads + Wait + Abort + Sync>(
+    rt: &R,
+    alloc: Global,
+    cases: &[Case],
+) -> Result<(), Fail> {
     for (goal, limit, text, answer) in cases {
         let found = solved(rt, alloc, &position(rt, text), *goal, *limit, 1 << 16);
         let got = answer_text(alloc, found)?;

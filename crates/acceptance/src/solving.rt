@@ -1,4 +1,7 @@
 //! Answers of a solve.
+ghost use Rattle.std.specs.Prelude.{IfOk};
+ghost use Rattle.search.specs.Answer.{IsAnswer};
+
 use board::Position;
 use moves::{Goal, read_sound};
 use rounds::{NoGate, SolveFault, solve};
@@ -16,7 +19,9 @@ pub(crate) fn solved<R: Threads + Wait + Sync>(
     goal: Goal,
     limit: u8,
     slots: usize,
-) -> Result<Answer, SolveFault> {
+) -> Result<Answer, SolveFault>
+    ensures { IfOk result (IsAnswer goal position.now limit) }
+{
     solve(rt, alloc, position, goal, limit, 1, slots, &NoGate)
 }
 
@@ -50,7 +55,10 @@ fn solves_within_one_ply(rt: HostRuntime) -> Result<(), Fail> {
         ("k5/6/1K4/6/6/5R w", Goal::Mate, 64, "refused"),
     ] {
         let position = read_sound(text.as_bytes()).expect(&rt, "a position");
-        let got = answer_text(rt.alloc(), solved(&rt, rt.alloc(), &position, goal, limit, 64))?;
+        let got = answer_text(
+            rt.alloc(),
+            solved(&rt, rt.alloc(), &position, goal, limit, 64),
+        )?;
         assert_eq!(rt; got.as_str(), answer, "{text}");
     }
     Ok(())

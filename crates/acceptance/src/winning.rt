@@ -22,16 +22,10 @@ fn tree_of<R: Threads + Wait + Abort + AllocGlobal + Sync>(
 ) -> Tree
     requires { (0 < slots) × (slots ≤ 1048576) }
 {
-    let answer = match solved(rt, rt.alloc(), position, goal, 9, 64) {
-        Ok(answer) => answer,
-        Err(_) => panic!(rt; "refused"),
+    let Ok(Answer::Mate { plies, .. }) = solved(rt, rt.alloc(), position, goal, 9, 64) else {
+        panic!(rt; "no mate")
     };
-    match answer {
-        Answer::Mate { plies, .. } => {
-            winning_tree(rt.alloc(), position, goal, plies, slots).expect(rt, "memory")
-        }
-        Answer::NoneWithin(_) => panic!(rt; "no mate"),
-    }
+    winning_tree(rt.alloc(), position, goal, plies, slots).expect(rt, "memory")
 }
 
 // Each of these positions has one reply at most to its best move; the trees were worked out by hand.

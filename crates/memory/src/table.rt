@@ -1,14 +1,11 @@
-// Makes a table and uses it, and says whether memory was refused. `rt try --fail-alloc 1..` refuses each request in turn:
-// each run with a refusal has to answer `no memory`, which only `make` can, so the calls after it request none.
-#![tactic(auto)]
-
+//! A table of slots: `make` alone requests memory, so the calls after it answer whatever is refused.
 ghost use Rattle.std.specs.Prelude.{◌<◌};
 ghost use Rattle.slots.specs.Promise.{slots_of, IsSeatOf};
 
 use slots::{Lore, MakeFault, Pause, Probe, Seat, Slots, Store};
-use std::io;
+use std::alloc::Global;
 
-// Words whose first is above 0. The first is the key, and none are preferred.
+/// Words whose first is above 0. The first is the key, and none are preferred.
 struct Keyed;
 
 impl Lore for Keyed {
@@ -34,7 +31,7 @@ impl Lore for Keyed {
     ghost no_zeros = { Prim.search rules };
 }
 
-// It counts how often it is called.
+/// It counts how often it is called.
 #[derive(Drop)]
 struct Count {
     calls: u8,
@@ -46,7 +43,7 @@ impl Pause for Count {
     }
 }
 
-// Each call of a table once, and whether it answered as it should.
+/// Each call of a table once, and whether it answered as it should.
 fn calls(slots: &Slots<Keyed>, mut one: Seat, mut two: Seat) -> bool
     requires seats { IsSeatOf slots.now one × IsSeatOf slots.now two }
     requires room { 1 < slots_of slots.now }
@@ -61,7 +58,8 @@ fn calls(slots: &Slots<Keyed>, mut one: Seat, mut two: Seat) -> bool
     replies && hit == Probe::Hit([1, 2, 3]) && slots.len() == 2 && count.calls == 9
 }
 
-fn answer(alloc: std::alloc::Global) -> &'static str {
+/// A table is made, and each of its calls is made once.
+pub(crate) fn answer(alloc: Global) -> &'static str {
     let (slots, mut seats) = match Slots::<Keyed>::make(alloc, 2, 3) {
         Ok(made) => made,
         Err(MakeFault::Size) => return "size",
@@ -78,8 +76,4 @@ fn answer(alloc: std::alloc::Global) -> &'static str {
     } else {
         "wrong"
     }
-}
-
-fn main(rt: HostRuntime) -> io::Result<()> {
-    println!(rt; "{}", answer(rt.alloc()))
 }

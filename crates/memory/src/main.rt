@@ -1,0 +1,49 @@
+//! Makes one call that requests memory, and says how it ended: `minimate_memory solve`. `tools/sweep.sh` refuses each of its
+//! requests in turn. The call is `table` where none is named.
+#![tactic(auto)]
+
+mod building;
+mod job_board;
+mod solving;
+mod table;
+mod texts;
+
+use std::alloc::Global;
+use std::sync::Wait;
+use std::thread::Threads;
+use std::{env, io};
+
+/// What the call that the word names ended in: `no memory`, or what stands here beside it.
+fn said<R: Threads + Wait + Sync>(rt: &R, alloc: Global, call: &str) -> &'static str {
+    match call {
+        "table" => table::answer(alloc),
+        "job_board" => job_board::answer(alloc),
+        "solve" => solving::answer(rt, alloc),
+        "build_tree" => building::answer(rt, alloc),
+        "tree_text" => texts::written(alloc),
+        "read_tree" => texts::read(alloc),
+        _ => "no such call",
+    }
+}
+
+/// The program's words.
+fn words(rt: &HostRuntime) -> io::Result<Vec<String>> {
+    let words = env::args(rt)?.collect(rt.alloc())?;
+    Ok(words)
+}
+
+/// The call that the second word names.
+fn call_of(words: &[String]) -> &str {
+    match words.get(1) {
+        Some(word) => word.as_str(),
+        None => "table",
+    }
+}
+
+fn main(rt: HostRuntime) -> io::Result<()> {
+    let said = match words(&rt) {
+        Ok(words) => said(&rt, rt.alloc(), call_of(words.as_slice())),
+        Err(_) => "no memory",
+    };
+    println!(rt; "{said}")
+}
