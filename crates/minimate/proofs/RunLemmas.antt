@@ -4,7 +4,7 @@ use Rattle.std.proofs.lemmas.Option.{IfSome_then}
 use Rattle.minimate.specs.Output.{Reply, input_of, IsOutput, refused}
 use Rattle.minimate.specs.Refusal.{refusal_status}
 use Rattle.minimate.specs.Run.{Run, Writes, HasReply, no_memory, RunsLine, Finishes, Refuses}
-use Rattle.minimate.specs.declared.line.Line.{Line}
+use Rattle.command_line.specs.declared.line.Line.{Line}
 use Rattle.minimate.specs.declared.refusal.Refusal.{Refusal}
 use Rattle.minimate.specs.declared.refusal.Refusal.TheVariants.{Fields, Shape, Letter, Run as RunOfDigits, Side, Kings, Units, PawnRank, OtherInCheck, Limit, Slots, TooLong, Grammar, Deep, NoMemory}
 

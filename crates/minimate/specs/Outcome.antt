@@ -8,7 +8,7 @@ use Rattle.search.specs.declared.fault.SolveFault.TheVariants as solve
 use Rattle.search.specs.Answer.{IsAnswer}
 use Rattle.search.specs.Limits.{values_fault}
 use Rattle.minimate.specs.Output.{Reply, answered, refused, input_of, IsOutput}
-use Rattle.minimate.specs.declared.line.Line.{Line}
+use Rattle.command_line.specs.declared.line.Line.{Line}
 use Rattle.minimate.specs.declared.refusal.Refusal.{Refusal}
 use Rattle.minimate.specs.declared.refusal.Refusal.TheVariants.{TooLong, NoMemory}
 use Rattle.minimate.specs.declared.transfer.InputFault.{InputFault}

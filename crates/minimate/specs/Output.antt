@@ -24,10 +24,10 @@ use Rattle.wintree.specs.Text.{TreeText}
 use Rattle.wintree.specs.Wins.{Wins, height}
 use Rattle.minimate.specs.Input.{without_line_feed}
 use Rattle.minimate.specs.Refusal.{refusal_status, refusal_text, refusal_of_fen, refusal_of_solve, refusal_of_tree}
-use Rattle.minimate.specs.declared.line.Line.{Line}
-use Rattle.minimate.specs.declared.line.Limits.{Limits}
-use Rattle.minimate.specs.declared.line.Action.{Action}
-use Rattle.minimate.specs.declared.line.Action.TheVariants.{Solve, Moves, Check}
+use Rattle.command_line.specs.declared.line.Line.{Line}
+use Rattle.command_line.specs.declared.line.Limits.{Limits}
+use Rattle.command_line.specs.declared.line.Action.{Action}
+use Rattle.command_line.specs.declared.line.Action.TheVariants.{Solve, Moves, Check}
 use Rattle.minimate.specs.declared.refusal.Refusal.{Refusal}
 use Rattle.minimate.specs.declared.refusal.Refusal.TheVariants.{TooLong}
 use Rattle.minimate.specs.declared.transfer.TheConstants.{MOST_INPUT}

@@ -1,10 +1,7 @@
 //! Forced mates in minichess: the program.
 #![tactic(auto)]
 
-mod command_line;
 mod device;
-mod help;
-mod line;
 mod refusal;
 mod reply;
 mod run;

@@ -6,11 +6,11 @@ ghost use Rattle.minimate.specs.Output.{answer_text, moves_text, checked_text, S
 ghost use Rattle.minimate.specs.Run.{MayRead};
 
 use crate::device::Source;
-use crate::line::{Action, Limits, Line};
 use crate::refusal::Refusal;
 use crate::transfer::{read_all, without_line_feed};
 use crate::trouble::Trouble;
 use board::Position;
+use command_line::{Action, Limits, Line};
 use moves::{Goal, Move, lawful, read_sound};
 use search::{Answer, SolveFault, solve};
 use std::alloc::{AllocError, Global};

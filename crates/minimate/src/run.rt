@@ -3,13 +3,12 @@ ghost use Rattle.std.specs.Prelude.{◌≡◌, ◌⊎◌, ◌<◌, IfOk, map, st
 ghost use Rattle.minimate.specs.Output.{refused};
 ghost use Rattle.minimate.specs.Run.{ending_of, run_of, MayRead, MayReadFor, RunsLine, RunsWords, Finishes, Refuses, no_memory};
 
-use crate::command_line::{LineFault, read_line};
 use crate::device::{Sink, Source};
-use crate::line::Line;
 use crate::refusal::Refusal;
 use crate::reply::reply;
 use crate::transfer::write_all;
 use crate::trouble::Trouble;
+use command_line::{Line, LineFault, read_line};
 use std::alloc::{AllocError, Global};
 use std::convert::AsStr;
 

@@ -1,6 +1,6 @@
 use Rattle.std.proofs.Common.{rules, Global, Ok, string_bytes}
 use Rattle.minimate.specs.Output.{IsSoundText, ShowsAnswer}
-use Rattle.minimate.specs.declared.line.Action.TheVariants.{Solve, Check}
+use Rattle.command_line.specs.declared.line.Action.TheVariants.{Solve, Check}
 use Rattle.minimate.proofs.ReplyLemmas.{fault_gives, gives_reply, refusal_gives}
 use Rattle.minimate.proofs.reply.reply.Goals as goal
 
