@@ -19,6 +19,10 @@ number_rule name = record (new_rule name) {
 abbrev pub limit_rule : Rule
 limit_rule = record (number_rule (codes "limit")) { required = true }
 
+-- the workers, 2 where they are not given
+abbrev pub workers_rule : Rule
+workers_rule = record (number_rule (codes "workers")) { defaults = codes "2" ∷ [] }
+
 -- the slots, 64 where they are not given
 abbrev pub slots_rule : Rule
 slots_rule = record (number_rule (codes "slots")) { defaults = codes "64" ∷ [] }
@@ -31,9 +35,17 @@ goal_rule = record (new_rule (codes "goal")) {
   defaults = codes "mate" ∷ [];
 }
 
--- `solve --limit N [--slots S] [--goal GOAL] FEN`
+-- with what a search takes: `--limit N [--workers K] [--slots S] [--goal GOAL] FEN`
+abbrev pub search_app : App → App
+search_app app = with_rule (with_rule (with_rule (with_rule (with_rule app limit_rule) workers_rule) slots_rule) goal_rule) fen_rule
+
+-- `solve`, and what a search takes
 abbrev pub solve_app : App
-solve_app = with_rule (with_rule (with_rule (with_rule (new_app (codes "solve")) limit_rule) slots_rule) goal_rule) fen_rule
+solve_app = search_app (new_app (codes "solve"))
+
+-- `tree`, and what a search takes
+abbrev pub tree_app : App
+tree_app = search_app (new_app (codes "tree"))
 
 -- `moves FEN`
 abbrev pub moves_app : App
@@ -50,4 +62,4 @@ bare_app = let new = new_app (codes "minimate") in
 
 -- the program, whose first word is one of its commands
 abbrev pub program : App
-program = with_subcommand (with_subcommand (with_subcommand bare_app solve_app.top) moves_app.top) check_app.top
+program = with_subcommand (with_subcommand (with_subcommand (with_subcommand bare_app solve_app.top) moves_app.top) tree_app.top) check_app.top

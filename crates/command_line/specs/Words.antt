@@ -8,7 +8,7 @@ use Rattle.command_line.specs.Program.{program}
 use Rattle.command_line.specs.declared.line.Line.{Line}
 use Rattle.command_line.specs.declared.line.Limits.{Limits}
 use Rattle.command_line.specs.declared.line.Action.{Action}
-use Rattle.command_line.specs.declared.line.Action.TheVariants.{Solve, Moves, Check}
+use Rattle.command_line.specs.declared.line.Action.TheVariants.{Solve, Moves, Tree, Check}
 
 -- the text is the number: decimal digits, perhaps after a plus, below 2^32
 abbrev pub IsNumber : Text → ℕ → Type 0
@@ -22,6 +22,7 @@ HasNumber id rows n = (text : Text) × (one_of id rows ≡ Some text) × IsNumbe
 -- the numbers that were found for the limits' names
 pub record HasLimits (rows : List Row) (limits : Limits) : Type 0 where
   pub limit : HasNumber (codes "limit") rows limits.limit
+  pub workers : HasNumber (codes "workers") rows limits.workers
   pub slots : HasNumber (codes "slots") rows limits.slots
 
 -- the word of a goal
@@ -37,6 +38,7 @@ HasGoal rows goal = first_of (codes "goal") rows ≡ Some (goal_word goal)
 abbrev pub MeansAction : Text → List Row → Action → Type 0
 MeansAction name rows (Solve goal limits) = (name ≡ codes "solve") × HasGoal rows goal × HasLimits rows limits
 MeansAction name rows Moves = name ≡ codes "moves"
+MeansAction name rows (Tree goal limits) = (name ≡ codes "tree") × HasGoal rows goal × HasLimits rows limits
 MeansAction name rows (Check goal) = (name ≡ codes "check") × HasGoal rows goal
 
 -- the command's name and rows, as found, are the line's

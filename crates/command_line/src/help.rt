@@ -35,6 +35,17 @@ that order; squares go by ranks, a1, b1 and so on. `minimate --help` lists the e
 Example:
   minimate moves 'rnqknr/pppppp/6/6/PPPPPP/RNQKNR w'";
 
+pub const TREE: &str = "Write the tree of moves that forces mate";
+
+pub const TREE_NOTES: &str = "\
+The output is the tree that shows the answer of `solve`, on one line, or `none within 3`: a move of
+the attacker, then # for mate, = for stalemate, or in braces each lawful reply in order, a colon and
+the tree that meets it. At each turn the attacker's move is the least of those that force the goal
+in the fewest plies. `minimate check` checks it. `minimate --help` lists the exit statuses.
+
+Example:
+  minimate tree --limit 3 'k5/6/2K3/6/6/1R4 w'";
+
 pub const CHECK: &str = "Check a tree of moves that is read from the input";
 
 pub const CHECK_NOTES: &str = "\
@@ -61,6 +72,10 @@ A ply is one move of one side.";
 pub const GOAL: &str = "\
 What the attacker plays for: `mate`, or `stale`, by which a stalemated defender
 is as good as a mated one.";
+
+pub const WORKERS: &str = "\
+How many threads search, 1 to 16, beside the one that the program begins with.
+It changes how long the search takes, and never the answer.";
 
 pub const SLOTS: &str = "\
 How many slots the table of decided positions has, 1 to 1048576.

@@ -16,6 +16,8 @@ pub enum Action {
     Solve(Goal, Limits),
     /// Each lawful move.
     Moves,
+    /// The tree that shows the answer of a solve.
+    Tree(Goal, Limits),
     /// In how many plies the tree of the input wins, if it wins.
     Check(Goal),
 }
@@ -25,6 +27,8 @@ pub enum Action {
 pub struct Limits {
     /// The most plies to the goal.
     pub limit: u32,
+    /// The threads that search, beside the one that the program begins with.
+    pub workers: u32,
     /// The slots of the table that remembers decided positions.
     pub slots: u32,
 }

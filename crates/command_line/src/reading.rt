@@ -9,7 +9,7 @@ ghost use Rattle.command_line.specs.declared.line.Action.{Action as TheAction};
 ghost use Rattle.clap.specs.Words.{FailsBy, app_of, fault_of, first_of, found_of, kind_of, rows_of, rule_of, subcommand_of, subcommand_rows_of};
 ghost use Rattle.command_line.specs.Words.{HasGoal, HasLimits, HasLine, HasNumber, MeansAction, MeansLine, MeansNoLine};
 ghost use Rattle.clap.specs.declared.builder.command.Command.TheViews.{out-Command as fields_of};
-ghost use Rattle.command_line.specs.Program.{fen_rule, goal_rule, number_rule, solve_app, moves_app, check_app, program};
+ghost use Rattle.command_line.specs.Program.{fen_rule, goal_rule, number_rule, limit_rule, workers_rule, slots_rule, search_app, solve_app, moves_app, tree_app, check_app, program};
 
 use crate::help;
 use crate::line::{Action, Limits, Line};
@@ -67,19 +67,58 @@ fn goal<'a>(alloc: Global) -> Arg<'a>
         .help(help::GOAL)
 }
 
+fn limit<'a>(alloc: Global) -> Arg<'a>
+    ensures rule { rule_of result ≡ limit_rule }
+    ensures local { result.global ≡ false }
+{
+    number(alloc, "limit", "N", help::LIMIT).required(true)
+}
+
+fn workers<'a>(alloc: Global) -> Arg<'a>
+    ensures rule { rule_of result ≡ workers_rule }
+    ensures local { result.global ≡ false }
+{
+    number(alloc, "workers", "K", help::WORKERS).default_value("2")
+}
+
+fn slots<'a>(alloc: Global) -> Arg<'a>
+    ensures rule { rule_of result ≡ slots_rule }
+    ensures local { result.global ≡ false }
+{
+    number(alloc, "slots", "S", help::SLOTS).default_value("64")
+}
+
+/// Adds what a search takes.
+fn with_search<'a>(alloc: Global, command: Command<'a>) -> Result<Command<'a>, AllocError>
+    ensures app { IfOk result (λ made. app_of made ≡ search_app (app_of command.entry)) }
+    ensures local { IfOk result (λ made. (fields_of made).has_globals ≡ (fields_of command.entry).has_globals) }
+{
+    command
+        .arg(limit(alloc))?
+        .arg(workers(alloc))?
+        .arg(slots(alloc))?
+        .arg(goal(alloc))?
+        .arg(fen(alloc))
+}
+
 fn solve_command<'a>(alloc: Global) -> Result<Command<'a>, AllocError>
     ensures app { IfOk result (λ command. app_of command ≡ solve_app) }
     ensures local { IfOk result (λ command. (fields_of command).has_globals ≡ false) }
 {
-    let limit = number(alloc, "limit", "N", help::LIMIT).required(true);
-    let slots = number(alloc, "slots", "S", help::SLOTS).default_value("64");
-    Command::new(alloc, "solve")
+    let command = Command::new(alloc, "solve")
         .about(help::SOLVE)
-        .after_help(help::SOLVE_NOTES)
-        .arg(limit)?
-        .arg(slots)?
-        .arg(goal(alloc))?
-        .arg(fen(alloc))
+        .after_help(help::SOLVE_NOTES);
+    with_search(alloc, command)
+}
+
+fn tree_command<'a>(alloc: Global) -> Result<Command<'a>, AllocError>
+    ensures app { IfOk result (λ command. app_of command ≡ tree_app) }
+    ensures local { IfOk result (λ command. (fields_of command).has_globals ≡ false) }
+{
+    let command = Command::new(alloc, "tree")
+        .about(help::TREE)
+        .after_help(help::TREE_NOTES);
+    with_search(alloc, command)
 }
 
 fn moves_command<'a>(alloc: Global) -> Result<Command<'a>, AllocError>
@@ -114,6 +153,7 @@ fn command<'a>(alloc: Global) -> Result<Command<'a>, AllocError>
         .subcommand_required(true)
         .subcommand(solve_command(alloc)?)?
         .subcommand(moves_command(alloc)?)?
+        .subcommand(tree_command(alloc)?)?
         .subcommand(check_command(alloc)?)
 }
 
@@ -138,6 +178,7 @@ fn limits(matches: &ArgMatches<'_>) -> Option<Limits>
 {
     Some(Limits {
         limit: number_of(matches, "limit")?,
+        workers: number_of(matches, "workers")?,
         slots: number_of(matches, "slots")?,
     })
 }
@@ -160,6 +201,7 @@ fn action_of(name: &str, values: &ArgMatches<'_>) -> Option<Action>
     match name {
         "solve" => Some(Action::Solve(goal_of(values)?, limits(values)?)),
         "moves" => Some(Action::Moves),
+        "tree" => Some(Action::Tree(goal_of(values)?, limits(values)?)),
         "check" => Some(Action::Check(goal_of(values)?)),
         _ => None,
     }

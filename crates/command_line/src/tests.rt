@@ -28,19 +28,31 @@ fn expect_none<R: Abort + AllocGlobal>(rt: &R, words: &[&str]) {
 fn reads_each_command(rt: HostRuntime) {
     let least = Limits {
         limit: 1,
+        workers: 2,
         slots: 64,
     };
     let solve = ["minimate", "solve", "--limit", "1", FEN];
     expect_action(&rt, &solve, Action::Solve(Goal::Mate, least));
     let all = [
-        "minimate", "solve", FEN, "--slots", "7", "--goal=stale", "--limit=4294967295",
+        "minimate",
+        "solve",
+        "--workers",
+        "0",
+        FEN,
+        "--slots",
+        "7",
+        "--goal=stale",
+        "--limit=4294967295",
     ];
     let greatest = Limits {
         limit: 4_294_967_295,
+        workers: 0,
         slots: 7,
     };
     expect_action(&rt, &all, Action::Solve(Goal::MateOrStale, greatest));
     expect_action(&rt, &["minimate", "moves", FEN], Action::Moves);
+    let tree = ["minimate", "tree", "--limit", "1", FEN];
+    expect_action(&rt, &tree, Action::Tree(Goal::Mate, least));
     expect_action(&rt, &["minimate", "check", FEN], Action::Check(Goal::Mate));
     let stale = ["minimate", "check", "--goal", "stale", FEN];
     expect_action(&rt, &stale, Action::Check(Goal::MateOrStale));

@@ -11,6 +11,8 @@ use crate::trouble::Trouble;
 use command_line::{Line, LineFault, read_line};
 use std::alloc::{AllocError, Global};
 use std::convert::AsStr;
+use std::sync::Wait;
+use std::thread::Threads;
 
 const ANSWERED: u8 = 0;
 
@@ -25,7 +27,8 @@ const NO_MEMORY: &[u8] = b"refused: NoMemory\n";
 
 /// Answers a line: writes its output, and gives its status. No line but a `check` at a sound
 /// position asks the reader for anything.
-pub fn run_line<S: Source, K: Sink>(
+pub fn run_line<R: Threads + Wait + Sync, S: Source, K: Sink>(
+    rt: &R,
     alloc: Global,
     line: &Line<'_>,
     reader: &mut S,
@@ -37,8 +40,8 @@ pub fn run_line<S: Source, K: Sink>(
     ensures runs { RunsLine line.now (run_of S.remaining S.failures reader.old reader.new
         (ending_of K.contents K.failures writer.old writer.new result)) }
 {
-    match reply(alloc, line, reader) {
-        Ok(text) => finish(writer, text.as_bytes(), ANSWERED),
+    match reply(rt, alloc, line, reader) {
+        Ok(text) => finish(writer, text.as_slice(), ANSWERED),
         Err(Trouble::Refused(refusal)) => refuse(alloc, writer, refusal),
         Err(Trouble::ReadFailed) => FAILED,
     }
@@ -81,7 +84,8 @@ fn refused_text(alloc: Global, refusal: Refusal) -> Result<String, AllocError>
 }
 
 /// Answers the line that the words mean. The first word is the program's name.
-pub fn run<W: AsStr, S: Source, K: Sink>(
+pub fn run<R: Threads + Wait + Sync, W: AsStr, S: Source, K: Sink>(
+    rt: &R,
     alloc: Global,
     words: &[W],
     reader: &mut S,
@@ -94,7 +98,7 @@ pub fn run<W: AsStr, S: Source, K: Sink>(
         (ending_of K.contents K.failures writer.old writer.new result)) }
 {
     match read_line(alloc, words) {
-        Ok(line) => run_line(alloc, &line, reader, writer),
+        Ok(line) => run_line(rt, alloc, &line, reader, writer),
         Err(LineFault::Words) => REFUSED_WORDS,
         Err(LineFault::NoMemory) => give_up_for_memory(writer),
     }

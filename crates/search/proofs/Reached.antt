@@ -6,7 +6,7 @@ use Rattle.moves.specs.declared.goal.Goal.{Goal}
 use Rattle.moves.specs.declared.goal.Goal.TheVariants.{Mate, MateOrStale}
 use Rattle.moves.specs.Squares.{Ply}
 use Rattle.moves.specs.Reach.{IsInCheck}
-use Rattle.moves.specs.Moves.{IsLawful, IsMated, IsStalemated}
+use Rattle.moves.specs.Moves.{IsLawful, IsMated}
 use Rattle.moves.specs.Forces.{IsReached}
 
 -- in check, mate is want of a lawful move

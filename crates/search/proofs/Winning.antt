@@ -1,5 +1,5 @@
 -- What is forced, from the list of lawful moves, round by round.
-use Rattle.std.proofs.Common.{◌≡◌, ℕ, ◌+◌, ◌-◌, ◌*◌, ◌<◌, ◌≤◌, ◌⊎◌, inl, inr, zero, suc, sym, ap, subst, ◌∙◌, arith, List, [], ◌∷◌, length, take, get_or, get_or-take, length-take, Bool, All, Contains, ◌↔◌, IsTrue, true, false, refl}
+use Rattle.std.proofs.Common.{◌≡◌, ℕ, ◌+◌, ◌-◌, ◌*◌, ◌<◌, ◌≤◌, ◌⊎◌, inl, inr, zero, suc, sym, ap, subst, ◌∙◌, arith, List, [], ◌∷◌, length, take, get_or, get_or-take, length-take, Bool, All, Contains, ◌↔◌, IsTrue, true, refl}
 use Rattle.std.proofs.lemmas.Bool.{false≢true}
 use Rattle.std.proofs.lemmas.Grind.{common_steps, elements}
 use Rattle.std.proofs.lemmas.List.Elements.{All-append, All-contains, All-get_or}

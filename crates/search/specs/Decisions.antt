@@ -2,7 +2,7 @@
 use Rattle.std.specs.Prelude.{◌≡◌, ℕ, ◌+◌, ◌<◌, ◌≤◌, Bool, true, false, List, All, Contains}
 use Rattle.board.specs.Board.{PlainBoard}
 use Rattle.moves.specs.Squares.{Ply}
-use Rattle.moves.specs.Moves.{IsMove, IsLawful}
+use Rattle.moves.specs.Moves.{IsMove}
 use Rattle.moves.specs.Forces.{OnTurn}
 use Rattle.slots.specs.declared.calls.Call.{Call}
 use Rattle.slots.specs.declared.calls.Act.TheVariants.{Asked, Offered}

@@ -92,7 +92,7 @@ fn try_moves(
     let own = is_turn_of(attacker, board);
     let mut expanded: u64 = 0;
     for m in moves {
-        let below = decide_on(slots, seat, &after(board, *m), attacker, goal, n - 1, false);
+        let below = decide_asking(slots, seat, &after(board, *m), attacker, goal, n - 1, false);
         expanded = expanded.saturating_add(below.expanded);
         if below.yes == own {
             return Outcome { yes: own, expanded };
@@ -188,9 +188,9 @@ fn expand(
     search(slots, seat, board, attacker, goal, n)
 }
 
-/// `decide`, on a board of three words.
+/// Decides with or without the promise of the positions below, which costs calls on the last ply.
 #[cycle(deciding)]
-pub(crate) fn decide_on(
+fn decide_asking(
     slots: &Slots<MateLore>,
     seat: &mut Seat,
     board: &Board,
@@ -236,6 +236,26 @@ pub(crate) fn decide_on(
 
 /// Whether the attacker forces the goal within n plies, whatever the table holds and whatever its other callers do. The
 /// table is asked first, of this position and of each below it; what is searched is stored after its own subtree.
+pub fn decide_on(
+    slots: &Slots<MateLore>,
+    seat: &mut Seat,
+    board: &Board,
+    attacker: Side,
+    goal: Goal,
+    n: u8,
+) -> Decision
+    requires seat { IsSeatOf slots.now seat.old }
+    requires plies { n ≤ 63 }
+    ensures continues { Continues slots.now seat.old seat.new }
+    ensures history { KnowsHistory seat.new }
+    ensures answer { IsTrue result.yes ↔ Forces goal attacker board.now n }
+    ensures calls { Decides (question board.now attacker goal) (slots_of slots.now) n (number seat.old) result (added seat.old seat.new) }
+    ensures below { 0 < result.expanded → 0 < n → ((m : Ply) × IsLawful board.now m) → AsksBelow (question board.now attacker goal) (slots_of slots.now) (number seat.old) result.yes (added seat.old seat.new) }
+{
+    decide_asking(slots, seat, board, attacker, goal, n, true)
+}
+
+/// `decide_on`, of a position.
 pub fn decide(
     slots: &Slots<MateLore>,
     seat: &mut Seat,
@@ -252,5 +272,5 @@ pub fn decide(
     ensures calls { Decides (question position.now attacker goal) (slots_of slots.now) n (number seat.old) result (added seat.old seat.new) }
     ensures below { 0 < result.expanded → 0 < n → ((m : Ply) × IsLawful position.now m) → AsksBelow (question position.now attacker goal) (slots_of slots.now) (number seat.old) result.yes (added seat.old seat.new) }
 {
-    decide_on(slots, seat, &Board::of(position), attacker, goal, n, true)
+    decide_on(slots, seat, &Board::of(position), attacker, goal, n)
 }

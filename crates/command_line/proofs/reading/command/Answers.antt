@@ -13,5 +13,6 @@ returns c =
     ap app_of_fields c.subcommand_required.ensures ∙ ap (on_top (λ (s : Shape). record s { subcommand_required = true })) told in
     let one = c.in_ok-subcommand.ensures.shape c.in_ok-solve_command.ensures.local ∙ ap₂ with_subcommand bare (ap (λ (a : App). a.top) c.in_ok-solve_command.ensures.app) in
     let two = c.in_ok-subcommand-2.ensures.shape c.in_ok-moves_command.ensures.local ∙ ap₂ with_subcommand one (ap (λ (a : App). a.top) c.in_ok-moves_command.ensures.app) in
-    IfOk-weaker c.subcommand-3.result _ _
-    (λ command added. added.shape c.in_ok-check_command.ensures.local ∙ ap₂ with_subcommand two (ap (λ (a : App). a.top) c.in_ok-check_command.ensures.app)) c.subcommand-3.ensures
+    let three = c.in_ok-subcommand-3.ensures.shape c.in_ok-tree_command.ensures.local ∙ ap₂ with_subcommand two (ap (λ (a : App). a.top) c.in_ok-tree_command.ensures.app) in
+    IfOk-weaker c.subcommand-4.result _ _
+    (λ command added. added.shape c.in_ok-check_command.ensures.local ∙ ap₂ with_subcommand three (ap (λ (a : App). a.top) c.in_ok-check_command.ensures.app)) c.subcommand-4.ensures

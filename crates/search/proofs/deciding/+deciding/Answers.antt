@@ -1,4 +1,4 @@
-use Rattle.std.proofs.Common.{◌-◌, ◌<◌, List, All, sym, ◌∙◌, subst, arith, length, ◌≡◌, Bool, ◌↔◌, IsTrue, ◌⊎◌, Contains}
+use Rattle.std.proofs.Common.{◌-◌, List, All, sym, ◌∙◌, subst, arith, length, ◌≡◌, Bool, ◌↔◌, IsTrue, ◌⊎◌, Contains}
 use Rattle.std.proofs.lemmas.Bool.Decides.{Decides-eqb}
 use Rattle.std.proofs.lemmas.List.{take_all}
 use Rattle.moves.specs.Squares.{Ply}
@@ -15,34 +15,34 @@ use Rattle.search.specs.Calls.{added}
 use Rattle.search.specs.Questions.{question}
 use Rattle.search.proofs.Calls.{continues_none, continues_more}
 use Rattle.search.proofs.Replies.{reply_is_right}
-use Rattle.search.specs.Below.{IsTried, IsEnded}
+use Rattle.search.specs.Below.{IsTried}
 use Rattle.search.proofs.Below.{goes_by, ends_by, beq_same, beq_apart, not_empty, not_self, none_listed, some_listed, all_listed, tried_next, asked_last, both_tried, ended_behind, said_answer, said_below, now_answer}
 use Rattle.search.proofs.Winning.{same_mover}
 use Rattle.search.proofs.Decided.{decided_at_once, decided_searched, asks_within}
 use Rattle.search.proofs.deciding.+deciding.Goals as goal
 
-pub decide_on-returns-in-Some-clause-answer : goal.decide_on-returns-in-Some-clause-answer
-decide_on-returns-in-Some-clause-answer t c =
+pub decide_asking-returns-in-Some-clause-answer : goal.decide_asking-returns-in-Some-clause-answer
+decide_asking-returns-in-Some-clause-answer t c =
     let q = question c.args.board.now c.args.attacker c.args.goal in
     reply_is_right q c.key_on-key.ensures.position c.ask-first.result (subst (λ k. HitFits key_words IsTruePacking (Asked k c.ask-first.result)) c.key_on-key.ensures.value c.ask-first.ensures.hit) c.args.n c.in-Some.yes c.in-Some.ensures
 
-pub decide_on-returns-in-Some-clause-calls : goal.decide_on-returns-in-Some-clause-calls
-decide_on-returns-in-Some-clause-calls t c =
+pub decide_asking-returns-in-Some-clause-calls : goal.decide_asking-returns-in-Some-clause-calls
+decide_asking-returns-in-Some-clause-calls t c =
     decided_at_once (question c.args.board.now c.args.attacker c.args.goal) c.key_on-key.result c.first_slot-slot.result (slots_of c.args.slots.now) c.args.n (number c.args.seat.now) c.in-Some.yes c.ask-first.result _
     c.key_on-key.ensures.value c.first_slot-slot.ensures.value c.ask-first.ensures.asked c.ask-first.ensures.probes (c.in-Some.yes, c.in-Some.ensures)
 
-pub decide_on-returns-clause-continues : goal.decide_on-returns-clause-continues
-decide_on-returns-clause-continues t c = continues_more _ _ _ _ (continues_more _ _ _ _ c.ask-first.ensures.continues c.expand-yes.ensures.continues) c.offer.ensures.continues
+pub decide_asking-returns-clause-continues : goal.decide_asking-returns-clause-continues
+decide_asking-returns-clause-continues t c = continues_more _ _ _ _ (continues_more _ _ _ _ c.ask-first.ensures.continues c.expand-yes.ensures.continues) c.offer.ensures.continues
 
-pub decide_on-returns-clause-calls : goal.decide_on-returns-clause-calls
-decide_on-returns-clause-calls t c =
+pub decide_asking-returns-clause-calls : goal.decide_asking-returns-clause-calls
+decide_asking-returns-clause-calls t c =
     decided_searched c.args.slots.now c.args.seat.now c.ask-first.new.seat c.expand-yes.new.seat c.offer.new.seat (question c.args.board.now c.args.attacker c.args.goal) c.key_on-key.result c.first_slot-slot.result (slots_of c.args.slots.now) c.args.n
     (record { yes = c.expand-yes.result.yes; expanded = c.expand-yes.result.expanded; first = c.ask-first.result }) c.answer_words-words.result
     c.ask-first.ensures.continues c.expand-yes.ensures.continues c.offer.ensures.continues c.key_on-key.ensures.value c.first_slot-slot.ensures.value c.ask-first.ensures.asked
     c.in_default.ensures c.expand-yes.ensures.expanded c.answer_words-words.ensures.met c.offer.ensures.offered
 
-pub decide_on-returns-clause-below : goal.decide_on-returns-clause-below
-decide_on-returns-clause-below t c = λ asks some plies moves.
+pub decide_asking-returns-clause-below : goal.decide_asking-returns-clause-below
+decide_asking-returns-clause-below t c = λ asks some plies moves.
     asks_within c.args.slots.now c.args.seat.now c.ask-first.new.seat c.expand-yes.new.seat c.offer.new.seat (question c.args.board.now c.args.attacker c.args.goal) (slots_of c.args.slots.now) c.expand-yes.result.yes
     c.ask-first.ensures.continues c.expand-yes.ensures.continues c.offer.ensures.continues (c.expand-yes.ensures.below asks plies moves)
 
@@ -127,8 +127,8 @@ search-returns-clause-below t c = λ plies moves.
 pub try_moves-after-requires : goal.try_moves-after-requires
 try_moves-after-requires t c = subst (IsLawful c.args.board.now) (sym c.m-item.is) (c.requires.lawful c.loop-m.m-index c.m-item.result c.loop-m-test.true)
 
-pub try_moves-decide_on-below-requires : goal.try_moves-decide_on-below-requires
-try_moves-decide_on-below-requires t c =
+pub try_moves-decide_asking-below-requires : goal.try_moves-decide_asking-below-requires
+try_moves-decide_asking-below-requires t c =
     let some = c.requires.plies.0 in
     let most = c.requires.plies.1 in
     (omega (arith, c.decreases), (c.loop-m.invariant.continues.seat, omega arith))
@@ -143,25 +143,25 @@ try_moves-loop-m-init t c = record {
 pub try_moves-loop-m-preserved : goal.try_moves-loop-m-preserved
 try_moves-loop-m-preserved t c =
     record {
-      continues = continues_more _ _ _ _ c.loop-m.invariant.continues c.decide_on-below.ensures.continues;
-      history = c.decide_on-below.ensures.history;
-      tried = tried_next c.args.slots.now c.args.seat.now c.loop-m.seat c.decide_on-below.new.seat c.loop-m.invariant.continues c.decide_on-below.ensures.continues
+      continues = continues_more _ _ _ _ c.loop-m.invariant.continues c.decide_asking-below.ensures.continues;
+      history = c.decide_asking-below.ensures.history;
+      tried = tried_next c.args.slots.now c.args.seat.now c.loop-m.seat c.decide_asking-below.new.seat c.loop-m.invariant.continues c.decide_asking-below.ensures.continues
           (question c.args.board.now c.args.attacker c.args.goal) (slots_of c.args.slots.now) (c.args.n - 1) c.is_turn_of-own.result c.args.moves.now c.loop-m.m-index c.m-item.result c.after.result
-          c.loop-m-test.true c.m-item.is c.after.ensures c.loop-m.invariant.tried c.decide_on-below.result.first c.decide_on-below.ensures.calls.asked
-          (goes_by c.is_turn_of-own.result c.decide_on-below.result.yes _ c.decide_on-below.ensures.answer (beq_apart _ _ c.if-below-own.false));
+          c.loop-m-test.true c.m-item.is c.after.ensures c.loop-m.invariant.tried c.decide_asking-below.result.first c.decide_asking-below.ensures.calls.asked
+          (goes_by c.is_turn_of-own.result c.decide_asking-below.result.yes _ c.decide_asking-below.ensures.answer (beq_apart _ _ c.if-below-own.false));
     }
 
 pub try_moves-returns-then-below-own-clause-continues : goal.try_moves-returns-then-below-own-clause-continues
-try_moves-returns-then-below-own-clause-continues t c = continues_more _ _ _ _ c.loop-m.invariant.continues c.decide_on-below.ensures.continues
+try_moves-returns-then-below-own-clause-continues t c = continues_more _ _ _ _ c.loop-m.invariant.continues c.decide_asking-below.ensures.continues
 
 pub try_moves-returns-then-below-own-clause-ended : goal.try_moves-returns-then-below-own-clause-ended
 try_moves-returns-then-below-own-clause-ended t c = λ _. (
   c.m-item.result,
   c.after.result,
   c.after.ensures,
-  asked_last c.args.slots.now c.args.seat.now c.loop-m.seat c.decide_on-below.new.seat c.loop-m.invariant.continues c.decide_on-below.ensures.continues (question c.after.result c.args.attacker c.args.goal) (slots_of c.args.slots.now) (c.args.n - 1)
-      c.decide_on-below.result.first c.decide_on-below.ensures.calls.asked,
-  ends_by c.is_turn_of-own.result c.decide_on-below.result.yes _ c.decide_on-below.ensures.answer (beq_same _ _ c.if-below-own.true),
+  asked_last c.args.slots.now c.args.seat.now c.loop-m.seat c.decide_asking-below.new.seat c.loop-m.invariant.continues c.decide_asking-below.ensures.continues (question c.after.result c.args.attacker c.args.goal) (slots_of c.args.slots.now) (c.args.n - 1)
+      c.decide_asking-below.result.first c.decide_asking-below.ensures.calls.asked,
+  ends_by c.is_turn_of-own.result c.decide_asking-below.result.yes _ c.decide_asking-below.ensures.answer (beq_same _ _ c.if-below-own.true),
 )
 
 pub try_moves-returns-then-below-own-clause-tried : goal.try_moves-returns-then-below-own-clause-tried

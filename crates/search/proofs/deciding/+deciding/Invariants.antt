@@ -1,12 +1,12 @@
-use Rattle.std.proofs.Common.{◌≡◌, ℕ, ◌+◌, ◌*◌, ◌<◌, ◌-◌, take, Bool, All}
+use Rattle.std.proofs.Common.{◌+◌, ◌*◌, ◌-◌, take, All}
 use Rattle.slots.specs.Promise.{slots_of, number}
 use Rattle.search.specs.Calls.{added, Continues, KnowsHistory}
 use Rattle.search.specs.Questions.{question}
 use Rattle.search.specs.Below.{IsTried}
 use Rattle.search.proofs.deciding.+deciding.Given as goal
 
-abbrev pub decreases-decide_on : goal.decreases-decide_on
-decreases-decide_on l = 4 * l.n + 3
+abbrev pub decreases-decide_asking : goal.decreases-decide_asking
+decreases-decide_asking l = 4 * l.n + 3
 
 abbrev pub decreases-expand : goal.decreases-expand
 decreases-expand l = 4 * l.n + 2

@@ -1,12 +1,13 @@
-use Rattle.std.proofs.Common.{◌↔◌, ◌-◌, All, IsTrue, sym, ◌∙◌, subst}
+use Rattle.std.proofs.Common.{arith, ◌↔◌, ◌-◌, All, IsTrue, sym, ◌∙◌, subst}
 use Rattle.std.proofs.lemmas.Bool.{false≢true}
 use Rattle.std.proofs.lemmas.List.{take_all}
 use Rattle.board.specs.declared.game.Side.{Side}
 use Rattle.moves.specs.Forces.{Forces}
 use Rattle.moves.specs.Order.{ListsLawful}
 use Rattle.search.specs.Answer.{Wins}
+use Rattle.search.proofs.Calls.{continues_none, continues_more}
 use Rattle.search.proofs.Winning.{wins_by, answer_at, none_next, none_wins}
-use Rattle.search.proofs.solving.least_win.Goals as goal
+use Rattle.trees.proofs.best.least_win.Goals as goal
 
 pub after-requires : goal.after-requires
 after-requires c =
@@ -24,7 +25,7 @@ loop-m-preserved c =
     let decided = wins_by c.args.goal c.args.board.now c.args.n c.m-item.result c.after.result c.decide_on.result.yes c.after.ensures
     (subst (λ (side : Side). IsTrue c.decide_on.result.yes ↔ Forces c.args.goal side c.after.result (c.args.n - 1)) c.mover-attacker.ensures c.decide_on.ensures.answer) in
     record {
-      seat = c.decide_on.ensures.continues.seat;
+      continues = continues_more _ _ _ _ c.loop-m.invariant.continues c.decide_on.ensures.continues;
       none = none_next c.args.goal c.args.board.now c.args.n c.as_slice-m-items.result.now (subst (ListsLawful c.args.board.now) (sym c.as_slice-m-items.ensures.value) c.lawful_on-moves.ensures)
           c.loop-m.m-index c.m-item.result c.loop-m-test.true c.m-item.is (λ w. false≢true (sym c.if-decide_on.false ∙ decided.1 w)) c.loop-m.invariant.none;
     }
@@ -33,3 +34,12 @@ pub returns-clause-least : goal.returns-clause-least
 returns-clause-least c =
     none_wins c.args.goal c.args.board.now c.args.n c.as_slice-m-items.result.now (subst (ListsLawful c.args.board.now) (sym c.as_slice-m-items.ensures.value) c.lawful_on-moves.ensures)
     (subst (All (λ m. Wins c.args.goal c.args.board.now c.args.n m → ⊥)) (take_all c.loop-m.m-index c.as_slice-m-items.result.now c.loop-m-test.false) c.loop-m.invariant.none)
+
+pub returns-then-decide_on-clause-continues : goal.returns-then-decide_on-clause-continues
+returns-then-decide_on-clause-continues c = continues_more _ _ _ _ c.loop-m.invariant.continues c.decide_on.ensures.continues
+
+pub loop-m-init : goal.loop-m-init
+loop-m-init c = record {
+  continues = continues_none c.args.slots.now c.args.seat.now c.requires.seat;
+  none = λ k d lt. absurd (omega (arith, lt));
+}

@@ -1,0 +1,3 @@
+pub mod Forcing
+pub mod Fewest
+pub mod Lists

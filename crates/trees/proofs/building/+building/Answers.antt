@@ -1,0 +1,121 @@
+use Rattle.std.proofs.lemmas.Result.{IfOk-weaker}
+use Rattle.std.proofs.Common.{◌≤◌, ◌*◌, ◌+◌, ◌-◌, sym, ap, ◌∙◌, subst, arith}
+use Rattle.std.proofs.lemmas.Bool.{false≢true}
+use Rattle.std.proofs.lemmas.List.{take_all}
+use Rattle.moves.specs.Order.{ListsLawful}
+use Rattle.wintree.specs.Plan.{depth}
+use Rattle.moves.proofs.Forcing.{same_side-self}
+use Rattle.search.proofs.Calls.{continues_none, continues_more}
+use Rattle.trees.specs.Best.{IsBest}
+use Rattle.trees.proofs.Forcing.{some_ply, best_reached, two_plies, best_forces}
+use Rattle.trees.proofs.Lists.{replies_in, AreBest, AreShallow, best_node, node_depth, node_room, some_listed, replies_more, best_more, shallow_more}
+use Rattle.trees.proofs.building.+building.Goals as goal
+
+-- ---- a tree
+
+pub best_tree-end_at-requires : goal.best_tree-end_at-requires
+best_tree-end_at-requires t c =
+    best_reached c.args.goal c.args.board.now c.after-next.result c.best_move-attack.result c.best_move-attack.ensures.best c.after-next.ensures c.args.limit c.requires.forced
+    (λ r lawful. false≢true (sym c.if-not-has_lawful_move.true ∙ c.has_lawful_move.ensures.1 (r, lawful)))
+
+pub best_tree-returns-then-not-has_lawful_move-clause-best : goal.best_tree-returns-then-not-has_lawful_move-clause-best
+best_tree-returns-then-not-has_lawful_move-clause-best t c =
+    IfOk-weaker c.end.result _ _ (λ tree is. subst (IsBest c.args.goal c.args.board.now) (sym is) (c.best_move-attack.ensures.best, (c.after-next.result, c.after-next.ensures, c.end_at.ensures))) c.end.ensures
+
+pub best_tree-returns-then-not-has_lawful_move-clause-depth : goal.best_tree-returns-then-not-has_lawful_move-clause-depth
+best_tree-returns-then-not-has_lawful_move-clause-depth t c =
+    let plies = some_ply c.args.goal c.args.board.now.mover c.args.board.now c.args.limit (same_side-self c.args.board.now.mover) c.requires.forced in
+    IfOk-weaker c.end.result _ _ (λ tree is. omega (arith, plies, ap depth is)) c.end.ensures
+
+pub best_tree-overflow_sub-limit : goal.best_tree-overflow_sub-limit
+best_tree-overflow_sub-limit t c =
+    two_plies c.args.goal c.args.board.now c.after-next.result c.best_move-attack.result c.best_move-attack.ensures.best c.after-next.ensures c.args.limit c.requires.forced
+    (c.has_lawful_move.ensures.0 c.if-not-has_lawful_move.false)
+
+pub best_tree-replies_to-requires : goal.best_tree-replies_to-requires
+best_tree-replies_to-requires t c =
+    let some = c.has_lawful_move.ensures.0 c.if-not-has_lawful_move.false in
+    let plies = two_plies c.args.goal c.args.board.now c.after-next.result c.best_move-attack.result c.best_move-attack.ensures.best c.after-next.ensures c.args.limit c.requires.forced some in
+    let most = c.requires.limit in (
+      omega (arith, c.decreases, plies),
+      (
+        c.best_move-attack.ensures.continues.seat,
+        (
+          omega arith,
+          (
+            some,
+            best_forces c.args.goal c.args.board.now c.after-next.result c.best_move-attack.result c.best_move-attack.ensures.best c.after-next.ensures c.args.limit c.requires.forced some,
+          ),
+        ),
+      ),
+    )
+
+pub best_tree-returns-in_err-replies-clause-continues : goal.best_tree-returns-in_err-replies-clause-continues
+best_tree-returns-in_err-replies-clause-continues t c = continues_more _ _ _ _ c.best_move-attack.ensures.continues c.in_err-replies.ensures.continues
+
+pub best_tree-node-requires-clause-some : goal.best_tree-node-requires-clause-some
+best_tree-node-requires-clause-some t c =
+    let some = some_listed c.args.goal c.after-next.result c.in_ok-replies.replies.items (c.has_lawful_move.ensures.0 c.if-not-has_lawful_move.false) c.in_ok-replies.ensures.replies in
+    omega (arith, some)
+
+pub best_tree-node-requires-clause-room : goal.best_tree-node-requires-clause-room
+best_tree-node-requires-clause-room t c =
+    let most = c.requires.limit in
+    node_room c.in_ok-replies.replies.items (c.args.limit - 2) (omega arith) c.in_ok-replies.ensures.depth
+
+pub best_tree-returns-clause-continues : goal.best_tree-returns-clause-continues
+best_tree-returns-clause-continues t c = continues_more _ _ _ _ c.best_move-attack.ensures.continues c.in_ok-replies.ensures.continues
+
+pub best_tree-returns-clause-best : goal.best_tree-returns-clause-best
+best_tree-returns-clause-best t c =
+    IfOk-weaker c.node.result _ _ (λ tree is. subst (IsBest c.args.goal c.args.board.now) (sym is)
+    (best_node c.args.goal c.after-next.result c.args.board.now c.best_move-attack.result c.in_ok-replies.replies.items c.best_move-attack.ensures.best c.after-next.ensures
+    (c.has_lawful_move.ensures.0 c.if-not-has_lawful_move.false) c.in_ok-replies.ensures.replies c.in_ok-replies.ensures.best)) c.node.ensures
+
+pub best_tree-returns-clause-depth : goal.best_tree-returns-clause-depth
+best_tree-returns-clause-depth t c =
+    let some = c.has_lawful_move.ensures.0 c.if-not-has_lawful_move.false in
+    let plies = two_plies c.args.goal c.args.board.now c.after-next.result c.best_move-attack.result c.best_move-attack.ensures.best c.after-next.ensures c.args.limit c.requires.forced some in
+    IfOk-weaker c.node.result _ _ (λ tree is. subst (λ plan. 2 * depth plan ≤ c.args.limit + 1) (sym is)
+    (node_depth c.best_move-attack.result c.in_ok-replies.replies.items c.args.limit plies (some_listed c.args.goal c.after-next.result c.in_ok-replies.replies.items some c.in_ok-replies.ensures.replies) c.in_ok-replies.ensures.depth)) c.node.ensures
+
+-- ---- its replies
+
+pub replies_to-loop-m-init : goal.replies_to-loop-m-init
+replies_to-loop-m-init t c = record {
+  continues = continues_none c.args.slots.now c.args.seat.now c.requires.seat;
+  moves = ap replies_in c.new-replies.ensures.items;
+  best = subst (AreBest c.args.goal c.args.board.now) (sym c.new-replies.ensures.items) (λ k d lt. absurd (omega (arith, lt)));
+  depth = subst (AreShallow c.args.n) (sym c.new-replies.ensures.items) (λ k d lt. absurd (omega (arith, lt)));
+}
+
+pub replies_to-after-requires : goal.replies_to-after-requires
+replies_to-after-requires t c =
+    ((subst (ListsLawful c.args.board.now) (sym c.as_slice-m-items.ensures.value) c.lawful_on-moves.ensures).exact c.m-item.result).0 (c.loop-m.m-index, c.loop-m-test.true, sym c.m-item.is)
+
+pub replies_to-best_tree-requires : goal.replies_to-best_tree-requires
+replies_to-best_tree-requires t c =
+    let most = c.requires.plies in
+    (omega (arith, c.decreases), (c.loop-m.invariant.continues.seat, (omega arith, c.requires.forced c.m-item.result c.after.result c.after.ensures)))
+
+pub replies_to-returns-in_err-tree-clause-continues : goal.replies_to-returns-in_err-tree-clause-continues
+replies_to-returns-in_err-tree-clause-continues t c = continues_more _ _ _ _ c.loop-m.invariant.continues c.in_err-tree.ensures.continues
+
+pub replies_to-returns-in_err-push-clause-continues : goal.replies_to-returns-in_err-push-clause-continues
+replies_to-returns-in_err-push-clause-continues t c = continues_more _ _ _ _ c.loop-m.invariant.continues c.in_ok-tree.ensures.continues
+
+pub replies_to-loop-m-preserved : goal.replies_to-loop-m-preserved
+replies_to-loop-m-preserved t c =
+    let before = c.loop-m.invariant in
+    let items = c.in_ok-push.ensures.items in
+    record {
+      continues = continues_more _ _ _ _ before.continues c.in_ok-tree.ensures.continues;
+      moves = replies_more c.loop-m.replies.items c.push.new.self.items c.m-item.result c.in_ok-tree.tree c.as_slice-m-items.result.now c.loop-m.m-index items before.moves c.loop-m-test.true c.m-item.is;
+      best = best_more c.args.goal c.args.board.now c.loop-m.replies.items c.push.new.self.items c.m-item.result c.in_ok-tree.tree items before.best (c.after.result, c.after.ensures, c.in_ok-tree.ensures.best);
+      depth = shallow_more c.args.n c.loop-m.replies.items c.push.new.self.items c.m-item.result c.in_ok-tree.tree items before.depth c.in_ok-tree.ensures.depth;
+    }
+
+pub replies_to-returns-clause-replies : goal.replies_to-returns-clause-replies
+replies_to-returns-clause-replies t c =
+    subst (ListsLawful c.args.board.now) (sym (c.loop-m.invariant.moves ∙ take_all c.loop-m.m-index c.as_slice-m-items.result.now c.loop-m-test.false))
+    (subst (ListsLawful c.args.board.now) (sym c.as_slice-m-items.ensures.value) c.lawful_on-moves.ensures)

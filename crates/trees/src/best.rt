@@ -1,0 +1,58 @@
+//! The attacker's best move.
+ghost use Rattle.std.specs.Prelude.{◌<◌, ◌≤◌, MatchOption};
+ghost use Rattle.moves.specs.Squares.{Ply};
+ghost use Rattle.moves.specs.Forces.{Forces};
+ghost use Rattle.slots.specs.Promise.{IsSeatOf};
+ghost use Rattle.search.specs.Answer.{Wins, IsLeastWin};
+ghost use Rattle.search.specs.Calls.{Continues};
+ghost use Rattle.trees.specs.Best.{IsBestMove};
+
+use entry::MateLore;
+use moves::{Board, Goal, Move, after, lawful_on};
+use search::decide_on;
+use slots::{Seat, Slots};
+
+/// The least move that wins within n plies.
+fn least_win(
+    slots: &Slots<MateLore>,
+    seat: &mut Seat,
+    board: &Board,
+    goal: Goal,
+    n: u8,
+) -> Option<Move>
+    requires seat { IsSeatOf slots.now seat.old }
+    requires plies { (0 < n) × (n ≤ 63) }
+    ensures continues { Continues slots.now seat.old seat.new }
+    ensures least { MatchOption result ((m : Ply) → Wins goal board.now n m → ⊥) (λ m. IsLeastWin goal board.now n m) }
+{
+    let attacker = board.mover();
+    let moves = lawful_on(board);
+    for m in moves.as_slice() {
+        if decide_on(slots, seat, &after(board, *m), attacker, goal, n - 1).yes {
+            return Some(*m);
+        }
+    }
+    None
+}
+
+/// The best move, where the side to move forces the goal within the limit.
+pub(crate) fn best_move(
+    slots: &Slots<MateLore>,
+    seat: &mut Seat,
+    board: &Board,
+    goal: Goal,
+    limit: u8,
+) -> Move
+    requires seat { IsSeatOf slots.now seat.old }
+    requires limit { limit ≤ 63 }
+    requires forced { Forces goal board.now.mover board.now limit }
+    ensures continues { Continues slots.now seat.old seat.new }
+    ensures best { IsBestMove goal board.now result }
+{
+    for round in 0..(limit + 1) / 2 {
+        if let Some(first) = least_win(slots, seat, board, goal, 2 * round + 1) {
+            return first;
+        }
+    }
+    unreachable!()
+}

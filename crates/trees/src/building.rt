@@ -1,0 +1,132 @@
+//! The building of a tree.
+ghost use Rattle.std.specs.Prelude.{◌≡◌, ◌<◌, ◌≤◌, ◌+◌, ◌*◌, IfOk, All, map};
+ghost use Rattle.moves.specs.Squares.{Ply};
+ghost use Rattle.moves.specs.Moves.{IsMove, IsLawful};
+ghost use Rattle.moves.specs.Order.{ListsLawful};
+ghost use Rattle.moves.specs.Forces.{IsReached, Forces};
+ghost use Rattle.slots.specs.Promise.{IsSeatOf};
+ghost use Rattle.search.specs.Answer.{IsFewest};
+ghost use Rattle.search.specs.Calls.{Continues};
+ghost use Rattle.wintree.specs.Plan.{depth};
+ghost use Rattle.wintree.specs.Wins.{Wins, EndsAt, height};
+ghost use Rattle.trees.specs.Best.{IsBest, IsBestAfter};
+
+use crate::best::best_move;
+use board::Position;
+use entry::MateLore;
+use moves::{Board, Goal, Move, after, has_lawful_move, lawful_on, mover_in_check};
+use slots::{Seat, Slots};
+use std::alloc::Global;
+use wintree::{End, NoMemory, Tree};
+
+/// How the line ends where the goal is reached.
+fn end_at(board: &Board, goal: Goal) -> End
+    requires { IsReached goal board.now }
+    ensures { EndsAt goal board.now result }
+{
+    if mover_in_check(board) {
+        End::Mate
+    } else {
+        End::Stale
+    }
+}
+
+/// The best tree, where the side to move forces the goal within the limit.
+#[cycle(building)]
+fn best_tree(
+    alloc: Global,
+    slots: &Slots<MateLore>,
+    seat: &mut Seat,
+    board: &Board,
+    goal: Goal,
+    limit: u8,
+) -> Result<Tree, NoMemory>
+    requires seat { IsSeatOf slots.now seat.old }
+    requires limit { limit ≤ 63 }
+    requires forced { Forces goal board.now.mover board.now limit }
+    ensures continues { Continues slots.now seat.old seat.new }
+    ensures best { IfOk result (IsBest goal board.now) }
+    ensures depth { IfOk result (λ tree. 2 * depth tree ≤ limit + 1) }
+{
+    let attack = best_move(slots, seat, board, goal, limit);
+    let next = after(board, attack);
+    if !has_lawful_move(&next) {
+        return Tree::end(alloc, attack, end_at(&next, goal));
+    }
+    let replies = replies_to(alloc, slots, seat, &next, goal, limit - 2)?;
+    Tree::node(alloc, attack, replies)
+}
+
+/// Each lawful reply, in order, with the best tree that meets it, where each is met within so many plies.
+#[cycle(building)]
+fn replies_to(
+    alloc: Global,
+    slots: &Slots<MateLore>,
+    seat: &mut Seat,
+    board: &Board,
+    goal: Goal,
+    n: u8,
+) -> Result<Vec<(Move, Tree)>, NoMemory>
+    requires seat { IsSeatOf slots.now seat.old }
+    requires plies { n ≤ 61 }
+    requires some { (m : Ply) × IsLawful board.now m }
+    requires forced { (m : Ply) (q : _) → IsMove board.now m q → Forces goal q.mover q n }
+    ensures continues { Continues slots.now seat.old seat.new }
+    ensures replies { IfOk result (λ replies. ListsLawful board.now (map (λ reply. reply.0) replies.items)) }
+    ensures best { IfOk result (λ replies. All (λ reply. IsBestAfter goal board.now reply.0 reply.1) replies.items) }
+    ensures depth { IfOk result (λ replies. All (λ reply. 2 * depth reply.1 ≤ n + 1) replies.items) }
+{
+    let mut replies = Vec::new(alloc);
+    let moves = lawful_on(board);
+    for m in moves.as_slice() {
+        let tree = best_tree(alloc, slots, seat, &after(board, *m), goal, n)?;
+        replies.push((*m, tree))?;
+    }
+    Ok(replies)
+}
+
+/// The tree of a position whose fewest plies to the goal these are: at each turn of the attacker it takes the fewest plies, and
+/// then the least move. After a want of memory the table and the seat serve the next call.
+pub fn build_tree(
+    alloc: Global,
+    slots: &Slots<MateLore>,
+    seat: &mut Seat,
+    position: &Position,
+    goal: Goal,
+    plies: u8,
+) -> Result<Tree, NoMemory>
+    requires seat { IsSeatOf slots.now seat.old }
+    requires plies { plies ≤ 63 }
+    requires fewest { IsFewest goal position.now plies }
+    ensures continues { Continues slots.now seat.old seat.new }
+    ensures best { IfOk result (IsBest goal position.now) }
+    ensures wins { IfOk result (Wins goal position.now) }
+    ensures height { IfOk result (λ tree. height tree ≡ plies) }
+{
+    best_tree(alloc, slots, seat, &Board::of(position), goal, plies)
+}
+
+/// The same tree, built over a table of its own with so many slots.
+pub fn winning_tree(
+    alloc: Global,
+    position: &Position,
+    goal: Goal,
+    plies: u8,
+    slots: usize,
+) -> Result<Tree, NoMemory>
+    requires plies { plies ≤ 63 }
+    requires fewest { IsFewest goal position.now plies }
+    requires slots { (0 < slots) × (slots ≤ 1048576) }
+    ensures best { IfOk result (IsBest goal position.now) }
+    ensures wins { IfOk result (Wins goal position.now) }
+    ensures height { IfOk result (λ tree. height tree ≡ plies) }
+{
+    let Ok(made) = Slots::<MateLore>::make(alloc, slots, 1) else {
+        return Err(NoMemory);
+    };
+    let (table, mut seats) = made;
+    let Some(mut seat) = seats.pop() else {
+        return Err(NoMemory);
+    };
+    build_tree(alloc, &table, &mut seat, position, goal, plies)
+}
