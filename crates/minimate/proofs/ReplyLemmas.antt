@@ -10,8 +10,8 @@ use Rattle.minimate.specs.Input.{IsInput, without_line_feed}
 use Rattle.minimate.specs.Outcome.{GivesIfRead, GivesReply}
 use Rattle.minimate.specs.Output.{Reply, refused, IsSoundText, IsOutput, Shows, ShowsTree, ShowsCheck, input_of}
 use Rattle.minimate.specs.Refusal.{refusal_of_fen}
-use Rattle.minimate.specs.declared.line.Line.{Line}
-use Rattle.minimate.specs.declared.line.Action.{Action}
+use Rattle.command_line.specs.declared.line.Line.{Line}
+use Rattle.command_line.specs.declared.line.Action.{Action}
 use Rattle.minimate.specs.declared.refusal.Refusal.{Refusal}
 use Rattle.minimate.specs.declared.refusal.Refusal.TheVariants.{NoMemory}
 use Rattle.minimate.specs.declared.transfer.TheConstants.{MOST_INPUT}

@@ -4,9 +4,9 @@ use Rattle.std.proofs.lemmas.Option.{IfSome_then}
 use Rattle.minimate.specs.Output.{Reply, input_of, IsOutput, refused}
 use Rattle.minimate.specs.Refusal.{refusal_status}
 use Rattle.minimate.specs.Run.{Run, Writes, HasReply, no_memory, RunsLine, Finishes, Refuses}
-use Rattle.minimate.specs.declared.line.Line.{Line}
+use Rattle.command_line.specs.declared.line.Line.{Line}
 use Rattle.minimate.specs.declared.refusal.Refusal.{Refusal}
-use Rattle.minimate.specs.declared.refusal.Refusal.TheVariants.{Fields, Shape, Letter, Run as RunOfDigits, Side, Kings, Units, PawnRank, OtherInCheck, Limit, Slots, TooLong, Grammar, Deep, NoMemory}
+use Rattle.minimate.specs.declared.refusal.Refusal.TheVariants.{Fields, Shape, Letter, Run as RunOfDigits, Side, Kings, Units, PawnRank, OtherInCheck, Limit, Workers, Slots, TooLong, Grammar, Deep, NoMemory}
 
 -- a run that wrote a reply of status 0 or 1
 pub run_of_reply : (line : Line) (run : Run) (reply : Reply) → run.failed_reads ≡ 0
@@ -92,6 +92,7 @@ refusal_cases Units = inr (λ e. cc, refl)
 refusal_cases PawnRank = inr (λ e. cc, refl)
 refusal_cases OtherInCheck = inr (λ e. cc, refl)
 refusal_cases Limit = inr (λ e. cc, refl)
+refusal_cases Workers = inr (λ e. cc, refl)
 refusal_cases Slots = inr (λ e. cc, refl)
 refusal_cases TooLong = inr (λ e. cc, refl)
 refusal_cases (Grammar offset) = inr (λ e. cc, refl)

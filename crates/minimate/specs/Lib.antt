@@ -4,5 +4,3 @@ pub mod Refusal
 pub mod Output
 pub mod Outcome
 pub mod Run
-pub mod Program
-pub mod Words

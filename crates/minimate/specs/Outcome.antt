@@ -3,12 +3,12 @@ use Rattle.std.specs.Prelude.{◌≡◌, ◌⊎◌, ⊤, ℕ, List, Option, None
 use Rattle.board.specs.Board.{PlainBoard}
 use Rattle.moves.specs.declared.goal.Goal.{Goal}
 use Rattle.search.specs.declared.answer.Answer.{Answer}
-use Rattle.search.specs.declared.fault.SolveFault.{SolveFault}
-use Rattle.search.specs.declared.fault.SolveFault.TheVariants as solve
+use Rattle.rounds.specs.declared.fault.SolveFault.{SolveFault}
+use Rattle.rounds.specs.declared.fault.SolveFault.TheVariants as solve
 use Rattle.search.specs.Answer.{IsAnswer}
-use Rattle.search.specs.Limits.{values_fault}
-use Rattle.minimate.specs.Output.{Reply, answered, refused, input_of, IsOutput}
-use Rattle.minimate.specs.declared.line.Line.{Line}
+use Rattle.minimate.specs.Output.{Reply, answered, refused, fault_of, input_of, IsOutput}
+use Rattle.command_line.specs.declared.line.Line.{Line}
+use Rattle.command_line.specs.declared.line.Limits.{Limits}
 use Rattle.minimate.specs.declared.refusal.Refusal.{Refusal}
 use Rattle.minimate.specs.declared.refusal.Refusal.TheVariants.{TooLong, NoMemory}
 use Rattle.minimate.specs.declared.transfer.InputFault.{InputFault}
@@ -17,9 +17,9 @@ use Rattle.minimate.specs.declared.trouble.Trouble.{Trouble}
 use Rattle.minimate.specs.declared.trouble.Trouble.TheVariants.{Refused, ReadFailed}
 
 -- for values of any size: the answer within the limit, or the first fault of the values, or want of memory
-abbrev pub Solves : Goal → PlainBoard → ℕ → ℕ → Result Answer SolveFault → Type 0
-Solves goal b limit slots (Ok answer) = (values_fault limit slots ≡ None) × IsAnswer goal b limit answer
-Solves goal b limit slots (Err fault) = (values_fault limit slots ≡ Some fault) ⊎ ((values_fault limit slots ≡ None) × (fault ≡ solve.NoMemory))
+abbrev pub Solves : Goal → PlainBoard → Limits → Result Answer SolveFault → Type 0
+Solves goal b limits (Ok answer) = (fault_of limits ≡ None) × IsAnswer goal b limits.limit answer
+Solves goal b limits (Err fault) = (fault_of limits ≡ Some fault) ⊎ ((fault_of limits ≡ None) × (fault ≡ solve.NoMemory))
 
 -- a text is that of an answer, and a refusal is right or is want of memory
 abbrev pub Gives : {B : Type 0} → (B → List ℕ) → (Reply → Type 0) → Result B Refusal → Type 0

@@ -14,20 +14,22 @@ use Rattle.moves.specs.Reading.{IsSoundFault}
 use Rattle.moves.specs.Squares.{Ply}
 use Rattle.search.specs.declared.answer.Answer.{Answer}
 use Rattle.search.specs.declared.answer.Answer.TheVariants.{Mate, NoneWithin}
-use Rattle.search.specs.Answer.{IsAnswer}
-use Rattle.search.specs.Limits.{values_fault}
+use Rattle.search.specs.Answer.{IsAnswer, IsFewest, ForcesNothing}
+use Rattle.rounds.specs.declared.fault.SolveFault.{SolveFault}
+use Rattle.rounds.specs.Limits.{limits_fault}
+use Rattle.trees.specs.Best.{IsBest}
 use Rattle.wintree.specs.declared.fault.TreeFault.{TreeFault}
 use Rattle.wintree.specs.declared.fault.TreeFault.TheVariants as tree
 use Rattle.wintree.specs.Offset.{IsFaultOf}
 use Rattle.wintree.specs.Plan.{Plan, depth}
-use Rattle.wintree.specs.Text.{TreeText}
+use Rattle.wintree.specs.Text.{TreeText, text as plan_text}
 use Rattle.wintree.specs.Wins.{Wins, height}
 use Rattle.minimate.specs.Input.{without_line_feed}
 use Rattle.minimate.specs.Refusal.{refusal_status, refusal_text, refusal_of_fen, refusal_of_solve, refusal_of_tree}
-use Rattle.minimate.specs.declared.line.Line.{Line}
-use Rattle.minimate.specs.declared.line.Limits.{Limits}
-use Rattle.minimate.specs.declared.line.Action.{Action}
-use Rattle.minimate.specs.declared.line.Action.TheVariants.{Solve, Moves, Check}
+use Rattle.command_line.specs.declared.line.Line.{Line}
+use Rattle.command_line.specs.declared.line.Limits.{Limits}
+use Rattle.command_line.specs.declared.line.Action.{Action}
+use Rattle.command_line.specs.declared.line.Action.TheVariants.{Solve, Moves, Tree, Check}
 use Rattle.minimate.specs.declared.refusal.Refusal.{Refusal}
 use Rattle.minimate.specs.declared.refusal.Refusal.TheVariants.{TooLong}
 use Rattle.minimate.specs.declared.transfer.TheConstants.{MOST_INPUT}
@@ -51,11 +53,15 @@ refused refusal = record { status = refusal_status refusal; text = line_of (code
 
 -- ---- the texts of answers
 
+-- that nothing is forced within the limit, as `none within 1`
+abbrev pub none_text : ℕ → List ℕ
+none_text limit = line_of (codes "none within " ++ decimal limit)
+
 -- the plies and the first move, as `mate 1 f1f6`, or `goal 1 b1b5` where stalemate is good too; or `none within 1`
 abbrev pub answer_text : Goal → Answer → List ℕ
 answer_text goal.Mate (Mate plies first) = codes "mate " ++ (decimal plies ++ (codes " " ++ line_of (move_text first)))
 answer_text goal.MateOrStale (Mate plies first) = codes "goal " ++ (decimal plies ++ (codes " " ++ line_of (move_text first)))
-answer_text goal (NoneWithin limit) = line_of (codes "none within " ++ decimal limit)
+answer_text goal (NoneWithin limit) = none_text limit
 
 -- each move on a line of its own
 abbrev pub moves_text : List Ply → List ℕ
@@ -68,11 +74,26 @@ checked_text (Some plies) = line_of (codes "yes " ++ decimal plies)
 
 -- ---- the reply to each command, at a position
 
+-- the first of these values that is refused, if one is
+abbrev pub fault_of : Limits → Option SolveFault
+fault_of limits = limits_fault limits.limit limits.workers limits.slots
+
 -- the answer for a goal within the limit, or the refusal of the first value that is outside its limits
 abbrev pub ShowsAnswer : Goal → PlainBoard → Limits → Reply → Type 0
-ShowsAnswer goal b limits reply = MatchOption (values_fault limits.limit limits.slots)
+ShowsAnswer goal b limits reply = MatchOption (fault_of limits)
     ((answer : Answer) × IsAnswer goal b limits.limit answer × (reply ≡ answered (answer_text goal answer)))
     (λ fault. reply ≡ refused (refusal_of_solve fault))
+
+-- the text of the best plan, where the goal is forced in some number of plies up to the limit, or that it is in none
+abbrev pub ShowsBest : Goal → PlainBoard → ℕ → Reply → Type 0
+ShowsBest goal b limit reply =
+    ((plies : ℕ) × (plies ≤ limit) × IsFewest goal b plies × ((plan : Plan) × IsBest goal b plan × (reply ≡ answered (line_of (plan_text plan)))))
+    ⊎ (ForcesNothing goal b limit × (reply ≡ answered (none_text limit)))
+
+-- the same, or the refusal of the first value that is outside its limits
+abbrev pub ShowsPlanFound : Goal → PlainBoard → Limits → Reply → Type 0
+ShowsPlanFound goal b limits reply =
+    MatchOption (fault_of limits) (ShowsBest goal b limits.limit reply) (λ fault. reply ≡ refused (refusal_of_solve fault))
 
 -- the lawful moves, in order
 abbrev pub ShowsMoves : PlainBoard → Reply → Type 0
@@ -106,6 +127,7 @@ ShowsCheck goal b input reply =
 abbrev pub Shows : PlainBoard → Action → List ℕ → Reply → Type 0
 Shows b (Solve goal limits) input reply = ShowsAnswer goal b limits reply
 Shows b Moves input reply = ShowsMoves b reply
+Shows b (Tree goal limits) input reply = ShowsPlanFound goal b limits reply
 Shows b (Check goal) input reply = ShowsCheck goal b input reply
 
 -- ---- the output of a line

@@ -3,12 +3,12 @@ use Rattle.std.specs.Prelude.{ℕ, List, ◌++◌, codes}
 use Rattle.std.specs.Fmt.{decimal}
 use Rattle.board.specs.declared.fault.FenFault.{FenFault}
 use Rattle.board.specs.declared.fault.FenFault.TheVariants as fen
-use Rattle.search.specs.declared.fault.SolveFault.{SolveFault}
-use Rattle.search.specs.declared.fault.SolveFault.TheVariants as solve
+use Rattle.rounds.specs.declared.fault.SolveFault.{SolveFault}
+use Rattle.rounds.specs.declared.fault.SolveFault.TheVariants as solve
 use Rattle.wintree.specs.declared.fault.TreeFault.{TreeFault}
 use Rattle.wintree.specs.declared.fault.TreeFault.TheVariants as tree
 use Rattle.minimate.specs.declared.refusal.Refusal.{Refusal}
-use Rattle.minimate.specs.declared.refusal.Refusal.TheVariants.{Fields, Shape, Letter, Run, Side, Kings, Units, PawnRank, OtherInCheck, Limit, Slots, TooLong, Grammar, Deep, NoMemory}
+use Rattle.minimate.specs.declared.refusal.Refusal.TheVariants.{Fields, Shape, Letter, Run, Side, Kings, Units, PawnRank, OtherInCheck, Limit, Workers, Slots, TooLong, Grammar, Deep, NoMemory}
 
 -- the name that is printed
 abbrev pub refusal_text : Refusal → List ℕ
@@ -22,6 +22,7 @@ refusal_text Units = codes "Units"
 refusal_text PawnRank = codes "PawnRank"
 refusal_text OtherInCheck = codes "OtherInCheck"
 refusal_text Limit = codes "Limit"
+refusal_text Workers = codes "Workers"
 refusal_text Slots = codes "Slots"
 refusal_text TooLong = codes "TooLong"
 refusal_text (Grammar offset) = codes "Grammar at offset " ++ decimal offset
@@ -48,6 +49,7 @@ refusal_of_fen fen.OtherInCheck = OtherInCheck
 -- the refusal of each fault of a solve
 abbrev pub refusal_of_solve : SolveFault → Refusal
 refusal_of_solve solve.Limit = Limit
+refusal_of_solve solve.Workers = Workers
 refusal_of_solve solve.Slots = Slots
 refusal_of_solve solve.NoMemory = NoMemory
 

@@ -6,9 +6,9 @@ use Rattle.minimate.specs.Device.{AppendsBeginning}
 use Rattle.board.specs.Board.{PlainBoard}
 use Rattle.moves.specs.declared.goal.Goal.{Goal}
 use Rattle.minimate.specs.Output.{Reply, IsSoundText, IsOutput, input_of, refused}
-use Rattle.minimate.specs.Words.{MeansLine, MeansNoLine}
-use Rattle.minimate.specs.declared.line.Line.{Line}
-use Rattle.minimate.specs.declared.line.Action.TheVariants.{Check}
+use Rattle.command_line.specs.Words.{MeansLine, MeansNoLine}
+use Rattle.command_line.specs.declared.line.Line.{Line}
+use Rattle.command_line.specs.declared.line.Action.TheVariants.{Check}
 use Rattle.minimate.specs.declared.refusal.Refusal.{Refusal}
 use Rattle.minimate.specs.declared.refusal.Refusal.TheVariants.{NoMemory}
 

@@ -1,10 +1,7 @@
 //! Forced mates in minichess: the program.
 #![tactic(auto)]
 
-mod command_line;
 mod device;
-mod help;
-mod line;
 mod refusal;
 mod reply;
 mod run;
@@ -38,7 +35,7 @@ fn main(rt: HostRuntime) -> ExitCode {
     let status = match words(&rt) {
         Ok(words) => {
             let words = words.as_slice();
-            let status = run::run(rt.alloc(), words, &mut reader, &mut writer);
+            let status = run::run(&rt, rt.alloc(), words, &mut reader, &mut writer);
             if status == run::REFUSED_WORDS {
                 explain(&rt, words);
             }

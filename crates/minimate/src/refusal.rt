@@ -4,10 +4,10 @@ ghost use Rattle.minimate.specs.Refusal.{refusal_status, refusal_text, refusal_o
 ghost use Rattle.minimate.specs.declared.refusal.Refusal.TheVariants.{NoMemory as no_memory};
 
 use board::FenFault;
-use search::SolveFault;
+use rounds::SolveFault;
 use std::alloc::AllocError;
 use std::fmt;
-use wintree::TreeFault;
+use wintree::{NoMemory, TreeFault};
 
 /// Why a line was not answered, by the name that is printed.
 #[derive(Clone, Copy, Debug, PartialEq, Eq)]
@@ -23,8 +23,9 @@ pub enum Refusal {
     PawnRank,
     OtherInCheck,
 
-    // of the values of `solve`
+    // of the values of `solve` and `tree`
     Limit,
+    Workers,
     Slots,
 
     // of the input of `check`
@@ -62,6 +63,7 @@ impl fmt::Display for Refusal {
             Refusal::PawnRank => write!(f, "PawnRank"),
             Refusal::OtherInCheck => write!(f, "OtherInCheck"),
             Refusal::Limit => write!(f, "Limit"),
+            Refusal::Workers => write!(f, "Workers"),
             Refusal::Slots => write!(f, "Slots"),
             Refusal::TooLong => write!(f, "TooLong"),
             Refusal::Grammar(offset) => write!(f, "Grammar at offset {offset}"),
@@ -95,6 +97,7 @@ impl From<SolveFault> for Refusal {
     fn from(fault: SolveFault) -> Refusal {
         match fault {
             SolveFault::Limit => Refusal::Limit,
+            SolveFault::Workers => Refusal::Workers,
             SolveFault::Slots => Refusal::Slots,
             SolveFault::NoMemory => Refusal::NoMemory,
         }
@@ -110,6 +113,14 @@ impl From<TreeFault> for Refusal {
             TreeFault::Deep => Refusal::Deep,
             TreeFault::NoMemory => Refusal::NoMemory,
         }
+    }
+}
+
+impl From<NoMemory> for Refusal {
+    ghost from_gives = { λ _ refusal. refusal ≡ no_memory };
+
+    fn from(_refused: NoMemory) -> Refusal {
+        Refusal::NoMemory
     }
 }
 

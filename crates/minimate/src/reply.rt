@@ -1,34 +1,42 @@
 //! The reply to a line: the text of its answer, or why there is none.
-ghost use Rattle.std.specs.Prelude.{◌≡◌, ◌⊎◌, ◌+◌, ◌<◌, ◌≤◌, IfOk, IfSome, string_bytes};
+ghost use Rattle.std.specs.Prelude.{◌≡◌, ◌⊎◌, ◌+◌, ◌<◌, ◌≤◌, IfOk, IfSome, string_bytes, vec_items};
 ghost use Rattle.wintree.specs.Plan.{depth};
+ghost use Rattle.wintree.specs.Text.{text as tree_words};
 ghost use Rattle.minimate.specs.Outcome.{Solves, Gives, GivesIfRead, GivesReply, reads_failed};
-ghost use Rattle.minimate.specs.Output.{answer_text, moves_text, checked_text, ShowsAnswer, ShowsTree, ShowsCheck};
+ghost use Rattle.minimate.specs.Output.{answer_text, none_text, moves_text, checked_text, line_of, ShowsAnswer, ShowsPlanFound, ShowsTree, ShowsCheck};
 ghost use Rattle.minimate.specs.Run.{MayRead};
 
 use crate::device::Source;
-use crate::line::{Action, Limits, Line};
 use crate::refusal::Refusal;
 use crate::transfer::{read_all, without_line_feed};
 use crate::trouble::Trouble;
 use board::Position;
+use command_line::{Action, Limits, Line};
 use moves::{Goal, Move, lawful, read_sound};
-use search::{Answer, SolveFault, solve};
+use rounds::{NoGate, SolveFault, solve};
+use search::Answer;
 use std::alloc::{AllocError, Global};
 use std::fmt::Write;
-use wintree::{Tree, check, read_tree};
+use std::sync::Wait;
+use std::thread::Threads;
+use trees::winning_tree;
+use wintree::{NoMemory, Tree, check, read_tree, tree_text};
 
-/// The answer within the limits. A limit too great for the type of `solve` is outside those that are
+/// The answer within the limits. A number too great for the type that `solve` takes is outside what is
 /// searched, and stays so as the type's greatest.
-fn answer_within(
+fn answer_within<R: Threads + Wait + Sync>(
+    rt: &R,
     alloc: Global,
     position: &Position,
     goal: Goal,
     limits: Limits,
 ) -> Result<Answer, SolveFault>
-    ensures { Solves goal position.now limits.limit limits.slots result }
+    ensures { Solves goal position.now limits result }
 {
     let limit = u8::try_from(limits.limit).unwrap_or(u8::MAX);
-    solve(alloc, position, goal, limit, limits.slots as usize)
+    let workers = u8::try_from(limits.workers).unwrap_or(u8::MAX);
+    let slots = limits.slots as usize;
+    solve(rt, alloc, position, goal, limit, workers, slots, &NoGate)
 }
 
 fn answer_text(alloc: Global, goal: Goal, answer: Answer) -> Result<String, AllocError>
@@ -39,8 +47,14 @@ fn answer_text(alloc: Global, goal: Goal, answer: Answer) -> Result<String, Allo
             Goal::Mate => format!(in alloc; "mate {plies} {first}\n"),
             Goal::MateOrStale => format!(in alloc; "goal {plies} {first}\n"),
         },
-        Answer::NoneWithin(limit) => format!(in alloc; "none within {limit}\n"),
+        Answer::NoneWithin(limit) => none_text(alloc, limit),
     }
+}
+
+fn none_text(alloc: Global, limit: u8) -> Result<String, AllocError>
+    ensures { IfOk result (λ text. string_bytes text ≡ none_text limit) }
+{
+    format!(in alloc; "none within {limit}\n")
 }
 
 fn moves_text(alloc: Global, moves: &[Move]) -> Result<String, AllocError>
@@ -63,16 +77,44 @@ fn checked_text(alloc: Global, plies: Option<u8>) -> Result<String, AllocError>
 }
 
 /// The fewest plies to the goal and the first move.
-fn solve_text(
+fn solve_text<R: Threads + Wait + Sync>(
+    rt: &R,
     alloc: Global,
     position: &Position,
     goal: Goal,
     limits: Limits,
-) -> Result<String, Refusal>
-    ensures { Gives string_bytes (ShowsAnswer goal position.now limits) result }
+) -> Result<Vec<u8>, Refusal>
+    ensures { Gives vec_items (ShowsAnswer goal position.now limits) result }
 {
-    let answer = answer_within(alloc, position, goal, limits)?;
-    Ok(answer_text(alloc, goal, answer)?)
+    let answer = answer_within(rt, alloc, position, goal, limits)?;
+    Ok(answer_text(alloc, goal, answer)?.into_bytes())
+}
+
+/// The tree that shows the answer, on one line, or that there is none.
+fn plan_text<R: Threads + Wait + Sync>(
+    rt: &R,
+    alloc: Global,
+    position: &Position,
+    goal: Goal,
+    limits: Limits,
+) -> Result<Vec<u8>, Refusal>
+    ensures { Gives vec_items (ShowsPlanFound goal position.now limits) result }
+{
+    match answer_within(rt, alloc, position, goal, limits)? {
+        Answer::Mate { plies, .. } => {
+            let tree = winning_tree(alloc, position, goal, plies, limits.slots as usize)?;
+            Ok(tree_line(alloc, &tree)?)
+        }
+        Answer::NoneWithin(limit) => Ok(none_text(alloc, limit)?.into_bytes()),
+    }
+}
+
+fn tree_line(alloc: Global, tree: &Tree) -> Result<Vec<u8>, NoMemory>
+    ensures { IfOk result (λ line. line.items ≡ line_of (tree_words tree.now)) }
+{
+    let mut line = tree_text(alloc, tree)?;
+    line.push(b'\n')?;
+    Ok(line)
 }
 
 /// In how many plies the tree of a text wins, if it wins.
@@ -81,13 +123,13 @@ fn verdict_text(
     position: &Position,
     goal: Goal,
     text: &[u8],
-) -> Result<String, Refusal>
-    ensures { Gives string_bytes (ShowsTree goal position.now text.now) result }
+) -> Result<Vec<u8>, Refusal>
+    ensures { Gives vec_items (ShowsTree goal position.now text.now) result }
 {
     let tree = read_tree(alloc, text)?;
     look_at_depth(&tree);
     let plies = check(position, &tree, goal);
-    Ok(checked_text(alloc, plies)?)
+    Ok(checked_text(alloc, plies)?.into_bytes())
 }
 
 /// Does nothing but read the depth, by which contracts learn that it is at most 32.
@@ -103,9 +145,9 @@ fn check_text<S: Source>(
     position: &Position,
     goal: Goal,
     reader: &mut S,
-) -> Result<String, Trouble>
+) -> Result<Vec<u8>, Trouble>
     requires { S.failures reader.old < u64.MAX }
-    ensures shown { IfSome (S.remaining reader.old) (λ input. GivesIfRead string_bytes (ShowsCheck goal position.now input) result) }
+    ensures shown { IfSome (S.remaining reader.old) (λ input. GivesIfRead vec_items (ShowsCheck goal position.now input) result) }
     ensures counts { S.failures reader.new ≡ S.failures reader.old + reads_failed result }
 {
     let input = read_all(alloc, reader)?;
@@ -115,19 +157,25 @@ fn check_text<S: Source>(
 
 /// The text that answers a line. Only `check` asks the reader for anything, and only where the
 /// position is sound.
-pub fn reply<S: Source>(alloc: Global, line: &Line<'_>, reader: &mut S) -> Result<String, Trouble>
+pub fn reply<R: Threads + Wait + Sync, S: Source>(
+    rt: &R,
+    alloc: Global,
+    line: &Line<'_>,
+    reader: &mut S,
+) -> Result<Vec<u8>, Trouble>
     requires { S.failures reader.old < u64.MAX }
-    ensures given { GivesReply string_bytes line.now (S.remaining reader.old) result }
+    ensures given { GivesReply vec_items line.now (S.remaining reader.old) result }
     ensures asked { MayRead line.now ⊎ (reader.new ≡ reader.old) }
     ensures counts { S.failures reader.new ≡ S.failures reader.old + reads_failed result }
 {
     let position = read_sound(line.fen)?;
     match line.action {
-        Action::Solve(goal, limits) => Ok(solve_text(alloc, &position, goal, limits)?),
+        Action::Solve(goal, limits) => Ok(solve_text(rt, alloc, &position, goal, limits)?),
         Action::Moves => {
             let moves = lawful(&position);
-            Ok(moves_text(alloc, moves.as_slice())?)
+            Ok(moves_text(alloc, moves.as_slice())?.into_bytes())
         }
+        Action::Tree(goal, limits) => Ok(plan_text(rt, alloc, &position, goal, limits)?),
         Action::Check(goal) => check_text(alloc, &position, goal, reader),
     }
 }

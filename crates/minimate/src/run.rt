@@ -3,15 +3,16 @@ ghost use Rattle.std.specs.Prelude.{◌≡◌, ◌⊎◌, ◌<◌, IfOk, map, st
 ghost use Rattle.minimate.specs.Output.{refused};
 ghost use Rattle.minimate.specs.Run.{ending_of, run_of, MayRead, MayReadFor, RunsLine, RunsWords, Finishes, Refuses, no_memory};
 
-use crate::command_line::{LineFault, read_line};
 use crate::device::{Sink, Source};
-use crate::line::Line;
 use crate::refusal::Refusal;
 use crate::reply::reply;
 use crate::transfer::write_all;
 use crate::trouble::Trouble;
+use command_line::{Line, LineFault, read_line};
 use std::alloc::{AllocError, Global};
 use std::convert::AsStr;
+use std::sync::Wait;
+use std::thread::Threads;
 
 const ANSWERED: u8 = 0;
 
@@ -26,7 +27,8 @@ const NO_MEMORY: &[u8] = b"refused: NoMemory\n";
 
 /// Answers a line: writes its output, and gives its status. No line but a `check` at a sound
 /// position asks the reader for anything.
-pub fn run_line<S: Source, K: Sink>(
+pub fn run_line<R: Threads + Wait + Sync, S: Source, K: Sink>(
+    rt: &R,
     alloc: Global,
     line: &Line<'_>,
     reader: &mut S,
@@ -38,8 +40,8 @@ pub fn run_line<S: Source, K: Sink>(
     ensures runs { RunsLine line.now (run_of S.remaining S.failures reader.old reader.new
         (ending_of K.contents K.failures writer.old writer.new result)) }
 {
-    match reply(alloc, line, reader) {
-        Ok(text) => finish(writer, text.as_bytes(), ANSWERED),
+    match reply(rt, alloc, line, reader) {
+        Ok(text) => finish(writer, text.as_slice(), ANSWERED),
         Err(Trouble::Refused(refusal)) => refuse(alloc, writer, refusal),
         Err(Trouble::ReadFailed) => FAILED,
     }
@@ -82,7 +84,8 @@ fn refused_text(alloc: Global, refusal: Refusal) -> Result<String, AllocError>
 }
 
 /// Answers the line that the words mean. The first word is the program's name.
-pub fn run<W: AsStr, S: Source, K: Sink>(
+pub fn run<R: Threads + Wait + Sync, W: AsStr, S: Source, K: Sink>(
+    rt: &R,
     alloc: Global,
     words: &[W],
     reader: &mut S,
@@ -95,7 +98,7 @@ pub fn run<W: AsStr, S: Source, K: Sink>(
         (ending_of K.contents K.failures writer.old writer.new result)) }
 {
     match read_line(alloc, words) {
-        Ok(line) => run_line(alloc, &line, reader, writer),
+        Ok(line) => run_line(rt, alloc, &line, reader, writer),
         Err(LineFault::Words) => REFUSED_WORDS,
         Err(LineFault::NoMemory) => give_up_for_memory(writer),
     }

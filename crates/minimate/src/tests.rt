@@ -6,7 +6,9 @@ use crate::run::run;
 use crate::transfer::MOST_INPUT;
 use std::alloc::{AllocError, Global};
 use std::process::Abort;
+use std::sync::Wait;
 use std::test::Fail;
+use std::thread::Threads;
 
 const START: &str = "rnqknr/pppppp/6/6/PPPPPP/RNQKNR w";
 
@@ -106,7 +108,7 @@ impl std::io::Write for Deaf {
 }
 
 /// Runs the words over an input, and expects a status and an output.
-fn expect_with<R: Abort + AllocGlobal>(
+fn expect_with<R: Threads + Wait + Abort + AllocGlobal + Sync>(
     rt: &R,
     words: &[&str],
     input: &[u8],
@@ -115,47 +117,69 @@ fn expect_with<R: Abort + AllocGlobal>(
 ) {
     let mut reader = Counted::new(input);
     let mut writer = Counted::new(Vec::new(rt.alloc()));
-    let answered = run(rt.alloc(), words, &mut reader, &mut writer);
+    let answered = run(rt, rt.alloc(), words, &mut reader, &mut writer);
     assert_eq!(rt; answered, status);
     assert_eq!(rt; writer.device.as_slice(), output.as_bytes());
 }
 
 /// Runs the words with no input, and expects a status and an output.
-fn expect<R: Abort + AllocGlobal>(rt: &R, words: &[&str], status: u8, output: &str) {
+fn expect<R: Threads + Wait + Abort + AllocGlobal + Sync>(
+    rt: &R,
+    words: &[&str],
+    status: u8,
+    output: &str,
+) {
     expect_with(rt, words, b"", status, output);
 }
 
 /// Checks a tree, and expects a status and an output.
-fn expect_check<R: Abort + AllocGlobal>(rt: &R, fen: &str, tree: &str, status: u8, output: &str) {
+fn expect_check<R: Threads + Wait + Abort + AllocGlobal + Sync>(
+    rt: &R,
+    fen: &str,
+    tree: &str,
+    status: u8,
+    output: &str,
+) {
     let words = ["minimate", "check", fen];
     expect_with(rt, &words, tree.as_bytes(), status, output);
 }
 
 /// Checks a tree for a goal, and expects an output with status 0.
-fn expect_check_for<R: Abort + AllocGlobal>(rt: &R, goal: &str, tree: &str, output: &str) {
+fn expect_check_for<R: Threads + Wait + Abort + AllocGlobal + Sync>(
+    rt: &R,
+    goal: &str,
+    tree: &str,
+    output: &str,
+) {
     let words = ["minimate", "check", "--goal", goal, ROOK_MATES_IN_THREE];
     expect_with(rt, &words, tree.as_bytes(), 0, output);
 }
 
 /// Solves within a limit, and expects an output with status 0.
-fn expect_answer<R: Abort + AllocGlobal>(rt: &R, limit: &str, fen: &str, output: &str) {
+fn expect_answer<R: Threads + Wait + Abort + AllocGlobal + Sync>(
+    rt: &R,
+    limit: &str,
+    fen: &str,
+    output: &str,
+) {
     expect(rt, &["minimate", "solve", "--limit", limit, fen], 0, output);
 }
 
 /// Lists the moves, and expects an output with status 0.
-fn expect_moves<R: Abort + AllocGlobal>(rt: &R, fen: &str, output: &str) {
+fn expect_moves<R: Threads + Wait + Abort + AllocGlobal + Sync>(rt: &R, fen: &str, output: &str) {
     expect(rt, &["minimate", "moves", fen], 0, output);
 }
 
 /// Expects each command to refuse the position, whatever the limit and the input.
-fn expect_refused<R: Abort + AllocGlobal>(rt: &R, fen: &str, output: &str) {
+fn expect_refused<R: Threads + Wait + Abort + AllocGlobal + Sync>(rt: &R, fen: &str, output: &str) {
     expect(rt, &["minimate", "moves", fen], 1, output);
     expect(rt, &["minimate", "solve", "--limit", "0", fen], 1, output);
+    expect(rt, &["minimate", "tree", "--limit", "0", fen], 1, output);
     expect(rt, &["minimate", "check", fen], 1, output);
 }
 
 /// Expects the words to mean no line: nothing is written.
-fn expect_no_line<R: Abort + AllocGlobal>(rt: &R, words: &[&str]) {
+fn expect_no_line<R: Threads + Wait + Abort + AllocGlobal + Sync>(rt: &R, words: &[&str]) {
     expect(rt, words, 2, "");
 }
 
@@ -214,6 +238,83 @@ fn answers_the_same_with_any_slots(rt: HostRuntime) {
 }
 
 #[test]
+fn answers_the_same_with_any_workers(rt: HostRuntime) {
+    for workers in ["1", "2", "16"] {
+        let words = [
+            "minimate",
+            "solve",
+            "--limit",
+            "3",
+            "--workers",
+            workers,
+            "--slots",
+            "1",
+            ROOK_MATES_IN_THREE,
+        ];
+        expect(&rt, &words, 0, "mate 3 c4c5\n");
+    }
+}
+
+/// Writes the tree for a goal within a limit, and expects an output with status 0.
+fn expect_tree<R: Threads + Wait + Abort + AllocGlobal + Sync>(
+    rt: &R,
+    goal: &str,
+    limit: &str,
+    fen: &str,
+    output: &str,
+) {
+    let words = ["minimate", "tree", "--goal", goal, "--limit", limit, fen];
+    expect(rt, &words, 0, output);
+}
+
+#[test]
+fn writes_trees(rt: HostRuntime) {
+    expect_tree(&rt, "mate", "1", ROOK_MATES, "f1f6#\n");
+    expect_tree(&rt, "mate", "1", PAWN_MATES, "c4c5q#\n");
+    for limit in ["3", "4"] {
+        let tree = "c4c5{a6a5:b1a1#}\n";
+        expect_tree(&rt, "mate", limit, ROOK_MATES_IN_THREE, tree);
+        expect_check(&rt, ROOK_MATES_IN_THREE, tree, 0, "yes 3\n");
+    }
+    expect_tree(&rt, "mate", "2", ROOK_MATES_IN_THREE, "none within 2\n");
+    expect_tree(&rt, "mate", "5", STALEMATED, "none within 5\n");
+    expect_tree(&rt, "stale", "3", ROOK_MATES_IN_THREE, "b1b5=\n");
+    expect_check_for(&rt, "stale", "b1b5=\n", "yes 1\n");
+}
+
+/// Writes the tree of a line to the input of a `check`, and gives the second run's output.
+fn checked_tree<R: Threads + Wait + Abort + AllocGlobal + Sync>(
+    rt: &R,
+    limit: &str,
+    fen: &str,
+) -> Vec<u8> {
+    let tree = ["minimate", "tree", "--limit", limit, fen];
+    let check = ["minimate", "check", fen];
+    let mut nothing = Counted::new(b"".as_slice());
+    let mut written = Counted::new(Vec::new(rt.alloc()));
+    let status = run(rt, rt.alloc(), tree.as_slice(), &mut nothing, &mut written);
+    assert_eq!(rt; status, 0);
+    let mut reader = Counted::new(written.device.as_slice());
+    let mut writer = Counted::new(Vec::new(rt.alloc()));
+    let status = run(rt, rt.alloc(), check.as_slice(), &mut reader, &mut writer);
+    assert_eq!(rt; status, 0);
+    writer.device
+}
+
+#[test]
+fn checks_the_trees_that_it_writes(rt: HostRuntime) {
+    // Two replies, met by one move each.
+    for (limit, fen, output) in [
+        ("3", ROOK_MATES_IN_THREE, "yes 3\n"),
+        ("3", "1k4/5R/6/6/6/2R2K w", "yes 3\n"),
+        ("1", "5r/6/6/1k4/6/K5 b", "yes 1\n"),
+    ] {
+        let checked = checked_tree(&rt, limit, fen);
+        assert_eq!(rt; checked.as_slice(), output.as_bytes());
+    }
+}
+
+#[test]
 fn lists_moves_in_order(rt: HostRuntime) {
     expect_moves(&rt, START, START_MOVES);
     expect_moves(
@@ -258,6 +359,40 @@ fn refuses_limits(rt: HostRuntime) {
 }
 
 #[test]
+fn refuses_workers(rt: HostRuntime) {
+    // 257 and 4294967295 end in bytes that a number of 8 bits would have read as 1 and 255.
+    for (workers, status, output) in [
+        ("0", 1, "refused: Workers\n"),
+        ("17", 1, "refused: Workers\n"),
+        ("257", 1, "refused: Workers\n"),
+        ("4294967295", 1, "refused: Workers\n"),
+        ("4294967296", 2, ""),
+        ("x", 2, ""),
+    ] {
+        let solve = [
+            "minimate",
+            "solve",
+            "--limit",
+            "1",
+            "--workers",
+            workers,
+            ROOK_MATES,
+        ];
+        expect(&rt, &solve, status, output);
+        let tree = [
+            "minimate",
+            "tree",
+            "--limit",
+            "1",
+            "--workers",
+            workers,
+            ROOK_MATES,
+        ];
+        expect(&rt, &tree, status, output);
+    }
+}
+
+#[test]
 fn refuses_slots(rt: HostRuntime) {
     // 4294967297 ends in a word that 32 bits would have read as 1, and so is no number of 32 bits.
     for (slots, status, output) in [
@@ -276,20 +411,27 @@ fn refuses_slots(rt: HostRuntime) {
 
 #[test]
 fn refuses_in_order(rt: HostRuntime) {
-    let fen = [
-        "minimate",
-        "solve",
-        "--limit",
-        "0",
-        "--slots",
-        "0",
-        OTHER_IN_CHECK,
-    ];
-    expect(&rt, &fen, 1, "refused: OtherInCheck\n");
-    let limit = [
-        "minimate", "solve", "--slots", "0", "--limit", "64", ROOK_MATES,
-    ];
-    expect(&rt, &limit, 1, "refused: Limit\n");
+    for command in ["solve", "tree"] {
+        for (limit, workers, slots, fen, output) in [
+            ("0", "0", "0", OTHER_IN_CHECK, "refused: OtherInCheck\n"),
+            ("64", "17", "0", ROOK_MATES, "refused: Limit\n"),
+            ("1", "0", "0", ROOK_MATES, "refused: Workers\n"),
+            ("1", "1", "0", ROOK_MATES, "refused: Slots\n"),
+        ] {
+            let words = [
+                "minimate",
+                command,
+                "--slots",
+                slots,
+                "--workers",
+                workers,
+                "--limit",
+                limit,
+                fen,
+            ];
+            expect(&rt, &words, 1, output);
+        }
+    }
 }
 
 #[test]
@@ -304,21 +446,18 @@ fn refuses_words(rt: HostRuntime) {
     expect_no_line(&rt, &["minimate", "check"]);
     expect_no_line(&rt, &["minimate", "check", "--limit", "1", START]);
     expect_no_line(&rt, &["minimate", "solve", START]);
+    expect_no_line(&rt, &["minimate", "tree", START]);
+    expect_no_line(&rt, &["minimate", "moves", "--workers", "1", START]);
     for limit in ["x", "", "-1", "1.0", "4294967296"] {
         expect_no_line(&rt, &["minimate", "solve", "--limit", limit, START]);
     }
     for goal in ["", "Mate", "mates", "stalemate", "1"] {
         let words = ["minimate", "solve", "--limit", "1", "--goal", goal, START];
         expect_no_line(&rt, &words);
+        let words = ["minimate", "tree", "--limit", "1", "--goal", goal, START];
+        expect_no_line(&rt, &words);
         expect_no_line(&rt, &["minimate", "check", "--goal", goal, START]);
     }
-}
-
-#[test]
-fn refuses_what_has_not_come(rt: HostRuntime) {
-    expect_no_line(&rt, &["minimate", "tree", "--limit", "1", START]);
-    let workers = ["minimate", "solve", "--limit", "1", "--workers", "1", START];
-    expect_no_line(&rt, &workers);
 }
 
 #[test]
@@ -326,7 +465,7 @@ fn writes_on_where_a_writer_takes_little(rt: HostRuntime) -> Result<(), Fail> {
     let words = ["minimate", "moves", START];
     let mut reader = Counted::new(b"".as_slice());
     let mut writer = Dripping::new(rt.alloc(), 3, 100)?;
-    let status = run(rt.alloc(), words.as_slice(), &mut reader, &mut writer);
+    let status = run(&rt, rt.alloc(), words.as_slice(), &mut reader, &mut writer);
     assert_eq!(rt; status, 0);
     assert_eq!(rt; writer.taken.as_slice(), START_MOVES.as_bytes());
     Ok(())
@@ -337,13 +476,19 @@ fn stops_at_a_failed_write(rt: HostRuntime) -> Result<(), Fail> {
     let words = ["minimate", "solve", "--limit", "1", ROOK_MATES];
     let mut reader = Counted::new(b"".as_slice());
     let mut after_four = Dripping::new(rt.alloc(), 100, 4)?;
-    let status = run(rt.alloc(), words.as_slice(), &mut reader, &mut after_four);
+    let status = run(
+        &rt,
+        rt.alloc(),
+        words.as_slice(),
+        &mut reader,
+        &mut after_four,
+    );
     assert_eq!(rt; status, 4);
     assert_eq!(rt; after_four.taken.as_slice(), b"mate".as_slice());
     assert_eq!(rt; after_four.failures, 1);
 
     let mut deaf = Counted::new(Deaf);
-    let status = run(rt.alloc(), words.as_slice(), &mut reader, &mut deaf);
+    let status = run(&rt, rt.alloc(), words.as_slice(), &mut reader, &mut deaf);
     assert_eq!(rt; status, 4);
     assert_eq!(rt; deaf.failures, 1);
     Ok(())
@@ -420,7 +565,7 @@ fn stops_at_a_failed_read(rt: HostRuntime) {
             failures: 0,
         };
         let mut writer = Counted::new(Vec::new(rt.alloc()));
-        let status = run(rt.alloc(), words.as_slice(), &mut reader, &mut writer);
+        let status = run(&rt, rt.alloc(), words.as_slice(), &mut reader, &mut writer);
         assert_eq!(rt; status, 4);
         assert_eq!(rt; reader.failures, 1);
         assert_eq!(rt; writer.device.as_slice(), b"".as_slice());
@@ -428,14 +573,19 @@ fn stops_at_a_failed_read(rt: HostRuntime) {
 }
 
 /// Runs the words over a reader that fails at once, and expects that it isn't asked.
-fn expect_unread<R: Abort + AllocGlobal>(rt: &R, words: &[&str], status: u8, output: &str) {
+fn expect_unread<R: Threads + Wait + Abort + AllocGlobal + Sync>(
+    rt: &R,
+    words: &[&str],
+    status: u8,
+    output: &str,
+) {
     let mut reader = Breaking {
         bytes: b"",
         left: 0,
         failures: 0,
     };
     let mut writer = Counted::new(Vec::new(rt.alloc()));
-    let answered = run(rt.alloc(), words, &mut reader, &mut writer);
+    let answered = run(rt, rt.alloc(), words, &mut reader, &mut writer);
     assert_eq!(rt; answered, status);
     assert_eq!(rt; reader.failures, 0);
     assert_eq!(rt; writer.device.as_slice(), output.as_bytes());
@@ -445,6 +595,8 @@ fn expect_unread<R: Abort + AllocGlobal>(rt: &R, words: &[&str], status: u8, out
 fn asks_the_reader_for_nothing(rt: HostRuntime) {
     let solve = ["minimate", "solve", "--limit", "1", ROOK_MATES];
     expect_unread(&rt, &solve, 0, "mate 1 f1f6\n");
+    let tree = ["minimate", "tree", "--limit", "1", ROOK_MATES];
+    expect_unread(&rt, &tree, 0, "f1f6#\n");
     expect_unread(&rt, &["minimate", "moves", START], 0, START_MOVES);
     let check = ["minimate", "check", OTHER_IN_CHECK];
     expect_unread(&rt, &check, 1, "refused: OtherInCheck\n");

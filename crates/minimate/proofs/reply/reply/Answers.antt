@@ -1,6 +1,6 @@
-use Rattle.std.proofs.Common.{rules, Global, Ok, string_bytes}
-use Rattle.minimate.specs.Output.{IsSoundText, ShowsAnswer}
-use Rattle.minimate.specs.declared.line.Action.TheVariants.{Solve, Check}
+use Rattle.std.proofs.Common.{rules, Ok, vec_items}
+use Rattle.minimate.specs.Output.{IsSoundText, ShowsAnswer, ShowsPlanFound}
+use Rattle.command_line.specs.declared.line.Action.TheVariants.{Solve, Tree, Check}
 use Rattle.minimate.proofs.ReplyLemmas.{fault_gives, gives_reply, refusal_gives}
 use Rattle.minimate.proofs.reply.reply.Goals as goal
 
@@ -10,17 +10,32 @@ returns-in_err-position-clause-given g c = fault_gives _ c.args.line.now _ _ c.i
 pub returns-in_err-solve_text-in-Solve-clause-given : goal.returns-in_err-solve_text-in-Solve-clause-given
 returns-in_err-solve_text-in-Solve-clause-given g c =
     let sound : IsSoundText c.args.line.now.fen.now c.in_ok-position.position = search rules in
-    gives_reply (string_bytes {Z = Global}) c.args.line.now (g.S.Source.remaining c.args.reader.now) c.in_ok-position.position (Solve c.in-Solve.goal c.in-Solve.limits)
+    gives_reply vec_items c.args.line.now (g.S.Source.remaining c.args.reader.now) c.in_ok-position.position (Solve c.in-Solve.goal c.in-Solve.limits)
     c.from_residual-in_err-solve_text-in-Solve.result sound c.in-Solve.is
-    (refusal_gives (string_bytes {Z = Global}) (ShowsAnswer c.in-Solve.goal c.in_ok-position.position c.in-Solve.limits)
+    (refusal_gives vec_items (ShowsAnswer c.in-Solve.goal c.in_ok-position.position c.in-Solve.limits)
     c.from_residual-in_err-solve_text-in-Solve.result c.in_err-solve_text-in-Solve.field-0.0 c.in_err-solve_text-in-Solve.ensures
     c.from_residual-in_err-solve_text-in-Solve.ensures)
 
 pub returns-in_ok-solve_text-in-Solve-clause-given : goal.returns-in_ok-solve_text-in-Solve-clause-given
 returns-in_ok-solve_text-in-Solve-clause-given g c =
     let sound : IsSoundText c.args.line.now.fen.now c.in_ok-position.position = search rules in
-    gives_reply (string_bytes {Z = Global}) c.args.line.now (g.S.Source.remaining c.args.reader.now) c.in_ok-position.position (Solve c.in-Solve.goal c.in-Solve.limits)
+    gives_reply vec_items c.args.line.now (g.S.Source.remaining c.args.reader.now) c.in_ok-position.position (Solve c.in-Solve.goal c.in-Solve.limits)
     (Ok c.in_ok-solve_text-in-Solve.field-0) sound c.in-Solve.is c.in_ok-solve_text-in-Solve.ensures
+
+pub returns-in_err-plan_text-in-Tree-clause-given : goal.returns-in_err-plan_text-in-Tree-clause-given
+returns-in_err-plan_text-in-Tree-clause-given g c =
+    let sound : IsSoundText c.args.line.now.fen.now c.in_ok-position.position = search rules in
+    gives_reply vec_items c.args.line.now (g.S.Source.remaining c.args.reader.now) c.in_ok-position.position (Tree c.in-Tree.goal c.in-Tree.limits)
+    c.from_residual-in_err-plan_text-in-Tree.result sound c.in-Tree.is
+    (refusal_gives vec_items (ShowsPlanFound c.in-Tree.goal c.in_ok-position.position c.in-Tree.limits)
+    c.from_residual-in_err-plan_text-in-Tree.result c.in_err-plan_text-in-Tree.field-0.0 c.in_err-plan_text-in-Tree.ensures
+    c.from_residual-in_err-plan_text-in-Tree.ensures)
+
+pub returns-in_ok-plan_text-in-Tree-clause-given : goal.returns-in_ok-plan_text-in-Tree-clause-given
+returns-in_ok-plan_text-in-Tree-clause-given g c =
+    let sound : IsSoundText c.args.line.now.fen.now c.in_ok-position.position = search rules in
+    gives_reply vec_items c.args.line.now (g.S.Source.remaining c.args.reader.now) c.in_ok-position.position (Tree c.in-Tree.goal c.in-Tree.limits)
+    (Ok c.in_ok-plan_text-in-Tree.field-0) sound c.in-Tree.is c.in_ok-plan_text-in-Tree.ensures
 
 pub returns-in-Check-clause-given : goal.returns-in-Check-clause-given
 returns-in-Check-clause-given g c =

@@ -7,8 +7,8 @@ use Rattle.minimate.proofs.run.run_line.Goals as goal
 pub returns-in-Ok-clause-runs : goal.returns-in-Ok-clause-runs
 returns-in-Ok-clause-runs g c =
     let reply = c.in-Ok.ensures in
-    run_of_reply c.args.line.now _ (answered c.in-Ok.text.bytes.items) (omega (arith, reply.counts)) (inl refl) reply.given
-    (rw (← c.as_bytes.ensures.value) c.finish.ensures)
+    run_of_reply c.args.line.now _ (answered c.in-Ok.text.items) (omega (arith, reply.counts)) (inl refl) reply.given
+    (rw (← c.as_slice.ensures.value) c.finish.ensures)
 
 pub returns-in-Err-Refused-clause-runs : goal.returns-in-Err-Refused-clause-runs
 returns-in-Err-Refused-clause-runs g c =

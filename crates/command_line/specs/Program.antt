@@ -1,0 +1,65 @@
+-- The commands, as `clap` reads them.
+use Rattle.std.specs.Prelude.{[], ◌∷◌, Some, true, codes, pos}
+use Rattle.clap.specs.Words.{App, Rule, Text, new_app, new_rule, with_rule, with_subcommand}
+use Rattle.clap.specs.declared.builder.value_parser.ValueParser.TheVariants as parser
+
+-- one word that must be there
+abbrev pub fen_rule : Rule
+fen_rule = record (new_rule (codes "FEN")) { required = true }
+
+-- a number of 32 bits after `--name`
+abbrev pub number_rule : Text → Rule
+number_rule name = record (new_rule name) {
+  long = Some name;
+  value_names = 1;
+  parser = Some (parser.Signed (pos 0) (pos 4294967295));
+}
+
+-- the limit, which must be there
+abbrev pub limit_rule : Rule
+limit_rule = record (number_rule (codes "limit")) { required = true }
+
+-- the workers, 2 where they are not given
+abbrev pub workers_rule : Rule
+workers_rule = record (number_rule (codes "workers")) { defaults = codes "2" ∷ [] }
+
+-- the slots, 64 where they are not given
+abbrev pub slots_rule : Rule
+slots_rule = record (number_rule (codes "slots")) { defaults = codes "64" ∷ [] }
+
+-- a word after `--goal`, `mate` where none is given
+abbrev pub goal_rule : Rule
+goal_rule = record (new_rule (codes "goal")) {
+  long = Some (codes "goal");
+  value_names = 1;
+  defaults = codes "mate" ∷ [];
+}
+
+-- with what a search takes: `--limit N [--workers K] [--slots S] [--goal GOAL] FEN`
+abbrev pub search_app : App → App
+search_app app = with_rule (with_rule (with_rule (with_rule (with_rule app limit_rule) workers_rule) slots_rule) goal_rule) fen_rule
+
+-- `solve`, and what a search takes
+abbrev pub solve_app : App
+solve_app = search_app (new_app (codes "solve"))
+
+-- `tree`, and what a search takes
+abbrev pub tree_app : App
+tree_app = search_app (new_app (codes "tree"))
+
+-- `moves FEN`
+abbrev pub moves_app : App
+moves_app = with_rule (new_app (codes "moves")) fen_rule
+
+-- `check [--goal GOAL] FEN`
+abbrev pub check_app : App
+check_app = with_rule (with_rule (new_app (codes "check")) goal_rule) fen_rule
+
+-- the program without its commands
+abbrev pub bare_app : App
+bare_app = let new = new_app (codes "minimate") in
+    record new { top = record new.top { has_version = true; subcommand_required = true } }
+
+-- the program, whose first word is one of its commands
+abbrev pub program : App
+program = with_subcommand (with_subcommand (with_subcommand (with_subcommand bare_app solve_app.top) moves_app.top) tree_app.top) check_app.top

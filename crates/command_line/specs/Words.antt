@@ -1,0 +1,58 @@
+-- The line that the words of the command line mean: what `clap` finds in them, read as a line.
+use Rattle.std.specs.Prelude.{◌≡◌, ◌≢◌, ◌⊎◌, ◌<◌, ◌^◌, ℕ, List, [], Option, Some, IsSomeAnd, codes}
+use Rattle.std.specs.Str.Parse.{IsNumeral, digits_value, without_leading_plus}
+use Rattle.clap.specs.Words.{Row, Text, fault_of, first_of, one_of, subcommand_of}
+use Rattle.moves.specs.declared.goal.Goal.{Goal}
+use Rattle.moves.specs.declared.goal.Goal.TheVariants.{Mate, MateOrStale}
+use Rattle.command_line.specs.Program.{program}
+use Rattle.command_line.specs.declared.line.Line.{Line}
+use Rattle.command_line.specs.declared.line.Limits.{Limits}
+use Rattle.command_line.specs.declared.line.Action.{Action}
+use Rattle.command_line.specs.declared.line.Action.TheVariants.{Solve, Moves, Tree, Check}
+
+-- the text is the number: decimal digits, perhaps after a plus, below 2^32
+abbrev pub IsNumber : Text → ℕ → Type 0
+IsNumber text n = (IsNumeral 10 (without_leading_plus text) × (digits_value 10 (without_leading_plus text) < 2 ^ 32))
+    × (n ≡ digits_value 10 (without_leading_plus text))
+
+-- the text that was found for `id` is the number
+abbrev pub HasNumber : Text → List Row → ℕ → Type 0
+HasNumber id rows n = (text : Text) × (one_of id rows ≡ Some text) × IsNumber text n
+
+-- the numbers that were found for the limits' names
+pub record HasLimits (rows : List Row) (limits : Limits) : Type 0 where
+  pub limit : HasNumber (codes "limit") rows limits.limit
+  pub workers : HasNumber (codes "workers") rows limits.workers
+  pub slots : HasNumber (codes "slots") rows limits.slots
+
+-- the word of a goal
+abbrev pub goal_word : Goal → Text
+goal_word Mate = codes "mate"
+goal_word MateOrStale = codes "stale"
+
+-- the word that was found for `goal` is the goal's
+abbrev pub HasGoal : List Row → Goal → Type 0
+HasGoal rows goal = first_of (codes "goal") rows ≡ Some (goal_word goal)
+
+-- the command of that name with the values that were found for it
+abbrev pub MeansAction : Text → List Row → Action → Type 0
+MeansAction name rows (Solve goal limits) = (name ≡ codes "solve") × HasGoal rows goal × HasLimits rows limits
+MeansAction name rows Moves = name ≡ codes "moves"
+MeansAction name rows (Tree goal limits) = (name ≡ codes "tree") × HasGoal rows goal × HasLimits rows limits
+MeansAction name rows (Check goal) = (name ≡ codes "check") × HasGoal rows goal
+
+-- the command's name and rows, as found, are the line's
+abbrev pub MeansFound : Text × List Row → Line → Type 0
+MeansFound found line = (first_of (codes "FEN") found.1 ≡ Some line.fen.now) × MeansAction found.0 found.1 line.action
+
+-- a command was found, and it is the line's
+abbrev pub HasLine : Option (Text × List Row) → Line → Type 0
+HasLine found line = IsSomeAnd found (λ f. MeansFound f line)
+
+-- the words, of which the first is the program's name, mean the line
+abbrev pub MeansLine : List Text → Line → Type 0
+MeansLine words line = HasLine (subcommand_of program words) line
+
+-- the words mean no line: `clap` finds a fault in them, or what it finds is none
+abbrev pub MeansNoLine : List Text → Type 0
+MeansNoLine words = (fault_of program words ≢ []) ⊎ ((line : Line) → MeansLine words line → ⊥)

@@ -1,0 +1,34 @@
+//! A line: what the words of a command line mean.
+use moves::Goal;
+
+/// A command and the position that it is about.
+#[derive(Clone, Copy)]
+pub struct Line<'a> {
+    /// The position's text.
+    pub fen: &'a [u8],
+    pub action: Action,
+}
+
+/// A command with its values.
+#[derive(Clone, Copy, PartialEq, Eq)]
+pub enum Action {
+    /// The fewest plies to the goal, and the first move.
+    Solve(Goal, Limits),
+    /// Each lawful move.
+    Moves,
+    /// The tree that shows the answer of a solve.
+    Tree(Goal, Limits),
+    /// In how many plies the tree of the input wins, if it wins.
+    Check(Goal),
+}
+
+/// How far and with what to search, as the command line has it: any numbers that it can name.
+#[derive(Clone, Copy, PartialEq, Eq)]
+pub struct Limits {
+    /// The most plies to the goal.
+    pub limit: u32,
+    /// The threads that search, beside the one that the program begins with.
+    pub workers: u32,
+    /// The slots of the table that remembers decided positions.
+    pub slots: u32,
+}

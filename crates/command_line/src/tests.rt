@@ -1,0 +1,76 @@
+//! The line of some words, and words that mean none.
+use crate::{Action, Limits, LineFault, matches, read_line};
+use moves::Goal;
+use std::process::Abort;
+
+const FEN: &str = "k5/6/1K4/6/6/5R w";
+
+/// Expects the words to mean a command at the position of `FEN`.
+fn expect_action<R: Abort + AllocGlobal>(rt: &R, words: &[&str], action: Action) {
+    match read_line(rt.alloc(), words) {
+        Ok(line) => {
+            assert_eq!(rt; line.fen, FEN.as_bytes());
+            assert!(rt; line.action == action);
+        }
+        Err(_) => panic!(rt; "no line"),
+    }
+}
+
+/// Expects the words to mean no line.
+fn expect_none<R: Abort + AllocGlobal>(rt: &R, words: &[&str]) {
+    match read_line(rt.alloc(), words) {
+        Err(LineFault::Words) => {}
+        _ => panic!(rt; "a line, or no memory"),
+    }
+}
+
+#[test]
+fn reads_each_command(rt: HostRuntime) {
+    let least = Limits {
+        limit: 1,
+        workers: 2,
+        slots: 64,
+    };
+    let solve = ["minimate", "solve", "--limit", "1", FEN];
+    expect_action(&rt, &solve, Action::Solve(Goal::Mate, least));
+    let all = [
+        "minimate",
+        "solve",
+        "--workers",
+        "0",
+        FEN,
+        "--slots",
+        "7",
+        "--goal=stale",
+        "--limit=4294967295",
+    ];
+    let greatest = Limits {
+        limit: 4_294_967_295,
+        workers: 0,
+        slots: 7,
+    };
+    expect_action(&rt, &all, Action::Solve(Goal::MateOrStale, greatest));
+    expect_action(&rt, &["minimate", "moves", FEN], Action::Moves);
+    let tree = ["minimate", "tree", "--limit", "1", FEN];
+    expect_action(&rt, &tree, Action::Tree(Goal::Mate, least));
+    expect_action(&rt, &["minimate", "check", FEN], Action::Check(Goal::Mate));
+    let stale = ["minimate", "check", "--goal", "stale", FEN];
+    expect_action(&rt, &stale, Action::Check(Goal::MateOrStale));
+}
+
+#[test]
+fn refuses_what_is_no_line(rt: HostRuntime) {
+    expect_none(&rt, &["minimate", "solve", FEN]);
+    expect_none(&rt, &["minimate", "solve", "--limit", "4294967296", FEN]);
+    expect_none(&rt, &["minimate", "check", "--goal", "Mate", FEN]);
+    expect_none(&rt, &["minimate", "moves"]);
+}
+
+// The parser takes any word for a goal, and refuses an option that a command doesn't have.
+#[test]
+fn tells_what_the_parser_refuses(rt: HostRuntime) {
+    let any_goal = ["minimate", "check", "--goal", "x", FEN];
+    assert!(rt; matches(rt.alloc(), any_goal.as_slice()).is_ok());
+    let foreign = ["minimate", "moves", "--goal", "mate", FEN];
+    assert!(rt; matches(rt.alloc(), foreign.as_slice()).is_err());
+}
