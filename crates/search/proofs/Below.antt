@@ -198,21 +198,23 @@ module _ (t : TableId) (a b c : Seat ℕ View) (ab : Continues t a b) (bc : Cont
   tried_before : (own : Bool) (m : Ply) → IsTried q slots n (number a) own (added a b) m → IsTried q slots n (number a) own (added a c) m
   tried_before own m h = subst (λ (l : List Call). IsTried q slots n (number a) own l m) (sym (added_more a b c ab.grew bc.grew)) (tried_on q slots n (number a) own (added a b) (added b c) m h)
 
-  -- each lawful move was tried in one list or the other
-  pub both_tried : (own : Bool) (xs fs ls : List Ply) → ListsLawful q.position xs → ((m : Ply) → Contains xs m → Contains fs m ⊎ Contains ls m) → All (IsTried q slots n (number a) own (added a b)) fs → All (IsTried q slots n (number b) own (added b c)) ls
-      → (m : Ply) → IsLawful q.position m → IsTried q slots n (number a) own (added a c) m
-  both_tried own xs fs ls lists parts before after m lawful = elim (parts m ((lists.exact m).1 lawful)) [
-    | inl f ↦ tried_before own m (All-contains (IsTried q slots n (number a) own (added a b)) fs m before f)
-    | inr l ↦ tried_behind own m (All-contains (IsTried q slots n (number b) own (added b c)) ls m after l)
+  -- each move was tried in one list or the other
+  pub both_tried : (own : Bool) (xs fs ls : List Ply) → ((m : Ply) → Contains xs m → Contains fs m ⊎ Contains ls m) → All (IsTried q slots n (number a) own (added a b)) fs → All (IsTried q slots n (number b) own (added b c)) ls → All (IsTried q slots n (number a) own (added a c)) xs
+  both_tried own xs fs ls parts before after k d lt = elim (parts (get_or xs k d) (Contains-get_or xs k d lt)) [
+    | inl f ↦ tried_before own (get_or xs k d) (All-contains (IsTried q slots n (number a) own (added a b)) fs (get_or xs k d) before f)
+    | inr l ↦ tried_behind own (get_or xs k d) (All-contains (IsTried q slots n (number b) own (added b c)) ls (get_or xs k d) after l)
   ]
 
   pub ended_behind : (own : Bool) → IsEnded q slots n (number b) own (added b c) → IsEnded q slots n (number a) own (added a c)
   ended_behind own (m, x, move, asked, end) = (m, x, move, subst (IsAsked (question x q.attacker q.goal) slots (number a)) (sym (added_more a b c ab.grew bc.grew)) (asked_behind (question x q.attacker q.goal) slots (number a) (added a b) (added b c) (subst (λ k. IsAsked (question x q.attacker q.goal) slots k (added b c)) ab.number asked)), end)
 
--- what the moves of both lists say
-module _ (q : Question) (slots n number : ℕ) (calls : List Call) (answer : Bool) (plies : 0 < n) (some : (m : Ply) × IsLawful q.position m)
+-- what the lawful moves say
+module _ (q : Question) (slots n number : ℕ) (calls : List Call) (answer : Bool) (plies : 0 < n) (some : (m : Ply) × IsLawful q.position m) (moves : List Ply) (lists : ListsLawful q.position moves)
     (ended : answer ≡ is_same_side q.attacker q.position.mover → IsEnded q slots (n - 1) number answer calls)
-    (tried : answer ≢ is_same_side q.attacker q.position.mover → (m : Ply) → IsLawful q.position m → IsTried q slots (n - 1) number (is_same_side q.attacker q.position.mover) calls m) where
+    (all_tried : answer ≢ is_same_side q.attacker q.position.mover → All (IsTried q slots (n - 1) number (is_same_side q.attacker q.position.mover) calls) moves) where
+  tried : answer ≢ is_same_side q.attacker q.position.mover → (m : Ply) → IsLawful q.position m → IsTried q slots (n - 1) number (is_same_side q.attacker q.position.mover) calls m
+  tried apart m lawful = All-contains (IsTried q slots (n - 1) number (is_same_side q.attacker q.position.mover) calls) moves m (all_tried apart) ((lists.exact m).1 lawful)
+
   pub said_answer : IsTrue answer ↔ Forces q.goal q.attacker q.position n
   said_answer = elim (same_or_not answer (is_same_side q.attacker q.position.mover)) [
     | inl same ↦ let e = ended same in ended_answer q slots number n answer same plies e.0 e.1 e.2 e.4

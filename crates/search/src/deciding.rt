@@ -1,5 +1,5 @@
 //! Whether an attacker forces the goal within so many plies.
-ghost use Rattle.std.specs.Prelude.{◌≡◌, ◌≢◌, ◌<◌, ◌≤◌, ◌-◌, ◌↔◌, IsTrue, All};
+ghost use Rattle.std.specs.Prelude.{◌≡◌, ◌≢◌, ◌<◌, ◌≤◌, ◌-◌, ◌↔◌, IsTrue, All, length};
 ghost use Rattle.board.specs.Games.{is_same_side};
 ghost use Rattle.moves.specs.Squares.{Ply};
 ghost use Rattle.moves.specs.Moves.{IsLawful};
@@ -105,8 +105,69 @@ fn try_moves(
     }
 }
 
-/// Decides by the positions after the lawful moves, each of which is asked of. A function clears its frame at each call, so the
-/// lists of moves are kept out of the frame of `decide_asking`, which most often ends at a hit.
+/// Tries the moves that give check first, and then the others. A function clears its frame at each call, so the frame of the two
+/// lists is kept out of the callers', for which most often a hit or the defender's first reply is enough.
+#[cycle(deciding)]
+#[inline(never)]
+fn try_in_order(
+    slots: &Slots<MateLore>,
+    seat: &mut Seat,
+    board: &Board,
+    attacker: Side,
+    goal: Goal,
+    n: u8,
+    moves: &[Move],
+) -> Outcome
+    requires seat { IsSeatOf slots.now seat.old }
+    requires history { KnowsHistory seat.old }
+    requires plies { (0 < n) × (n ≤ 63) }
+    requires lawful { All (IsLawful board.now) moves.now }
+    requires room { length moves.now ≤ 512 }
+    ensures continues { Continues slots.now seat.old seat.new }
+    ensures history { KnowsHistory seat.new }
+    ensures ended { result.yes ≡ is_same_side attacker board.now.mover → IsEnded (question board.now attacker goal) (slots_of slots.now) (n - 1) (number seat.old) result.yes (added seat.old seat.new) }
+    ensures tried { result.yes ≢ is_same_side attacker board.now.mover → All (IsTried (question board.now attacker goal) (slots_of slots.now) (n - 1) (number seat.old) (is_same_side attacker board.now.mover) (added seat.old seat.new)) moves.now }
+{
+    let InOrder { first, later } = put_in_order(board, moves);
+    let checks = try_moves(slots, seat, board, attacker, goal, n, first.as_slice());
+    if checks.yes == is_turn_of(attacker, board) {
+        return checks;
+    }
+    let others = try_moves(slots, seat, board, attacker, goal, n, later.as_slice());
+    Outcome {
+        yes: others.yes,
+        expanded: checks.expanded.saturating_add(others.expanded),
+    }
+}
+
+/// Tries the attacker's moves in an order, and the defender's as they stand.
+#[cycle(deciding)]
+fn try_each(
+    slots: &Slots<MateLore>,
+    seat: &mut Seat,
+    board: &Board,
+    attacker: Side,
+    goal: Goal,
+    n: u8,
+    moves: &[Move],
+) -> Outcome
+    requires seat { IsSeatOf slots.now seat.old }
+    requires history { KnowsHistory seat.old }
+    requires plies { (0 < n) × (n ≤ 63) }
+    requires lawful { All (IsLawful board.now) moves.now }
+    requires room { length moves.now ≤ 512 }
+    ensures continues { Continues slots.now seat.old seat.new }
+    ensures history { KnowsHistory seat.new }
+    ensures ended { result.yes ≡ is_same_side attacker board.now.mover → IsEnded (question board.now attacker goal) (slots_of slots.now) (n - 1) (number seat.old) result.yes (added seat.old seat.new) }
+    ensures tried { result.yes ≢ is_same_side attacker board.now.mover → All (IsTried (question board.now attacker goal) (slots_of slots.now) (n - 1) (number seat.old) (is_same_side attacker board.now.mover) (added seat.old seat.new)) moves.now }
+{
+    if is_turn_of(attacker, board) {
+        return try_in_order(slots, seat, board, attacker, goal, n, moves);
+    }
+    try_moves(slots, seat, board, attacker, goal, n, moves)
+}
+
+/// Decides by the positions after the lawful moves, each of which is asked of.
 #[cycle(deciding)]
 #[inline(never)]
 fn search(
@@ -139,25 +200,10 @@ fn search(
             expanded: 1,
         };
     }
-    let InOrder { first, later } = put_in_order(
-        board,
-        is_turn_of(attacker, board),
-        moves.as_slice(),
-    );
-    let tried = try_moves(slots, seat, board, attacker, goal, n, first.as_slice());
-    if tried.yes == is_turn_of(attacker, board) {
-        return Outcome {
-            yes: tried.yes,
-            expanded: tried.expanded.saturating_add(1),
-        };
-    }
-    let rest = try_moves(slots, seat, board, attacker, goal, n, later.as_slice());
+    let tried = try_each(slots, seat, board, attacker, goal, n, moves.as_slice());
     Outcome {
-        yes: rest.yes,
-        expanded: tried
-            .expanded
-            .saturating_add(rest.expanded)
-            .saturating_add(1),
+        yes: tried.yes,
+        expanded: tried.expanded.saturating_add(1),
     }
 }
 

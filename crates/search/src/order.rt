@@ -1,4 +1,4 @@
-//! Which moves are tried first. The answer doesn't depend on it.
+//! Which of the attacker's moves are tried first. The answer doesn't depend on it.
 ghost use Rattle.std.specs.Prelude.{◌≡◌, ◌⊎◌, ◌+◌, ◌≤◌, ◌↔◌, All, Contains, length};
 ghost use Rattle.moves.specs.Squares.{Ply};
 ghost use Rattle.moves.specs.Moves.{IsLawful};
@@ -13,16 +13,9 @@ pub(crate) struct InOrder {
     pub(crate) later: ArrayVec<Move, 512>,
 }
 
-/// Whether the move is tried first: the attacker tries those that give check, the defender has no order.
-fn is_urgent(board: &Board, own: bool, m: Move) -> bool
-    requires { IsLawful board.now m }
-{
-    !own || gives_check(board, m)
-}
-
-/// The moves in two lists.
+/// The moves in two lists: those that give check, and the others.
 #[inline(never)]
-pub(crate) fn put_in_order(board: &Board, own: bool, moves: &[Move]) -> InOrder
+pub(crate) fn put_in_order(board: &Board, moves: &[Move]) -> InOrder
     requires lawful { All (IsLawful board.now) moves.now }
     requires room { length moves.now ≤ 512 }
     ensures all { (m : Ply) → Contains moves.now m → Contains result.first.items m ⊎ Contains result.later.items m }
@@ -32,7 +25,7 @@ pub(crate) fn put_in_order(board: &Board, own: bool, moves: &[Move]) -> InOrder
     let mut first = ArrayVec::new();
     let mut later = ArrayVec::new();
     for m in moves {
-        if is_urgent(board, own, *m) {
+        if gives_check(board, *m) {
             first.push(*m);
         } else {
             later.push(*m);

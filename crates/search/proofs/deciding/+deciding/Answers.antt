@@ -1,7 +1,6 @@
-use Rattle.std.proofs.Common.{◌-◌, List, All, sym, ◌∙◌, subst, arith, length, ◌≡◌, Bool, ◌↔◌, IsTrue, ◌⊎◌, Contains}
+use Rattle.std.proofs.Common.{◌-◌, All, sym, ◌∙◌, subst, arith, length, ◌≡◌, Bool, ◌↔◌, IsTrue}
 use Rattle.std.proofs.lemmas.Bool.Decides.{Decides-eqb}
 use Rattle.std.proofs.lemmas.List.{take_all}
-use Rattle.moves.specs.Squares.{Ply}
 use Rattle.board.specs.declared.game.Side.{Side}
 use Rattle.board.specs.Games.{is_same_side}
 use Rattle.moves.specs.Moves.{IsLawful}
@@ -53,16 +52,24 @@ expand-returns-then-is_turn_of-clause-answer t c =
     subst (λ k. IsTrue c.wins_at_once.result ↔ Forces c.args.goal c.args.attacker c.args.board.now k) one_ply
     (subst (λ (s : Side). IsTrue c.wins_at_once.result ↔ Forces c.args.goal s c.args.board.now 1) (sym side) c.wins_at_once.ensures)
 
-pub search-put_in_order-first-requires : goal.search-put_in_order-first-requires
-search-put_in_order-first-requires t c = record {
-  lawful = subst (All (IsLawful c.args.board.now)) (sym c.as_slice.ensures.value) (all_listed c.args.board.now c.lawful_on-moves.result.items c.lawful_on-moves.ensures);
-  room = c.as_slice.ensures.fits;
-}
-
-pub search-try_moves-rest-requires : goal.search-try_moves-rest-requires
-search-try_moves-rest-requires t c =
-    let some = c.if-n-eq0.false in
-    (omega (arith, c.decreases), (c.try_moves-tried.ensures.continues.seat, (c.try_moves-tried.ensures.history, ((omega arith, c.requires.plies), subst (All (IsLawful c.args.board.now)) (sym c.as_slice-3.ensures.value) c.put_in_order-first.ensures.later))))
+pub search-try_each-tried-requires : goal.search-try_each-tried-requires
+search-try_each-tried-requires t c =
+    let some = c.if-n-eq0.false in (
+      omega (arith, c.decreases),
+      (
+        c.requires.seat,
+        (
+          c.requires.history,
+          (
+            (omega arith, c.requires.plies),
+            (
+              subst (All (IsLawful c.args.board.now)) (sym c.as_slice.ensures.value) (all_listed c.args.board.now c.lawful_on-moves.result.items c.lawful_on-moves.ensures),
+              c.as_slice.ensures.fits,
+            ),
+          ),
+        ),
+      ),
+    )
 
 pub search-returns-then-n-eq0-clause-answer : goal.search-returns-then-n-eq0-clause-answer
 search-returns-then-n-eq0-clause-answer t c =
@@ -79,50 +86,38 @@ pub search-returns-then-is_empty-clause-below : goal.search-returns-then-is_empt
 search-returns-then-is_empty-clause-below t c = λ _ moves. absurd
     (none_listed c.args.board.now c.lawful_on-moves.result.items c.lawful_on-moves.ensures ((Decides-eqb (length c.lawful_on-moves.result.items) 0).0 (sym c.is_empty.ensures ∙ c.if-is_empty.true)) moves.0 moves.1)
 
-pub search-returns-then-tried-is_turn_of-clause-answer : goal.search-returns-then-tried-is_turn_of-clause-answer
-search-returns-then-tried-is_turn_of-clause-answer t c =
-    let some = c.if-n-eq0.false in
-    let same = beq_same _ _ c.if-tried-is_turn_of.true ∙ c.is_turn_of-2.ensures in
-    said_answer (question c.args.board.now c.args.attacker c.args.goal) (slots_of c.args.slots.now) c.args.n (number c.args.seat.now) (added c.args.seat.now c.try_moves-tried.new.seat) c.try_moves-tried.result.yes (omega arith)
-    (some_listed c.args.board.now c.lawful_on-moves.result.items c.lawful_on-moves.ensures (not_empty (length c.lawful_on-moves.result.items) c.if-is_empty.ensures))
-    c.try_moves-tried.ensures.ended (λ apart. absurd (apart same))
-
-pub search-returns-then-tried-is_turn_of-clause-below : goal.search-returns-then-tried-is_turn_of-clause-below
-search-returns-then-tried-is_turn_of-clause-below t c = λ plies moves.
-    let same = beq_same _ _ c.if-tried-is_turn_of.true ∙ c.is_turn_of-2.ensures in
-    said_below (question c.args.board.now c.args.attacker c.args.goal) (slots_of c.args.slots.now) c.args.n (number c.args.seat.now) (added c.args.seat.now c.try_moves-tried.new.seat) c.try_moves-tried.result.yes plies
-    moves c.try_moves-tried.ensures.ended (λ apart. absurd (apart same))
-
-pub search-returns-clause-continues : goal.search-returns-clause-continues
-search-returns-clause-continues t c = continues_more _ _ _ _ c.try_moves-tried.ensures.continues c.try_moves-rest.ensures.continues
-
 pub search-returns-clause-answer : goal.search-returns-clause-answer
 search-returns-clause-answer t c =
     let some = c.if-n-eq0.false in
-    said_answer (question c.args.board.now c.args.attacker c.args.goal) (slots_of c.args.slots.now) c.args.n (number c.args.seat.now) (added c.args.seat.now c.try_moves-rest.new.seat) c.try_moves-rest.result.yes (omega arith)
+    said_answer (question c.args.board.now c.args.attacker c.args.goal) (slots_of c.args.slots.now) c.args.n (number c.args.seat.now) (added c.args.seat.now c.try_each-tried.new.seat) c.try_each-tried.result.yes (omega arith)
     (some_listed c.args.board.now c.lawful_on-moves.result.items c.lawful_on-moves.ensures (not_empty (length c.lawful_on-moves.result.items) c.if-is_empty.ensures))
-    (λ same. ended_behind c.args.slots.now c.args.seat.now c.try_moves-tried.new.seat c.try_moves-rest.new.seat c.try_moves-tried.ensures.continues c.try_moves-rest.ensures.continues (question c.args.board.now c.args.attacker c.args.goal) (slots_of c.args.slots.now) (c.args.n - 1)
-    c.try_moves-rest.result.yes (c.try_moves-rest.ensures.ended same))
-    (λ apart. both_tried c.args.slots.now c.args.seat.now c.try_moves-tried.new.seat c.try_moves-rest.new.seat c.try_moves-tried.ensures.continues c.try_moves-rest.ensures.continues (question c.args.board.now c.args.attacker c.args.goal) (slots_of c.args.slots.now) (c.args.n - 1)
-    (is_same_side c.args.attacker c.args.board.now.mover) c.lawful_on-moves.result.items c.put_in_order-first.result.first.items c.put_in_order-first.result.later.items c.lawful_on-moves.ensures
-    (subst (λ (l : List Ply). (m : Ply) → Contains l m → Contains c.put_in_order-first.result.first.items m ⊎ Contains c.put_in_order-first.result.later.items m) c.as_slice.ensures.value c.put_in_order-first.ensures.all)
-    (subst (All (IsTried (question c.args.board.now c.args.attacker c.args.goal) (slots_of c.args.slots.now) (c.args.n - 1) (number c.args.seat.now) (is_same_side c.args.attacker c.args.board.now.mover) (added c.args.seat.now c.try_moves-tried.new.seat))) c.as_slice-2.ensures.value
-    (c.try_moves-tried.ensures.tried (λ same. beq_apart _ _ c.if-tried-is_turn_of.false (same ∙ sym c.is_turn_of-2.ensures))))
-    (subst (All (IsTried (question c.args.board.now c.args.attacker c.args.goal) (slots_of c.args.slots.now) (c.args.n - 1) (number c.try_moves-tried.new.seat) (is_same_side c.args.attacker c.args.board.now.mover) (added c.try_moves-tried.new.seat c.try_moves-rest.new.seat))) c.as_slice-3.ensures.value
-    (c.try_moves-rest.ensures.tried apart)))
+    c.lawful_on-moves.result.items c.lawful_on-moves.ensures c.try_each-tried.ensures.ended (λ apart. subst (All (IsTried (question c.args.board.now c.args.attacker c.args.goal) (slots_of c.args.slots.now) (c.args.n - 1) (number c.args.seat.now) (is_same_side c.args.attacker c.args.board.now.mover) (added c.args.seat.now c.try_each-tried.new.seat))) c.as_slice.ensures.value (c.try_each-tried.ensures.tried apart))
 
 pub search-returns-clause-below : goal.search-returns-clause-below
 search-returns-clause-below t c = λ plies moves.
-    said_below (question c.args.board.now c.args.attacker c.args.goal) (slots_of c.args.slots.now) c.args.n (number c.args.seat.now) (added c.args.seat.now c.try_moves-rest.new.seat) c.try_moves-rest.result.yes plies moves
-    (λ same. ended_behind c.args.slots.now c.args.seat.now c.try_moves-tried.new.seat c.try_moves-rest.new.seat c.try_moves-tried.ensures.continues c.try_moves-rest.ensures.continues (question c.args.board.now c.args.attacker c.args.goal) (slots_of c.args.slots.now) (c.args.n - 1)
-    c.try_moves-rest.result.yes (c.try_moves-rest.ensures.ended same))
-    (λ apart. both_tried c.args.slots.now c.args.seat.now c.try_moves-tried.new.seat c.try_moves-rest.new.seat c.try_moves-tried.ensures.continues c.try_moves-rest.ensures.continues (question c.args.board.now c.args.attacker c.args.goal) (slots_of c.args.slots.now) (c.args.n - 1)
-    (is_same_side c.args.attacker c.args.board.now.mover) c.lawful_on-moves.result.items c.put_in_order-first.result.first.items c.put_in_order-first.result.later.items c.lawful_on-moves.ensures
-    (subst (λ (l : List Ply). (m : Ply) → Contains l m → Contains c.put_in_order-first.result.first.items m ⊎ Contains c.put_in_order-first.result.later.items m) c.as_slice.ensures.value c.put_in_order-first.ensures.all)
-    (subst (All (IsTried (question c.args.board.now c.args.attacker c.args.goal) (slots_of c.args.slots.now) (c.args.n - 1) (number c.args.seat.now) (is_same_side c.args.attacker c.args.board.now.mover) (added c.args.seat.now c.try_moves-tried.new.seat))) c.as_slice-2.ensures.value
-    (c.try_moves-tried.ensures.tried (λ same. beq_apart _ _ c.if-tried-is_turn_of.false (same ∙ sym c.is_turn_of-2.ensures))))
-    (subst (All (IsTried (question c.args.board.now c.args.attacker c.args.goal) (slots_of c.args.slots.now) (c.args.n - 1) (number c.try_moves-tried.new.seat) (is_same_side c.args.attacker c.args.board.now.mover) (added c.try_moves-tried.new.seat c.try_moves-rest.new.seat))) c.as_slice-3.ensures.value
-    (c.try_moves-rest.ensures.tried apart)))
+    said_below (question c.args.board.now c.args.attacker c.args.goal) (slots_of c.args.slots.now) c.args.n (number c.args.seat.now) (added c.args.seat.now c.try_each-tried.new.seat) c.try_each-tried.result.yes plies moves
+    c.lawful_on-moves.result.items c.lawful_on-moves.ensures c.try_each-tried.ensures.ended (λ apart. subst (All (IsTried (question c.args.board.now c.args.attacker c.args.goal) (slots_of c.args.slots.now) (c.args.n - 1) (number c.args.seat.now) (is_same_side c.args.attacker c.args.board.now.mover) (added c.args.seat.now c.try_each-tried.new.seat))) c.as_slice.ensures.value (c.try_each-tried.ensures.tried apart))
+
+pub try_in_order-try_moves-others-requires : goal.try_in_order-try_moves-others-requires
+try_in_order-try_moves-others-requires t c =
+    (omega (arith, c.decreases), (c.try_moves-checks.ensures.continues.seat, (c.try_moves-checks.ensures.history, (c.requires.plies, subst (All (IsLawful c.args.board.now)) (sym c.as_slice-2.ensures.value) c.put_in_order-first.ensures.later))))
+
+pub try_in_order-returns-clause-continues : goal.try_in_order-returns-clause-continues
+try_in_order-returns-clause-continues t c = continues_more _ _ _ _ c.try_moves-checks.ensures.continues c.try_moves-others.ensures.continues
+
+pub try_in_order-returns-clause-ended : goal.try_in_order-returns-clause-ended
+try_in_order-returns-clause-ended t c = λ same.
+    ended_behind c.args.slots.now c.args.seat.now c.try_moves-checks.new.seat c.try_moves-others.new.seat c.try_moves-checks.ensures.continues c.try_moves-others.ensures.continues (question c.args.board.now c.args.attacker c.args.goal) (slots_of c.args.slots.now) (c.args.n - 1)
+    c.try_moves-others.result.yes (c.try_moves-others.ensures.ended same)
+
+pub try_in_order-returns-clause-tried : goal.try_in_order-returns-clause-tried
+try_in_order-returns-clause-tried t c = λ apart.
+    both_tried c.args.slots.now c.args.seat.now c.try_moves-checks.new.seat c.try_moves-others.new.seat c.try_moves-checks.ensures.continues c.try_moves-others.ensures.continues (question c.args.board.now c.args.attacker c.args.goal) (slots_of c.args.slots.now) (c.args.n - 1)
+    (is_same_side c.args.attacker c.args.board.now.mover) c.args.moves.now c.put_in_order-first.result.first.items c.put_in_order-first.result.later.items c.put_in_order-first.ensures.all
+    (subst (All (IsTried (question c.args.board.now c.args.attacker c.args.goal) (slots_of c.args.slots.now) (c.args.n - 1) (number c.args.seat.now) (is_same_side c.args.attacker c.args.board.now.mover) (added c.args.seat.now c.try_moves-checks.new.seat))) c.as_slice.ensures.value
+    (c.try_moves-checks.ensures.tried (λ same. beq_apart _ _ c.if-checks-is_turn_of.false (same ∙ sym c.is_turn_of.ensures))))
+    (subst (All (IsTried (question c.args.board.now c.args.attacker c.args.goal) (slots_of c.args.slots.now) (c.args.n - 1) (number c.try_moves-checks.new.seat) (is_same_side c.args.attacker c.args.board.now.mover) (added c.try_moves-checks.new.seat c.try_moves-others.new.seat))) c.as_slice-2.ensures.value
+    (c.try_moves-others.ensures.tried apart))
 
 pub try_moves-after-requires : goal.try_moves-after-requires
 try_moves-after-requires t c = subst (IsLawful c.args.board.now) (sym c.m-item.is) (c.requires.lawful c.loop-m.m-index c.m-item.result c.loop-m-test.true)

@@ -6,16 +6,22 @@ use Rattle.search.specs.Below.{IsTried}
 use Rattle.search.proofs.deciding.+deciding.Given as goal
 
 abbrev pub decreases-decide_asking : goal.decreases-decide_asking
-decreases-decide_asking l = 4 * l.n + 3
+decreases-decide_asking l = 6 * l.n + 5
 
 abbrev pub decreases-expand : goal.decreases-expand
-decreases-expand l = 4 * l.n + 2
+decreases-expand l = 6 * l.n + 4
 
 abbrev pub decreases-search : goal.decreases-search
-decreases-search l = 4 * l.n + 1
+decreases-search l = 6 * l.n + 3
+
+abbrev pub decreases-try_each : goal.decreases-try_each
+decreases-try_each l = 6 * l.n + 2
+
+abbrev pub decreases-try_in_order : goal.decreases-try_in_order
+decreases-try_in_order l = 6 * l.n + 1
 
 abbrev pub decreases-try_moves : goal.decreases-try_moves
-decreases-try_moves l = 4 * l.n
+decreases-try_moves l = 6 * l.n
 
 -- the moves so far were tried in vain
 abbrev pub invariant-try_moves-loop-m : goal.invariant-try_moves-loop-m
