@@ -30,7 +30,7 @@ rides true h = refl
 rides false h = absurd (h refl)
 
 -- a step that goes as another leads to the same square
-as_step : (side : Side) (by step : Step) (s t : Place) → by.dx ≡ step.dx → by.dy ≡ step.dy → IsStep side step s t → IsStep side by s t
+pub as_step : (side : Side) (by step : Step) (s t : Place) → by.dx ≡ step.dx → by.dy ≡ step.dy → IsStep side step s t → IsStep side by s t
 as_step side by step s t e f a = subst (λ d. IsShift d (ahead_of side by.dy) s t) (sym e) (subst (λ d. IsShift step.dx (ahead_of side d) s t) (sym f) a)
 
 -- ---- a turn of the walk
@@ -107,7 +107,7 @@ move_is Move e = refl
 move_is Capture e = cc
 move_is Both e = cc
 
-abbrev goes_as_one : Step → Step → Bool
+abbrev pub goes_as_one : Step → Step → Bool
 goes_as_one s q = int_eq s.dx q.dx && int_eq s.dy q.dy
 
 -- a step only moves, or goes the way of a queen's

@@ -10,34 +10,26 @@ ghost use Rattle.moves.specs.Moves.{Promotes, IsPseudoLegal, IsLawful, after};
 ghost use Rattle.moves.specs.Order.{ListsLawful};
 ghost use Rattle.moves.specs.Listing.{ListsBelow};
 ghost use Rattle.moves.specs.Mailbox.{place_in, IsCell};
-ghost use Rattle.moves.specs.Lines.{IsInLine};
 ghost use Rattle.moves.specs.Guard.{Guards};
 
 use crate::list::PROMOTIONS;
 use crate::look::{king_attacked, king_cell};
 use crate::mailbox::{Mailbox, cell_of, square_in};
 use crate::packed::Board;
+use crate::pinned::pinned;
 use crate::plies::{Move, is_king, is_promoted_well, promotes};
 use crate::squares::Square;
-use crate::targets::{lowest, targets, without};
+use crate::targets::{has, lowest, targets, without};
 use arrayvec::ArrayVec;
 use board::{Game, Kind, Unit};
 
-/// What the mover's king asks of each move: the cell where it stands, and whether it is in check.
+/// What the mover's king asks of each move: the cell where it stands, whether it is in check, and where it isn't, the cells
+/// of the units that are pinned to it.
 #[derive(Clone, Copy)]
 pub(crate) struct Guard {
     king: u8,
     checked: bool,
-}
-
-/// Whether the squares stand on one file, rank or diagonal.
-fn in_line(s: Square, t: Square) -> bool
-    ensures { IsTrue result ↔ IsInLine s t }
-{
-    s.file == t.file
-        || s.rank == t.rank
-        || s.file + t.rank == t.file + s.rank
-        || s.file + s.rank == t.file + t.rank
+    pins: u64,
 }
 
 /// The cell of the mover's king after the move.
@@ -61,7 +53,7 @@ fn is_safe(mail: &Mailbox, guard: Guard, m: Move, unit: Unit) -> bool
     requires pseudo { IsPseudoLegal mail.now m unit }
     ensures { IsTrue result ↔ (IsInCheck (after mail.now m unit) mail.now.mover → ⊥) }
 {
-    if !guard.checked && !is_king(Some(unit)) && !in_line(m.from, square_in(guard.king)) {
+    if !guard.checked && !is_king(Some(unit)) && !has(guard.pins, cell_of(m.from)) {
         return true;
     }
     let king = king_after(mail, guard, m, unit);
@@ -203,7 +195,7 @@ pub fn lawful_on(board: &Board) -> ArrayVec<Move, 512>
     moves
 }
 
-/// Where the mover's king stands, and whether it is in check.
+/// Where the mover's king stands, whether it is in check, and what is pinned to it.
 pub(crate) fn guard_of(mail: &Mailbox) -> Guard
     requires { IsPosition mail.now }
     ensures { Guards mail.now result }
@@ -212,8 +204,15 @@ pub(crate) fn guard_of(mail: &Mailbox) -> Guard
     let Some(king) = king_cell(mail, side) else {
         unreachable!()
     };
+    let checked = king_attacked(mail, king, side);
+    let pins = if checked {
+        0
+    } else {
+        pinned(mail, side, king)
+    };
     Guard {
         king,
-        checked: king_attacked(mail, king, side),
+        checked,
+        pins,
     }
 }

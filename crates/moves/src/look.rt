@@ -93,7 +93,7 @@ fn is_enemy(unit: Unit, side: Side) -> bool
 }
 
 /// Whether the first unit on the step's line from the cell would come to the cell.
-fn is_hit_along(mail: &Mailbox, side: Side, step: &Step, cell: u8, near: bool) -> bool
+pub(crate) fn is_hit_along(mail: &Mailbox, side: Side, step: &Step, cell: u8, near: bool) -> bool
     requires cell { IsCell mail.now.game cell }
     requires near { IsNear step.now }
     requires goes { 0 < unsigned_abs step.now.dx + unsigned_abs step.now.dy }
