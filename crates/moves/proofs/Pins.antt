@@ -21,6 +21,8 @@ use Rattle.moves.specs.Squares.{Place, Ply, IsOnBoard, square_number, unit_at}
 use Rattle.moves.specs.Reach.{IsStep, Leads, IsInCheck}
 use Rattle.moves.specs.Reach.Leads.{once, again}
 use Rattle.moves.specs.Moves.{IsPromotion, IsPseudoLegal, placed, after}
+use Rattle.moves.specs.declared.lines.Line.{Line}
+use Rattle.moves.specs.declared.lines.TheConstants.{LINES}
 use Rattle.moves.specs.StepTables.{table_of}
 use Rattle.moves.specs.Mailbox.{place_in, IsCell}
 use Rattle.moves.specs.Looking.{foe_of, IsHitAlong}
@@ -33,13 +35,13 @@ use Rattle.moves.proofs.Laying.{unit_at-to, unit_at-from, unit_at-other}
 use Rattle.moves.proofs.Keeps.{to_on_board}
 use Rattle.moves.proofs.Kings.{king_of, check_from, one_king}
 use Rattle.moves.proofs.Looking.{captures_from, both_back}
-use Rattle.moves.proofs.Hits.{as_step, goes_as_one}
+use Rattle.moves.proofs.Hits.{as_step, goes_along_one}
 
 -- ---- what is pinned is seen from the king
 
--- a rider goes the way of a queen's step
+-- a rider goes along a line
 abbrev is_far_on_line : Step → Bool
-is_far_on_line s = not s.rider || list_any (goes_as_one s) (table_of Queen)
+is_far_on_line s = not s.rider || list_any (goes_along_one s) LINES
 
 far_on_lines : (k : Kind) → list_all is_far_on_line (table_of k) ≡ true
 far_on_lines King = refl
@@ -53,13 +55,13 @@ rider_test : (r s : Bool) → (not r || s) ≡ true → r ≡ true → s ≡ tru
 rider_test true s e h = e
 rider_test false s e h = absurd (false≢true h)
 
-pub pinned_along : (b : PlainBoard) (side : Side) (k : Place) (i : ℕ) → IsCell b.game i → IsPinned b side k (place_in i) → Any (λ step. IsPinnedAlong b side step k i) (table_of Queen)
+pub pinned_along : (b : PlainBoard) (side : Side) (k : Place) (i : ℕ) → IsCell b.game i → IsPinned b side k (place_in i) → Any (λ (l : Line). IsPinnedAlong b side l.step k i) LINES
 pinned_along b side k i cell w =
     let (x, rider, mode, denoted, to_rider, to_unit) = both_back b side w.rider w.step w.from (place_in i) k w.owner w.denoted w.on_board cell.on_board w.to_unit w.to_king in
     let rides : x.rider ≡ true = rider ∙ w.rides in
     let listed : is_far_on_line x ≡ true = All-contains (λ y. is_far_on_line y ≡ true) (table_of w.rider.kind) x (AllPass-from_list_all is_far_on_line (table_of w.rider.kind) (far_on_lines w.rider.kind)) ((table_of-exact w.rider.kind x).1 denoted) in
-    let (j, q, h, at, same) = Any-from_list_any (goes_as_one x) (table_of Queen) (rider_test x.rider (list_any (goes_as_one x) (table_of Queen)) listed rides) in
-    let parts = and_parts (int_eq x.dx q.dx) (int_eq x.dy q.dy) same in
+    let (j, q, h, at, same) = Any-from_list_any (goes_along_one x) LINES (rider_test x.rider (list_any (goes_along_one x) LINES) listed rides) in
+    let parts = and_parts (int_eq x.dx q.step.dx) (int_eq x.dy q.step.dy) same in
     let man : w.rider ≡ foe_of (record { side = side; kind = w.rider.kind }) = λ n. record { side = w.owner n; kind = w.rider.kind } in
     (j, q, h, at, record {
       cell = cell;
@@ -71,8 +73,8 @@ pinned_along b side k i cell w =
           denoted = denoted;
           goes = record {
             captures = λ e. w.captures (sym mode ∙ e);
-            files = (Decides-int_eq x.dx q.dx).0 parts.0;
-            ranks = (Decides-int_eq x.dy q.dy).0 parts.1;
+            files = (Decides-int_eq x.dx q.step.dx).0 parts.0;
+            ranks = (Decides-int_eq x.dy q.step.dy).0 parts.1;
             far = λ _. rides;
           };
         };
@@ -126,7 +128,7 @@ promotes_no_king g (Some Bishop) k a not e = cc
 promotes_no_king g (Some Knight) k a not e = cc
 promotes_no_king g (Some Pawn) k a not e = cc
 
-no_unit : {x : Man} → None ≡ Some x → ⊥
+pub no_unit : {x : Man} → None ≡ Some x → ⊥
 no_unit h = cc
 
 own_or_other : (side : Side) → side ≡ other_side side → ⊥

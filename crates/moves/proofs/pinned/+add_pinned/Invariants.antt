@@ -4,4 +4,4 @@ use Rattle.moves.proofs.pinned.+add_pinned.Given as given
 
 -- each step leaves less room before the edge
 abbrev pub decreases-add_pinned : given.decreases-add_pinned
-decreases-add_pinned l = room_of l.side l.step.now (place_in l.cell)
+decreases-add_pinned l = room_of l.side l.line.now.step (place_in l.cell)
