@@ -2,8 +2,7 @@
 ghost use Rattle.std.specs.Prelude.{◌≡◌, ◌≤◌, ◌+◌, ◌*◌, ◌<◌, ◌↔◌, IsTrue, Some, MatchOption, true, false};
 ghost use Rattle.arrayvec.specs.ArrayVec.{array_vec_len};
 ghost use Rattle.board.specs.declared.game.Kind.TheVariants.{King, Pawn};
-ghost use Rattle.board.specs.Board.{IsPosition, unit_on, is_of_side};
-ghost use Rattle.board.specs.Games.{squares_of};
+ghost use Rattle.board.specs.Board.{IsPosition, is_of_side};
 ghost use Rattle.moves.specs.Squares.{IsOnBoard, square_number, unit_at};
 ghost use Rattle.moves.specs.Reach.{Reaches, IsInCheck};
 ghost use Rattle.moves.specs.Moves.{Promotes, IsPseudoLegal, IsLawful, after};
@@ -20,6 +19,7 @@ use crate::pinned::pinned;
 use crate::plies::{Move, is_king, is_promoted_well, promotes};
 use crate::squares::Square;
 use crate::targets::{has, lowest, targets, without};
+use crate::words::{is_of_side, unit_of};
 use arrayvec::ArrayVec;
 use board::{Game, Kind, Unit};
 
@@ -159,15 +159,15 @@ fn push_from(
 }
 
 /// The unit on a square, if it is the mover's.
-pub(crate) fn own_unit(mail: &Mailbox, number: u8) -> Option<Unit>
-    requires { number < squares_of mail.now.game }
+pub(crate) fn own_unit(mail: &Mailbox, square: Square) -> Option<Unit>
+    requires { IsOnBoard mail.now.game square }
     ensures { MatchOption result
-        (is_of_side mail.now.mover (unit_on mail.now number) ≡ false)
-        (λ u. (unit_on mail.now number ≡ Some u) × (u.side ≡ mail.now.mover) × (is_of_side mail.now.mover (unit_on mail.now number) ≡ true)) }
+        (is_of_side mail.now.mover (unit_at mail.now square) ≡ false)
+        (λ u. (unit_at mail.now square ≡ Some u) × (u.side ≡ mail.now.mover) × (is_of_side mail.now.mover (unit_at mail.now square) ≡ true)) }
 {
-    let unit = mail.unit_on(number)?;
-    if unit.side == mail.mover() {
-        Some(unit)
+    let code = mail.code(cell_of(square));
+    if is_of_side(code, mail.mover()) {
+        unit_of(code)
     } else {
         None
     }
@@ -182,14 +182,9 @@ pub fn lawful_on(board: &Board) -> ArrayVec<Move, 512>
     let game = mail.game();
     let mut moves = ArrayVec::new();
     for number in 0..game.squares() {
-        if let Some(unit) = own_unit(&mail, number) {
-            push_from(
-                &mail,
-                guard,
-                unit,
-                Square::of_number(game, number),
-                &mut moves,
-            );
+        let from = Square::of_number(game, number);
+        if let Some(unit) = own_unit(&mail, from) {
+            push_from(&mail, guard, unit, from, &mut moves);
         }
     }
     moves

@@ -152,14 +152,6 @@ impl Mailbox {
         self.board.mover()
     }
 
-    /// The unit on a square, by the square's number.
-    pub(crate) fn unit_on(&self, square: u8) -> Option<Unit>
-        requires { square < squares_of self.now.game }
-        ensures { result ≡ unit_on self.now square }
-    {
-        self.board.unit(square)
-    }
-
     /// The board after the unit's move, laid out.
     pub(crate) fn moved(&self, m: Move, unit: Unit) -> Mailbox
         requires position { IsPosition self.now }

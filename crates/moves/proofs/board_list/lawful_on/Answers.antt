@@ -44,7 +44,8 @@ push_from-requires-clause-room c =
     let n = c.loop-number.number in
     let end = end_is c.squares-number-end.result _ b.game c.squares-number-end.ensures c.game-game.ensures.value in
     let within : n < 36 = omega (arith, squares_36 b.game) in
-    omega (arith, c.loop-number.invariant.few, one_more b c.game-game.ensures.position n within c.in-Some.ensures.2, at_most b c.game-game.ensures.position n within)
+    let at : square_number b.game c.of_number-from.result ≡ n = rw c.game-game.ensures.value at c.of_number-from.ensures.number in
+    omega (arith, c.loop-number.invariant.few, one_more b c.game-game.ensures.position n within (subst (λ k. is_of_side b.mover (unit_on b k) ≡ true) at c.in-Some.ensures.2), at_most b c.game-game.ensures.position n within)
 
 pub loop-number-preserved : goal.loop-number-preserved
 loop-number-preserved c =
@@ -52,16 +53,16 @@ loop-number-preserved c =
     let n = c.loop-number.number in
     let end = end_is c.squares-number-end.result _ b.game c.squares-number-end.ensures c.game-game.ensures.value in
     let within : n < 36 = omega (arith, squares_36 b.game) in
+    let at : square_number b.game c.of_number-from.result ≡ n = rw c.game-game.ensures.value at c.of_number-from.ensures.number in
     elim c.match-own_unit.branch [
       | in-Some w ↦
-          let at : square_number b.game w.of_number.result ≡ n = rw c.game-game.ensures.value at w.of_number.ensures.number in
           record {
             lists = rw w.moves-is (subst (λ k. ListsBelow b ((k + 1) * 36 * 5) w.push_from.new.moves.items) at w.push_from.ensures.after);
-            few = rw w.moves-is (omega (arith, w.push_from.ensures.few, c.loop-number.invariant.few, one_more b c.game-game.ensures.position n within w.in-Some.ensures.2));
+            few = rw w.moves-is (omega (arith, w.push_from.ensures.few, c.loop-number.invariant.few, one_more b c.game-game.ensures.position n within (subst (λ k. is_of_side b.mover (unit_on b k) ≡ true) at w.in-Some.ensures.2)));
           }
       | in_default w ↦ record {
-        lists = rw w.moves-is (ListsBelow-not_own b n c.loop-number.moves.items w.in_default.ensures c.loop-number.invariant.lists);
-        few = rw w.moves-is (omega (arith, c.loop-number.invariant.few, no_more b c.game-game.ensures.position n within w.in_default.ensures));
+        lists = rw w.moves-is (ListsBelow-not_own b n c.loop-number.moves.items (subst (λ k. is_of_side b.mover (unit_on b k) ≡ false) at w.in_default.ensures) c.loop-number.invariant.lists);
+        few = rw w.moves-is (omega (arith, c.loop-number.invariant.few, no_more b c.game-game.ensures.position n within (subst (λ k. is_of_side b.mover (unit_on b k) ≡ false) at w.in_default.ensures)));
       }
     ]
 
