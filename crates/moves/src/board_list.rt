@@ -177,10 +177,11 @@ pub(crate) fn own_unit(mail: &Mailbox, square: Square) -> Option<Unit>
 pub fn lawful_on(board: &Board) -> ArrayVec<Move, 512>
     ensures { ListsLawful board.now result.items }
 {
+    // First, so that the list's room is cleared once: a function clears its locals as it is entered.
+    let mut moves = ArrayVec::new();
     let mail = Mailbox::of(board);
     let guard = guard_of(&mail);
     let game = mail.game();
-    let mut moves = ArrayVec::new();
     for number in 0..game.squares() {
         let from = Square::of_number(game, number);
         if let Some(unit) = own_unit(&mail, from) {
