@@ -3,11 +3,12 @@ ghost use Rattle.std.specs.Prelude.{◌≡◌, ◌≤◌, ◌+◌, ◌*◌, ◌<
 ghost use Rattle.arrayvec.specs.ArrayVec.{array_vec_len};
 ghost use Rattle.board.specs.declared.game.Kind.TheVariants.{King, Pawn};
 ghost use Rattle.board.specs.Board.{IsPosition, is_of_side};
+ghost use Rattle.board.specs.Games.{width_of};
 ghost use Rattle.moves.specs.Squares.{IsOnBoard, square_number, unit_at};
 ghost use Rattle.moves.specs.Reach.{Reaches, IsInCheck};
 ghost use Rattle.moves.specs.Moves.{Promotes, IsPseudoLegal, IsLawful, after};
 ghost use Rattle.moves.specs.Order.{ListsLawful};
-ghost use Rattle.moves.specs.Listing.{ListsBelow};
+ghost use Rattle.moves.specs.Listing.{ListsBelow, ListsFrom};
 ghost use Rattle.moves.specs.Mailbox.{place_in, IsCell};
 ghost use Rattle.moves.specs.Guard.{Guards};
 
@@ -173,6 +174,21 @@ pub(crate) fn own_unit(mail: &Mailbox, square: Square) -> Option<Unit>
     }
 }
 
+/// Adds the lawful moves of the mover's units on the rank.
+fn push_rank(mail: &Mailbox, guard: Guard, rank: u8, moves: &mut ArrayVec<Move, 512>)
+    requires guards { Guards mail.now guard }
+    requires rank { rank < width_of mail.now.game }
+    requires before { ListsFrom mail.now (width_of mail.now.game * rank) moves.old.items }
+    ensures { ListsFrom mail.now (width_of mail.now.game * (rank + 1)) moves.new.items }
+{
+    for file in 0..mail.game().width() {
+        let from = Square { file, rank };
+        if let Some(unit) = own_unit(mail, from) {
+            push_from(mail, guard, unit, from, moves);
+        }
+    }
+}
+
 /// The lawful moves, in order.
 pub fn lawful_on(board: &Board) -> ArrayVec<Move, 512>
     ensures { ListsLawful board.now result.items }
@@ -181,12 +197,8 @@ pub fn lawful_on(board: &Board) -> ArrayVec<Move, 512>
     let mut moves = ArrayVec::new();
     let mail = Mailbox::of(board);
     let guard = guard_of(&mail);
-    let game = mail.game();
-    for number in 0..game.squares() {
-        let from = Square::of_number(game, number);
-        if let Some(unit) = own_unit(&mail, from) {
-            push_from(&mail, guard, unit, from, &mut moves);
-        }
+    for rank in 0..mail.game().width() {
+        push_rank(&mail, guard, rank, &mut moves);
     }
     moves
 }

@@ -136,10 +136,11 @@ pub(crate) fn is_of_side(code: u8, side: Side) -> bool
     requires { code < 13 }
     ensures { result ≡ is_of_side side (man_of code) }
 {
-    match side {
-        Side::White => 0 < code && code < 7,
-        Side::Black => 7 <= code,
-    }
+    let first = match side {
+        Side::White => 1,
+        Side::Black => 7,
+    };
+    first <= code && code < first + 6
 }
 
 /// The code of a unit.
