@@ -1,10 +1,10 @@
 -- The kinds that come along a line, as its bits tell them: a test that computes, and what it says.
-use Rattle.std.proofs.Common.{◌≡◌, ℕ, ◌+◌, ◌*◌, ◌/◌, ◌%◌, ◌^◌, ◌<◌, ◌≤◌, leb, zero, suc, refl, sym, ap, subst, ◌∙◌, arith, inl, inr, Bool, true, false, ◌&&◌, ◌||◌, not, nat_eq, List, Option, Some, None, Contains, IsTrue, ◌↔◌, cond}
+use Rattle.std.proofs.Common.{◌≡◌, ℕ, ◌+◌, ◌*◌, ◌/◌, ◌%◌, ◌^◌, ◌<◌, ◌≤◌, leb, zero, suc, refl, sym, ap, subst, ◌∙◌, arith, inl, inr, Bool, true, false, ◌&&◌, ◌||◌, not, nat_eq, Option, Some, None, Contains, cond}
 use Rattle.std.specs.Bool.{Decides}
 use Rattle.std.specs.List.{list_all, list_any, range_with_len}
 use Rattle.std.specs.Int.RustNames.{unsigned_abs}
 use Rattle.moves.specs.Mailbox.{IsNear}
-use Rattle.std.proofs.lemmas.Bool.{false≢true, leb-true, and_parts, and_from, or_cases, or_left, or_right}
+use Rattle.std.proofs.lemmas.Bool.{false≢true, leb-true, and_parts, and_from, or_cases}
 use Rattle.std.proofs.lemmas.Bool.Decides.{Decides-int_eq}
 use Rattle.std.proofs.lemmas.List.Sums.{AllPass-from_list_all}
 use Rattle.std.proofs.lemmas.List.Folds.{Any-from_list_any, list_any-from_Any}

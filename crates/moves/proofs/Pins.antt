@@ -62,26 +62,31 @@ pinned_along b side k i cell w =
     let listed : is_far_on_line x ≡ true = All-contains (λ y. is_far_on_line y ≡ true) (table_of w.rider.kind) x (AllPass-from_list_all is_far_on_line (table_of w.rider.kind) (far_on_lines w.rider.kind)) ((table_of-exact w.rider.kind x).1 denoted) in
     let (j, q, h, at, same) = Any-from_list_any (goes_along_one x) LINES (rider_test x.rider (list_any (goes_along_one x) LINES) listed rides) in
     let parts = and_parts (int_eq x.dx q.step.dx) (int_eq x.dy q.step.dy) same in
-    let man : w.rider ≡ foe_of (record { side = side; kind = w.rider.kind }) = λ n. record { side = w.owner n; kind = w.rider.kind } in
-    (j, q, h, at, record {
-      cell = cell;
-      taken = w.taken;
-      hit = record {
-        kind = w.rider.kind;
-        along = record {
-          by = x;
-          denoted = denoted;
-          goes = record {
-            captures = λ e. w.captures (sym mode ∙ e);
-            files = (Decides-int_eq x.dx q.step.dx).0 parts.0;
-            ranks = (Decides-int_eq x.dy q.step.dy).0 parts.1;
-            far = λ _. rides;
+    let man : w.rider ≡ foe_of (record { side = side; kind = w.rider.kind }) = λ n. record { side = w.owner n; kind = w.rider.kind } in (
+      j,
+      q,
+      h,
+      at,
+      record {
+        cell = cell;
+        taken = w.taken;
+        hit = record {
+          kind = w.rider.kind;
+          along = record {
+            by = x;
+            denoted = denoted;
+            goes = record {
+              captures = λ e. w.captures (sym mode ∙ e);
+              files = (Decides-int_eq x.dx q.step.dx).0 parts.0;
+              ranks = (Decides-int_eq x.dy q.step.dy).0 parts.1;
+              far = λ _. rides;
+            };
           };
+          strikes = record { to = w.from; leads = to_rider; stands = w.stands ∙ ap Some man };
         };
-        strikes = record { to = w.from; leads = to_rider; stands = w.stands ∙ ap Some man };
-      };
-      leads = to_unit;
-    })
+        leads = to_unit;
+      },
+    )
 
 -- ---- a turn of the walk from the king
 

@@ -1,5 +1,5 @@
 -- Units that alone keep an enemy rider from their king.
-use Rattle.std.specs.Prelude.{◌≡◌, ℕ, Option, Some, None, true, false}
+use Rattle.std.specs.Prelude.{◌≡◌, ℕ, Some, None, true, false}
 use Rattle.board.specs.declared.game.Side.{Side}
 use Rattle.board.specs.declared.game.Unit.{Unit as Man}
 use Rattle.board.specs.declared.step.Mode.TheVariants.{Move}

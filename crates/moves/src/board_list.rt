@@ -213,11 +213,7 @@ pub(crate) fn guard_of(mail: &Mailbox) -> Guard
         unreachable!()
     };
     let checked = king_attacked(mail, king, side);
-    let pins = if checked {
-        0
-    } else {
-        pinned(mail, side, king)
-    };
+    let pins = if checked { 0 } else { pinned(mail, side, king) };
     Guard {
         king,
         checked,

@@ -1,7 +1,7 @@
 use Rattle.std.proofs.Common.{◌≡◌, sym, ap, subst, ◌∙◌, Some, MatchOption, true, false}
 use Rattle.board.specs.Board.{is_of_side}
 use Rattle.moves.specs.Squares.{unit_at}
-use Rattle.moves.specs.Mailbox.{cell_of, place_in, IsCell}
+use Rattle.moves.specs.Mailbox.{place_in, IsCell}
 use Rattle.moves.specs.Words.{man_of}
 use Rattle.moves.proofs.Cells.{IsCell-cell_of, place_in-cell_of}
 use Rattle.moves.proofs.Guarding.{own_some}

@@ -1,4 +1,4 @@
-use Rattle.std.proofs.Common.{◌≡◌, ◌+◌, ◌*◌, ◌<◌, ℕ, ap, subst, ◌∙◌, arith}
+use Rattle.std.proofs.Common.{◌≡◌, ◌+◌, ◌*◌, ◌<◌, ap, subst, ◌∙◌, arith}
 use Rattle.board.specs.Games.{width_of}
 use Rattle.moves.specs.Squares.{Place, IsOnBoard, square_number}
 use Rattle.moves.specs.Listing.{ListsFrom}

@@ -6,7 +6,7 @@ use Rattle.moves.specs.declared.lines.Line.{Line}
 use Rattle.moves.specs.declared.lines.TheConstants.{LINES}
 use Rattle.moves.specs.Mailbox.{place_in}
 use Rattle.moves.specs.Looking.{IsHitAlong}
-use Rattle.moves.proofs.Hits.{IsStruck-hit, listed_at, not_hit}
+use Rattle.moves.proofs.Hits.{listed_at, not_hit}
 use Rattle.moves.proofs.look.is_hit.Goals as goal
 
 pub is_hit_along-requires-clause-line : goal.is_hit_along-requires-clause-line

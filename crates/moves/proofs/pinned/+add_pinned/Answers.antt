@@ -1,6 +1,4 @@
-use Rattle.std.proofs.Common.{◌≡◌, Some, None, inr, sym, ap, arith, ◌∙◌}
-use Rattle.std.proofs.lemmas.Option.{same_Some}
-use Rattle.moves.specs.Squares.{unit_at}
+use Rattle.std.proofs.Common.{inr, sym, ap, arith, ◌∙◌}
 use Rattle.moves.specs.Mailbox.{place_in}
 use Rattle.moves.specs.Words.{man_of}
 use Rattle.moves.proofs.Rides.{room_of-step}

@@ -1,4 +1,4 @@
-use Rattle.std.proofs.Common.{◌≡◌, ◌<◌, ℕ, sym, ap, subst, ◌∙◌}
+use Rattle.std.proofs.Common.{◌≡◌, ◌<◌, sym, ap, subst, ◌∙◌}
 use Rattle.board.specs.Board.{PlainBoard, unit_on}
 use Rattle.board.specs.Games.{squares_of}
 use Rattle.moves.specs.Squares.{square_number}
