@@ -1,5 +1,5 @@
 -- The mover's king, and the moves that keep it safe.
-use Rattle.std.proofs.Common.{◌≡◌, ℕ, ◌+◌, ◌/◌, ◌%◌, ◌<◌, ◌≤◌, zero, suc, refl, sym, ap, subst, ◌∙◌, arith, ◌↔◌, IsTrue, Bool, true, false, not, List, length, get_or, take, Option, Some, None, IsSome, IfSome, unwrap_or, count_by}
+use Rattle.std.proofs.Common.{◌≡◌, ℕ, ◌+◌, ◌/◌, ◌%◌, ◌<◌, ◌≤◌, zero, suc, refl, sym, ap, subst, ◌∙◌, arith, ◌↔◌, IsTrue, Bool, true, false, not, List, length, get_or, take, Option, Some, None, MatchOption, IsSome, IfSome, unwrap_or, count_by}
 use Rattle.std.proofs.lemmas.Bool.{false≢true, and_parts, false_from_ne_true}
 use Rattle.std.proofs.lemmas.List.{take_all}
 use Rattle.std.proofs.lemmas.List.Sums.{count_by_more_no}
@@ -12,7 +12,7 @@ use Rattle.board.specs.declared.game.Kind.{Kind}
 use Rattle.board.specs.declared.game.Kind.TheVariants.{King, Queen, Rook, Bishop, Knight, Pawn}
 use Rattle.board.specs.declared.game.Unit.{Unit as Man}
 use Rattle.board.specs.Games.{squares_of, is_same_side}
-use Rattle.board.specs.Board.{PlainBoard, unit_on, is_king, is_king_of, IsPosition, MayStandOn}
+use Rattle.board.specs.Board.{PlainBoard, unit_on, is_king, is_king_of, is_of_side, IsPosition, MayStandOn}
 use Rattle.moves.specs.Squares.{Place, Ply, IsOnBoard, square_number, unit_at}
 use Rattle.moves.specs.Reach.{IsInCheck}
 use Rattle.moves.specs.Moves.{Promotes, IsPromotion, IsSomeKing, IsPseudoLegal, IsLawful, after}
@@ -20,6 +20,18 @@ use Rattle.moves.specs.Mailbox.{cell_of, place_in, IsCell}
 use Rattle.moves.proofs.Cells.{IsCell-cell_of, place_in-cell_of}
 use Rattle.moves.proofs.Laying.{unit_at-to, unit_at-other}
 use Rattle.moves.proofs.Kings.{king_of}
+
+-- ---- a unit of a side
+
+own_side : (s t : Side) → is_same_side s t ≡ true → t ≡ s
+own_side White White e = refl
+own_side White Black e = cc
+own_side Black White e = cc
+own_side Black Black e = refl
+
+pub own_some : (side : Side) (o : Option Man) → is_of_side side o ≡ true → MatchOption o (is_of_side side o ≡ false) (λ u. (o ≡ Some u) × (u.side ≡ side) × (is_of_side side o ≡ true))
+own_some side None e = absurd (false≢true e)
+own_some side (Some u) e = (refl, own_side side u.side e, e)
 
 -- ---- the king stands somewhere
 
@@ -37,12 +49,6 @@ king_kind Rook e = cc
 king_kind Bishop e = cc
 king_kind Knight e = cc
 king_kind Pawn e = cc
-
-own_side : (s t : Side) → is_same_side s t ≡ true → t ≡ s
-own_side White White e = refl
-own_side White Black e = cc
-own_side Black White e = cc
-own_side Black Black e = refl
 
 king_from : (side : Side) (o : Option Man) → is_king_of side o ≡ true → o ≡ king_of side
 king_from side None e = absurd (false≢true e)

@@ -20,6 +20,8 @@ use Rattle.board.specs.Games.{other_side, IsPlayed}
 use Rattle.board.specs.Board.{PlainBoard, IsPosition, MayStandOn}
 use Rattle.moves.specs.Squares.{Place, IsOnBoard, square_number, unit_at}
 use Rattle.moves.specs.Reach.{ahead_of, IsShift, IsStep}
+use Rattle.moves.specs.declared.lines.Line.{Line}
+use Rattle.moves.specs.declared.lines.TheConstants.{LINES}
 use Rattle.moves.specs.StepTables.{table_of}
 use Rattle.moves.specs.Looking.{foe_of, IsStruck, GoesAs, GoesAlong, IsHitAlong}
 use Rattle.moves.proofs.TableTests.{table_of-exact}
@@ -30,7 +32,7 @@ rides true h = refl
 rides false h = absurd (h refl)
 
 -- a step that goes as another leads to the same square
-as_step : (side : Side) (by step : Step) (s t : Place) → by.dx ≡ step.dx → by.dy ≡ step.dy → IsStep side step s t → IsStep side by s t
+pub as_step : (side : Side) (by step : Step) (s t : Place) → by.dx ≡ step.dx → by.dy ≡ step.dy → IsStep side step s t → IsStep side by s t
 as_step side by step s t e f a = subst (λ d. IsShift d (ahead_of side by.dy) s t) (sym e) (subst (λ d. IsShift step.dx (ahead_of side d) s t) (sym f) a)
 
 -- ---- a turn of the walk
@@ -82,37 +84,31 @@ module _ (b : PlainBoard) (side : Side) (step : Step) (s : Place) (near : Bool) 
           strikes = Strikes-onward b u w.along.by s t on a' e w.strikes;
         }
 
--- ---- the steps of a kind
-
-module _ (k : Kind) (step : Step) (near : Bool) where
-  pub along_at : (steps : List Step) → steps ≡ table_of k → (i : ℕ) (d : Step) → i < length steps → GoesAs (get_or steps i d) step near → GoesAlong k step near
-  along_at steps e i d h g = record {
-    by = get_or steps i d;
-    denoted = (table_of-exact k _).0 (subst (λ l. Contains l (get_or steps i d)) e (Contains-get_or steps i d h));
-    goes = g;
-  }
-
-  pub not_along : (steps : List Step) → steps ≡ table_of k → All (λ x. GoesAs x step near → ⊥) steps → GoesAlong k step near → ⊥
-  not_along steps e none w = All-contains (λ x. GoesAs x step near → ⊥) steps w.by none (subst (λ l. Contains l w.by) (sym e) ((table_of-exact k w.by).1 w.denoted)) w.goes
-
 -- ---- the eight lines
 
-abbrev is_move : Mode → Bool
+-- a loop over the lines comes to lines alone
+pub listed_at : (lines : List Line) → lines ≡ LINES → (i : ℕ) (d : Line) → i < length lines → Contains LINES (get_or lines i d)
+listed_at lines e i d h = subst (λ l. Contains l (get_or lines i d)) e (Contains-get_or lines i d h)
+
+abbrev pub is_move : Mode → Bool
 is_move Move = true
 is_move Capture = false
 is_move Both = false
 
-move_is : (m : Mode) → is_move m ≡ true → m ≡ Move
+pub move_is : (m : Mode) → is_move m ≡ true → m ≡ Move
 move_is Move e = refl
 move_is Capture e = cc
 move_is Both e = cc
 
-abbrev goes_as_one : Step → Step → Bool
+abbrev pub goes_as_one : Step → Step → Bool
 goes_as_one s q = int_eq s.dx q.dx && int_eq s.dy q.dy
 
--- a step only moves, or goes the way of a queen's
+-- a step only moves, or goes along a line
+abbrev pub goes_along_one : Step → Line → Bool
+goes_along_one s l = goes_as_one s l.step
+
 abbrev is_on_line : Step → Bool
-is_on_line s = is_move s.mode || list_any (goes_as_one s) (table_of Queen)
+is_on_line s = is_move s.mode || list_any (goes_along_one s) LINES
 
 all_on_lines : (k : Kind) → (k ≡ Knight → ⊥) → list_all is_on_line (table_of k) ≡ true
 all_on_lines King h = refl
@@ -128,27 +124,27 @@ module _ (b : PlainBoard) (side : Side) (s : Place) where
   IsStruck-hit step w = record { step = w.along.by; denoted = w.along.denoted; strikes = record { captures = w.along.goes.captures; strikes = w.strikes } }
 
   -- and what is hit along none is struck by a knight alone
-  pub not_hit : All (λ step. IsHitAlong b side step s true → ⊥) (table_of Queen) → (k : Kind) → (k ≡ Knight → ⊥) → IsStruck b (record { side = side; kind = k }) s → ⊥
+  pub not_hit : All (λ (l : Line). IsHitAlong b side l.step s true → ⊥) LINES → (k : Kind) → (k ≡ Knight → ⊥) → IsStruck b (record { side = side; kind = k }) s → ⊥
   not_hit none k other w =
       let x = w.step in
       let listed : is_on_line x ≡ true = All-contains (λ y. is_on_line y ≡ true) (table_of k) x (AllPass-from_list_all is_on_line (table_of k) (all_on_lines k other)) ((table_of-exact k x).1 w.denoted) in
-      elim (or_cases (is_move x.mode) (list_any (goes_as_one x) (table_of Queen)) listed) [
+      elim (or_cases (is_move x.mode) (list_any (goes_along_one x) LINES) listed) [
         | inl moves ↦ w.strikes.captures (move_is x.mode moves)
-        | inr line ↦ along x w (Any-from_list_any (goes_as_one x) (table_of Queen) line)
+        | inr line ↦ along x w (Any-from_list_any (goes_along_one x) LINES line)
       ]
     where
-      along : (x : Step) (w : IsStruck b (record { side = side; kind = k }) s) → Any (λ q. goes_as_one w.step q ≡ true) (table_of Queen) → ⊥
+      along : (x : Step) (w : IsStruck b (record { side = side; kind = k }) s) → Any (λ q. goes_along_one w.step q ≡ true) LINES → ⊥
       along x w (i, q, h, at, same) =
-          let parts = and_parts (int_eq w.step.dx q.dx) (int_eq w.step.dy q.dy) same in
-          All-contains (λ step. IsHitAlong b side step s true → ⊥) (table_of Queen) q none (i, h, at) (record {
+          let parts = and_parts (int_eq w.step.dx q.step.dx) (int_eq w.step.dy q.step.dy) same in
+          All-contains (λ (l : Line). IsHitAlong b side l.step s true → ⊥) LINES q none (i, h, at) (record {
             kind = k;
             along = record {
               by = w.step;
               denoted = w.denoted;
               goes = record {
                 captures = w.strikes.captures;
-                files = (Decides-int_eq w.step.dx q.dx).0 parts.0;
-                ranks = (Decides-int_eq w.step.dy q.dy).0 parts.1;
+                files = (Decides-int_eq w.step.dx q.step.dx).0 parts.0;
+                ranks = (Decides-int_eq w.step.dy q.step.dy).0 parts.1;
                 far = λ e. absurd (false≢true (sym e));
               };
             };

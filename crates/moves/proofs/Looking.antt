@@ -90,7 +90,7 @@ allows_capture Move side h = absurd (h refl)
 allows_capture Capture side h = refl
 allows_capture Both side h = refl
 
-captures_from : (mode : Mode) (side : Side) (u : Man) → Allows mode side (Some u) → mode ≡ Move → ⊥
+pub captures_from : (mode : Mode) (side : Side) (u : Man) → Allows mode side (Some u) → mode ≡ Move → ⊥
 captures_from Move side u h e = h
 captures_from Capture side u h e = cc
 captures_from Both side u h e = cc
@@ -141,6 +141,20 @@ module _ (b : PlainBoard) (t : Place) (me : Side) (on : IsOnBoard b.game t) wher
           };
         },
       )
+
+-- two walks of an enemy, one after the other, are two of the side's own, the other way
+pub both_back : (b : PlainBoard) (side : Side) (u : Man) (step : Step) (r s t : Place) → u.side ≡ other_side side → Denotes (terms_of u.kind) step → IsOnBoard b.game r → IsOnBoard b.game s → Leads b u.side step r s → Leads b u.side step s t
+    → (x : Step) × (x.rider ≡ step.rider) × (x.mode ≡ step.mode) × Denotes (terms_of u.kind) x × Leads b side x s r × Leads b side x t s
+unfolding mirror
+both_back b side u step r s t owner denoted on on' first then =
+    let turned : other_side u.side ≡ side = ap other_side owner ∙ other_twice side in (
+      mirror step,
+      refl,
+      refl,
+      Denotes-mirror (terms_of u.kind) step denoted,
+      subst (λ x. Leads b x (mirror step) s r) turned (Leads-back b u.side step r s on first),
+      subst (λ x. Leads b x (mirror step) t s) turned (Leads-back b u.side step s t on' then),
+    )
 
 -- what one turn of the walk decides, from the next square t
 module _ (b : PlainBoard) (u : Man) (step : Step) (s t : Place) (on : IsOnBoard b.game t) (a : IsStep u.side step s t) where

@@ -81,8 +81,9 @@ pub fn has_lawful_move(board: &Board) -> bool
     let guard = guard_of(&mail);
     let game = mail.game();
     for number in 0..game.squares() {
-        if let Some(unit) = own_unit(&mail, number) {
-            if has_move_from(&mail, guard, unit, Square::of_number(game, number)) {
+        let from = Square::of_number(game, number);
+        if let Some(unit) = own_unit(&mail, from) {
+            if has_move_from(&mail, guard, unit, from) {
                 return true;
             }
         }

@@ -2,42 +2,35 @@
 ghost use Rattle.std.specs.Prelude.{◌≡◌, ◌≤◌, ◌+◌, ◌*◌, ◌<◌, ◌↔◌, IsTrue, Some, MatchOption, true, false};
 ghost use Rattle.arrayvec.specs.ArrayVec.{array_vec_len};
 ghost use Rattle.board.specs.declared.game.Kind.TheVariants.{King, Pawn};
-ghost use Rattle.board.specs.Board.{IsPosition, unit_on, is_of_side};
-ghost use Rattle.board.specs.Games.{squares_of};
+ghost use Rattle.board.specs.Board.{IsPosition, is_of_side};
+ghost use Rattle.board.specs.Games.{width_of};
 ghost use Rattle.moves.specs.Squares.{IsOnBoard, square_number, unit_at};
 ghost use Rattle.moves.specs.Reach.{Reaches, IsInCheck};
 ghost use Rattle.moves.specs.Moves.{Promotes, IsPseudoLegal, IsLawful, after};
 ghost use Rattle.moves.specs.Order.{ListsLawful};
-ghost use Rattle.moves.specs.Listing.{ListsBelow};
+ghost use Rattle.moves.specs.Listing.{ListsBelow, ListsFrom};
 ghost use Rattle.moves.specs.Mailbox.{place_in, IsCell};
-ghost use Rattle.moves.specs.Lines.{IsInLine};
 ghost use Rattle.moves.specs.Guard.{Guards};
 
 use crate::list::PROMOTIONS;
 use crate::look::{king_attacked, king_cell};
 use crate::mailbox::{Mailbox, cell_of, square_in};
 use crate::packed::Board;
+use crate::pinned::pinned;
 use crate::plies::{Move, is_king, is_promoted_well, promotes};
 use crate::squares::Square;
-use crate::targets::{lowest, targets, without};
+use crate::targets::{has, lowest, targets, without};
+use crate::words::{is_of_side, unit_of};
 use arrayvec::ArrayVec;
 use board::{Game, Kind, Unit};
 
-/// What the mover's king asks of each move: the cell where it stands, and whether it is in check.
+/// What the mover's king asks of each move: the cell where it stands, whether it is in check, and where it isn't, the cells
+/// of the units that are pinned to it.
 #[derive(Clone, Copy)]
 pub(crate) struct Guard {
     king: u8,
     checked: bool,
-}
-
-/// Whether the squares stand on one file, rank or diagonal.
-fn in_line(s: Square, t: Square) -> bool
-    ensures { IsTrue result ↔ IsInLine s t }
-{
-    s.file == t.file
-        || s.rank == t.rank
-        || s.file + t.rank == t.file + s.rank
-        || s.file + s.rank == t.file + t.rank
+    pins: u64,
 }
 
 /// The cell of the mover's king after the move.
@@ -61,7 +54,7 @@ fn is_safe(mail: &Mailbox, guard: Guard, m: Move, unit: Unit) -> bool
     requires pseudo { IsPseudoLegal mail.now m unit }
     ensures { IsTrue result ↔ (IsInCheck (after mail.now m unit) mail.now.mover → ⊥) }
 {
-    if !guard.checked && !is_king(Some(unit)) && !in_line(m.from, square_in(guard.king)) {
+    if !guard.checked && !is_king(Some(unit)) && !has(guard.pins, cell_of(m.from)) {
         return true;
     }
     let king = king_after(mail, guard, m, unit);
@@ -167,17 +160,32 @@ fn push_from(
 }
 
 /// The unit on a square, if it is the mover's.
-pub(crate) fn own_unit(mail: &Mailbox, number: u8) -> Option<Unit>
-    requires { number < squares_of mail.now.game }
+pub(crate) fn own_unit(mail: &Mailbox, square: Square) -> Option<Unit>
+    requires { IsOnBoard mail.now.game square }
     ensures { MatchOption result
-        (is_of_side mail.now.mover (unit_on mail.now number) ≡ false)
-        (λ u. (unit_on mail.now number ≡ Some u) × (u.side ≡ mail.now.mover) × (is_of_side mail.now.mover (unit_on mail.now number) ≡ true)) }
+        (is_of_side mail.now.mover (unit_at mail.now square) ≡ false)
+        (λ u. (unit_at mail.now square ≡ Some u) × (u.side ≡ mail.now.mover) × (is_of_side mail.now.mover (unit_at mail.now square) ≡ true)) }
 {
-    let unit = mail.unit_on(number)?;
-    if unit.side == mail.mover() {
-        Some(unit)
+    let code = mail.code(cell_of(square));
+    if is_of_side(code, mail.mover()) {
+        unit_of(code)
     } else {
         None
+    }
+}
+
+/// Adds the lawful moves of the mover's units on the rank.
+fn push_rank(mail: &Mailbox, guard: Guard, rank: u8, moves: &mut ArrayVec<Move, 512>)
+    requires guards { Guards mail.now guard }
+    requires rank { rank < width_of mail.now.game }
+    requires before { ListsFrom mail.now (width_of mail.now.game * rank) moves.old.items }
+    ensures { ListsFrom mail.now (width_of mail.now.game * (rank + 1)) moves.new.items }
+{
+    for file in 0..mail.game().width() {
+        let from = Square { file, rank };
+        if let Some(unit) = own_unit(mail, from) {
+            push_from(mail, guard, unit, from, moves);
+        }
     }
 }
 
@@ -185,25 +193,17 @@ pub(crate) fn own_unit(mail: &Mailbox, number: u8) -> Option<Unit>
 pub fn lawful_on(board: &Board) -> ArrayVec<Move, 512>
     ensures { ListsLawful board.now result.items }
 {
+    // First, so that the list's room is cleared once: a function clears its locals as it is entered.
+    let mut moves = ArrayVec::new();
     let mail = Mailbox::of(board);
     let guard = guard_of(&mail);
-    let game = mail.game();
-    let mut moves = ArrayVec::new();
-    for number in 0..game.squares() {
-        if let Some(unit) = own_unit(&mail, number) {
-            push_from(
-                &mail,
-                guard,
-                unit,
-                Square::of_number(game, number),
-                &mut moves,
-            );
-        }
+    for rank in 0..mail.game().width() {
+        push_rank(&mail, guard, rank, &mut moves);
     }
     moves
 }
 
-/// Where the mover's king stands, and whether it is in check.
+/// Where the mover's king stands, whether it is in check, and what is pinned to it.
 pub(crate) fn guard_of(mail: &Mailbox) -> Guard
     requires { IsPosition mail.now }
     ensures { Guards mail.now result }
@@ -212,8 +212,11 @@ pub(crate) fn guard_of(mail: &Mailbox) -> Guard
     let Some(king) = king_cell(mail, side) else {
         unreachable!()
     };
+    let checked = king_attacked(mail, king, side);
+    let pins = if checked { 0 } else { pinned(mail, side, king) };
     Guard {
         king,
-        checked: king_attacked(mail, king, side),
+        checked,
+        pins,
     }
 }

@@ -1,5 +1,5 @@
 //! Check as the king sees it: a square is attacked by what a unit of the same kind would take from there.
-ghost use Rattle.std.specs.Prelude.{◌≡◌, ◌<◌, ◌+◌, ◌↔◌, IsTrue, MatchOption, Some, ℕ, true, false};
+ghost use Rattle.std.specs.Prelude.{◌≡◌, ◌<◌, ◌+◌, ◌↔◌, IsTrue, MatchOption, Some, ℕ, true, false, Contains};
 ghost use Rattle.std.specs.Int.RustNames.{unsigned_abs};
 ghost use Rattle.board.specs.declared.game.Kind.{Kind};
 ghost use Rattle.board.specs.declared.game.Kind.TheVariants.{King, Knight};
@@ -9,9 +9,11 @@ ghost use Rattle.moves.specs.Squares.{unit_at};
 ghost use Rattle.moves.specs.Reach.{IsAttacked, IsInCheck};
 ghost use Rattle.moves.specs.Moves.{IsLawful, GivesCheck};
 ghost use Rattle.moves.specs.Mailbox.{place_in, IsCell, IsNear};
-ghost use Rattle.moves.specs.Looking.{foe_of, Strikes, StrikesBy, IsStruck, GoesAs, GoesAlong, IsHitAlong};
+ghost use Rattle.moves.specs.declared.lines.TheConstants.{LINES};
+ghost use Rattle.moves.specs.Looking.{foe_of, Strikes, StrikesBy, IsStruck, IsHitAlong};
 
-use crate::mailbox::Mailbox;
+use crate::lines::{Line, lines, takes};
+use crate::mailbox::{EMPTY, Mailbox};
 use crate::packed::{Board, after};
 use crate::plies::Move;
 use crate::steps::steps;
@@ -66,46 +68,20 @@ fn is_struck(mail: &Mailbox, unit: Unit, cell: u8) -> bool
     false
 }
 
-/// Whether a step may capture and goes the way of another. Where it has to go far, only a rider's does.
-fn goes_as(own: &Step, step: &Step, near: bool) -> bool
-    ensures { IsTrue result ↔ GoesAs own.now step.now near }
-{
-    own.mode != Mode::Move && own.dx == step.dx && own.dy == step.dy && (near || own.rider)
-}
-
-/// Whether some step of the kind does.
-fn goes_along(kind: Kind, step: &Step, near: bool) -> bool
-    ensures { IsTrue result ↔ GoesAlong kind step.now near }
-{
-    for own in steps(kind) {
-        if goes_as(own, step, near) {
-            return true;
-        }
-    }
-    false
-}
-
-/// Whether the unit is of the other side.
-fn is_enemy(unit: Unit, side: Side) -> bool
-    ensures { IsTrue result ↔ (unit.side ≡ other_side side) }
-{
-    unit.side == side.other()
-}
-
-/// Whether the first unit on the step's line from the cell would come to the cell.
-fn is_hit_along(mail: &Mailbox, side: Side, step: &Step, cell: u8, near: bool) -> bool
+/// Whether the first unit on the line from the cell would come to the cell.
+pub(crate) fn is_hit_along(mail: &Mailbox, side: Side, line: &Line, cell: u8, near: bool) -> bool
     requires cell { IsCell mail.now.game cell }
-    requires near { IsNear step.now }
-    requires goes { 0 < unsigned_abs step.now.dx + unsigned_abs step.now.dy }
-    ensures { IsTrue result ↔ IsHitAlong mail.now side step.now (place_in cell) near }
+    requires line { Contains LINES line.now }
+    ensures { IsTrue result ↔ IsHitAlong mail.now side line.now.step (place_in cell) near }
 {
-    let Some(to) = mail.next(side, step, cell) else {
+    let Some(to) = mail.next(side, &line.step, cell) else {
         return false;
     };
-    if let Some(unit) = mail.unit_in(to) {
-        return is_enemy(unit, side) && goes_along(unit.kind, step, near);
+    let code = mail.code(to);
+    if code != EMPTY {
+        return takes(line, side, code, near);
     }
-    is_hit_along(mail, side, step, to, false)
+    is_hit_along(mail, side, line, to, false)
 }
 
 /// Whether some unit of the other side, knights apart, attacks the cell: one look along each line.
@@ -114,8 +90,8 @@ fn is_hit(mail: &Mailbox, cell: u8, side: Side) -> bool
     ensures hit { IsTrue result → (k : Kind) × IsStruck mail.now (record { side = side; kind = k }) (place_in cell) }
     ensures none { result ≡ false → (k : Kind) → (k ≡ Knight → ⊥) → IsStruck mail.now (record { side = side; kind = k }) (place_in cell) → ⊥ }
 {
-    for step in steps(Kind::Queen) {
-        if is_hit_along(mail, side, step, cell, true) {
+    for line in lines() {
+        if is_hit_along(mail, side, line, cell, true) {
             return true;
         }
     }

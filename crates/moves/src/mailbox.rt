@@ -7,7 +7,7 @@ ghost use Rattle.board.specs.Games.{width_of, squares_of};
 ghost use Rattle.moves.specs.Squares.{Place, IsOnBoard, square_number, unit_at};
 ghost use Rattle.moves.specs.Reach.{ahead_of, IsStep};
 ghost use Rattle.moves.specs.Moves.{IsPseudoLegal, after};
-ghost use Rattle.moves.specs.Words.{digit};
+ghost use Rattle.moves.specs.Words.{digit, man_of};
 ghost use Rattle.moves.specs.Mailbox.{cell_of, place_in, code_in, IsAway, IsCell, IsNear, IsLaid};
 
 use crate::packed::Board;
@@ -21,7 +21,8 @@ use std::marker::Model;
 /// What a cell off the board holds.
 const BORDER: u8 = 15;
 
-const EMPTY: u8 = 0;
+/// What an empty cell of the board holds.
+pub(crate) const EMPTY: u8 = 0;
 
 const WHITE_KING: u8 = 1;
 
@@ -151,14 +152,6 @@ impl Mailbox {
         self.board.mover()
     }
 
-    /// The unit on a square, by the square's number.
-    pub(crate) fn unit_on(&self, square: u8) -> Option<Unit>
-        requires { square < squares_of self.now.game }
-        ensures { result ≡ unit_on self.now square }
-    {
-        self.board.unit(square)
-    }
-
     /// The board after the unit's move, laid out.
     pub(crate) fn moved(&self, m: Move, unit: Unit) -> Mailbox
         requires position { IsPosition self.now }
@@ -184,6 +177,15 @@ impl Mailbox {
         ensures { result ≡ unit_at self.now (place_in cell) }
     {
         unit_of(self.cells[cell as usize])
+    }
+
+    /// The code in a cell of the board.
+    pub(crate) fn code(&self, cell: u8) -> u8
+        requires { IsCell self.now.game cell }
+        ensures value { man_of result ≡ unit_at self.now (place_in cell) }
+        ensures small { result < 13 }
+    {
+        self.cells[cell as usize]
     }
 
     /// Whether the side's king stands in a cell, which may be one of the border.

@@ -3,9 +3,11 @@ ghost use Rattle.std.specs.Prelude.{◌≡◌, ◌<◌, ◌+◌, ◌*◌, ℕ, S
 ghost use Rattle.board.specs.Board.{unit_on, IsPosition};
 ghost use Rattle.board.specs.Games.{width_of, squares_of};
 ghost use Rattle.moves.specs.Words.{digit, man_of, game_of_flags, mover_of_flags, IsFlags, unpacked, IsPacked};
+ghost use Rattle.moves.specs.Squares.{IsOnBoard, unit_at};
 ghost use Rattle.moves.specs.Moves.{IsPseudoLegal, IsMove, IsLawful, after};
 
 use crate::plies::Move;
+use crate::squares::Square;
 use crate::words::{code_of, code_on, put, turned, unit_of, with_digit};
 use board::{Game, Position, Side, Unit};
 use std::marker::Model;
@@ -28,7 +30,7 @@ impl Model for Board {
 }
 
 /// The code of what stands on a square.
-fn code_at(position: &Position, square: u8) -> u8
+fn code_in(position: &Position, square: u8) -> u8
     requires { square < squares_of position.now.game }
     ensures value { man_of result ≡ unit_on position.now square }
     ensures code { result < 13 }
@@ -64,7 +66,8 @@ impl Board {
         let flags = flags_of(game, position.mover());
         let mut words = [with_digit(0, 12, flags), 0, 0];
         for square in 0..game.squares() {
-            put(&mut words, game, square, code_at(position, square));
+            let at = Square::of_number(game, square);
+            put(&mut words, game, at, code_in(position, square));
         }
         Board { words }
     }
@@ -118,7 +121,24 @@ impl Board {
         ensures value { man_of result ≡ unit_on self.now square }
         ensures small { result < 13 }
     {
+        self.code_at(Square::of_number(self.game(), square))
+    }
+
+    /// The code of what stands on a square.
+    fn code_at(&self, square: Square) -> u8
+        requires { IsOnBoard self.now.game square }
+        ensures value { man_of result ≡ unit_at self.now square }
+        ensures small { result < 13 }
+    {
         code_on(&self.words, self.game(), square)
+    }
+
+    /// The unit on a square.
+    fn unit_at(&self, square: Square) -> Option<Unit>
+        requires { IsOnBoard self.now.game square }
+        ensures { result ≡ unit_at self.now square }
+    {
+        unit_of(self.code_at(square))
     }
 
     /// The words of the board.
@@ -154,12 +174,12 @@ impl Board {
     {
         let game = self.game();
         let mut words = self.words;
-        put(&mut words, game, m.from.number(game), 0);
+        put(&mut words, game, m.from, 0);
         let placed = Unit {
             side: unit.side,
             kind: m.promotion.unwrap_or(unit.kind),
         };
-        put(&mut words, game, m.to.number(game), code_of(placed));
+        put(&mut words, game, m.to, code_of(placed));
         words[0] = turned(words[0]);
         Board { words }
     }
@@ -170,7 +190,7 @@ pub fn after(board: &Board, m: Move) -> Board
     requires { IsLawful board.now m }
     ensures { IsMove board.now m result }
 {
-    let Some(unit) = board.unit(m.from.number(board.game())) else {
+    let Some(unit) = board.unit_at(m.from) else {
         unreachable!()
     };
     board.moved(m, unit)

@@ -11,8 +11,16 @@ use crate::reach::allows;
 use crate::steps::steps;
 use board::{Step, Unit};
 
+/// Whether the cell is in the set.
+pub(crate) fn has(set: u64, cell: u8) -> bool
+    requires { cell < 64 }
+    ensures { IsTrue result ↔ Has set cell }
+{
+    (set >> cell) % 2 == 1
+}
+
 /// The set with the cell, if it is to be added.
-fn with_cell(set: u64, cell: u8, is_added: bool) -> u64
+pub(crate) fn with_cell(set: u64, cell: u8, is_added: bool) -> u64
     requires { cell < 64 }
     ensures { (i : ℕ) → Has result i ↔ (Has set i ⊎ (IsTrue is_added × (cell ≡ i))) }
 {

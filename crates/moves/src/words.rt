@@ -1,9 +1,11 @@
 //! Four bits of a word.
 ghost use Rattle.std.specs.Prelude.{◌≡◌, ◌≢◌, ◌<◌, ℕ, Some, slice_index_or};
 ghost use Rattle.std.specs.Int.RustNames.{bit_xor};
-ghost use Rattle.board.specs.Games.{squares_of};
+ghost use Rattle.board.specs.Board.{is_of_side};
+ghost use Rattle.moves.specs.Squares.{IsOnBoard, square_number};
 ghost use Rattle.moves.specs.Words.{digit, word_of, place_of, code_on, man_of};
 
+use crate::squares::Square;
 use board::{Game, Kind, Side, Unit};
 
 /// The code at a place of the word.
@@ -27,23 +29,22 @@ pub(crate) fn with_digit(word: u64, place: u8, code: u8) -> u64
 }
 
 /// The word of a square, and its place there.
-fn place_of(game: Game, square: u8) -> (usize, u8)
-    requires { square < squares_of game }
-    ensures word { result.0 ≡ word_of game square }
-    ensures place { result.1 ≡ place_of game square }
+fn place_of(game: Game, square: Square) -> (usize, u8)
+    requires { IsOnBoard game square }
+    ensures word { result.0 ≡ word_of game (square_number game square) }
+    ensures place { result.1 ≡ place_of game (square_number game square) }
     ensures three { result.0 < 3 }
     ensures twelve { result.1 < 12 }
 {
-    match game {
-        Game::LosAlamos => ((square / 12) as usize, square % 12),
-        Game::Gardner => ((square / 10) as usize, square % 10),
-    }
+    let word = (square.rank / 2) as usize;
+    let place = square.file + game.width() * (square.rank % 2);
+    (word, place)
 }
 
 /// The code on a square.
-pub(crate) fn code_on(words: &[u64; 3], game: Game, square: u8) -> u8
-    requires { square < squares_of game }
-    ensures value { result ≡ code_on game words.now square }
+pub(crate) fn code_on(words: &[u64; 3], game: Game, square: Square) -> u8
+    requires { IsOnBoard game square }
+    ensures value { result ≡ code_on game words.now (square_number game square) }
     ensures small { result < 16 }
 {
     let (word, place) = place_of(game, square);
@@ -51,11 +52,11 @@ pub(crate) fn code_on(words: &[u64; 3], game: Game, square: u8) -> u8
 }
 
 /// Puts a code on a square.
-pub(crate) fn put(words: &mut [u64; 3], game: Game, square: u8, code: u8)
-    requires square { square < squares_of game }
+pub(crate) fn put(words: &mut [u64; 3], game: Game, square: Square, code: u8)
+    requires square { IsOnBoard game square }
     requires code { code < 16 }
-    ensures there { code_on game words.new square ≡ code }
-    ensures elsewhere { (k i : ℕ) → (k ≡ word_of game square → i ≡ place_of game square → ⊥)
+    ensures there { code_on game words.new (square_number game square) ≡ code }
+    ensures elsewhere { (k i : ℕ) → (k ≡ word_of game (square_number game square) → i ≡ place_of game (square_number game square) → ⊥)
         → digit (slice_index_or words.new k 0) i ≡ digit (slice_index_or words.old k 0) i }
 {
     let (word, place) = place_of(game, square);
@@ -128,6 +129,18 @@ pub(crate) fn unit_of(code: u8) -> Option<Unit>
     ensures { result ≡ man_of code }
 {
     MEN[code as usize]
+}
+
+/// Whether the code is of a unit of the side.
+pub(crate) fn is_of_side(code: u8, side: Side) -> bool
+    requires { code < 13 }
+    ensures { result ≡ is_of_side side (man_of code) }
+{
+    let first = match side {
+        Side::White => 1,
+        Side::Black => 7,
+    };
+    first <= code && code < first + 6
 }
 
 /// The code of a unit.

@@ -1,7 +1,7 @@
-use Rattle.std.proofs.Common.{◌≡◌, ◌*◌, ◌+◌, ap, subst, ◌∙◌, arith, refl, []}
+use Rattle.std.proofs.Common.{◌≡◌, ◌*◌, ◌+◌, ap, subst, ◌∙◌, arith, refl, [], false}
 use Rattle.std.proofs.lemmas.Bool.{false≢true}
 use Rattle.board.specs.Games.{squares_of}
-use Rattle.board.specs.Board.{PlainBoard}
+use Rattle.board.specs.Board.{PlainBoard, unit_on, is_of_side}
 use Rattle.moves.specs.Squares.{Ply, square_number}
 use Rattle.moves.specs.Moves.{IsLawful}
 use Rattle.moves.specs.Listing.{ListsBelow}
@@ -19,11 +19,11 @@ pub loop-number-preserved : goal.loop-number-preserved
 loop-number-preserved c =
     let b = c.of-mail.result in
     let n = c.loop-number.number in
+    let at : square_number b.game c.of_number-from.result ≡ n = rw c.game-game.ensures.value at c.of_number-from.ensures.number in
     elim c.match-own_unit.branch [
       | in-Some+else-has_move_from w ↦
-          let at : square_number b.game w.of_number.result ≡ n = rw c.game-game.ensures.value at w.of_number.ensures.number in
           subst (λ k. ListsBelow b ((k + 1) * 36 * 5) []) at (w.has_move_from.ensures.none w.if-has_move_from.false)
-      | in_default w ↦ ListsBelow-not_own b n [] w.in_default.ensures c.loop-number.invariant
+      | in_default w ↦ ListsBelow-not_own b n [] (subst (λ k. is_of_side b.mover (unit_on b k) ≡ false) at w.in_default.ensures) c.loop-number.invariant
     ]
 
 pub returns : goal.returns

@@ -1,5 +1,8 @@
-use Rattle.std.proofs.Common.{◌↔◌, IsTrue, ap, subst, ◌∙◌}
+use Rattle.std.proofs.Common.{◌↔◌, IsTrue, sym, ap, subst, ◌∙◌}
+use Rattle.std.proofs.lemmas.Bool.{false≢true}
 use Rattle.moves.specs.Reach.{IsInCheck}
+use Rattle.moves.specs.Mailbox.{place_in}
+use Rattle.moves.specs.Pinned.{IsPinned}
 use Rattle.moves.proofs.Kings.{king_of}
 use Rattle.moves.proofs.Guarding.{no_kingless}
 use Rattle.moves.proofs.board_list.guard_of.Goals as goal
@@ -7,9 +10,18 @@ use Rattle.moves.proofs.board_list.guard_of.Goals as goal
 pub unreachable-requires : goal.unreachable-requires
 unreachable-requires c = no_kingless c.args.mail.now c.requires c.mover-side.result c.in_default.ensures
 
-pub returns : goal.returns
-returns c = record {
+pub returns-then-checked : goal.returns-then-checked
+returns-then-checked c = record {
   cell = c.in-Some.ensures.0;
   king = c.in-Some.ensures.1 ∙ ap king_of c.mover-side.ensures;
-  checked = subst (λ s. IsTrue c.king_attacked.result ↔ IsInCheck c.args.mail.now s) c.mover-side.ensures c.king_attacked.ensures;
+  checked = subst (λ s. IsTrue c.king_attacked-checked.result ↔ IsInCheck c.args.mail.now s) c.mover-side.ensures c.king_attacked-checked.ensures;
+  pins = λ out. absurd (false≢true (sym out ∙ c.if-checked.true));
+}
+
+pub returns-else-checked : goal.returns-else-checked
+returns-else-checked c = record {
+  cell = c.in-Some.ensures.0;
+  king = c.in-Some.ensures.1 ∙ ap king_of c.mover-side.ensures;
+  checked = subst (λ s. IsTrue c.king_attacked-checked.result ↔ IsInCheck c.args.mail.now s) c.mover-side.ensures c.king_attacked-checked.ensures;
+  pins = λ _ i cell w. c.pinned-pins.ensures i cell (subst (λ s. IsPinned c.args.mail.now s (place_in c.in-Some.king) (place_in i)) (sym c.mover-side.ensures) w);
 }

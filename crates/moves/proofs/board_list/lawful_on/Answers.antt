@@ -1,72 +1,13 @@
-use Rattle.std.proofs.Common.{◌≡◌, ℕ, ◌+◌, ◌*◌, ◌<◌, ◌≤◌, ap, subst, ◌∙◌, arith, true, false, Bool, cond, None, Option, take}
-use Rattle.std.specs.List.{count_by}
-use Rattle.std.proofs.lemmas.List.Sums.{count_by_more_yes, count_by_more_no, sum_by-take-le}
-use Rattle.board.specs.declared.game.Game.{Game}
-use Rattle.board.specs.declared.game.Game.TheVariants.{LosAlamos, Gardner}
-use Rattle.board.specs.declared.game.Unit.{Unit as Man}
-use Rattle.board.specs.Games.{squares_of, most_units}
-use Rattle.board.specs.Board.{PlainBoard, unit_on, is_of_side, IsPosition}
-use Rattle.moves.specs.Squares.{square_number}
+use Rattle.std.proofs.Common.{◌≡◌, ◌*◌, ◌≤◌, ap, subst, ◌∙◌, arith}
+use Rattle.board.specs.Games.{width_of, squares_of}
 use Rattle.moves.specs.Order.{ListsLawful}
-use Rattle.moves.specs.Listing.{ListsBelow}
-use Rattle.moves.proofs.Lists.{ListsBelow-not_own, ListsLawful-from}
-use Rattle.moves.proofs.Room.{squares_36}
+use Rattle.moves.proofs.Lists.{ListsLawful-from}
 use Rattle.moves.proofs.board_list.lawful_on.Goals as goal
-use Rattle.moves.proofs.board_list.lawful_on.Goals.{in-Some, in_default}
-
--- the loop's end is the game's number of squares
-end_is : (e : ℕ) (g h : Game) → e ≡ squares_of g → g ≡ h → e ≡ squares_of h
-end_is e g h p q = p ∙ ap squares_of q
-
-most_12 : (g : Game) → most_units g ≤ 12
-most_12 LosAlamos = omega arith
-most_12 Gardner = omega arith
-
--- one more of the mover's units is counted
-module _ (b : PlainBoard) (position : IsPosition b) (n : ℕ) (within : n < 36) where
-  abbrev own : Option Man → Bool
-  own = is_of_side b.mover
-
-  one_more : own (unit_on b n) ≡ true → count_by own (take (n + 1) b.units) ≡ count_by own (take n b.units) + 1
-  one_more h = count_by_more_yes own b.units n None (rw position.places within) h
-
-  no_more : own (unit_on b n) ≡ false → count_by own (take (n + 1) b.units) ≡ count_by own (take n b.units)
-  no_more h = count_by_more_no own b.units n None (rw position.places within) h
-
-  at_most : count_by own (take (n + 1) b.units) ≤ 12
-  at_most =
-      let part : count_by own (take (n + 1) b.units) ≤ count_by own b.units = sum_by-take-le (λ x. cond (own x) 1 0) b.units (n + 1) in
-      omega (arith, (position.armies b.mover).room, most_12 b.game)
-
-pub push_from-requires-clause-room : goal.push_from-requires-clause-room
-push_from-requires-clause-room c =
-    let b = c.of-mail.result in
-    let n = c.loop-number.number in
-    let end = end_is c.squares-number-end.result _ b.game c.squares-number-end.ensures c.game-game.ensures.value in
-    let within : n < 36 = omega (arith, squares_36 b.game) in
-    omega (arith, c.loop-number.invariant.few, one_more b c.game-game.ensures.position n within c.in-Some.ensures.2, at_most b c.game-game.ensures.position n within)
-
-pub loop-number-preserved : goal.loop-number-preserved
-loop-number-preserved c =
-    let b = c.of-mail.result in
-    let n = c.loop-number.number in
-    let end = end_is c.squares-number-end.result _ b.game c.squares-number-end.ensures c.game-game.ensures.value in
-    let within : n < 36 = omega (arith, squares_36 b.game) in
-    elim c.match-own_unit.branch [
-      | in-Some w ↦
-          let at : square_number b.game w.of_number.result ≡ n = rw c.game-game.ensures.value at w.of_number.ensures.number in
-          record {
-            lists = rw w.moves-is (subst (λ k. ListsBelow b ((k + 1) * 36 * 5) w.push_from.new.moves.items) at w.push_from.ensures.after);
-            few = rw w.moves-is (omega (arith, w.push_from.ensures.few, c.loop-number.invariant.few, one_more b c.game-game.ensures.position n within w.in-Some.ensures.2));
-          }
-      | in_default w ↦ record {
-        lists = rw w.moves-is (ListsBelow-not_own b n c.loop-number.moves.items w.in_default.ensures c.loop-number.invariant.lists);
-        few = rw w.moves-is (omega (arith, c.loop-number.invariant.few, no_more b c.game-game.ensures.position n within w.in_default.ensures));
-      }
-    ]
 
 pub returns : goal.returns
 returns c =
     let b = c.of-mail.result in
-    let end = end_is c.squares-number-end.result _ b.game c.squares-number-end.ensures c.game-game.ensures.value in
-    subst (λ x. ListsLawful x c.loop-number.moves.items) c.of-mail.ensures (ListsLawful-from b c.loop-number.number c.loop-number.moves.items (omega arith) c.loop-number.invariant.lists)
+    let end : c.width-rank-end.result ≡ width_of b.game = c.width-rank-end.ensures ∙ ap width_of c.game.ensures.value in
+    let all : width_of b.game ≡ c.loop-rank.rank = omega arith in
+    let squares : squares_of b.game ≤ width_of b.game * c.loop-rank.rank = subst (λ n. squares_of b.game ≤ width_of b.game * n) all (omega arith) in
+    subst (λ x. ListsLawful x c.loop-rank.moves.items) c.of-mail.ensures (ListsLawful-from b (width_of b.game * c.loop-rank.rank) c.loop-rank.moves.items squares c.loop-rank.invariant.lists)

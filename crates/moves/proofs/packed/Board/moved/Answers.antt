@@ -1,26 +1,39 @@
-use Rattle.std.proofs.Common.{◌≡◌, ◌≢◌, set, Some, unwrap_or, sym, ap, subst, ◌∙◌}
+use Rattle.std.proofs.Common.{◌≡◌, ◌≢◌, ◌<◌, ℕ, set, Some, unwrap_or, sym, ap, subst, ◌∙◌}
 use Rattle.board.specs.Board.{PlainBoard, IsPosition}
+use Rattle.board.specs.Games.{squares_of}
 use Rattle.moves.specs.Squares.{Ply, square_number}
+use Rattle.moves.proofs.Listed.{number_within}
 use Rattle.moves.specs.Moves.{placed, after}
 use Rattle.moves.proofs.Keeps.{to_on_board, other_square, IsPosition-after}
 use Rattle.moves.specs.Words.{man_of, game_of, unpacked, IsPacked}
 use Rattle.moves.proofs.Packing.{IsPut, made, unpacked_end, IsPacked-end}
 use Rattle.moves.proofs.packed.Board.moved.Goals as goal
 
-pub number-requires-2 : goal.number-requires-2
-number-requires-2 c =
+pub put-requires-2-clause-square : goal.put-requires-2-clause-square
+put-requires-2-clause-square c =
     let to : c.m.inside.to ≡ c.args.m.to = ap (λ (x : Ply). x.to) c.m.view_is in
     rw (c.game-game.ensures.value, to) (to_on_board c.args.self.now c.args.m c.args.unit c.requires)
 
 module _ (c : goal.After-turned) where
-  b : PlainBoard
-  b = c.args.self.now
+  n_from : ℕ
+  n_from = square_number c.game-game.result c.m.inside.from
 
-  from_is : c.number.result ≡ square_number c.args.self.now.game c.args.m.from
-  from_is = c.number.ensures.value ∙ λ i. square_number (c.game-game.ensures.value i) ((c.m.view_is i).from)
+  n_to : ℕ
+  n_to = square_number c.game-game.result c.m.inside.to
 
-  to_is : c.number-2.result ≡ square_number c.args.self.now.game c.args.m.to
-  to_is = c.number-2.ensures.value ∙ λ i. square_number (c.game-game.ensures.value i) ((c.m.view_is i).to)
+  from_is : n_from ≡ square_number c.args.self.now.game c.args.m.from
+  unfolding n_from
+  from_is = λ i. square_number (c.game-game.ensures.value i) ((c.m.view_is i).from)
+
+  to_is : n_to ≡ square_number c.args.self.now.game c.args.m.to
+  unfolding n_to
+  to_is = λ i. square_number (c.game-game.ensures.value i) ((c.m.view_is i).to)
+
+  from_within : n_from < squares_of c.game-game.result
+  from_within = rw (from_is, c.game-game.ensures.value) (number_within c.args.self.now.game c.args.m.from c.requires.on_board)
+
+  to_within : n_to < squares_of c.game-game.result
+  to_within = rw (to_is, c.game-game.ensures.value) (number_within c.args.self.now.game c.args.m.to (to_on_board c.args.self.now c.args.m c.args.unit c.requires))
 
   placed_is : man_of c.code_of.result ≡ Some (placed c.args.unit c.args.m)
   placed_is =
@@ -28,31 +41,33 @@ module _ (c : goal.After-turned) where
       c.unwrap_or.ensures ∙ λ i. unwrap_or ((c.m.view_is i).promotion) c.args.unit.kind in
       c.code_of.ensures.value ∙ λ i. Some (record { side = c.args.unit.side; kind = kind i })
 
-  first : IsPut c.game-game.result c.self.inside.words c.put.new.words c.number.result 0
+  first : IsPut c.game-game.result c.self.inside.words c.put.new.words n_from 0
+  unfolding n_from
   first = record { there = c.put.ensures.there; elsewhere = c.put.ensures.elsewhere }
 
-  second : IsPut c.game-game.result c.put.new.words c.put-2.new.words c.number-2.result c.code_of.result
+  second : IsPut c.game-game.result c.put.new.words c.put-2.new.words n_to c.code_of.result
+  unfolding n_to
   second = record { there = c.put-2.ensures.there; elsewhere = c.put-2.ensures.elsewhere }
 
-  apart : c.number.result ≢ c.number-2.result
+  apart : n_from ≢ n_to
   apart e = other_square c.args.self.now c.args.m c.args.unit c.requires (sym from_is ∙ e ∙ to_is)
 
   same : game_of c.self.inside.words ≡ c.game-game.result
   same = ap (λ (x : PlainBoard). x.game) c.self.view_is ∙ sym c.game-game.ensures.value
 
-  made_is : made (unpacked c.self.inside.words) c.number.result c.number-2.result (placed c.args.unit c.args.m) ≡ after c.args.self.now c.args.m c.args.unit
+  made_is : made (unpacked c.self.inside.words) n_from n_to (placed c.args.unit c.args.m) ≡ after c.args.self.now c.args.m c.args.unit
   made_is = λ i. made (c.self.view_is i) (from_is i) (to_is i) (placed c.args.unit c.args.m)
 
   pub view_after : unpacked (set c.put-2.new.words 0 c.turned.result) ≡ after c.args.self.now c.args.m c.args.unit
   view_after =
-      unpacked_end c.game-game.result c.self.inside.words c.put.new.words c.put-2.new.words c.turned.result c.number.result c.number-2.result c.code_of.result
-      first second apart c.put-2.array_long c.turned.ensures.flags c.turned.ensures.elsewhere same c.self.invariant c.number.ensures.within c.number-2.ensures.within (placed c.args.unit c.args.m) placed_is
+      unpacked_end c.game-game.result c.self.inside.words c.put.new.words c.put-2.new.words c.turned.result n_from n_to c.code_of.result
+      first second apart c.put-2.array_long c.turned.ensures.flags c.turned.ensures.elsewhere same c.self.invariant from_within to_within (placed c.args.unit c.args.m) placed_is
       ∙ made_is
 
   pub packed_after : IsPacked (set c.put-2.new.words 0 c.turned.result)
   packed_after =
-      IsPacked-end c.game-game.result c.self.inside.words c.put.new.words c.put-2.new.words c.turned.result c.number.result c.number-2.result c.code_of.result
-      first second apart c.put-2.array_long c.turned.ensures.flags c.turned.ensures.elsewhere same c.self.invariant c.number.ensures.within c.number-2.ensures.within (placed c.args.unit c.args.m) placed_is
+      IsPacked-end c.game-game.result c.self.inside.words c.put.new.words c.put-2.new.words c.turned.result n_from n_to c.code_of.result
+      first second apart c.put-2.array_long c.turned.ensures.flags c.turned.ensures.elsewhere same c.self.invariant from_within to_within (placed c.args.unit c.args.m) placed_is
       c.code_of.ensures.code (subst IsPosition (sym made_is) (IsPosition-after c.args.self.now c.args.m c.args.unit c.game-game.ensures.position c.requires))
 
 pub invariant_of-result : goal.invariant_of-result

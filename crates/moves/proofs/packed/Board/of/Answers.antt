@@ -5,9 +5,10 @@ use Rattle.moves.proofs.packed.Board.of.Goals as goal
 
 pub loop-square-preserved : goal.loop-square-preserved
 loop-square-preserved c =
-    let put : IsPut c.args.position.now.game c.loop-square.words c.put.new.words c.loop-square.square c.code_at.result =
-    subst (λ g. IsPut g c.loop-square.words c.put.new.words c.loop-square.square c.code_at.result) c.game-game.ensures.value (record { there = c.put.ensures.there; elsewhere = c.put.ensures.elsewhere }) in
-    IsFilled-more _ _ _ _ _ _ c.code_at.result put c.code_at.ensures.value c.code_at.ensures.code c.loop-square.invariant
+    let put : IsPut c.args.position.now.game c.loop-square.words c.put.new.words c.loop-square.square c.code_in.result =
+    subst (λ g. IsPut g c.loop-square.words c.put.new.words c.loop-square.square c.code_in.result) c.game-game.ensures.value
+    (subst (λ n. IsPut c.game-game.result c.loop-square.words c.put.new.words n c.code_in.result) c.of_number-at.ensures.number (record { there = c.put.ensures.there; elsewhere = c.put.ensures.elsewhere })) in
+    IsFilled-more _ _ _ _ _ _ c.code_in.result put c.code_in.ensures.value c.code_in.ensures.code c.loop-square.invariant
 
 pub invariant_of-result : goal.invariant_of-result
 invariant_of-result c =
