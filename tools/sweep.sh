@@ -3,6 +3,7 @@
 # refused, until a run asks for no more. Each run must answer what the first one does (with none
 # refused), or write `refused: NoMemory` with status 3. Prints how often each outcome came; the
 # status is 1 where there was another one.
+# With workers the number of requests differs a little from run to run.
 # Usage, with the program built: tools/sweep.sh solve --limit 1 'k5/6/1K4/6/6/5R w'
 
 top=$(cd "$(dirname "$0")/.." && pwd) || exit 1
