@@ -1,7 +1,7 @@
 use Rattle.std.proofs.Common.{None, subst, sym}
 use Rattle.board.specs.Board.{PlainBoard}
 use Rattle.moves.specs.Moves.{IsLawful}
-use Rattle.moves.proofs.tests.checks.Goals as goal
+use Rattle.acceptance.proofs.boards.checks.Goals as goal
 
 pub gives_check-requires : goal.gives_check-requires
 gives_check-requires g c =

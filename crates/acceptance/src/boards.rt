@@ -1,5 +1,5 @@
 //! Calls on boards of three words, on positions worked out by hand.
-use crate::{Board, Move, Square, gives_check, has_lawful_move, is_lawful, read_sound};
+use moves::{Board, Move, Square, gives_check, has_lawful_move, is_lawful, read_sound};
 use std::process::Abort;
 
 fn board(rt: &impl Abort, text: &str) -> Board {
