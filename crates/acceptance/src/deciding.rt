@@ -1,6 +1,7 @@
 //! Decisions over small tables.
 use crate::tables::{Table, learnt, nothing_of, position};
 use moves::Goal;
+use search::Stop;
 use slots::{Probe, Store};
 
 const CORNERED: &str = "k5/6/2K3/6/6/1R4 w";
@@ -67,4 +68,37 @@ fn an_even_slot_keeps_what_is_worth_more(rt: HostRuntime) {
     assert!(rt; table.store(&rt, 0, within) == Store::Kept(CORNERED_IN_THREE));
     assert!(rt; table.store(&rt, 1, three) == Store::Stored);
     assert!(rt; table.store(&rt, 1, nothing) == Store::Stored);
+}
+
+// Never tells to stop.
+#[derive(Drop)]
+struct Never;
+
+impl Stop for Never {
+    fn is_set(&self) -> bool {
+        false
+    }
+}
+
+// Tells to stop at once.
+#[derive(Drop)]
+struct AtOnce;
+
+impl Stop for AtOnce {
+    fn is_set(&self) -> bool {
+        true
+    }
+}
+
+// Mate is forced within five plies and no fewer, as another program has it.
+const IN_FIVE: &str = "4N1/6/6/1Q4/2P3/K2N1k w";
+
+#[test]
+fn a_decision_is_stopped_or_right(rt: HostRuntime) {
+    let position = position(&rt, IN_FIVE);
+    let mut table = Table::make(&rt, rt.alloc(), 64);
+    assert!(rt; table.decide_until(&position, Goal::Mate, 5, &AtOnce) == None);
+    assert!(rt; table.decide_until(&position, Goal::Mate, 4, &Never) == Some(false));
+    assert!(rt; table.decide_until(&position, Goal::Mate, 5, &Never) == Some(true));
+    assert!(rt; table.decide_until(&position, Goal::Mate, 5, &AtOnce) == Some(true));
 }

@@ -9,8 +9,8 @@ ghost use Rattle.entry.specs.Truth.{IsTruePacking};
 
 use board::{Position, Side};
 use entry::{Entry, Interval, MateLore, interval_laws, key_of, meet, pack};
-use moves::{Goal, read_sound};
-use search::{Decision, decide};
+use moves::{Board, Goal, read_sound};
+use search::{Decision, Stop, decide, decide_until};
 use slots::{Probe, Seat, Slots, Store};
 use std::alloc::Global;
 use std::process::Abort;
@@ -52,6 +52,29 @@ impl Table {
         ensures { IsTrue result.yes ↔ Forces goal White position.now n }
     {
         decide(&self.slots, &mut self.seat, position, Side::White, goal, n)
+    }
+
+    /// White attacks.
+    pub(crate) fn decide_until<S: Stop>(
+        &mut self,
+        position: &Position,
+        goal: Goal,
+        n: u8,
+        stop: &S,
+    ) -> Option<bool>
+        requires { n ≤ 63 }
+        ensures { IfSome result (λ yes. IsTrue yes ↔ Forces goal White position.now n) }
+    {
+        let board = Board::of(position);
+        decide_until(
+            &self.slots,
+            &mut self.seat,
+            &board,
+            Side::White,
+            goal,
+            n,
+            stop,
+        )
     }
 
     pub(crate) fn probe(&mut self, rt: &impl Abort, slot: usize, words: [u64; 3]) -> Probe {

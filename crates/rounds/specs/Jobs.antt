@@ -3,8 +3,13 @@ use Rattle.std.specs.Prelude.{◌≡◌, ℕ, List, slice_get, Some}
 use Rattle.board.specs.Board.{PlainBoard}
 use Rattle.moves.specs.declared.goal.Goal.{Goal}
 use Rattle.moves.specs.Squares.{Ply}
+use Rattle.moves.specs.Moves.{IsMove}
 use Rattle.moves.specs.Order.{ListsLawful}
 use Rattle.search.specs.Answer.{Wins}
+
+-- the move with this number leads to the position q
+abbrev pub LeadsTo : PlainBoard → List Ply → ℕ → PlainBoard → Type 0
+LeadsTo b moves job q = (m : Ply) × (slice_get moves job ≡ Some m) × IsMove b m q
 
 -- the move with this number wins within n plies
 abbrev pub JobWins : Goal → PlainBoard → ℕ → List Ply → ℕ → Type 0

@@ -13,6 +13,7 @@ mod settling;
 mod share;
 mod sharing;
 mod solving;
+mod stopping;
 #[cfg(test)]
 mod table_tests;
 #[cfg(test)]

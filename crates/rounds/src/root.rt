@@ -1,15 +1,15 @@
 //! What is solved, and its jobs.
-ghost use Rattle.std.specs.Prelude.{◌≡◌, ◌<◌, ◌≤◌, ◌↔◌, IsTrue, length};
+ghost use Rattle.std.specs.Prelude.{◌≡◌, ◌<◌, ◌≤◌, ◌↔◌, IsTrue, IfSome, length};
 ghost use Rattle.moves.specs.Order.{ListsLawful};
 ghost use Rattle.slots.specs.Promise.{IsSeatOf};
-ghost use Rattle.rounds.specs.Jobs.{JobWins, RootJobWins};
+ghost use Rattle.rounds.specs.Jobs.{LeadsTo, JobWins, RootJobWins};
 
 use arrayvec::ArrayVec;
 use board::Position;
 use entry::MateLore;
 use least::Wins;
-use moves::{Goal, Move, apply, lawful};
-use search::decide;
+use moves::{Board, Goal, Move, apply, lawful};
+use search::{Stop, decide_on, decide_until};
 use slots::{Seat, Slots};
 
 /// The jobs that win in a round: those whose moves win within so many plies.
@@ -53,6 +53,15 @@ impl Root {
         self.moves.len() as u16
     }
 
+    /// The board after the job's move.
+    fn board_after(&self, job: u16) -> Board
+        requires lists { ListsLawful self.now.position self.now.moves.items }
+        requires job { job < length self.now.moves.items }
+        ensures { LeadsTo self.now.position self.now.moves.items job result }
+    {
+        Board::of(&apply(&self.position, self.moves[usize::from(job)]))
+    }
+
     /// Whether the job wins within so many plies.
     pub(crate) fn wins(&self, slots: &Slots<MateLore>, seat: &mut Seat, plies: u8, job: u16) -> bool
         requires lists { ListsLawful self.now.position self.now.moves.items }
@@ -62,15 +71,29 @@ impl Root {
         ensures seat { IsSeatOf slots.now seat.new }
         ensures wins { IsTrue result ↔ JobWins self.now.goal self.now.position plies self.now.moves.items job }
     {
-        let after = apply(&self.position, self.moves[usize::from(job)]);
-        decide(
-            slots,
-            seat,
-            &after,
-            self.position.mover(),
-            self.goal,
-            plies - 1,
-        )
-        .yes
+        let board = self.board_after(job);
+        let attacker = self.position.mover();
+        decide_on(slots, seat, &board, attacker, self.goal, plies - 1).yes
+    }
+
+    /// The same, or `None` where it is told to stop first.
+    pub(crate) fn wins_until<S: Stop>(
+        &self,
+        slots: &Slots<MateLore>,
+        seat: &mut Seat,
+        plies: u8,
+        job: u16,
+        stop: &S,
+    ) -> Option<bool>
+        requires lists { ListsLawful self.now.position self.now.moves.items }
+        requires seat { IsSeatOf slots.now seat.old }
+        requires plies { (0 < plies) × (plies ≤ 63) }
+        requires job { job < length self.now.moves.items }
+        ensures seat { IsSeatOf slots.now seat.new }
+        ensures wins { IfSome result (λ wins. IsTrue wins ↔ JobWins self.now.goal self.now.position plies self.now.moves.items job) }
+    {
+        let board = self.board_after(job);
+        let attacker = self.position.mover();
+        decide_until(slots, seat, &board, attacker, self.goal, plies - 1, stop)
     }
 }

@@ -20,6 +20,7 @@ use least::{JobSeat, Least, MakeFault};
 use slots::{Seat, Slots};
 use std::alloc::{AllocError, Global};
 use std::sync::Wait;
+use std::sync::atomic::AtomicU64;
 use std::thread;
 use std::thread::Threads;
 
@@ -106,12 +107,14 @@ pub(crate) fn round<J: Count + Send + Sync, T: Gate, R: Threads + Wait + Sync>(
         goal: root.goal,
         plies: round,
     };
+    let lowest = AtomicU64::new(u64::from(root.jobs()));
     match Least::make(alloc, &wins, root.jobs(), callers) {
         Ok((least, job_seats)) => {
             let bench = Bench {
                 root,
                 slots,
                 least: &least,
+                lowest: &lowest,
                 gate,
                 round,
             };

@@ -6,10 +6,12 @@ use crate::bench::Bench;
 use crate::deal::{Count, Thief, next_job};
 use crate::gate::Gate;
 use crate::share::Share;
+use crate::stopping::UntilBelow;
 use crate::verdict::Verdict;
 use std::sync::Wait;
+use std::sync::atomic::Ordering;
 
-/// Decides a job, unless one below it is known to win.
+/// Decides a job, unless one below it wins by then.
 fn take_up<J: Count, T: Gate>(bench: &Bench<'_, T>, share: &mut Share<J>, job: u16)
     requires bench { IsBench bench.now }
     requires share { IsShare bench.now share.old }
@@ -20,9 +22,18 @@ fn take_up<J: Count, T: Gate>(bench: &Bench<'_, T>, share: &mut Share<J>, job: u
         return;
     }
     let round = bench.round;
+    let lowest = bench.lowest;
     bench.gate.begin(round, job, bench.slots, &mut share.seat);
-    if bench.root.wins(bench.slots, &mut share.seat, round, job) {
+    let until = UntilBelow { lowest, job };
+    let decided = bench
+        .root
+        .wins_until(bench.slots, &mut share.seat, round, job, &until);
+    let Some(wins) = decided else {
+        return;
+    };
+    if wins {
         bench.least.lower(&mut share.jobs, job);
+        lowest.fetch_min(u64::from(job), Ordering::SeqCst);
         share.row[usize::from(job)] = Verdict::Wins;
     } else {
         share.row[usize::from(job)] = Verdict::Loses;

@@ -28,7 +28,7 @@ use Rattle.search.specs.Calls.{added, BeginsWith, Continues}
 use Rattle.search.specs.Questions.{Question, question, key_for, first_slot}
 use Rattle.search.specs.Decisions.{Asks, IsAsked, RestsOnOne, AsksBelow}
 use Rattle.search.specs.Decisions.Asks.{first_decides, one_slot, second_decides, neither_decides}
-use Rattle.search.specs.Below.{Goes, Ends, IsTried, IsEnded}
+use Rattle.search.specs.Below.{Goes, Ends, IsTried, IsEnded, IsPassed, IsCut}
 use Rattle.search.proofs.Calls.{added_more}
 
 -- ---- an answer below
@@ -107,7 +107,7 @@ not_reached Mate b m lawful mated = mated.no_move m lawful
 not_reached MateOrStale b m lawful (inl mated) = mated.no_move m lawful
 not_reached MateOrStale b m lawful (inr stale) = stale.no_move m lawful
 
-module _ (q : Question) (slots number n : ℕ) where
+module _ (q : Question) (n : ℕ) where
   -- one more ply than k
   abbrev pub IsForced : ℕ → Type 0
   IsForced k = Forces q.goal q.attacker q.position k
@@ -126,6 +126,21 @@ module _ (q : Question) (slots number n : ℕ) where
   pub ended_answer : (own : Bool) → own ≡ is_same_side q.attacker q.position.mover → 0 < n → (m : Ply) (b : PlainBoard) → IsMove q.position m b → Ends own (Forces q.goal q.attacker b (n - 1)) → IsTrue own ↔ IsForced n
   ended_answer own turn some m b move e = let up : suc (n - 1) ≡ n = omega arith in subst (λ k. IsTrue own ↔ IsForced k) up (ended own (n - 1) turn m b move e)
 
+  gone : (own : Bool) (k : ℕ) → own ≡ is_same_side q.attacker q.position.mover → (m : Ply) × IsLawful q.position m → ((m : Ply) → IsLawful q.position m → IsPassed q k own m) → IsTrue (not own) ↔ IsForced (suc k)
+  gone true k turn some all = (
+    λ is. absurd (false≢true is),
+    λ f. absurd (let w = on_own _ _ _ (sym turn) f in all w.0 (w.1, w.2) w.1 w.2 w.3),
+  )
+  gone false k turn some all = (
+    λ _. to_other _ _ _ (sym turn) (inr (some, λ m b move. all m (b, move) b move)),
+    λ _. refl,
+  )
+
+  -- no answer below ends it
+  pub gone_answer : (own : Bool) → own ≡ is_same_side q.attacker q.position.mover → 0 < n → (m : Ply) × IsLawful q.position m → ((m : Ply) → IsLawful q.position m → IsPassed q (n - 1) own m) → IsTrue (not own) ↔ IsForced n
+  gone_answer own turn plies some all = let up : suc (n - 1) ≡ n = omega arith in subst (λ k. IsTrue (not own) ↔ IsForced k) up (gone own (n - 1) turn some all)
+
+module _ (q : Question) (slots number n : ℕ) where
   rests : (own : Bool) → own ≡ is_same_side q.attacker q.position.mover → RestsOnOne q own
   rests true turn = to_own _ _ _ (sym turn) refl
   rests false turn = to_other _ _ _ (sym turn) refl
@@ -136,20 +151,6 @@ module _ (q : Question) (slots number n : ℕ) where
   rests_not : (own : Bool) → own ≡ is_same_side q.attacker q.position.mover → RestsOnOne q (not own) → ⊥
   rests_not true turn r = false≢true (on_own _ _ _ (sym turn) r)
   rests_not false turn r = false≢true (sym (on_other _ _ _ (sym turn) r))
-
-  gone : (own : Bool) (k : ℕ) (calls : List Call) → own ≡ is_same_side q.attacker q.position.mover → (m : Ply) × IsLawful q.position m → ((m : Ply) → IsLawful q.position m → IsTried q slots k number own calls m) → IsTrue (not own) ↔ IsForced (suc k)
-  gone true k calls turn some all = (
-    λ is. absurd (false≢true is),
-    λ f. absurd (let w = on_own _ _ _ (sym turn) f in (all w.0 (w.1, w.2) w.1 w.2).1 w.3),
-  )
-  gone false k calls turn some all = (
-    λ _. to_other _ _ _ (sym turn) (inr (some, λ m b move. (all m (b, move) b move).1)),
-    λ _. refl,
-  )
-
-  -- no answer below ends it
-  pub gone_answer : (own : Bool) (calls : List Call) → own ≡ is_same_side q.attacker q.position.mover → 0 < n → (m : Ply) × IsLawful q.position m → ((m : Ply) → IsLawful q.position m → IsTried q slots (n - 1) number own calls m) → IsTrue (not own) ↔ IsForced n
-  gone_answer own calls turn plies some all = let up : suc (n - 1) ≡ n = omega arith in subst (λ k. IsTrue (not own) ↔ IsForced k) up (gone own (n - 1) calls turn some all)
 
   pub gone_below : (own : Bool) (calls : List Call) → own ≡ is_same_side q.attacker q.position.mover → ((m : Ply) → IsLawful q.position m → IsTried q slots (n - 1) number own calls m) → AsksBelow q slots number (not own) calls
   gone_below own calls turn all = record {
@@ -209,6 +210,15 @@ module _ (t : TableId) (a b c : Seat ℕ View) (ab : Continues t a b) (bc : Cont
   ended_behind own (m, x, move, asked, end) = (m, x, move, subst (IsAsked (question x q.attacker q.goal) slots (number a)) (sym (added_more a b c ab.grew bc.grew)) (asked_behind (question x q.attacker q.goal) slots (number a) (added a b) (added b c) (subst (λ k. IsAsked (question x q.attacker q.goal) slots k (added b c)) ab.number asked)), end)
 
 -- what the lawful moves say
+pub answer_of : (q : Question) (n : ℕ) (answer : Bool) → 0 < n → (m : Ply) × IsLawful q.position m → (moves : List Ply) → ListsLawful q.position moves → (answer ≡ is_same_side q.attacker q.position.mover → IsCut q (n - 1) answer)
+    → (answer ≢ is_same_side q.attacker q.position.mover → All (IsPassed q (n - 1) (is_same_side q.attacker q.position.mover)) moves) → IsTrue answer ↔ Forces q.goal q.attacker q.position n
+answer_of q n answer plies some moves lists cut passed = elim (same_or_not answer (is_same_side q.attacker q.position.mover)) [
+  | inl same ↦ let (m, b, move, end) = cut same in ended_answer q n answer same plies m b move end
+  | inr apart ↦ subst (λ (r : Bool). IsTrue r ↔ Forces q.goal q.attacker q.position n) (other_of answer (is_same_side q.attacker q.position.mover) apart)
+      (gone_answer q n (is_same_side q.attacker q.position.mover) refl plies some (λ m lawful. All-contains (IsPassed q (n - 1) (is_same_side q.attacker q.position.mover)) moves m (passed apart) ((lists.exact m).1 lawful)))
+]
+
+-- the same, and what was asked
 module _ (q : Question) (slots n number : ℕ) (calls : List Call) (answer : Bool) (plies : 0 < n) (some : (m : Ply) × IsLawful q.position m) (moves : List Ply) (lists : ListsLawful q.position moves)
     (ended : answer ≡ is_same_side q.attacker q.position.mover → IsEnded q slots (n - 1) number answer calls)
     (all_tried : answer ≢ is_same_side q.attacker q.position.mover → All (IsTried q slots (n - 1) number (is_same_side q.attacker q.position.mover) calls) moves) where
@@ -216,10 +226,7 @@ module _ (q : Question) (slots n number : ℕ) (calls : List Call) (answer : Boo
   tried apart m lawful = All-contains (IsTried q slots (n - 1) number (is_same_side q.attacker q.position.mover) calls) moves m (all_tried apart) ((lists.exact m).1 lawful)
 
   pub said_answer : IsTrue answer ↔ Forces q.goal q.attacker q.position n
-  said_answer = elim (same_or_not answer (is_same_side q.attacker q.position.mover)) [
-    | inl same ↦ let e = ended same in ended_answer q slots number n answer same plies e.0 e.1 e.2 e.4
-    | inr apart ↦ subst (λ (r : Bool). IsTrue r ↔ Forces q.goal q.attacker q.position n) (other_of answer (is_same_side q.attacker q.position.mover) apart) (gone_answer q slots number n (is_same_side q.attacker q.position.mover) calls refl plies some (tried apart))
-  ]
+  said_answer = answer_of q n answer plies some moves lists (λ same. let e = ended same in (e.0, e.1, e.2, e.4)) (λ apart k d lt b move. (all_tried apart k d lt b move).1)
 
   pub said_below : AsksBelow q slots number answer calls
   said_below = elim (same_or_not answer (is_same_side q.attacker q.position.mover)) [
@@ -271,3 +278,27 @@ now_answer goal attacker b (suc n) there none h = by_turn (is_same_side attacker
       λ is. to_other _ _ _ turn (inl (on_other _ ⊥ (IsReached goal b) turn (h.0 is))),
       λ f. elim (on_other _ _ _ turn f) [ inl reached ↦ h.1 (to_other _ ⊥ (IsReached goal b) turn reached) | inr w ↦ absurd (none w.0.0 w.0.1) ],
     )
+
+-- ---- the moves that ended nothing
+
+-- after one move more
+pub passed_next : (q : Question) (n : ℕ) (own : Bool) (ms : List Ply) (i : ℕ) (m : Ply) (x : PlainBoard) → i < length ms → m ≡ get_or ms i m → IsMove q.position m x → All (IsPassed q n own) (take i ms) → Goes own (Forces q.goal q.attacker x n)
+    → All (IsPassed q n own) (take (i + 1) ms)
+passed_next q n own ms i m x lt is move before goes =
+    let up : suc i ≡ i + 1 = omega arith in
+    subst (λ k. All (IsPassed q n own) (take k ms)) up
+    (subst (All (IsPassed q n own)) (sym (take-suc ms i m lt)) (All-append (IsPassed q n own) (take i ms) (get_or ms i m ∷ []) before (one (get_or ms i m) (subst (IsPassed q n own) is passed))))
+  where
+    passed : IsPassed q n own m
+    passed b move' = subst (λ (z : PlainBoard). Goes own (Forces q.goal q.attacker z n)) (one_after q.position m x b move move') goes
+
+    one : (y : Ply) → IsPassed q n own y → All (IsPassed q n own) (y ∷ [])
+    one y h zero d small = h
+    one y h (suc k) d small = absurd (omega arith)
+
+-- two lists that hold each move
+pub both_lists : (q : Question) (n : ℕ) (own : Bool) (ms fs ls : List Ply) → ((m : Ply) → Contains ms m → Contains fs m ⊎ Contains ls m) → All (IsPassed q n own) fs → All (IsPassed q n own) ls → All (IsPassed q n own) ms
+both_lists q n own ms fs ls parts first later k d lt = elim (parts (get_or ms k d) (Contains-get_or ms k d lt)) [
+  | inl f ↦ All-contains (IsPassed q n own) fs (get_or ms k d) first f
+  | inr l ↦ All-contains (IsPassed q n own) ls (get_or ms k d) later l
+]

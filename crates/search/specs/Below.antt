@@ -25,3 +25,11 @@ IsTried q slots n number own calls m = (b : PlainBoard) → IsMove q.position m 
 -- the position after some move was asked of, and ended the search
 abbrev pub IsEnded : Question → ℕ → ℕ → ℕ → Bool → List Call → Type 0
 IsEnded q slots n number own calls = (m : Ply) × (b : PlainBoard) × IsMove q.position m b × IsAsked (question b q.attacker q.goal) slots number calls × Ends own (Forces q.goal q.attacker b n)
+
+-- the position after the move didn't end the search
+abbrev pub IsPassed : Question → ℕ → Bool → Ply → Type 0
+IsPassed q n own m = (b : PlainBoard) → IsMove q.position m b → Goes own (Forces q.goal q.attacker b n)
+
+-- the position after some move ended it
+abbrev pub IsCut : Question → ℕ → Bool → Type 0
+IsCut q n own = (m : Ply) × (b : PlainBoard) × IsMove q.position m b × Ends own (Forces q.goal q.attacker b n)

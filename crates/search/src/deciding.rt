@@ -38,7 +38,7 @@ fn is_reached(board: &Board, goal: Goal) -> bool
 }
 
 /// Whether the attacker is to move.
-fn is_turn_of(attacker: Side, board: &Board) -> bool
+pub(crate) fn is_turn_of(attacker: Side, board: &Board) -> bool
     ensures { result ≡ is_same_side attacker board.now.mover }
 {
     attacker == board.mover()
