@@ -1,7 +1,7 @@
 //! Decisions over small tables.
 use crate::tables::{Table, learnt, nothing_of, position};
 use moves::Goal;
-use search::Stop;
+use decision::Stop;
 use slots::{Probe, Store};
 
 const CORNERED: &str = "k5/6/2K3/6/6/1R4 w";

@@ -5,7 +5,7 @@ use crate::tables::{nothing_of, position};
 use board::{Position, Side};
 use entry::MateLore;
 use moves::Goal;
-use search::{Decision, decide};
+use decision::{Decision, decide};
 use slots::{Pause, Probe, Seat, Slots, Store};
 use std::process::Abort;
 

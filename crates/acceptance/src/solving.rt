@@ -1,11 +1,11 @@
 //! Answers of a solve.
 ghost use Rattle.std.specs.Prelude.{IfOk};
-ghost use Rattle.search.specs.Answer.{IsAnswer};
+ghost use Rattle.decision.specs.Answer.{IsAnswer};
 
 use board::Position;
 use moves::{Goal, read_sound};
 use rounds::{NoGate, SolveFault, solve};
-use search::Answer;
+use decision::Answer;
 use std::alloc::{AllocError, Global};
 use std::sync::Wait;
 use std::test::Fail;

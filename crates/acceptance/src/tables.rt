@@ -10,7 +10,7 @@ ghost use Rattle.entry.specs.Truth.{IsTruePacking};
 use board::{Position, Side};
 use entry::{Entry, Interval, MateLore, interval_laws, key_of, meet, pack};
 use moves::{Board, Goal, read_sound};
-use search::{Decision, Stop, decide, decide_until};
+use decision::{Decision, Stop, decide, decide_until};
 use slots::{Probe, Seat, Slots, Store};
 use std::alloc::Global;
 use std::process::Abort;

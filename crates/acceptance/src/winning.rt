@@ -5,7 +5,7 @@ use crate::solving::solved;
 use crate::tables::position;
 use board::Position;
 use moves::Goal;
-use search::Answer;
+use decision::Answer;
 use std::process::Abort;
 use std::sync::Wait;
 use std::test::Fail;

@@ -2,7 +2,7 @@
 use board::{Position, read_fen};
 use moves::{Goal, Move, Square};
 use rounds::{NoGate, SolveFault, solve};
-use search::Answer;
+use decision::Answer;
 use std::alloc::Global;
 use std::sync::Wait;
 use std::thread::Threads;

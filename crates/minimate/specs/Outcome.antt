@@ -2,10 +2,10 @@
 use Rattle.std.specs.Prelude.{◌≡◌, ◌⊎◌, ⊤, ℕ, List, Option, None, Some, IfSome, Result, Ok, Err}
 use Rattle.board.specs.Board.{PlainBoard}
 use Rattle.moves.specs.declared.goal.Goal.{Goal}
-use Rattle.search.specs.declared.answer.Answer.{Answer}
+use Rattle.decision.specs.declared.answer.Answer.{Answer}
 use Rattle.rounds.specs.declared.fault.SolveFault.{SolveFault}
 use Rattle.rounds.specs.declared.fault.SolveFault.TheVariants as solve
-use Rattle.search.specs.Answer.{IsAnswer}
+use Rattle.decision.specs.Answer.{IsAnswer}
 use Rattle.minimate.specs.Output.{Reply, answered, refused, fault_of, input_of, IsOutput}
 use Rattle.command_line.specs.declared.line.Line.{Line}
 use Rattle.command_line.specs.declared.line.Limits.{Limits}

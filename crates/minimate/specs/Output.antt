@@ -12,9 +12,9 @@ use Rattle.moves.specs.Order.{ListsLawful}
 use Rattle.moves.specs.Reach.{IsSound}
 use Rattle.moves.specs.Reading.{IsSoundFault}
 use Rattle.moves.specs.Squares.{Ply}
-use Rattle.search.specs.declared.answer.Answer.{Answer}
-use Rattle.search.specs.declared.answer.Answer.TheVariants.{Mate, NoneWithin}
-use Rattle.search.specs.Answer.{IsAnswer, IsFewest, ForcesNothing}
+use Rattle.decision.specs.declared.answer.Answer.{Answer}
+use Rattle.decision.specs.declared.answer.Answer.TheVariants.{Mate, NoneWithin}
+use Rattle.decision.specs.Answer.{IsAnswer, IsFewest, ForcesNothing}
 use Rattle.rounds.specs.declared.fault.SolveFault.{SolveFault}
 use Rattle.rounds.specs.Limits.{limits_fault}
 use Rattle.trees.specs.Best.{IsBest}

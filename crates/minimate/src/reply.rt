@@ -14,7 +14,7 @@ use board::Position;
 use command_line::{Action, Limits, Line};
 use moves::{Goal, Move, lawful, read_sound};
 use rounds::{NoGate, SolveFault, solve};
-use search::Answer;
+use decision::Answer;
 use std::alloc::{AllocError, Global};
 use std::fmt::Write;
 use std::sync::Wait;

@@ -8,9 +8,9 @@ use Rattle.moves.specs.declared.goal.Goal.{Goal}
 use Rattle.moves.specs.Moves.{IsLawful}
 use Rattle.moves.specs.Order.{IsPlyBefore, ListsLawful}
 use Rattle.moves.specs.Forces.{Forces}
-use Rattle.search.specs.Answer.{Wins, IsLeastWin, ForcesNothing, IsAnswer}
-use Rattle.search.specs.declared.answer.Answer.TheVariants.{Mate}
-use Rattle.search.proofs.Winning.{wins_by, forced_by, next_round}
+use Rattle.decision.specs.Answer.{Wins, IsLeastWin, ForcesNothing, IsAnswer}
+use Rattle.decision.specs.declared.answer.Answer.TheVariants.{Mate}
+use Rattle.decision.proofs.Winning.{wins_by, forced_by, next_round}
 use Rattle.rounds.specs.Jobs.{LeadsTo, JobWins}
 use Rattle.rounds.specs.Verdicts.{IsLeast, NoneWins}
 

@@ -5,7 +5,7 @@ use Rattle.moves.specs.declared.goal.Goal.{Goal}
 use Rattle.moves.specs.Squares.{Ply}
 use Rattle.moves.specs.Moves.{IsMove}
 use Rattle.moves.specs.Order.{ListsLawful}
-use Rattle.search.specs.Answer.{Wins}
+use Rattle.decision.specs.Answer.{Wins}
 
 -- the move with this number leads to the position q
 abbrev pub LeadsTo : PlainBoard → List Ply → ℕ → PlainBoard → Type 0

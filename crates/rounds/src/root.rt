@@ -9,7 +9,7 @@ use board::Position;
 use entry::MateLore;
 use least::Wins;
 use moves::{Board, Goal, Move, apply, lawful};
-use search::{Stop, decide_on, decide_until};
+use decision::{Stop, decide_on, decide_until};
 use slots::{Seat, Slots};
 
 /// The jobs that win in a round: those whose moves win within so many plies.

@@ -2,7 +2,7 @@
 ghost use Rattle.std.specs.Prelude.{◌≡◌, ◌⊎◌, ◌<◌, ◌≤◌, All, IfOk, IfErr, None, Some, length};
 ghost use Rattle.moves.specs.Order.{ListsLawful};
 ghost use Rattle.slots.specs.Promise.{IsSeatOf};
-ghost use Rattle.search.specs.Answer.{IsAnswer};
+ghost use Rattle.decision.specs.Answer.{IsAnswer};
 ghost use Rattle.rounds.specs.Limits.{limits_fault};
 ghost use Rattle.rounds.specs.declared.fault.SolveFault.TheVariants.{NoMemory as no_memory};
 
@@ -13,7 +13,7 @@ use crate::round::round;
 use board::Position;
 use entry::MateLore;
 use moves::Goal;
-use search::{Answer, MOST_LIMIT};
+use decision::{Answer, MOST_LIMIT};
 use slots::{MOST_SLOTS, Seat, Slots};
 use std::alloc::{AllocError, Global};
 use std::marker::Brand;

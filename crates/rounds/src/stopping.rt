@@ -1,5 +1,5 @@
 //! When the decision of a job is of no more use.
-use search::Stop;
+use decision::Stop;
 use std::sync::atomic::{AtomicU64, Ordering};
 
 /// Stops once a job below this one wins. The word is a copy of the least job's, which can be read without a seat; no contract

@@ -2,7 +2,7 @@
 use crate::{Gate, NoGate, SolveFault, solve};
 use board::{Kind, Position, read_fen};
 use moves::{Goal, Move, Square};
-use search::Answer;
+use decision::Answer;
 use std::alloc::Global;
 use std::process::Abort;
 use std::sync::Wait;

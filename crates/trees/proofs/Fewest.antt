@@ -6,7 +6,7 @@ use Rattle.moves.specs.Moves.{IsMove, IsLawful}
 use Rattle.moves.specs.declared.goal.Goal.{Goal}
 use Rattle.moves.specs.Forces.{Forces}
 use Rattle.moves.proofs.Forcing.{same_side-self}
-use Rattle.search.specs.Answer.{IsFewest}
+use Rattle.decision.specs.Answer.{IsFewest}
 use Rattle.wintree.specs.Plan.{Plan, ends, splits, Replies, last, more}
 use Rattle.wintree.specs.Wins.{Wins, EachWins, height, highest}
 use Rattle.wintree.proofs.Forced.{forced_for_mover}

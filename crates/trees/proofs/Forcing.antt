@@ -11,8 +11,8 @@ use Rattle.moves.specs.Reach.{IsInCheck}
 use Rattle.moves.specs.Forces.{IsReached, Forces}
 use Rattle.moves.proofs.Keeps.{one_after}
 use Rattle.moves.proofs.Forcing.{on_own, on_other, turn-own, turn-other, same_side-self, Forces-more}
-use Rattle.search.specs.Answer.{IsFewest}
-use Rattle.search.proofs.Winning.{same_mover}
+use Rattle.decision.specs.Answer.{IsFewest}
+use Rattle.decision.proofs.Winning.{same_mover}
 use Rattle.wintree.specs.Wins.{EndsAt}
 use Rattle.wintree.specs.declared.tree.End.TheVariants as ending
 use Rattle.trees.specs.Best.{IsBestMove}

@@ -7,7 +7,7 @@ use Rattle.moves.specs.declared.goal.Goal.{Goal}
 use Rattle.moves.specs.declared.goal.Goal.TheVariants.{Mate, MateOrStale}
 use Rattle.moves.specs.Order.{ListsLawful}
 use Rattle.moves.proofs.Keeps.{one_after}
-use Rattle.search.specs.Answer.{IsLeastWin}
+use Rattle.decision.specs.Answer.{IsLeastWin}
 use Rattle.wintree.specs.declared.tree.End.{End}
 use Rattle.wintree.specs.declared.tree.End.TheVariants as ending
 use Rattle.wintree.specs.Plan.{Plan, ends, splits, Replies, last, more}

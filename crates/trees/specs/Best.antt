@@ -5,7 +5,7 @@ use Rattle.moves.specs.declared.goal.Goal.{Goal}
 use Rattle.moves.specs.Squares.{Ply}
 use Rattle.moves.specs.Moves.{IsMove}
 use Rattle.moves.specs.Order.{ListsLawful}
-use Rattle.search.specs.Answer.{IsFewest, IsLeastWin}
+use Rattle.decision.specs.Answer.{IsFewest, IsLeastWin}
 use Rattle.wintree.specs.Plan.{Plan, ends, splits, Replies, last, more}
 use Rattle.wintree.specs.Wins.{EndsAt, moves_of}
 

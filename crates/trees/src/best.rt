@@ -3,13 +3,13 @@ ghost use Rattle.std.specs.Prelude.{◌<◌, ◌≤◌, MatchOption};
 ghost use Rattle.moves.specs.Squares.{Ply};
 ghost use Rattle.moves.specs.Forces.{Forces};
 ghost use Rattle.slots.specs.Promise.{IsSeatOf};
-ghost use Rattle.search.specs.Answer.{Wins, IsLeastWin};
-ghost use Rattle.search.specs.Calls.{Continues};
+ghost use Rattle.decision.specs.Answer.{Wins, IsLeastWin};
+ghost use Rattle.decision.specs.Calls.{Continues};
 ghost use Rattle.trees.specs.Best.{IsBestMove};
 
 use entry::MateLore;
 use moves::{Board, Goal, Move, after, lawful_on};
-use search::decide_on;
+use decision::decide_on;
 use slots::{Seat, Slots};
 
 /// The least move that wins within n plies.

@@ -1,6 +1,6 @@
 use Rattle.std.proofs.Common.{◌≡◌, ◌*◌, length, All}
 use Rattle.slots.specs.Promise.{IsSeatOf}
-use Rattle.search.specs.Answer.{ForcesNothing}
+use Rattle.decision.specs.Answer.{ForcesNothing}
 use Rattle.rounds.proofs.solving.play_rounds.Given as goal
 
 abbrev pub ghosts-round : goal.ghosts-round

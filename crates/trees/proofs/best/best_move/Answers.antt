@@ -1,5 +1,5 @@
-use Rattle.search.proofs.Calls.{continues_more}
-use Rattle.search.proofs.Winning.{next_round}
+use Rattle.decision.proofs.Calls.{continues_more}
+use Rattle.decision.proofs.Winning.{next_round}
 use Rattle.trees.proofs.best.best_move.Goals as goal
 
 pub returns-in-Some-clause-continues : goal.returns-in-Some-clause-continues

@@ -1,6 +1,6 @@
 use Rattle.std.proofs.Common.{◌*◌}
-use Rattle.search.specs.Answer.{ForcesNothing}
-use Rattle.search.specs.Calls.{Continues}
+use Rattle.decision.specs.Answer.{ForcesNothing}
+use Rattle.decision.specs.Calls.{Continues}
 use Rattle.trees.proofs.best.best_move.Given as goal
 
 -- the rounds so far were in vain

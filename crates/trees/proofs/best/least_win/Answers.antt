@@ -4,9 +4,9 @@ use Rattle.std.proofs.lemmas.List.{take_all}
 use Rattle.board.specs.declared.game.Side.{Side}
 use Rattle.moves.specs.Forces.{Forces}
 use Rattle.moves.specs.Order.{ListsLawful}
-use Rattle.search.specs.Answer.{Wins}
-use Rattle.search.proofs.Calls.{continues_none, continues_more}
-use Rattle.search.proofs.Winning.{wins_by, answer_at, none_next, none_wins}
+use Rattle.decision.specs.Answer.{Wins}
+use Rattle.decision.proofs.Calls.{continues_none, continues_more}
+use Rattle.decision.proofs.Winning.{wins_by, answer_at, none_next, none_wins}
 use Rattle.trees.proofs.best.least_win.Goals as goal
 
 pub after-requires : goal.after-requires

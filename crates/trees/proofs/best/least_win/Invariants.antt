@@ -1,6 +1,6 @@
 use Rattle.std.proofs.Common.{take, All}
-use Rattle.search.specs.Answer.{Wins}
-use Rattle.search.specs.Calls.{Continues}
+use Rattle.decision.specs.Answer.{Wins}
+use Rattle.decision.specs.Calls.{Continues}
 use Rattle.trees.proofs.best.least_win.Given as goal
 
 -- none of the moves so far wins

@@ -5,7 +5,7 @@ use Rattle.std.proofs.lemmas.List.{take_all}
 use Rattle.moves.specs.Order.{ListsLawful}
 use Rattle.wintree.specs.Plan.{depth}
 use Rattle.moves.proofs.Forcing.{same_side-self}
-use Rattle.search.proofs.Calls.{continues_none, continues_more}
+use Rattle.decision.proofs.Calls.{continues_none, continues_more}
 use Rattle.trees.specs.Best.{IsBest}
 use Rattle.trees.proofs.Forcing.{some_ply, best_reached, two_plies, best_forces}
 use Rattle.trees.proofs.Lists.{replies_in, AreBest, AreShallow, best_node, node_depth, node_room, some_listed, replies_more, best_more, shallow_more}

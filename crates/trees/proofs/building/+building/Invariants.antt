@@ -1,5 +1,5 @@
 use Rattle.std.proofs.Common.{◌≡◌, ◌+◌, ◌*◌, take}
-use Rattle.search.specs.Calls.{Continues}
+use Rattle.decision.specs.Calls.{Continues}
 use Rattle.trees.proofs.Lists.{replies_in, AreBest, AreShallow}
 use Rattle.trees.proofs.building.+building.Given as goal
 

@@ -1,0 +1,111 @@
+-- What replies say.
+use Rattle.std.proofs.Common.{◌≡◌, ℕ, ◌<◌, ◌≤◌, ◌-◌, ◌↔◌, IsTrue, Bool, true, false, List, Option, Some, None, refl, sym, ap, ◌∙◌, subst, arith}
+use Rattle.std.specs.Option.{IfSome}
+use Rattle.std.proofs.lemmas.Bool.{false≢true}
+use Rattle.board.specs.Board.{IsPosition}
+use Rattle.moves.specs.Forces.{Forces}
+use Rattle.slots.specs.declared.calls.Probe.{Probe}
+use Rattle.slots.specs.declared.calls.Probe.TheVariants.{Hit, Vacant, Other, Busy}
+use Rattle.slots.specs.declared.calls.Act.TheVariants.{Asked}
+use Rattle.slots.specs.Steps.{HitFits}
+use Rattle.entry.specs.declared.entries.Entry.{Entry}
+use Rattle.entry.specs.Bounds.{Bounds, bounds_of}
+use Rattle.entry.specs.Packing.{Packing}
+use Rattle.entry.specs.Keys.{key_words}
+use Rattle.entry.specs.Truth.{IsRight, IsTruePacking}
+use Rattle.entry.specs.Laws.{MeetingIsRight}
+use Rattle.entry.proofs.Questions.{one_entry}
+use Rattle.entry.proofs.Truths.{hit_right, yes_right, no_right, raise}
+use Rattle.decision.specs.Questions.{Question, entry_for, words_of, key_for, EndsBy, Says, RepliesThat, Settles, said, IsMetWith, IsWhole, Tells}
+
+-- a hit with the key is whole
+pub whole_of : (key : List ℕ) (reply : Probe) → HitFits key_words IsTruePacking (Asked key reply) → IsWhole reply
+whole_of key (Hit words) h = h.1
+whole_of key Vacant h = tt
+whole_of key Other h = tt
+whole_of key Busy h = tt
+
+-- what a hit says, its one interval says
+pub says_of : (reply : Probe) (i : Bounds) (n : ℕ) (answer : Bool) → Tells reply (Some i) → RepliesThat reply n answer → Says i n answer
+says_of (Hit words) i n answer t r = subst (λ (j : Bounds). Says j n answer) (ap (λ (e : Entry). e.interval) (one_entry r.0 t.0 words r.1 t.1) ∙ sym t.2) r.2
+says_of Vacant i n answer t r = absurd t
+says_of Other i n answer t r = absurd t
+says_of Busy i n answer t r = absurd t
+
+not_by : (i : Bounds) (n : ℕ) → (n < i.below → ⊥) → (EndsBy i.upto n → ⊥) → (answer : Bool) → Says i n answer → ⊥
+not_by i n low high true s = high s
+not_by i n low high false s = low s
+
+-- an interval of these parts that decides nothing settles nothing
+pub unsettled : (reply : Probe) (i : Bounds) (low : ℕ) (end : Option ℕ) (n : ℕ) → bounds_of low end ≡ i → Tells reply (Some i) → low ≤ n → (EndsBy end n → ⊥) → Settles reply n → ⊥
+unsettled reply i low end n is t le high s =
+    not_by (bounds_of low end) n (λ lt. absurd (omega arith)) high s.0 (says_of reply (bounds_of low end) n s.0 (subst (λ (j : Bounds). Tells reply (Some j)) (sym is) t) s.1)
+
+-- an end that comes later, and one that isn't known
+pub ends_later : (end : Option ℕ) (m n : ℕ) → end ≡ Some m → n < m → EndsBy end n → ⊥
+ends_later None m n is lt e = e
+ends_later (Some k) m n is lt e = let same : k ≡ m = some_same k m is in omega arith
+  where
+    some_same : (k m : ℕ) → Some k ≡ Some m → k ≡ m
+    some_same k m is = cc
+
+pub ends_never : (end : Option ℕ) (n : ℕ) → end ≡ None → EndsBy end n → ⊥
+ends_never None n is e = e
+ends_never (Some k) n is e = cc
+
+-- what is no hit settles nothing
+pub silent : (reply : Probe) (n : ℕ) → Tells reply None → Settles reply n → ⊥
+silent (Hit words) n t s = t
+silent Vacant n t s = s.1
+silent Other n t s = s.1
+silent Busy n t s = s.1
+
+-- ---- what is right of a question
+
+-- the entry that says nothing of the question
+abbrev pub asked_for : Question → Entry
+asked_for q = entry_for q (bounds_of 0 None)
+
+pub packed_question : (q : Question) → IsPosition q.position → Packing (asked_for q) (words_of (asked_for q))
+packed_question q position = record {
+  position = position;
+  interval = record { below = omega arith; upto = tt; ordered = tt };
+  words = refl;
+}
+
+-- a hit's interval is right of the question
+pub hit_is_right : (q : Question) → IsPosition q.position → (reply : Probe) → HitFits key_words IsTruePacking (Asked (key_for q) reply) → (i : Bounds) → Tells reply (Some i) → IsRight (asked_for q) i
+hit_is_right q position (Hit words) h i t =
+    subst (IsRight (asked_for q)) (sym t.2) (hit_right (asked_for q) t.0 words (words_of (asked_for q)) (packed_question q position) h.1 h.0 t.1).1
+hit_is_right q position Vacant h i t = absurd t
+hit_is_right q position Other h i t = absurd t
+hit_is_right q position Busy h i t = absurd t
+
+-- an answer is right of it
+pub said_is_right : (q : Question) (n : ℕ) (answer : Bool) → (IsTrue answer ↔ Forces q.goal q.attacker q.position n) → IsRight (asked_for q) (said answer n)
+said_is_right q n true h = yes_right (asked_for q) n (h.0 refl)
+said_is_right q n false h = no_right (asked_for q) n (λ f. false≢true (h.1 f))
+
+-- so is what they say together
+pub met_is_right : MeetingIsRight → (q : Question) → IsPosition q.position → (reply : Probe) → HitFits key_words IsTruePacking (Asked (key_for q) reply) → (s i : Bounds) → IsRight (asked_for q) s → IsMetWith reply s i → IsRight (asked_for q) i
+met_is_right law q position (Hit words) h s i right m = subst (IsRight (asked_for q)) (sym m.2) (law (asked_for q) s m.0.interval right (hit_is_right q position (Hit words) h m.0.interval (m.0, m.1, refl)))
+met_is_right law q position Vacant h s i right m = subst (IsRight (asked_for q)) (sym m) right
+met_is_right law q position Other h s i right m = subst (IsRight (asked_for q)) (sym m) right
+met_is_right law q position Busy h s i right m = subst (IsRight (asked_for q)) (sym m) right
+
+-- the words of what is right are a true entry's
+pub true_words : (q : Question) (i : Bounds) (words : List ℕ) → Packing (entry_for q i) words → IsRight (asked_for q) i → IsTruePacking words
+true_words q i words packing right = record { entry = entry_for q i; packing = packing; holds = record { below = right.below; upto = right.upto } }
+
+-- a reply that decides n is right
+pub reply_is_right : (q : Question) → IsPosition q.position → (reply : Probe) → HitFits key_words IsTruePacking (Asked (key_for q) reply) → (n : ℕ) (answer : Bool) → RepliesThat reply n answer
+    → IsTrue answer ↔ Forces q.goal q.attacker q.position n
+reply_is_right q position (Hit words) h n true r = (λ e. ends_in (r.0.interval.upto) n r.2 (hit_is_right q position (Hit words) h r.0.interval (r.0, r.1, refl)).upto, λ f. refl)
+  where
+    ends_in : (end : Option ℕ) (n : ℕ) → EndsBy end n → IfSome end (Forces q.goal q.attacker q.position) → Forces q.goal q.attacker q.position n
+    ends_in None n by f = absurd by
+    ends_in (Some m) n by f = raise (asked_for q) (n - m) m n (omega arith) f
+reply_is_right q position (Hit words) h n false r = (λ e. absurd (false≢true e), λ f. absurd ((hit_is_right q position (Hit words) h r.0.interval (r.0, r.1, refl)).below n r.2 f))
+reply_is_right q position Vacant h n answer r = absurd r
+reply_is_right q position Other h n answer r = absurd r
+reply_is_right q position Busy h n answer r = absurd r

@@ -1,0 +1,118 @@
+-- What is forced, from the list of lawful moves, round by round.
+use Rattle.std.proofs.Common.{◌≡◌, ℕ, ◌+◌, ◌-◌, ◌*◌, ◌<◌, ◌≤◌, ◌⊎◌, inl, inr, zero, suc, sym, ap, subst, ◌∙◌, arith, List, [], ◌∷◌, length, take, get_or, get_or-take, length-take, Bool, All, Contains, ◌↔◌, IsTrue, true, refl}
+use Rattle.std.proofs.lemmas.Bool.{false≢true}
+use Rattle.std.proofs.lemmas.Grind.{common_steps, elements}
+use Rattle.std.proofs.lemmas.List.Elements.{All-append, All-contains, All-get_or}
+use Rattle.std.proofs.Math.Seq.{take-suc}
+use Rattle.board.specs.declared.game.Side.{Side}
+use Rattle.board.specs.declared.game.Side.TheVariants.{White, Black}
+use Rattle.board.specs.Games.{is_same_side}
+use Rattle.board.specs.Board.{PlainBoard}
+use Rattle.moves.specs.Squares.{Ply}
+use Rattle.moves.specs.declared.goal.Goal.{Goal}
+use Rattle.moves.specs.Moves.{IsMove}
+use Rattle.moves.specs.Order.{IsPlyBefore, ListsLawful}
+use Rattle.moves.specs.Forces.{IsReached, Forces}
+use Rattle.moves.proofs.Keeps.{one_after}
+use Rattle.moves.proofs.Forcing.{on_own, to_own, on_other, to_other, turn-own, same_side-self, twice, twice-double, Forces-even}
+use Rattle.decision.specs.Answer.{Wins, IsLeastWin, ForcesNothing}
+
+-- ---- one move
+
+-- a move wins where the position after it is decided so
+pub wins_by : (goal : Goal) (b : PlainBoard) (n : ℕ) (m : Ply) (q : PlainBoard) (answer : Bool) → IsMove b m q → (IsTrue answer ↔ Forces goal b.mover q (n - 1)) → IsTrue answer ↔ Wins goal b n m
+wins_by goal b n m q answer move h = (
+  λ yes_is. (q, move, h.0 yes_is),
+  λ (x, other, forces). h.1 (subst (λ (z : PlainBoard). Forces goal b.mover z (n - 1)) (one_after b m x q other move) forces),
+)
+
+-- a move wins within one ply where the position after it has reached the goal
+pub wins_from : (goal : Goal) (b : PlainBoard) (m : Ply) (q : PlainBoard) (r : Bool) → IsMove b m q → (IsTrue r ↔ IsReached goal q) → IsTrue r ↔ Wins goal b 1 m
+wins_from goal b m q r move h = (
+  λ won. (q, move, to_other _ ⊥ (IsReached goal q) (turn-own b.mover b m q move (same_side-self b.mover)) (h.0 won)),
+  λ (x, other, forces). let reached = on_other _ ⊥ (IsReached goal x) (turn-own b.mover b m x other (same_side-self b.mover)) forces in
+      h.1 (subst (IsReached goal) (one_after b m x q other move) reached),
+)
+
+-- on the attacker's turn a win is all that forces
+forced_up : (goal : Goal) (b : PlainBoard) (k : ℕ) (m : Ply) → (q : PlainBoard) × IsMove b m q × Forces goal b.mover q k → Forces goal b.mover b (suc k)
+forced_up goal b k m w = to_own _ _ _ (same_side-self b.mover) (m, w.0, w.1, w.2)
+
+pub forced_by : (goal : Goal) (b : PlainBoard) (n : ℕ) (m : Ply) → 0 < n → Wins goal b n m → Forces goal b.mover b n
+forced_by goal b n m some w = let up : suc (n - 1) ≡ n = omega arith in subst (Forces goal b.mover b) up (forced_up goal b (n - 1) m w)
+
+some_wins : (goal : Goal) (b : PlainBoard) (k : ℕ) → Forces goal b.mover b (suc k) → (m : Ply) × (q : PlainBoard) × IsMove b m q × Forces goal b.mover q k
+some_wins goal b k f = on_own _ _ _ (same_side-self b.mover) f
+
+-- where no move wins, nothing is forced
+pub none_forced : (goal : Goal) (b : PlainBoard) (n : ℕ) → 0 < n → ((m : Ply) → Wins goal b n m → ⊥) → Forces goal b.mover b n → ⊥
+none_forced goal b n some none f =
+    let up : n ≡ suc (n - 1) = omega arith in
+    let w = some_wins goal b (n - 1) (subst (Forces goal b.mover b) up f) in
+    none w.0 (w.1, w.2, w.3)
+
+pub nothing_at_once : (goal : Goal) (b : PlainBoard) → ForcesNothing goal b 0
+nothing_at_once goal b zero h f = on_own _ ⊥ (IsReached goal b) (same_side-self b.mover) f
+nothing_at_once goal b (suc n) h f = absurd (omega (arith, h))
+
+-- ---- one round
+
+odd_up : (r : ℕ) → suc (twice r) ≡ 2 * r + 1
+odd_up r = let e = twice-double r in omega arith
+
+-- after a round of 2 r + 1 plies in vain nothing is forced within 2 r + 2
+pub next_round : (goal : Goal) (b : PlainBoard) (r : ℕ) → ForcesNothing goal b (2 * r) → ((m : Ply) → Wins goal b (2 * r + 1) m → ⊥) → ForcesNothing goal b (2 * (r + 1))
+next_round goal b r before none k h f = elim (split (2 * r) k (omega (arith, h))) [
+  | inl small ↦ before k small f
+  | inr (inl odd) ↦ none_forced goal b (2 * r + 1) (omega arith) none (subst (Forces goal b.mover b) odd f)
+  | inr (inr even) ↦ none_forced goal b (2 * r + 1) (omega arith) none (subst (Forces goal b.mover b) (odd_up r) (Forces-even r goal b.mover b (same_side-self b.mover) (subst (Forces goal b.mover b) (even ∙ sym (λ i. suc (suc (twice-double r i)))) f)))
+]
+  where
+    split : (n k : ℕ) → k ≤ suc (suc n) → (k ≤ n) ⊎ ((k ≡ n + 1) ⊎ (k ≡ suc (suc n)))
+    split n k h = grind arith
+
+split3 : (i j : ℕ) → (i < j) ⊎ ((i ≡ j) ⊎ (j < i))
+split3 i j = grind arith
+
+-- within a list no default is read
+same_default : (xs : List Ply) (i : ℕ) (d m : Ply) → i < length xs → get_or xs i m ≡ m → get_or xs i d ≡ m
+same_default xs i d m h e = grind (arith, common_steps, elements)
+
+module _ (goal : Goal) (b : PlainBoard) (n : ℕ) (xs : List Ply) (lists : ListsLawful b xs) where
+  wins_listed : (m : Ply) → Wins goal b n m → Contains xs m
+  wins_listed m (q, move, f) = (lists.exact m).1 (q, move)
+
+  -- the first of the list that wins is the answer
+  pub answer_at : (i : ℕ) (m : Ply) → i < length xs → m ≡ get_or xs i m → All (λ l. Wins goal b n l → ⊥) (take i xs) → Wins goal b n m → IsLeastWin goal b n m
+  answer_at i m h at none wins = record {
+    wins = wins;
+    least = λ l w. least l w (wins_listed l w);
+  }
+    where
+      least : (l : Ply) → Wins goal b n l → Contains xs l → (l ≡ m) ⊎ IsPlyBefore b.game m l
+      least l w (j, in_list, e) = elim (split3 i j) [
+        | inl after ↦ inr (subst (IsPlyBefore b.game m) e (subst (λ x. IsPlyBefore b.game x (get_or xs j l)) (same_default xs i l m h (sym at)) (lists.ordered i j l after in_list)))
+        | inr (inl same) ↦ inl (sym e ∙ ap (λ k. get_or xs k l) (sym same) ∙ same_default xs i l m h (sym at))
+        | inr (inr before) ↦ absurd (All-get_or (λ x. Wins goal b n x → ⊥) (take i xs) j l (omega (arith, length-take {A = Ply})) none (subst (Wins goal b n) (sym (get_or-take i xs j l before ∙ e)) w))
+      ]
+
+  -- where none of the list wins, no move does
+  pub none_wins : All (λ l. Wins goal b n l → ⊥) xs → (m : Ply) → Wins goal b n m → ⊥
+  none_wins none m w = All-contains (λ l. Wins goal b n l → ⊥) xs m none (wins_listed m w) w
+
+  -- the moves before, and one more
+  pub none_next : (i : ℕ) (m : Ply) → i < length xs → m ≡ get_or xs i m → (Wins goal b n m → ⊥) → All (λ l. Wins goal b n l → ⊥) (take i xs) → All (λ l. Wins goal b n l → ⊥) (take (i + 1) xs)
+  none_next i m lt at none before =
+      let up : suc i ≡ i + 1 = omega arith in
+      subst (λ k. All (λ l. Wins goal b n l → ⊥) (take k xs)) up
+      (subst (All (λ l. Wins goal b n l → ⊥)) (sym (take-suc xs i m lt)) (All-append (λ l. Wins goal b n l → ⊥) (take i xs) (get_or xs i m ∷ []) before (one (get_or xs i m) (subst (λ l. Wins goal b n l → ⊥) at none))))
+    where
+      one : (x : Ply) → (Wins goal b n x → ⊥) → All (λ l. Wins goal b n l → ⊥) (x ∷ [])
+      one x h zero d small = h
+      one x h (suc k) d small = absurd (omega arith)
+
+pub same_mover : (s t : Side) → is_same_side s t ≡ true → s ≡ t
+same_mover White White e = refl
+same_mover White Black e = absurd (false≢true e)
+same_mover Black White e = absurd (false≢true e)
+same_mover Black Black e = refl

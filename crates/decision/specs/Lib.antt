@@ -1,0 +1,5 @@
+pub mod Answer
+pub mod Calls
+pub mod Questions
+pub mod Decisions
+pub mod Below
