@@ -1,7 +1,6 @@
 -- A table of slots and its seats, as contracts see them.
 use Rattle.std.specs.Prelude.{◌≡◌, ◌≢◌, ℕ, ◌≤◌, List, [], slice_index_or}
 use Rattle.atomic_table.specs.Seated.{TableId}
-use Rattle.cell_slots.specs.declared.table.TheConstants.{MOST_SLOTS, MOST_CALLERS}
 use Rattle.slots.specs.declared.calls.Act.{Act}
 use Rattle.slots.specs.declared.calls.Call.{Call}
 use Rattle.slots.specs.Rule.{longer}
@@ -60,4 +59,4 @@ IsNewSeat t s = (s.table ≡ t.table) × ((i : ℕ) → ((part_at s i).seen ≡ 
 
 -- the numbers of slots and of callers that a table may have
 abbrev pub IsSize : ℕ → ℕ → Type 0
-IsSize slots callers = (1 ≤ slots) × (slots ≤ MOST_SLOTS) × (1 ≤ callers) × (callers ≤ MOST_CALLERS)
+IsSize slots callers = (1 ≤ slots) × (slots ≤ 64) × (1 ≤ callers) × (callers ≤ 17)

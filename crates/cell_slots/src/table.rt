@@ -72,6 +72,7 @@ impl<L: Lore> CellSlots<L> {
         ensures table { IfOk result (λ r. r.0.len ≡ slots) }
         ensures seats { IfOk result (λ r. (length r.1.items ≡ callers) × All (IsNewSeat r.0) r.1.items) }
         ensures size { MatchResult result (λ _. IsSize slots callers) (λ e. (e ≡ MakeFault.Size) ↔ (¬ IsSize slots callers)) }
+        ensures limits { (MOST_SLOTS ≡ 64) × (MOST_CALLERS ≡ 17) }
     {
         if slots < 1 || slots > MOST_SLOTS || callers < 1 || callers > MOST_CALLERS {
             return Err(MakeFault::Size);

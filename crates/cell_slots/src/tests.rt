@@ -132,8 +132,17 @@ fn by_two<R: Threads + Wait + Sync>(
     )
 }
 
+// Whether the system gives a thread: `join` makes its calls one after another where it doesn't.
+fn starts_a_thread<R: Threads>(rt: &R) -> bool {
+    match thread::spawn(rt, || 7u8) {
+        Ok(child) => child.join(rt) == 7,
+        Err(_) => false,
+    }
+}
+
 #[test]
 fn threads_share_a_table(rt: HostRuntime) -> Result<(), Fail> {
+    assert!(rt; starts_a_thread(&rt));
     let (slots, mut seats) = CellSlots::<Pairs>::make(rt.alloc(), 1, 2)?;
     let second = seats.pop().ok_or("no seat")?;
     let first = seats.pop().ok_or("no seat")?;

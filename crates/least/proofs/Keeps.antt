@@ -1,5 +1,5 @@
 -- Each step keeps the rule of the word.
-use Rattle.std.proofs.Common.{◌≡◌, ◌≢◌, ℕ, zero, suc, ◌<◌, ◌≤◌, List, [], ◌∷◌, get_or, set, min, sym, refl, ap, ◌∙◌, subst, inl, inr, ⊎_elim, arith, le_refl}
+use Rattle.std.proofs.Common.{◌≡◌, ◌≢◌, ℕ, zero, suc, ◌+◌, ◌<◌, ◌≤◌, List, [], ◌∷◌, get_or, set, min, sym, refl, ap, ◌∙◌, subst, inl, inr, ⊎_elim, arith, le_refl}
 use mathlib.Core.Option as option
 use native.Mathlib.Decide.{dec_le}
 use lib.ListN.{get_elem?}
@@ -9,7 +9,7 @@ use Rattle.least.specs.declared.views.JobView.{JobView}
 use Rattle.atomic_table.specs.declared.shared.Seat.{Seat}
 use Rattle.least.specs.JobBoard.{JobBoard}
 use Rattle.least.specs.Rule.{view, NoneOrWins, Fits, BoardHolds, Knows, read, lowered}
-use Rattle.least.specs.Promise.{IsBest, least_known, IsJobSeatOf, GivenUp}
+use Rattle.least.specs.Promise.{IsBest, least_known, steps, IsJobSeatOf, GivenUp}
 
 module _ {W : Type 0} (wins : W → ℕ → Type 0) where
   abbrev St : Type 0
@@ -18,12 +18,12 @@ module _ {W : Type 0} (wins : W → ℕ → Type 0) where
   abbrev M : Type 0
   M = Me (Unit {0}) (JobView W)
 
-  first_fits : (won : W) (jobs seat : ℕ) (v : JobView W) → get_elem? (view won jobs jobs ∷ []) seat ≡ option.some v → Fits wins won jobs jobs v
-  first_fits won jobs zero v e = subst (Fits wins won jobs jobs) (option.some-injective (view won jobs jobs) v e) record { set = refl; jobs = refl; above = le_refl jobs; best = inl refl }
+  first_fits : (won : W) (jobs seat : ℕ) (v : JobView W) → get_elem? (view won jobs jobs 0 ∷ []) seat ≡ option.some v → Fits wins won jobs jobs v
+  first_fits won jobs zero v e = subst (Fits wins won jobs jobs) (option.some-injective (view won jobs jobs 0) v e) record { set = refl; jobs = refl; above = le_refl jobs; best = inl refl }
   first_fits won jobs (suc seat) v e = absurd (option.some-ne-none v (sym e))
 
   -- at the start the word is the number of jobs
-  pub begins : (won : W) (jobs : ℕ) → BoardHolds wins won jobs (opening (jobs ∷ []) [] (view won jobs jobs))
+  pub begins : (won : W) (jobs : ℕ) → BoardHolds wins won jobs (opening (jobs ∷ []) [] (view won jobs jobs 0))
   begins won jobs = record { word = jobs; alone = refl; best = inl refl; each_seat = first_fits won jobs }
 
   -- what is best by the rule's own jobs is best by the seat's
@@ -32,8 +32,8 @@ module _ {W : Type 0} (wins : W → ℕ → Type 0) where
 
   -- the word falls to n, or stays, and the seat knows n
   falls : (won : W) (jobs : ℕ) (s : St) (r : BoardHolds wins won jobs s) (id : ℕ) (me : M) (n : ℕ) → get_elem? s.views id ≡ option.some me.0 → n ≤ r.word → NoneOrWins wins won jobs n
-      → BoardHolds wins won jobs (stepped s 0 n id me.1 (view me.0.wins me.0.jobs n) keeps)
-  falls won jobs s r id me n at less best = let mine = r.each_seat id me.0 at in let w : JobView W = view me.0.wins me.0.jobs n in record {
+      → BoardHolds wins won jobs (stepped s 0 n id me.1 (view me.0.wins me.0.jobs n (me.0.steps + 1)) keeps)
+  falls won jobs s r id me n at less best = let mine = r.each_seat id me.0 at in let w : JobView W = view me.0.wins me.0.jobs n (me.0.steps + 1) in record {
     word = n;
     alone = ap (λ ws. set ws 0 n) r.alone;
     best = best;
@@ -53,7 +53,7 @@ module _ {W : Type 0} (wins : W → ℕ → Type 0) where
       let n : ℕ = get_or s.words 0 0 in
       let mine = r.each_seat id me.0 at in
       let best = subst (NoneOrWins wins won jobs) is r.best in
-      (view me.0.wins me.0.jobs n, keeps, tt, falls won jobs s r id me n at (omega (arith, is)) best, ((refl, omega (arith, is, mine.above), as_known won jobs r.word n me.0 mine best), refl))
+      (view me.0.wins me.0.jobs n (me.0.steps + 1), keeps, tt, falls won jobs s r id me n at (omega (arith, is)) best, ((refl, omega (arith, is, mine.above), as_known won jobs r.word n me.0 mine best), refl))
 
   -- the lesser of two numbers, of which each is the number of jobs or a job that wins, is one too
   lesser_best : (won : W) (jobs a b : ℕ) → NoneOrWins wins won jobs a → NoneOrWins wins won jobs b → Dec (a ≤ b) → NoneOrWins wins won jobs (min a b)
@@ -68,7 +68,7 @@ module _ {W : Type 0} (wins : W → ℕ → Type 0) where
       let mine = r.each_seat id me.0 at in
       let own : NoneOrWins wins won jobs job = inr (omega (arith, inside, mine.jobs), subst (λ (z : W). wins z job) mine.set win) in
       let best = lesser_best won jobs n job (subst (NoneOrWins wins won jobs) is r.best) own (dec_le n job) in
-      (view me.0.wins me.0.jobs (min n job), keeps, tt, falls won jobs s r id me (min n job) at (omega (arith, is)) best, ((refl, omega (arith, is, mine.above), as_known won jobs r.word (min n job) me.0 mine best), refl))
+      (view me.0.wins me.0.jobs (min n job) (me.0.steps + 1), keeps, tt, falls won jobs s r id me (min n job) at (omega (arith, is)) best, ((refl, omega (arith, is, mine.above), as_known won jobs r.word (min n job) me.0 mine best), refl))
 
   pub deals_allowed : (won : W) (jobs id : ℕ) (v : JobView W) → Splits (BoardHolds wins won jobs) id v v v
   deals_allowed won jobs id v s r at = let same = set_again s.views id v at in record {
@@ -82,12 +82,12 @@ module _ {W : Type 0} (wins : W → ℕ → Type 0) where
   }
 
   -- the one word that is left at the end is the rule's
-  pub given_up : (board : JobBoard W) (seat : Seat (Unit {0}) (JobView W)) (ws : List ℕ) (xs : List (Unit {0})) (n : ℕ) → get_elem? ws 0 ≡ option.some n
+  pub given_up : (board : JobBoard W) (seat : Seat (Unit {0}) (JobView W)) (ws : List ℕ) (xs : List (Unit {0})) (n : ℕ) → get_elem? ws 0 ≡ option.some n → seat.table_id ≡ board.table
       → Final (Seen (BoardHolds wins board.wins board.jobs) seat.id seat.me.0) ws xs → GivenUp wins board seat n
-  given_up board seat ws xs n at f =
+  given_up board seat ws xs n at whose f =
       let r : BoardHolds wins board.wins board.jobs f.0 = f.1.0 in
       let is : r.word ≡ n = option.some-injective r.word n (ap (λ (l : List ℕ). get_elem? l 0) (sym r.alone ∙ f.2) ∙ at) in
-      record { state = f.0; rule = r; view = f.1.1; words = r.alone ∙ ap (λ (k : ℕ). k ∷ []) is }
+      record { state = f.0; whose = whose; rule = r; view = f.1.1; words = r.alone ∙ ap (λ (k : ℕ). k ∷ []) is }
 
   -- the word that is left is best, and no seat knows less
   pub left : (board : JobBoard W) (seat : Seat (Unit {0}) (JobView W)) (n : ℕ) → GivenUp wins board seat n → IsBest wins board n × (n ≤ least_known seat)
@@ -99,12 +99,13 @@ module _ {W : Type 0} (wins : W → ℕ → Type 0) where
 
   -- a step told the seat of n: it is still a seat of the board, and knows n
   pub still_seated : (board : JobBoard W) (before after : Seat (Unit {0}) (JobView W)) (n : ℕ) → IsJobSeatOf board before → after.table_id ≡ before.table_id → after.me.1 ≡ before.me.1 → Knows wins before.me.0 n after.me.0
-      → IsJobSeatOf board after × IsBest wins board (least_known after) × (least_known after ≤ least_known before) × (least_known after ≡ n)
+      → IsJobSeatOf board after × IsBest wins board (least_known after) × (least_known after ≤ least_known before) × (least_known after ≡ n) × (steps after ≡ steps before + 1)
   still_seated board before after n sits same out knows =
-      let is : after.me.0 ≡ view before.me.0.wins before.me.0.jobs n = knows.0 in
+      let is : after.me.0 ≡ view before.me.0.wins before.me.0.jobs n (steps before + 1) = knows.0 in
       let known : least_known after ≡ n = ap (λ (v : JobView W). v.known) is in (
         (same ∙ sits.0, out ∙ sits.1, ap (λ (v : JobView W). v.wins) is ∙ sits.2, ap (λ (v : JobView W). v.jobs) is ∙ sits.3),
         subst (λ (z : W × ℕ × ℕ). NoneOrWins wins z.0 z.1 z.2) (λ i. (sits.2 i, sits.3 i, sym known i)) knows.2,
         omega (arith, known, knows.1),
         known,
+        ap (λ (v : JobView W). v.steps) is,
       )

@@ -25,6 +25,10 @@ module _ {W : Type 0} where
   abbrev pub least_known : Seat (Unit {0}) (JobView W) → ℕ
   least_known seat = seat.me.0.known
 
+  -- how many atomic steps the caller has made
+  abbrev pub steps : Seat (Unit {0}) (JobView W) → ℕ
+  steps seat = seat.me.0.steps
+
   -- The seat is one that this board's `make` handed out. It keeps the jobs that win, and how many jobs there are
   abbrev pub IsJobSeatOf : JobBoard W → Seat (Unit {0}) (JobView W) → Type 0
   IsJobSeatOf board seat = (seat.table_id ≡ board.table) × (seat.me.1 ≡ []) × (seat.me.0.wins ≡ board.wins) × (seat.me.0.jobs ≡ board.jobs)
@@ -33,9 +37,10 @@ module _ {W : Type 0} where
   abbrev pub IsNewJobSeatOf : JobBoard W → Seat (Unit {0}) (JobView W) → Type 0
   IsNewJobSeatOf board seat = IsJobSeatOf board seat × (least_known seat ≡ board.jobs)
 
-  -- A board was given up: the rule held at the end, with the view of the seat and this word
+  -- The board of the seat was given up: the rule held at the end, with the view of the seat and this word
   pub record GivenUp (wins : W → ℕ → Type 0) (board : JobBoard W) (seat : Seat (Unit {0}) (JobView W)) (word : ℕ) : Type 0 where
     pub state : State (Unit {0}) (JobView W)
+    pub whose : seat.table_id ≡ board.table
     pub rule : BoardHolds wins board.wins board.jobs state
     pub view : get_elem? state.views seat.id ≡ option.some seat.me.0
     pub words : state.words ≡ word ∷ []

@@ -1,13 +1,13 @@
 -- The rule that holds between any two atomic steps, and what the two kinds of step tell.
-use Rattle.std.specs.Prelude.{◌≡◌, ◌⊎◌, ℕ, ◌<◌, ◌≤◌, [], ◌∷◌, min}
+use Rattle.std.specs.Prelude.{◌≡◌, ◌⊎◌, ℕ, ◌+◌, ◌<◌, ◌≤◌, [], ◌∷◌, min}
 use mathlib.Core.Option as option
 use lib.ListN.{get_elem?}
 use Rattle.atomic_table.specs.Table.{State, Me}
 use Rattle.least.specs.declared.views.JobView.{JobView}
 
--- a seat's view, by the jobs that win, how many jobs there are, and the number that it knows
-abbrev pub view : {W : Type 0} → W → ℕ → ℕ → JobView W
-view won jobs known = record { wins = won; jobs = jobs; known = known }
+-- a seat's view, by the jobs that win, how many jobs there are, the number that it knows, and how many steps it has made
+abbrev pub view : {W : Type 0} → W → ℕ → ℕ → ℕ → JobView W
+view won jobs known steps = record { wins = won; jobs = jobs; known = known; steps = steps }
 
 module _ {W : Type 0} (wins : W → ℕ → Type 0) where
   -- n is the number of jobs, or a job that wins
@@ -28,9 +28,9 @@ module _ {W : Type 0} (wins : W → ℕ → Type 0) where
     pub best : NoneOrWins won count word
     pub each_seat : (seat : ℕ) (v : JobView W) → get_elem? s.views seat ≡ option.some v → Fits won count word v
 
-  -- the seat knows n from now on
+  -- the seat knows n from now on, and has made one step more
   abbrev pub Knows : JobView W → ℕ → JobView W → Type 0
-  Knows v n v' = (v' ≡ view v.wins v.jobs n) × (n ≤ v.known) × NoneOrWins v.wins v.jobs n
+  Knows v n v' = (v' ≡ view v.wins v.jobs n (v.steps + 1)) × (n ≤ v.known) × NoneOrWins v.wins v.jobs n
 
   -- after a read the seat knows what was found
   abbrev pub read : Me (Unit {0}) (JobView W) → ℕ → Me (Unit {0}) (JobView W) → Type 0

@@ -1,6 +1,6 @@
 // The word, how it is made with its seats, lowered, asked and given up.
-ghost use Rattle.std.specs.Prelude.{◌≡◌, ℕ, ◌<◌, ◌≤◌, All, IfOk, IsErrOf, IsTrue, ◌↔◌, vec_len};
-ghost use Rattle.least.specs.Promise.{least_known, IsSize, IsJobSeatOf, IsNewJobSeatOf, JobWins, IsBest, GivenUp};
+ghost use Rattle.std.specs.Prelude.{◌≡◌, ℕ, ◌+◌, ◌<◌, ◌≤◌, All, IfOk, IsErrOf, IsTrue, ◌↔◌, vec_len};
+ghost use Rattle.least.specs.Promise.{least_known, steps, IsSize, IsJobSeatOf, IsNewJobSeatOf, JobWins, IsBest, GivenUp};
 
 use crate::fault::MakeFault;
 use crate::rule::{Deal, Lowest};
@@ -48,6 +48,7 @@ impl<W: Wins> Least<W> {
         ensures ok { IfOk result (λ r. (r.0.wins ≡ wins.now) × (r.0.jobs ≡ jobs) × (vec_len r.1 ≡ callers)) }
         ensures seats { IfOk result (λ r. All (IsNewJobSeatOf r.0) r.1.items) }
         ensures size { IsErrOf result MakeFault.Size ↔ (¬ IsSize jobs callers) }
+        ensures limits { (MOST_JOBS ≡ 512) × (MOST_CALLERS ≡ 17) }
     {
         if jobs > MOST_JOBS || callers < 1 || callers > MOST_CALLERS {
             return Err(MakeFault::Size);
@@ -69,6 +70,7 @@ impl<W: Wins> Least<W> {
         ensures lowered { least_known seat.new ≤ job }
         ensures falls { least_known seat.new ≤ least_known seat.old }
         ensures best { IsBest W.wins self.now (least_known seat.new) }
+        ensures steps { steps seat.new ≡ steps seat.old + 1 }
     {
         self.fetch_min(seat, u64::from(job));
     }
@@ -82,6 +84,7 @@ impl<W: Wins> Least<W> {
         ensures wins { IsTrue result → JobWins W.wins self.now (least_known seat.new) }
         ensures falls { least_known seat.new ≤ least_known seat.old }
         ensures best { IsBest W.wins self.now (least_known seat.new) }
+        ensures steps { steps seat.new ≡ steps seat.old + 1 }
     {
         self.read(seat) < u64::from(job)
     }

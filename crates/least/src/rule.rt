@@ -14,7 +14,7 @@ pub struct Lowest<W> {
 impl<W: Wins> TableRule<(), JobView<W>, Terms<W>> for Lowest<W> {
     ghost holds = { λ terms. BoardHolds W.wins terms.wins.value terms.jobs };
 
-    ghost first = { λ terms. view terms.wins.value terms.jobs terms.jobs };
+    ghost first = { λ terms. view terms.wins.value terms.jobs terms.jobs 0 };
 }
 
 // The word is read.

@@ -1,6 +1,6 @@
 // One function for each kind of atomic step.
-ghost use Rattle.std.specs.Prelude.{◌≡◌, ◌≤◌, min};
-ghost use Rattle.least.specs.Promise.{least_known, IsJobSeatOf, JobWins, IsBest};
+ghost use Rattle.std.specs.Prelude.{◌≡◌, ◌+◌, ◌≤◌, min};
+ghost use Rattle.least.specs.Promise.{least_known, steps, IsJobSeatOf, JobWins, IsBest};
 
 use crate::job_board::{JobSeat, Least};
 use crate::rule::{Lower, Read};
@@ -13,6 +13,7 @@ impl<W: Wins> Least<W> {
         ensures seat { IsJobSeatOf self.now seat.new }
         ensures best { IsBest W.wins self.now (least_known seat.new) }
         ensures falls { least_known seat.new ≤ least_known seat.old }
+        ensures steps { steps seat.new ≡ steps seat.old + 1 }
         ensures known { least_known seat.new ≡ result }
     {
         self.table.shared.load::<Read<W>>(seat, 0)
@@ -25,6 +26,7 @@ impl<W: Wins> Least<W> {
         ensures seat { IsJobSeatOf self.now seat.new }
         ensures best { IsBest W.wins self.now (least_known seat.new) }
         ensures falls { least_known seat.new ≤ least_known seat.old }
+        ensures steps { steps seat.new ≡ steps seat.old + 1 }
         ensures known { least_known seat.new ≡ min result job }
     {
         self.table.shared.fetch_min::<Lower<W>>(seat, 0, job)

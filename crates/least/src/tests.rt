@@ -4,7 +4,7 @@ ghost use Rattle.least.specs.Promise.{IsJobSeatOf, JobWins};
 
 use crate::{JobSeat, Least, MakeFault, Wins};
 use std::test::*;
-use std::thread::{Threads, join};
+use std::thread::{Threads, join, spawn};
 
 // One job that wins.
 #[derive(Drop)]
@@ -118,8 +118,17 @@ fn lowered_by_two<W: Wins + Send + Sync, R: Threads + Sync>(
     least.finish(seat)
 }
 
+// Whether the system gives a thread: `join` makes its calls one after another where it doesn't.
+fn starts_a_thread<R: Threads>(rt: &R) -> bool {
+    match spawn(rt, || 7u8) {
+        Ok(thread) => thread.join(rt) == 7,
+        Err(_) => false,
+    }
+}
+
 #[test]
 fn two_threads_lower(rt: HostRuntime) {
+    assert!(rt; starts_a_thread(&rt));
     for (first, second) in [(2, 4), (4, 2)] {
         let Ok((least, mut seats)) = Least::make(rt.alloc(), &Either(2, 4), 6, 2) else {
             panic!(rt; "not made")

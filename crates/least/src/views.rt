@@ -18,4 +18,6 @@ pub struct JobView<W> {
     pub jobs: u64,
     /// The number of jobs, or a job that wins. The word isn't above it.
     pub known: u64,
+    /// How many atomic steps the seat has made.
+    pub steps: u64,
 }

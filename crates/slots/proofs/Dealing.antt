@@ -1,5 +1,5 @@
 -- The table at the start, a seat that is dealt, and a seat that is told of another's calls.
-use Rattle.std.proofs.Common.{◌≡◌, ◌≢◌, ◌⊎◌, ℕ, zero, suc, ◌+◌, ◌*◌, ◌<◌, if◌then◌else◌, nat_lt, Bool, true, false, true≢false, List, [], ◌∷◌, ◌++◌, length, set, get_or, map, replicate, Some, refl, sym, ap, ◌∙◌, subst, ⊎_elim, inl, inr, arith, le_refl, length-set, length-append}
+use Rattle.std.proofs.Common.{◌≡◌, ◌≢◌, ◌⊎◌, ℕ, zero, suc, ◌+◌, ◌*◌, ◌<◌, if◌then◌else◌, nat_lt, Bool, true, false, true≢false, List, [], ◌∷◌, ◌++◌, length, set, get_or, map, replicate, Some, refl, sym, ap, ◌∙◌, subst, ⊎_elim, inl, inr, arith, le_refl, length-set, length-append, ltb-true}
 use Rattle.std.proofs.lemmas.List.{length-replicate}
 use mathlib.Core.Option as option
 use mathlib.Core.List.{map-append}
@@ -19,11 +19,13 @@ use Rattle.atomic_table.specs.Seated.{TableId}
 use Rattle.atomic_table.specs.declared.shared.Seat.{Seat}
 use Rattle.slots.specs.Promise.{IsSeatOf, IsNew, AllNew}
 use Rattle.slots.proofs.TableStep.{idle_slot}
+use Rattle.slots.proofs.Histories.{calls-front}
+use Rattle.slots.proofs.Order.{both_begin}
 use Rattle.slots.proofs.Seats.{inside, snoc_at, each_more}
 use Rattle.slots.proofs.SlotKeeps.{HalfDone, spent_kept}
 
 fits_new : (history : List Call) (seat : ℕ) (v : View) → calls_by seat history ≡ [] → Fits history seat (dealt v)
-fits_new history seat v none = record { seen = (history, refl); mine = none }
+fits_new history seat v none = record { seen = (history, refl); mine = none; once = refl }
 
 had_none : (gate : ℕ) → Had gate blank
 had_none gate = (le_refl 0, omega arith)
@@ -72,7 +74,7 @@ module _ (way : Way) (meets : List ℕ → Type 0) where
       first (suc seat) v e = absurd (option.some-ne-none v (sym e))
 
       fits : (seat : ℕ) (v : View) → get_elem? (dealer n ∷ []) seat ≡ option.some v → Fits [] seat v
-      fits zero v e = subst (Fits [] 0) (option.some-injective _ _ e) record { seen = ([], refl); mine = refl }
+      fits zero v e = subst (Fits [] 0) (option.some-injective _ _ e) record { seen = ([], refl); mine = refl; once = refl }
       fits (suc seat) v e = absurd (option.some-ne-none v (sym e))
 
       alone : (k : ℕ) (P : ℕ → Glance → Type 0) → P 0 (glance k (dealer n)) → EachSeat (glance k (dealer n) ∷ []) P
@@ -134,7 +136,7 @@ module _ (way : Way) (meets : List ℕ → Type 0) where
             (snoc_at (set s.views id left) right w j e);
         each_seat = λ j w e is. ⊎_elim
             (λ (q : get_elem? (set s.views id left) j ≡ option.some w). ⊎_elim
-            (λ (t : (j ≡ id) × (left ≡ w)). subst (λ (z : ℕ × View). z.1.seated ≡ true → Fits r.history z.0 z.1) (λ i. (sym t.0 i, t.1 i)) (λ is'. let f = r.each_seat id v at is' in record { seen = f.seen; mine = f.mine }) is)
+            (λ (t : (j ≡ id) × (left ≡ w)). subst (λ (z : ℕ × View). z.1.seated ≡ true → Fits r.history z.0 z.1) (λ i. (sym t.0 i, t.1 i)) (λ is'. let f = r.each_seat id v at is' in record { seen = f.seen; mine = f.mine; once = f.once }) is)
             (λ (t : (j ≢ id) × (get_elem? s.views j ≡ option.some w)). r.each_seat j w t.1 is)
             (at_set s.views id j left w q))
             (λ (t : (j ≡ length (set s.views id left)) × (right ≡ w)). subst (λ (z : ℕ × View). Fits r.history z.0 z.1) (λ i. (sym (t.0 ∙ same) i, t.1 i)) (fits_new r.history (length s.views) v (r.strangers (length s.views) (le_refl (length s.views)))))
@@ -153,8 +155,21 @@ module _ (way : Way) (meets : List ℕ → Type 0) where
   either_begins history x y true p q = q
   either_begins history x y false p q = p
 
+  -- the longer beginning of the history has all calls that the shorter one has all of
+  longer_once : (history x y : List Call) (seat : ℕ) (b : Bool) → nat_lt (length x) (length y) ≡ b → StartsWith history x → StartsWith history y → calls_by seat x ≡ calls_by seat history
+      → calls_by seat (if b then y else x) ≡ calls_by seat history
+  longer_once history x y seat false less p q all = all
+  longer_once history x y seat true less p q all = ⊎_elim
+      (λ (t : StartsWith x y). let e = ap (λ (l : List Call). length l) t.1 in let e' = length-append y t.0 in let small = ltb-true (length x) (length y) less in absurd (omega arith))
+      (λ (t : StartsWith y x). calls-front seat history x y t.0 q.0 t.1 q.1 all)
+      (both_begin x y p.0 q.0 (sym p.1 ∙ q.1))
+
   told_fits : (history : List Call) (seat : ℕ) (v w : View) → Fits history seat v → StartsWith history w.seen → Fits history seat (after_telling v w)
-  told_fits history seat v w f more = record { seen = either_begins history v.seen w.seen (nat_lt (length v.seen) (length w.seen)) f.seen more; mine = f.mine }
+  told_fits history seat v w f more = record {
+    seen = either_begins history v.seen w.seen (nat_lt (length v.seen) (length w.seen)) f.seen more;
+    mine = f.mine;
+    once = longer_once history v.seen w.seen seat (nat_lt (length v.seen) (length w.seen)) refl f.seen more (f.once ∙ sym f.mine) ∙ f.mine;
+  }
 
   -- two seats change: one is told, the other is spent
   told_slot : (there : Way) (history : List Call) (gate : ℕ) (words : List ℕ) (seats : List Glance) → SlotHolds there meets history gate words seats → (id other : ℕ) (g spent : Glance)

@@ -12,4 +12,5 @@ pub mod ReadSteps
 pub mod Order
 pub mod Along
 pub mod Dealing
+pub mod Telling
 pub mod Grows

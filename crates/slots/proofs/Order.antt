@@ -3,15 +3,16 @@ use Rattle.std.proofs.Common.{◌≡◌, ◌⊎◌, ℕ, zero, suc, ◌+◌, ◌
 use mathlib.Core.Option as option
 use lib.ListN.{get_elem?}
 use Rattle.atomic_table.specs.Table.{Final, Seen}
+use Rattle.atomic_table.specs.Seated.{TableId}
 use Rattle.atomic_table.specs.declared.shared.Seat.{Seat}
 use Rattle.slots.specs.declared.calls.Call.{Call}
 use Rattle.slots.specs.declared.views.View.{View}
 use Rattle.slots.specs.Machine.{Way}
 use Rattle.slots.specs.Rule.{StartsWith, TableHolds}
-use Rattle.slots.specs.Promise.{InOneOrder, GivenUp}
+use Rattle.slots.specs.Promise.{slots_of, InOneOrder, GivenUp}
 
 -- of two beginnings of one list, one begins the other
-both_begin : (xs ys more more' : List Call) → xs ++ more ≡ ys ++ more' → StartsWith xs ys ⊎ StartsWith ys xs
+pub both_begin : (xs ys more more' : List Call) → xs ++ more ≡ ys ++ more' → StartsWith xs ys ⊎ StartsWith ys xs
 both_begin [] ys more more' e = inr (ys, refl)
 both_begin (x ∷ xs) [] more more' e = inl (x ∷ xs, refl)
 both_begin (x ∷ xs) (y ∷ ys) more more' e = let head : x ≡ y = cc in let tail : xs ++ more ≡ ys ++ more' = cc in
@@ -26,11 +27,13 @@ word_is [] i x e = absurd (option.some-ne-none x (sym e))
 word_is (y ∷ ys) zero x e = sym (option.some-injective y x e)
 word_is (y ∷ ys) (suc i) x e = word_is ys i x e
 
-pub given_up : (way : Way) (meets : List ℕ → Type 0) (count slots : ℕ) (words values : List ℕ) (seat : Seat ℕ View) (slot a b c d : ℕ) → count ≡ slots → Final (Seen (TableHolds way meets count) seat.id seat.me.0) words values
+pub given_up : (way : Way) (meets : List ℕ → Type 0) (count : ℕ) (table : TableId) (words values : List ℕ) (seat : Seat ℕ View) (slot a b c d : ℕ) → count ≡ slots_of table → 4 * count ≡ table.words → seat.table_id ≡ table → Final (Seen (TableHolds way meets count) seat.id seat.me.0) words values
     → get_elem? words (4 * slot) ≡ option.some a → get_elem? words (4 * slot + 1) ≡ option.some b → get_elem? words (4 * slot + 2) ≡ option.some c → get_elem? words (4 * slot + 3) ≡ option.some d
-    → GivenUp way meets slots seat slot (a ∷ b ∷ c ∷ d ∷ [])
-given_up way meets count slots words values seat slot a b c d same final p q r t = record {
+    → GivenUp way meets table seat slot (a ∷ b ∷ c ∷ d ∷ [])
+given_up way meets count table words values seat slot a b c d same all whose final p q r t = record {
   state = final.0;
+  whose = whose;
+  wide = final.1.0.wide ∙ all;
   rule = subst (λ n. TableHolds way meets n final.0) same final.1.0;
   view = final.1.1;
   words = λ i. (word_is words (4 * slot) a p ∙ ap (λ l. get_or l (4 * slot) 0) (sym final.2)) i

@@ -67,7 +67,7 @@ pub stays : (history : List Call) (id k : ℕ) (v w : View) → w.seen ≡ v.see
 stays history id k v w seen mine f = record {
   parts = λ _ _. refl;
   others = λ _ _ _ g. g;
-  own = λ is. let g = f is in record { seen = (g.seen.0, g.seen.1 ∙ ap (λ l. l ++ g.seen.0) (sym seen)); mine = g.mine ∙ sym mine };
+  own = λ is. let g = f is in record { seen = (g.seen.0, g.seen.1 ∙ ap (λ l. l ++ g.seen.0) (sym seen)); mine = g.mine ∙ sym mine; once = ap (calls_by id) seen ∙ (g.once ∙ sym mine) };
   strangers = λ _ _ g. g;
 }
 
@@ -79,8 +79,8 @@ longer_by history k act v = record { seen = history ++ call k v.number act ∷ [
 pub grows : (history : List Call) (id k : ℕ) (act : Act) (n : Note) (v : View) → v.number ≡ id → Fits history id v → Onward history (history ++ call k v.number act ∷ []) id k (ended k n (longer_by history k act v) v)
 grows history id k act n v e f = let c : Call = call k v.number act in record {
   parts = λ j ne. part-other j history c (λ is. ne (sym is));
-  others = λ j u ne g. record { seen = (g.seen.0 ++ c ∷ [], ap (λ l. l ++ c ∷ []) g.seen.1 ∙ append_assoc u.seen g.seen.0 (c ∷ [])); mine = calls-other j history c (λ is. ne (sym is ∙ e)) ∙ g.mine };
-  own = λ _. record { seen = ([], sym (append-nil (history ++ c ∷ []))); mine = calls-own k v.number id e history act ∙ ap (λ l. l ++ c ∷ []) f.mine };
+  others = λ j u ne g. record { seen = (g.seen.0 ++ c ∷ [], ap (λ l. l ++ c ∷ []) g.seen.1 ∙ append_assoc u.seen g.seen.0 (c ∷ [])); mine = calls-other j history c (λ is. ne (sym is ∙ e)) ∙ g.mine; once = g.once };
+  own = λ _. record { seen = ([], sym (append-nil (history ++ c ∷ []))); mine = calls-own k v.number id e history act ∙ ap (λ l. l ++ c ∷ []) f.mine; once = calls-own k v.number id e history act ∙ ap (λ l. l ++ c ∷ []) f.mine };
   strangers = λ j ne g. calls-other j history c (λ is. ne (sym is ∙ e)) ∙ g;
 }
 
@@ -167,6 +167,10 @@ module _ (way : Way) (meets : List ℕ → Type 0) (n : ℕ) where
       (subst (λ (g : Glance). SlotHolds (way_at k way) meets (part k r.history) (gate_at k s.words) (words_at k s.words) (set (map (glance k) s.views) id g)) (sym (halfway_here k h v))
       (half_kept (way_at k way) meets (part k r.history) (gate_at k s.words) (words_at k s.words) (map (glance k) s.views) (r.each_slot k lt) id (glance k v) (at_map (glance k) s.views id v at) h done))
 
+  -- the history is legal at each slot
+  pub legal_at : (s : St) (r : Rule s) (j : ℕ) → IsLegal (way_at j way) (part j r.history)
+  legal_at s r j = dite (dec_le n j) (λ out. subst (IsLegal (way_at j way)) (sym (r.beyond j out)) tt) (λ inn. (r.each_slot j (lt_of_not-le inn)).reads.legal)
+
   -- the table's history after a call at the slot k
   pub adds : (s : St) (r : Rule s) (id k : ℕ) (v : View) (lt : k < n) → get_elem? s.views id ≡ option.some v → v.seated ≡ true → (act : Act) → MayReply (way_at k way) (run fresh (part k r.history)) act
       → Adds way k v.number act v.seen v.mine (r.history ++ call k v.number act ∷ []) (v.mine ++ call k v.number act ∷ [])
@@ -179,9 +183,6 @@ module _ (way : Way) (meets : List ℕ → Type 0) (n : ℕ) where
     own = refl;
     once = subst (λ (z : ℕ). calls_by z (r.history ++ c ∷ []) ≡ v.mine ++ c ∷ []) (sym number) (calls-own k v.number id number r.history act ∙ ap (λ l. l ++ c ∷ []) f.mine);
   }
-    where
-      legal_at : (s : St) (r : Rule s) (j : ℕ) → IsLegal (way_at j way) (part j r.history)
-      legal_at s r j = dite (dec_le n j) (λ out. subst (IsLegal (way_at j way)) (sym (r.beyond j out)) tt) (λ inn. (r.each_slot j (lt_of_not-le inn)).reads.legal)
 
   -- a call ends, and no word changes
   pub stops : (s : St) (r : Rule s) (i id k : ℕ) (v : View) (cs : List (ℕ × ℕ)) (lt : k < n) → get_elem? s.views id ≡ option.some v → IsAt k v → v.seated ≡ true → length v.notes ≡ n

@@ -12,7 +12,7 @@ use Rattle.slots.specs.declared.views.Half.TheVariants.{Idle}
 use Rattle.slots.specs.declared.views.View.{View}
 use Rattle.slots.specs.Machine.{Way, IsLegal, stores, calls_by, part, call}
 use Rattle.slots.specs.Rule.{note, blank, StartsWith, way_at, gate_at, words_at, TableHolds}
-use Rattle.slots.specs.Steps.{Adds}
+use Rattle.slots.specs.Steps.{Adds, Recalls}
 
 -- how many slots a table has
 abbrev pub slots_of : TableId → ℕ
@@ -76,10 +76,12 @@ abbrev pub InOneOrder : Way → (List ℕ → Type 0) → ℕ → Type 0
 InOneOrder way meets slots = (s : State ℕ View) → TableHolds way meets slots s → (i j : ℕ) (v w : View) → get_elem? s.views i ≡ option.some v → get_elem? s.views j ≡ option.some w
     → v.seated ≡ true → w.seated ≡ true → StartsWith v.seen w.seen ⊎ StartsWith w.seen v.seen
 
--- A table was given up: the rule held at the end, with the view of the seat and these four words of the slot
-pub record GivenUp (way : Way) (meets : List ℕ → Type 0) (slots : ℕ) (seat : Seat ℕ View) (slot : ℕ) (found : List ℕ) : Type 0 where
+-- The table of the seat was given up: its words met the rule at the end, with the view of the seat, and these are four of them, those of the slot
+pub record GivenUp (way : Way) (meets : List ℕ → Type 0) (table : TableId) (seat : Seat ℕ View) (slot : ℕ) (found : List ℕ) : Type 0 where
   pub state : State ℕ View
-  pub rule : TableHolds way meets slots state
+  pub whose : seat.table_id ≡ table
+  pub wide : length state.words ≡ table.words
+  pub rule : TableHolds way meets (slots_of table) state
   pub view : get_elem? state.views seat.id ≡ option.some seat.me.0
   pub words : found ≡ gate_at slot state.words ∷ words_at slot state.words
 
@@ -98,10 +100,20 @@ pub record Called (way : Way) (slot : ℕ) (act : Act) (before after : Seat ℕ 
   pub call : AddsHere way slot (number before) act (seen slot before) (mine slot before) (seen slot after) (mine slot after)
   pub others : (k : ℕ) → k ≢ slot → Stays way k before after
 
+-- The gate of the slot had the number: it rises by one at a time, and has come so far wherever the rule holds with what the seat knows
+abbrev pub GateHad : Way → (List ℕ → Type 0) → TableId → ℕ → Seat ℕ View → ℕ → Type 0
+GateHad way meets table slot seat n = (s : State ℕ View) → TableHolds way meets (slots_of table) s → get_elem? s.views seat.id ≡ option.some seat.me.0 → seat.me.0.seated ≡ true
+    → n ≤ gate_at slot s.words
+
 -- A store had been begun that the caller hadn't seen done: the gate had the number low, and then high
-abbrev pub HasCause : ℕ → Seat ℕ View → Seat ℕ View → Type 0
-HasCause slot before after = let low = (known slot after).low in let high = (known slot after).high in
+abbrev pub HasCause : Way → (List ℕ → Type 0) → TableId → ℕ → Seat ℕ View → Seat ℕ View → Type 0
+HasCause way meets table slot before after = let low = (known slot after).low in let high = (known slot after).high in
     (2 * stores (seen slot before) ≤ low) × (low ≤ high) × ((low % 2 ≡ 1) ⊎ (low < high)) × (stores (seen slot after) ≡ high / 2)
+    × GateHad way meets table slot after low × GateHad way meets table slot after high
+
+-- what the caller has seen is legal at each slot, and has all of its own calls, each once and in their order
+abbrev pub KnowsHistory : Way → Seat ℕ View → Type 0
+KnowsHistory way seat = Recalls way seat.me.0
 
 -- a seat that has seen and called nothing, the k-th of those that the table handed out
 abbrev pub IsNew : TableId → ℕ → Seat ℕ View → Type 0

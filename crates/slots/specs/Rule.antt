@@ -75,10 +75,11 @@ pub record SlotHolds (way : Way) (meets : List ℕ → Type 0) (history : List C
   pub claim : ClaimHolds meets history gate words seats
   pub reads : ReadsHold way history gate words seats
 
--- what a seated caller has seen begins the table's history, and its calls there are its own
+-- what a seated caller has seen begins the table's history, and its calls there are its own. All of them stand in what it has seen
 pub record Fits (history : List Call) (seat : ℕ) (v : View) : Type 0 where
   pub seen : StartsWith history v.seen
   pub mine : calls_by seat history ≡ v.mine
+  pub once : calls_by seat v.seen ≡ v.mine
 
 -- words are preferred in slots of even number alone
 abbrev pub way_at : ℕ → Way → Way

@@ -31,7 +31,7 @@ impl<L: Lore> Slots<L> {
         ensures seat { IsSeatOf self.now seat.new × (seat.new.id ≡ seat.old.id) }
         ensures call { Called (way_of L.key L.prefers) slot (Asked key result) seat.old seat.new }
         ensures hit { HitFits L.key L.meets (Asked key result) }
-        ensures busy { result ≡ Probe.Busy → HasCause slot seat.old seat.new }
+        ensures busy { result ≡ Probe.Busy → HasCause (way_of L.key L.prefers) L.meets self.now slot seat.old seat.new }
         ensures steps { steps seat.new ≤ steps seat.old + 5 }
     {
         self.probe_with(seat, slot, key, &mut NoPause)
@@ -50,7 +50,7 @@ impl<L: Lore> Slots<L> {
         ensures seat { IsSeatOf self.now seat.new × (seat.new.id ≡ seat.old.id) }
         ensures call { Called (way_of L.key L.prefers) slot (Asked key result) seat.old seat.new }
         ensures hit { HitFits L.key L.meets (Asked key result) }
-        ensures busy { result ≡ Probe.Busy → HasCause slot seat.old seat.new }
+        ensures busy { result ≡ Probe.Busy → HasCause (way_of L.key L.prefers) L.meets self.now slot seat.old seat.new }
         ensures steps { steps seat.new ≤ steps seat.old + 5 }
     {
         let gate = self.begin::<Brand>(seat, slot, key);

@@ -2,14 +2,14 @@
 ghost use Rattle.std.specs.Prelude.{◌≡◌, ℕ, ◌+◌, ◌^◌, ◌<◌, ◌≤◌, ◌%◌, [], ◌∷◌, length, true, List};
 ghost use Rattle.slots.specs.declared.calls.Act.TheVariants.{Asked, Offered};
 ghost use Rattle.slots.specs.declared.views.Half.TheVariants.{Reading, Writing};
-ghost use Rattle.slots.specs.Steps.{begun, offered, read, looked, claimed, written, published, Along, IsAnswer, Yields};
-ghost use Rattle.slots.specs.Rule.{way_at};
+ghost use Rattle.slots.specs.Steps.{begun, offered, read, looked, claimed, written, published, confirmed, Along, IsAnswer, Yields};
+ghost use Rattle.slots.specs.Rule.{way_at, after_telling};
 ghost use Rattle.slots.specs.Promise.{way_of, slots_of, IsTaken, IsSeatOf};
 
 use crate::calls::{Probe, Store};
 use crate::lore::Lore;
 use crate::pause::Pause;
-use crate::plays::{Begin, Claim, Look, Offer, Publish, Read, Told, Write};
+use crate::plays::{Begin, Claim, Confirm, Look, Offer, Publish, Read, Tell, Told, Write};
 use crate::table::{Seat, Slots};
 
 impl<L: Lore> Slots<L> {
@@ -119,6 +119,24 @@ impl<L: Lore> Slots<L> {
         self.table
             .shared
             .store::<Publish<K, L>>(seat, 4 * slot, gate + 2);
+    }
+
+    // The first seat takes in what the second one has seen, and the second is spent.
+    pub(crate) fn join(&self, seat: &mut Seat, other: Seat)
+        requires { IsSeatOf self.now seat.old × IsSeatOf self.now other }
+        ensures seat { IsSeatOf self.now seat.new × (seat.new.id ≡ seat.old.id) }
+        ensures step { seat.new.me.0 ≡ after_telling seat.old.me.0 other.me.0 }
+    {
+        self.table.shared.join_seat::<Tell>(seat, other);
+    }
+
+    // Reads a word, for what the rule then says to the seat.
+    pub(crate) fn confirm(&self, seat: &mut Seat)
+        requires { IsSeatOf self.now seat.old }
+        ensures seat { IsSeatOf self.now seat.new × (seat.new.id ≡ seat.old.id) }
+        ensures step { confirmed (way_of L.key L.prefers) seat.old.me seat.new.me }
+    {
+        self.table.shared.load::<Confirm<L>>(seat, 0);
     }
 
     // The three words, with a pause after each.

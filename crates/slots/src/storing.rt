@@ -22,7 +22,7 @@ impl<L: Lore> Slots<L> {
         requires lore { L.meets words }
         ensures seat { IsSeatOf self.now seat.new × (seat.new.id ≡ seat.old.id) }
         ensures call { Called (way_of L.key L.prefers) slot (Offered words result) seat.old seat.new }
-        ensures busy { result ≡ Store.Busy → HasCause slot seat.old seat.new }
+        ensures busy { result ≡ Store.Busy → HasCause (way_of L.key L.prefers) L.meets self.now slot seat.old seat.new }
         ensures steps { steps seat.new ≤ steps seat.old + 9 }
         ensures odd_steps { slot % 2 ≡ 1 → steps seat.new ≤ steps seat.old + 6 }
     {
@@ -69,7 +69,7 @@ impl<L: Lore> Slots<L> {
         requires lore { L.meets words }
         ensures seat { IsSeatOf self.now seat.new × (seat.new.id ≡ seat.old.id) }
         ensures call { Called (way_of L.key L.prefers) slot (Offered words result) seat.old seat.new }
-        ensures busy { result ≡ Store.Busy → HasCause slot seat.old seat.new }
+        ensures busy { result ≡ Store.Busy → HasCause (way_of L.key L.prefers) L.meets self.now slot seat.old seat.new }
         ensures steps { steps seat.new ≤ steps seat.old + 9 }
         ensures odd_steps { slot % 2 ≡ 1 → steps seat.new ≤ steps seat.old + 6 }
     {

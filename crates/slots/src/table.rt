@@ -3,11 +3,11 @@ ghost use Rattle.std.specs.Prelude.{◌≡◌, ℕ, ◌+◌, ◌*◌, ◌^◌, �
 ghost use Rattle.slots.specs.declared.calls.Call.{Call};
 ghost use Rattle.atomic_table.specs.Seated.{TableId};
 ghost use Rattle.slots.specs.Rule.{dealer, longer};
-ghost use Rattle.slots.specs.Promise.{way_of, slots_of, number, known, all_seen, all_mine, IsSize, AddsToOne, InOneOrder, GivenUp, IsSeatOf, AllNew};
+ghost use Rattle.slots.specs.Promise.{way_of, slots_of, number, known, all_seen, all_mine, steps, IsSize, KnowsHistory, AddsToOne, InOneOrder, GivenUp, IsSeatOf, AllNew};
 
 use crate::fault::MakeFault;
 use crate::lore::Lore;
-use crate::plays::{Deal, Tell};
+use crate::plays::Deal;
 use crate::rule::Slotted;
 use crate::views::View;
 use atomic_table::Table;
@@ -48,6 +48,7 @@ impl<L: Lore> Slots<L> {
         ensures ok { IfOk result (λ r. (slots_of r.0 ≡ slots) × (vec_len r.1 ≡ callers) × AllNew r.0 r.1.items) }
         ensures seats { IfOk result (λ r. All (IsSeatOf r.0) r.1.items) }
         ensures size { IsErrOf result MakeFault.Size ↔ (¬ IsSize slots callers) }
+        ensures limits { (MOST_SLOTS ≡ 1048576) × (MOST_CALLERS ≡ 17) }
     {
         if slots < 1 || slots > MOST_SLOTS || callers < 1 || callers > MOST_CALLERS {
             return Err(MakeFault::Size);
@@ -70,15 +71,18 @@ impl<L: Lore> Slots<L> {
     }
 
     /// The first seat then has seen what either had seen, and the second is spent. No call is added
-    /// to the history.
+    /// to the history. One word is read, for what the rule says of it to that seat.
     pub fn tell(&self, seat: &mut Seat, other: Seat)
         requires seat { IsSeatOf self.now seat.old }
         requires other { IsSeatOf self.now other }
         ensures seat { IsSeatOf self.now seat.new × (seat.new.id ≡ seat.old.id) × (number seat.new ≡ number seat.old) }
         ensures told { all_seen seat.new ≡ longer (all_seen seat.old) (all_seen other) }
         ensures mine { (all_mine seat.new ≡ all_mine seat.old) × ((slot : ℕ) → known slot seat.new ≡ known slot seat.old) }
+        ensures history { KnowsHistory (way_of L.key L.prefers) seat.new }
+        ensures steps { steps seat.new ≡ steps seat.old + 2 }
     {
-        self.table.shared.join_seat::<Tell>(seat, other);
+        self.join(seat, other);
+        self.confirm(seat);
     }
 
     /// Gives the table up, and answers the four words of a slot: its gate, and its entry. They met
@@ -86,7 +90,7 @@ impl<L: Lore> Slots<L> {
     pub fn close(self, seat: Seat, slot: usize) -> [u64; 4]
         requires seat { IsSeatOf self seat }
         requires slot { slot < slots_of self }
-        ensures rule { GivenUp (way_of L.key L.prefers) L.meets (slots_of self) seat slot result }
+        ensures rule { GivenUp (way_of L.key L.prefers) L.meets self seat slot result }
         ensures order { InOneOrder (way_of L.key L.prefers) L.meets (slots_of self) }
         ensures law { (history : List Call) (c : Call) → AddsToOne history c }
     {

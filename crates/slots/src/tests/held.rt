@@ -8,7 +8,7 @@ use crate::{Act, Lore, Pause, Probe, Seat, Slots, Store};
 use std::alloc::Global;
 use std::process::Abort;
 
-// The other caller, who probes the key of `PLAIN` and then offers words after so many steps of the first one.
+// The other caller, who probes the key of `PLAIN`, or doesn't, and then offers words after so many steps of the first one.
 #[derive(Drop)]
 struct Meddler<'a> {
     slots: &'a Slots<Bounded>,
@@ -16,6 +16,7 @@ struct Meddler<'a> {
     slot: usize,
     words: [u64; 3],
     after: u8,
+    probes: bool,
     probed: Option<Probe>,
     stored: Option<Store>,
     ghost seated: { IsSeatOf slots.now seat },
@@ -37,7 +38,9 @@ impl Meddler<'_> {
 impl Pause for Meddler<'_> {
     fn at(&mut self, done: u8) {
         if done == self.after {
-            self.probed = Some(self.probe());
+            if self.probes {
+                self.probed = Some(self.probe());
+            }
             self.stored = Some(self.store());
         }
     }
@@ -71,6 +74,7 @@ fn hold_store(
         slot,
         words,
         after,
+        probes: true,
         probed: None,
         stored: None,
     };
@@ -183,14 +187,15 @@ fn the_same_entry_is_offered_under_a_claim(rt: HostRuntime) {
     comes_between(&rt, rt.alloc(), 1, PLAIN, 2);
 }
 
-// A probe of a stored entry, held after so many steps while the other caller offers words.
+// A probe of a stored entry, held after so many steps while the other caller offers words, with a probe before or with none. And its next probe.
 fn hold_probe(
     slots: &Slots<Bounded>,
     mut seat: Seat,
     other: Seat,
     slot: usize,
     after: u8,
-) -> (Probe, Option<Store>)
+    probes: bool,
+) -> Answers<Probe>
     requires first { IsSeatOf slots.now seat }
     requires second { IsSeatOf slots.now other }
     requires room { slot < slots_of slots.now }
@@ -202,14 +207,27 @@ fn hold_probe(
         slot,
         words: OTHER,
         after,
+        probes,
         probed: None,
         stored: None,
     };
     let held = slots.probe_with(&mut seat, slot, Bounded::key_of(PLAIN), &mut meddler);
-    (held, meddler.stored)
+    let next = slots.probe(&mut seat, slot, Bounded::key_of(PLAIN));
+    Answers {
+        probed: meddler.probed,
+        stored: meddler.stored,
+        held,
+        next,
+    }
 }
 
-fn held_probe(rt: &impl Abort, alloc: Global, slot: usize, after: u8) -> (Probe, Option<Store>)
+fn held_probe(
+    rt: &impl Abort,
+    alloc: Global,
+    slot: usize,
+    after: u8,
+    probes: bool,
+) -> Answers<Probe>
     requires { slot < 2 }
 {
     let Ok((slots, mut seats)) = Slots::<Bounded>::make(alloc, 2, 2) else {
@@ -221,27 +239,65 @@ fn held_probe(rt: &impl Abort, alloc: Global, slot: usize, after: u8) -> (Probe,
     let Some(other) = seats.pop() else {
         panic!(rt; "one seat")
     };
-    hold_probe(&slots, seat, other, slot, after)
+    hold_probe(&slots, seat, other, slot, after, probes)
+}
+
+// The other caller's store came before the probe's second read of the gate.
+fn store_comes_between(rt: &impl Abort, alloc: Global, slot: usize, after: u8, probes: bool)
+    requires { slot < 2 }
+{
+    let answers = held_probe(rt, alloc, slot, after, probes);
+    let wanted = Answers {
+        probed: if probes {
+            Some(Probe::Hit(PLAIN))
+        } else {
+            None
+        },
+        stored: Some(Store::Stored),
+        held: Probe::Busy,
+        next: Probe::Other,
+    };
+    assert!(rt; answers == wanted);
+}
+
+// No store came before it.
+fn no_store_comes(rt: &impl Abort, alloc: Global, slot: usize)
+    requires { slot < 2 }
+{
+    let answers = held_probe(rt, alloc, slot, 5, false);
+    let wanted = Answers {
+        probed: None,
+        stored: None,
+        held: Probe::Hit(PLAIN),
+        next: Probe::Hit(PLAIN),
+    };
+    assert!(rt; answers == wanted);
 }
 
 #[test]
 fn a_probe_is_held(rt: HostRuntime) {
-    let key = Bounded::key_of(PLAIN);
     for slot in 0..2 {
         for after in 1..5 {
-            assert!(rt;
-                held_probe(&rt, rt.alloc(), slot, after) == (Probe::Busy, Some(Store::Stored))
-            );
+            store_comes_between(&rt, rt.alloc(), slot, after, false);
+            store_comes_between(&rt, rt.alloc(), slot, after, true);
         }
-        assert!(rt; held_probe(&rt, rt.alloc(), slot, 5) == (Probe::Hit(PLAIN), None));
+        no_store_comes(&rt, rt.alloc(), slot);
+    }
+}
+
+#[test]
+fn the_calls_round_a_held_probe_are_a_run(rt: HostRuntime) {
+    let key = Bounded::key_of(PLAIN);
+    for even in [true, false] {
         assert!(rt;
             is_run(
-                slot % 2 == 0,
+                even,
                 &[
                     Act::Offered(PLAIN, Store::Stored),
                     Act::Asked(key, Probe::Hit(PLAIN)),
                     Act::Offered(OTHER, Store::Stored),
                     Act::Asked(key, Probe::Busy),
+                    Act::Asked(key, Probe::Other),
                 ]
             )
         );
@@ -268,6 +324,7 @@ fn hold_kept(
         slot: 0,
         words,
         after,
+        probes: true,
         probed: None,
         stored: None,
     };

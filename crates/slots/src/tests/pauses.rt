@@ -6,17 +6,24 @@ use crate::tests::triples::Triples;
 use crate::{Pause, Probe, Seat, Slots, Store};
 use std::process::Abort;
 
-// The last number that it was told, and how often it was told one.
+// How often it was told a number, and whether each was the next one from 1 on.
 #[derive(Drop)]
 struct Count {
-    last: u8,
     calls: u8,
+    in_order: bool,
 }
 
 impl Pause for Count {
     fn at(&mut self, done: u8) {
-        self.last = done;
         self.calls = self.calls.saturating_add(1);
+        self.in_order = self.in_order && done == self.calls;
+    }
+}
+
+fn none_yet() -> Count {
+    Count {
+        calls: 0,
+        in_order: true,
     }
 }
 
@@ -25,9 +32,9 @@ fn counted_store(rt: &impl Abort, slots: &Slots<Triples>, seat: &mut Seat, slot:
     requires room { slot < slots_of slots.now }
     ensures { IsSeatOf slots.now seat.new }
 {
-    let mut count = Count { last: 0, calls: 0 };
+    let mut count = none_yet();
     assert!(rt; slots.store_with(seat, slot, [5, 6, 7], &mut count) == Store::Stored);
-    assert!(rt; count.last == most && count.calls == most);
+    assert!(rt; count.in_order && count.calls == most);
 }
 
 fn counted(rt: &impl Abort, slots: &Slots<Triples>, mut seat: Seat)
@@ -36,12 +43,12 @@ fn counted(rt: &impl Abort, slots: &Slots<Triples>, mut seat: Seat)
 {
     counted_store(rt, slots, &mut seat, 0, 8);
     counted_store(rt, slots, &mut seat, 1, 5);
-    let mut probe = Count { last: 0, calls: 0 };
+    let mut probe = none_yet();
     assert!(rt; slots.probe_with(&mut seat, 0, [1, 0, 0], &mut probe) == Probe::Hit([5, 6, 7]));
-    assert!(rt; probe.last == 4 && probe.calls == 4);
-    let mut kept = Count { last: 0, calls: 0 };
+    assert!(rt; probe.in_order && probe.calls == 4);
+    let mut kept = none_yet();
     assert!(rt; slots.store_with(&mut seat, 0, [4, 5, 6], &mut kept) == Store::Kept([5, 6, 7]));
-    assert!(rt; kept.last == 4 && kept.calls == 4);
+    assert!(rt; kept.in_order && kept.calls == 4);
 }
 
 #[test]

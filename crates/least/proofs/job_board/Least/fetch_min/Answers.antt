@@ -15,4 +15,4 @@ fetch_min-requires g c =
 
 pub returns : goal.returns
 returns g c = let e = c.fetch_min.ensures in let s = still_seated g.W.Wins.wins c.args.self.now c.args.seat.now c.fetch_min.new.seat _ c.requires.seat e.0 e.2.1 e.2.0 in
-    record { seat = s.0; best = s.1; falls = s.2; known = s.3 }
+    record { seat = s.0; best = s.1; falls = s.2; known = s.3; steps = s.4 }

@@ -8,4 +8,4 @@ load-requires g c = let one = c.self.invariant.0 in (c.requires.0 âˆ™ sym (ap (Î
 
 pub returns : goal.returns
 returns g c = let e = c.load.ensures in let s = still_seated g.W.Wins.wins c.args.self.now c.args.seat.now c.load.new.seat _ c.requires e.0 e.2.1 e.2.0 in
-    record { seat = s.0; best = s.1; falls = s.2; known = s.3 }
+    record { seat = s.0; best = s.1; falls = s.2; known = s.3; steps = s.4 }

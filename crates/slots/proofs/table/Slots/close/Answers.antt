@@ -6,7 +6,7 @@ use Rattle.slots.proofs.table.Slots.close.Goals as goal
 
 pub returns-clause-rule : goal.returns-clause-rule
 returns-clause-rule g c = let inv = c.self.invariant in let words = ap (λ (z : TableId). z.words) c.self.view_is in let size = inv.0 in let key = inv.1 in
-    given_up _ _ _ _ _ _ c.args.seat c.args.slot _ _ _ _ (omega arith) c.close_with-closed.ensures.values.2 c.word-gate.ensures c.word-first.ensures c.word-second.ensures c.word-third.ensures
+    given_up _ _ _ c.args.self _ _ c.args.seat c.args.slot _ _ _ _ (omega arith) (omega arith) c.requires.seat.0.0 c.close_with-closed.ensures.values.2 c.word-gate.ensures c.word-first.ensures c.word-second.ensures c.word-third.ensures
 
 pub returns-clause-order : goal.returns-clause-order
 returns-clause-order g c = in_one_order _ _ _

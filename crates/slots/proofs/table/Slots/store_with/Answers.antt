@@ -1,4 +1,5 @@
-use Rattle.std.proofs.Common.{arith}
+use Rattle.std.proofs.Common.{arith, rules}
+use Rattle.slots.proofs.Telling.{has_cause}
 use Rattle.slots.proofs.Along.{along_first, along_more, done_first, done_last, done_more, called, busy_ends, has_room}
 use Rattle.slots.proofs.table.Slots.store_with.Goals as goal
 
@@ -33,3 +34,15 @@ returns-clause-call g c = let odd = c.if-gate-eq1.false in let low = c.if-gate.f
     let one = along_first _ _ c.args.seat.now.me.0 c.offer-gate.new.seat.me.0 (c.offer-gate.ensures.step.2 (omega arith) (omega arith)) in
     let all = along_more _ _ _ _ _ c.args.seat.now.me.0 c.offer-gate.new.seat.me.0 c.gather-got.new.seat.me.0 one (c.gather-got.ensures.half _ one.half) in
     called _ _ _ _ c.args.seat.now c.put-2.new.seat (done_more _ _ _ _ _ _ c.args.seat.now.me.0 c.gather-got.new.seat.me.0 c.put-2.new.seat.me.0 all c.put-2.ensures.call)
+
+pub returns-then-gate-eq1-clause-busy : goal.returns-then-gate-eq1-clause-busy
+returns-then-gate-eq1-clause-busy g c = λ _. has_cause _ _ c.args.self.now c.args.slot c.args.seat.now c.offer-gate.new.seat c.requires.slot (search rules)
+
+pub returns-then-slot-eq1-clause-busy : goal.returns-then-slot-eq1-clause-busy
+returns-then-slot-eq1-clause-busy g c = λ is. has_cause _ _ c.args.self.now c.args.slot c.args.seat.now c.put.new.seat c.requires.slot (search rules)
+
+pub returns-else-last-gate-clause-busy : goal.returns-else-last-gate-clause-busy
+returns-else-last-gate-clause-busy g c = λ _. has_cause _ _ c.args.self.now c.args.slot c.args.seat.now c.keep-last.new.seat c.requires.slot (search rules)
+
+pub returns-clause-busy : goal.returns-clause-busy
+returns-clause-busy g c = λ is. has_cause _ _ c.args.self.now c.args.slot c.args.seat.now c.put-2.new.seat c.requires.slot (search rules)
