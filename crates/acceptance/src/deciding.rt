@@ -1,7 +1,7 @@
 //! Decisions over small tables.
 use crate::tables::{Table, learnt, nothing_of, position};
+use decision::{Never, Stop};
 use moves::Goal;
-use decision::Stop;
 use slots::{Probe, Store};
 
 const CORNERED: &str = "k5/6/2K3/6/6/1R4 w";
@@ -70,24 +70,22 @@ fn an_even_slot_keeps_what_is_worth_more(rt: HostRuntime) {
     assert!(rt; table.store(&rt, 1, nothing) == Store::Stored);
 }
 
-// Never tells to stop.
-#[derive(Drop)]
-struct Never;
-
-impl Stop for Never {
-    fn is_set(&self) -> bool {
-        false
-    }
-}
-
 // Tells to stop at once.
 #[derive(Drop)]
 struct AtOnce;
 
 impl Stop for AtOnce {
-    fn is_set(&self) -> bool {
+    ghost told = { λ _. Unit {0} };
+
+    ghost stays = { λ _ _. Unit {0} };
+
+    fn is_set(&mut self) -> bool {
         true
     }
+
+    ghost stays_at_once = { λ _. tt };
+
+    ghost stays_on = { λ _ _ _ _ _. tt };
 }
 
 // Mate is forced within five plies and no fewer, as another program has it.
@@ -97,8 +95,8 @@ const IN_FIVE: &str = "4N1/6/6/1Q4/2P3/K2N1k w";
 fn a_decision_is_stopped_or_right(rt: HostRuntime) {
     let position = position(&rt, IN_FIVE);
     let mut table = Table::make(&rt, rt.alloc(), 64);
-    assert!(rt; table.decide_until(&position, Goal::Mate, 5, &AtOnce) == None);
-    assert!(rt; table.decide_until(&position, Goal::Mate, 4, &Never) == Some(false));
-    assert!(rt; table.decide_until(&position, Goal::Mate, 5, &Never) == Some(true));
-    assert!(rt; table.decide_until(&position, Goal::Mate, 5, &AtOnce) == Some(true));
+    assert!(rt; table.decide_until(&position, Goal::Mate, 5, AtOnce) == None);
+    assert!(rt; table.decide_until(&position, Goal::Mate, 4, Never) == Some(false));
+    assert!(rt; table.decide_until(&position, Goal::Mate, 5, Never) == Some(true));
+    assert!(rt; table.decide_until(&position, Goal::Mate, 5, AtOnce) == Some(true));
 }

@@ -3,9 +3,9 @@ ghost use Rattle.slots.specs.Promise.{IsSeatOf};
 
 use crate::tables::{nothing_of, position};
 use board::{Position, Side};
+use decision::{Decision, decide};
 use entry::MateLore;
 use moves::Goal;
-use decision::{Decision, decide};
 use slots::{Pause, Probe, Seat, Slots, Store};
 use std::process::Abort;
 

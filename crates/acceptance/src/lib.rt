@@ -21,3 +21,5 @@ mod solving;
 mod tables;
 #[cfg(test)]
 mod winning;
+#[cfg(test)]
+mod without_lists;

@@ -3,9 +3,9 @@ ghost use Rattle.std.specs.Prelude.{IfOk};
 ghost use Rattle.decision.specs.Answer.{IsAnswer};
 
 use board::Position;
+use decision::Answer;
 use moves::{Goal, read_sound};
 use rounds::{NoGate, SolveFault, solve};
-use decision::Answer;
 use std::alloc::{AllocError, Global};
 use std::sync::Wait;
 use std::test::Fail;

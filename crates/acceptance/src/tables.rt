@@ -8,9 +8,9 @@ ghost use Rattle.slots.specs.Promise.{IsSeatOf, AllNew};
 ghost use Rattle.entry.specs.Truth.{IsTruePacking};
 
 use board::{Position, Side};
+use decision::{Decision, Memory, Question, Scout, Stop, decide, decide_until};
 use entry::{Entry, Interval, MateLore, interval_laws, key_of, meet, pack};
 use moves::{Board, Goal, read_sound};
-use decision::{Decision, Stop, decide, decide_until};
 use slots::{Probe, Seat, Slots, Store};
 use std::alloc::Global;
 use std::process::Abort;
@@ -55,26 +55,23 @@ impl Table {
     }
 
     /// White attacks.
-    pub(crate) fn decide_until<S: Stop>(
+    pub(crate) fn decide_until<S: Stop + Drop>(
         &mut self,
         position: &Position,
         goal: Goal,
         n: u8,
-        stop: &S,
+        stop: S,
     ) -> Option<bool>
         requires { n ≤ 63 }
-        ensures { IfSome result (λ yes. IsTrue yes ↔ Forces goal White position.now n) }
     {
-        let board = Board::of(position);
-        decide_until(
-            &self.slots,
-            &mut self.seat,
-            &board,
-            Side::White,
+        let q = Question {
+            position: Board::of(position),
+            attacker: Side::White,
             goal,
-            n,
-            stop,
-        )
+        };
+        let memory = Memory::new();
+        let mut scout = Scout { stop, memory };
+        Some(decide_until(&self.slots, &mut self.seat, &mut scout, &q, n)?.yes)
     }
 
     pub(crate) fn probe(&mut self, rt: &impl Abort, slot: usize, words: [u64; 3]) -> Probe {

@@ -154,7 +154,7 @@ first_promotion b m u stands piece l zero e = omega arith
 first_promotion b m u stands piece l (suc i) e = absurd (piece (promoted_pawn b m u stands (omega arith) l))
 
 -- a lawful move that names a promotion is a pawn's to its last rank
-promotes_to : (b : PlainBoard) (m : Ply) (u : Man) → unit_at b m.from ≡ Some u → 0 < promotion_number m.promotion → IsLawful b m → Promotes b.game u m.to
+pub promotes_to : (b : PlainBoard) (m : Ply) (u : Man) → unit_at b m.from ≡ Some u → 0 < promotion_number m.promotion → IsLawful b m → Promotes b.game u m.to
 promotes_to b m u stands h (q, move) =
     let same : move.unit ≡ u = same_Some move.unit u (sym move.pseudo.stands ∙ stands) in
     subst (λ x. Promotes b.game x m.to) same (move.pseudo.named.0 (is_some_numbered m.promotion h))
@@ -221,7 +221,7 @@ same_side : (side : Side) → is_same_side side side ≡ true
 same_side White = refl
 same_side Black = refl
 
-own_from : (b : PlainBoard) (m : Ply) → IsLawful b m → is_of_side b.mover (unit_at b m.from) ≡ true
+pub own_from : (b : PlainBoard) (m : Ply) → IsLawful b m → is_of_side b.mover (unit_at b m.from) ≡ true
 own_from b m (q, move) = ap (is_of_side b.mover) move.pseudo.stands ∙ ap (is_same_side b.mover) move.pseudo.owner ∙ same_side b.mover
 
 pub ListsBelow-not_own : (b : PlainBoard) (n : ℕ) (xs : List Ply) → is_of_side b.mover (unit_on b n) ≡ false → ListsBelow b (n * 36 * 5) xs → ListsBelow b ((n + 1) * 36 * 5) xs

@@ -37,7 +37,7 @@ other_twice : (side : Side) → other_side (other_side side) ≡ side
 other_twice White = refl
 other_twice Black = refl
 
-size-neg : (n : ℤ) → unsigned_abs (neg_ℤ n) ≡ unsigned_abs n
+pub size-neg : (n : ℤ) → unsigned_abs (neg_ℤ n) ≡ unsigned_abs n
 size-neg (pos zero) = refl
 size-neg (pos (suc n)) = refl
 size-neg (negsuc n) = refl
@@ -60,7 +60,7 @@ step_back side st s t e = record {
 }
 
 -- a walk with one step more at its end
-Leads-then : (b : PlainBoard) (side : Side) (st : Step) (t u s : Place) → st.rider ≡ true → unit_at b u ≡ None → IsOnBoard b.game s → IsStep side st u s → Leads b side st t u → Leads b side st t s
+pub Leads-then : (b : PlainBoard) (side : Side) (st : Step) (t u s : Place) → st.rider ≡ true → unit_at b u ≡ None → IsOnBoard b.game s → IsStep side st u s → Leads b side st t u → Leads b side st t s
 Leads-then b side st t u s r e on a (once on' a') = again r on' a' e (once on a)
 Leads-then b side st t u s r e on a (again r' on' a' e' l) = again r' on' a' e' (Leads-then b side st _ u s r e on a l)
 

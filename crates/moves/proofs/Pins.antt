@@ -118,7 +118,7 @@ module _ (b : PlainBoard) (side : Side) (step : Step) (s : Place) (i : ℕ) (w :
 
 -- ---- a move of a unit that isn't pinned
 
-place_cases : (g : Game) (s t : Place) → IsOnBoard g s → IsOnBoard g t → (s ≡ t) ⊎ (s ≡ t → ⊥)
+pub place_cases : (g : Game) (s t : Place) → IsOnBoard g s → IsOnBoard g t → (s ≡ t) ⊎ (s ≡ t → ⊥)
 place_cases g s t a b = elim (cases_eq (square_number g s) (square_number g t)) [
   | inl same ↦ inl (same_number g s t a b same)
   | inr other ↦ inr (λ e. other (ap (square_number g) e))
@@ -136,16 +136,16 @@ promotes_no_king g (Some Pawn) k a not e = cc
 pub no_unit : {x : Man} → None ≡ Some x → ⊥
 no_unit h = cc
 
-own_or_other : (side : Side) → side ≡ other_side side → ⊥
+pub own_or_other : (side : Side) → side ≡ other_side side → ⊥
 own_or_other White e = cc
 own_or_other Black e = cc
 
-module _ (b : PlainBoard) (m : Ply) (u : Man) (is : IsPosition b) (p : IsPseudoLegal b m u) (piece : u.kind ≡ King → ⊥) (k : Place) (on : IsOnBoard b.game k) (king : unit_at b k ≡ king_of b.mover) where
+module _ (b : PlainBoard) (m : Ply) (u : Man) (is : IsPosition b) (p : IsPseudoLegal b m u) where
   to : IsOnBoard b.game m.to
   to = to_on_board b m u p
 
   -- what stands after the move and isn't the unit that moved stood there before
-  stood : (s : Place) (v : Man) → IsOnBoard b.game s → unit_at (after b m u) s ≡ Some v → (v ≡ placed u m → ⊥) → unit_at b s ≡ Some v
+  pub stood : (s : Place) (v : Man) → IsOnBoard b.game s → unit_at (after b m u) s ≡ Some v → (v ≡ placed u m → ⊥) → unit_at b s ≡ Some v
   stood s v o e other = elim (place_cases b.game s m.to o to) [
     | inl same ↦ absurd (other (same_Some v (placed u m) (sym e ∙ ap (unit_at (after b m u)) same ∙ unit_at-to b m u is p)))
     | inr far ↦ elim (place_cases b.game s m.from o p.on_board) [
@@ -155,7 +155,7 @@ module _ (b : PlainBoard) (m : Ply) (u : Man) (is : IsPosition b) (p : IsPseudoL
   ]
 
   -- a walk after the move was one before it, or comes by the from-square
-  walked : (side : Side) (step : Step) (s t : Place) → Leads (after b m u) side step s t → Leads b side step s t ⊎ ((step.rider ≡ true) × Leads b side step s m.from × Leads b side step m.from t)
+  pub walked : (side : Side) (step : Step) (s t : Place) → Leads (after b m u) side step s t → Leads b side step s t ⊎ ((step.rider ≡ true) × Leads b side step s m.from × Leads b side step m.from t)
   walked side step s t (once o a) = inl (once o a)
   walked side step s t (again {u = v} r o a empty l) =
       let rest = walked side step v t l in
@@ -169,37 +169,38 @@ module _ (b : PlainBoard) (m : Ply) (u : Man) (is : IsPosition b) (p : IsPseudoL
         ]
       ]
 
-  -- so a check after it was one before it
-  pub stays_safe : (IsPinned b b.mover k m.from → ⊥) → IsInCheck (after b m u) b.mover → IsInCheck b b.mover
-  stays_safe free (t, check) =
-      let before : unit_at b t ≡ king_of b.mover = stood t _ check.on_board check.king (λ e. promotes_no_king b.game m.promotion u.kind p.allowed piece (sym (ap (λ (x : Man). x.kind) e))) in
-      let at : t ≡ k = one_king b is b.mover t k check.on_board on before king in
-      let a = check.attacked.1 in
-      let stands : unit_at b check.attacked.0 ≡ Some a.unit = stood check.attacked.0 a.unit a.on_board a.stands (λ e. own_or_other b.mover (sym p.owner ∙ sym (ap (λ (x : Man). x.side) e) ∙ a.owner)) in
-      let r = a.reaches in
-      elim (walked a.unit.side r.step check.attacked.0 t r.reaches.leads) [
-        | inl w ↦ check_from b b.mover t check.on_board before (
-          check.attacked.0,
-          record {
-            unit = a.unit;
+  module _ (piece : u.kind ≡ King → ⊥) (k : Place) (on : IsOnBoard b.game k) (king : unit_at b k ≡ king_of b.mover) where
+    -- so a check after it was one before it
+    pub stays_safe : (IsPinned b b.mover k m.from → ⊥) → IsInCheck (after b m u) b.mover → IsInCheck b b.mover
+    stays_safe free (t, check) =
+        let before : unit_at b t ≡ king_of b.mover = stood t _ check.on_board check.king (λ e. promotes_no_king b.game m.promotion u.kind p.allowed piece (sym (ap (λ (x : Man). x.kind) e))) in
+        let at : t ≡ k = one_king b is b.mover t k check.on_board on before king in
+        let a = check.attacked.1 in
+        let stands : unit_at b check.attacked.0 ≡ Some a.unit = stood check.attacked.0 a.unit a.on_board a.stands (λ e. own_or_other b.mover (sym p.owner ∙ sym (ap (λ (x : Man). x.side) e) ∙ a.owner)) in
+        let r = a.reaches in
+        elim (walked a.unit.side r.step check.attacked.0 t r.reaches.leads) [
+          | inl w ↦ check_from b b.mover t check.on_board before (
+            check.attacked.0,
+            record {
+              unit = a.unit;
+              on_board = a.on_board;
+              stands = stands;
+              owner = a.owner;
+              reaches = record { step = r.step; played = r.played; denoted = r.denoted; reaches = record { allows = r.reaches.allows; leads = w } };
+            },
+          )
+          | inr w ↦ absurd (free (record {
+            rider = a.unit;
+            from = check.attacked.0;
+            step = r.step;
             on_board = a.on_board;
             stands = stands;
             owner = a.owner;
-            reaches = record { step = r.step; played = r.played; denoted = r.denoted; reaches = record { allows = r.reaches.allows; leads = w } };
-          },
-        )
-        | inr w ↦ absurd (free (record {
-          rider = a.unit;
-          from = check.attacked.0;
-          step = r.step;
-          on_board = a.on_board;
-          stands = stands;
-          owner = a.owner;
-          denoted = r.denoted;
-          rides = w.0;
-          captures = captures_from r.step.mode a.unit.side _ r.reaches.allows;
-          taken = λ none. no_unit (sym none ∙ p.stands);
-          to_unit = w.1;
-          to_king = subst (Leads b a.unit.side r.step m.from) at w.2;
-        }))
-      ]
+            denoted = r.denoted;
+            rides = w.0;
+            captures = captures_from r.step.mode a.unit.side _ r.reaches.allows;
+            taken = λ none. no_unit (sym none ∙ p.stands);
+            to_unit = w.1;
+            to_king = subst (Leads b a.unit.side r.step m.from) at w.2;
+          }))
+        ]

@@ -53,14 +53,15 @@ module _ (b : PlainBoard) (u : Man) (from : Place) (on : IsOnBoard b.game from) 
       }
 
   -- up to the next target no move of the unit is lawful
-  skip : (set : ℕ) (moves : List Ply) (n k low : ℕ) (s : IsScanned b u from set moves n k) (to : ℕ) → s.upto ≤ to → to ≤ squares_of b.game → ((i : ℕ) → IsCell b.game i → square_number b.game (place_in i) < to → Has set i → ⊥)
+  pub skip_to : (set upto to : ℕ) (moves : List Ply) → ((i : ℕ) → Has set i ↔ (IsTarget b u from i × (upto ≤ square_number b.game (place_in i)))) → ListsBelow b ((square_number b.game from * 36 + upto) * 5) moves
+      → upto ≤ to → to ≤ squares_of b.game → ((i : ℕ) → IsCell b.game i → square_number b.game (place_in i) < to → Has set i → ⊥)
       → ListsBelow b ((square_number b.game from * 36 + to) * 5) moves
-  skip set moves n k low s to more within none =
-      ListsBelow-jump b _ _ moves (omega (arith, more)) s.lists (λ m above below l.
+  skip_to set upto to moves left lists more within none =
+      ListsBelow-jump b _ _ moves (omega (arith, more)) lists (λ m above below l.
       let parts = HasParts-lawful b m l in
       let small = squares_36 b.game in
-      let f : square_number b.game m.from ≡ square_number b.game from = omega (arith, parts.to, parts.promotion, above, below, s.within, within, small) in
-      let t : s.upto ≤ square_number b.game m.to = omega (arith, parts.to, parts.promotion, above, below, f) in
+      let f : square_number b.game m.from ≡ square_number b.game from = omega (arith, parts.to, parts.promotion, above, below, more, within, small) in
+      let t : upto ≤ square_number b.game m.to = omega (arith, parts.to, parts.promotion, above, below, f) in
       let t' : square_number b.game m.to < to = omega (arith, parts.to, parts.promotion, above, below, f) in
       let numbered = IsNumbered-lawful b m l in
       let same_from : m.from ≡ from = same_number b.game m.from from numbered.from on f in
@@ -68,7 +69,11 @@ module _ (b : PlainBoard) (u : Man) (from : Place) (on : IsOnBoard b.game from) 
       let at : place_in (cell_of m.to) ≡ m.to = place_in-cell_of b.game m.to numbered.to in
       let reached : Reaches b u from (place_in (cell_of m.to)) (unit_at b (place_in (cell_of m.to))) = subst (λ x. Reaches b u from x (unit_at b x)) (sym at) (reaches_from b u from stands m l same_from) in
       none (cell_of m.to) cell (subst (λ x. square_number b.game x < to) (sym at) t')
-      ((s.left (cell_of m.to)).1 ((cell, reached), subst (λ x. s.upto ≤ square_number b.game x) (sym at) t)))
+      ((left (cell_of m.to)).1 ((cell, reached), subst (λ x. upto ≤ square_number b.game x) (sym at) t)))
+
+  skip : (set : ℕ) (moves : List Ply) (n k low : ℕ) (s : IsScanned b u from set moves n k) (to : ℕ) → s.upto ≤ to → to ≤ squares_of b.game → ((i : ℕ) → IsCell b.game i → square_number b.game (place_in i) < to → Has set i → ⊥)
+      → ListsBelow b ((square_number b.game from * 36 + to) * 5) moves
+  skip set moves n k low s to more within none = skip_to set s.upto to moves s.left s.lists more within none
 
   share-jump : (n k : ℕ) → share b.game u from n ≤ share b.game u from (n + k)
   share-jump n zero = let same : n ≡ n + 0 = omega arith in subst (λ x. share b.game u from n ≤ share b.game u from x) same (omega arith)
@@ -79,6 +84,55 @@ module _ (b : PlainBoard) (u : Man) (from : Place) (on : IsOnBoard b.game from) 
 
   share-up : (n k : ℕ) → n ≤ k → share b.game u from n ≤ share b.game u from k
   share-up n k h = let same : n + (k - n) ≡ k = omega arith in subst (λ x. share b.game u from n ≤ share b.game u from x) same (share-jump n (k - n))
+
+  -- once the lowest cell is taken from the targets, those behind it are left
+  module _ (set upto : ℕ) (left : (i : ℕ) → Has set i ↔ (IsTarget b u from i × (upto ≤ square_number b.game (place_in i)))) (to : ℕ) (has : Has set to) (low : (i : ℕ) → i < to → bit_at set i ≡ 0) where
+    pub left_from : (i : ℕ) → Has set i ↔ (IsTarget b u from i × (square_number b.game (place_in to) ≤ square_number b.game (place_in i)))
+    left_from i = (
+      λ h. (
+        ((left i).0 h).0,
+        elim (cases_lt (square_number b.game (place_in i)) (square_number b.game (place_in to))) [
+          | inl less ↦ let at = low i (cell_order b.game i to ((left i).0 h).0.0 ((left to).0 has).0.0 less) in absurd (omega (arith, h, at))
+          | inr more ↦ more
+        ],
+      ),
+      λ t. let behind = t.1 in let first = ((left to).0 has).1 in (left i).1 (t.0, omega (arith, behind, first)),
+    )
+
+    pub left_after : (rest : ℕ) → set < 2 ^ 64 → rest < set → bit_at rest to ≡ 0 → ((i : ℕ) → i < 64 → i ≢ to → bit_at rest i ≡ bit_at set i)
+        → (i : ℕ) → Has rest i ↔ (IsTarget b u from i × (square_number b.game (place_in to) + 1 ≤ square_number b.game (place_in i)))
+    left_after rest fits less gone others i = (λ h. kept i (narrow i h) h, λ t. again i t.0 t.1)
+      where
+        target : IsTarget b u from to
+        target = ((left to).0 has).0
+
+        narrow : (i : ℕ) → Has rest i → i < 64
+        narrow i h = elim (cases_lt i 64) [
+          | inl less' ↦ less'
+          | inr more' ↦ let zeroed = bit_at_above rest 64 i (omega (arith, less, fits)) more' in absurd (omega (arith, h, zeroed))
+        ]
+
+        not_lowest : (i : ℕ) → Has rest i → i ≢ to
+        not_lowest i h e = let here : bit_at rest to ≡ 1 = subst (λ x. bit_at rest x ≡ 1) e h in omega (arith, gone, here)
+
+        kept : (i : ℕ) → i < 64 → Has rest i → IsTarget b u from i × (square_number b.game (place_in to) + 1 ≤ square_number b.game (place_in i))
+        kept i small h =
+            let there : bit_at set i ≡ 1 = sym (others i small (not_lowest i h)) ∙ h in
+            let reached = (left i).0 there in
+            let above : to < i = elim (cases_order i to) [
+              | inl same ↦ absurd (not_lowest i h same)
+              | inr (inl below) ↦ let at = low i below in absurd (omega (arith, at, there))
+              | inr (inr more') ↦ more'
+            ] in
+            let later = number_order b.game to i target.0 reached.0.0 above in
+            (reached.0, omega (arith, later))
+
+        again : (i : ℕ) → IsTarget b u from i → square_number b.game (place_in to) + 1 ≤ square_number b.game (place_in i) → Has rest i
+        again i t later =
+            let upto_number = ((left to).0 has).1 in
+            let small = cell_small b.game i t.0 in
+            let other : i ≢ to = λ e. let same : square_number b.game (place_in i) ≡ square_number b.game (place_in to) = ap (λ x. square_number b.game (place_in x)) e in omega (arith, later, same) in
+            others i (omega (arith, small)) other ∙ (left i).1 (t, omega (arith, upto_number, later))
 
   -- the lowest cell of the set is the next target
   module _ (set : ℕ) (moves : List Ply) (n k : ℕ) (s : IsScanned b u from set moves n k) (to : ℕ) (has : Has set to) (low : (i : ℕ) → i < to → bit_at set i ≡ 0) where
@@ -112,38 +166,10 @@ module _ (b : PlainBoard) (u : Man) (from : Place) (on : IsOnBoard b.game from) 
           fits = omega (arith, less, s.fits);
           upto = number + 1;
           within = omega (arith, in_game);
-          left = λ i. (λ h. kept i (narrow i h) h, λ t. again i t.0 t.1);
+          left = left_after set s.upto s.left to has low rest s.fits less gone others;
           lists = subst (λ x. ListsBelow b x more) same lists;
           few = omega (arith, s.few, step, up);
         }
-      where
-        narrow : (i : ℕ) → Has rest i → i < 64
-        narrow i h = elim (cases_lt i 64) [
-          | inl less' ↦ less'
-          | inr more' ↦ let zeroed = bit_at_above rest 64 i (omega (arith, less, s.fits)) more' in absurd (omega (arith, h, zeroed))
-        ]
-
-        not_lowest : (i : ℕ) → Has rest i → i ≢ to
-        not_lowest i h e = let here : bit_at rest to ≡ 1 = subst (λ x. bit_at rest x ≡ 1) e h in omega (arith, gone, here)
-
-        kept : (i : ℕ) → i < 64 → Has rest i → IsTarget b u from i × (square_number b.game (place_in to) + 1 ≤ square_number b.game (place_in i))
-        kept i small h =
-            let there : bit_at set i ≡ 1 = sym (others i small (not_lowest i h)) ∙ h in
-            let target = (s.left i).0 there in
-            let above : to < i = elim (cases_order i to) [
-              | inl same ↦ absurd (not_lowest i h same)
-              | inr (inl below) ↦ let at = low i below in absurd (omega (arith, at, there))
-              | inr (inr more') ↦ more'
-            ] in
-            let later = number_order b.game to i next_target.0 target.0.0 above in
-            (target.0, omega (arith, later))
-
-        again : (i : ℕ) → IsTarget b u from i → square_number b.game (place_in to) + 1 ≤ square_number b.game (place_in i) → Has rest i
-        again i t later =
-            let upto_number = ((s.left to).0 has).1 in
-            let small = cell_small b.game i t.0 in
-            let other : i ≢ to = λ e. let same : square_number b.game (place_in i) ≡ square_number b.game (place_in to) = ap (λ x. square_number b.game (place_in x)) e in omega (arith, later, same) in
-            others i (omega (arith, small)) other ∙ (s.left i).1 (t, omega (arith, upto_number, later))
 
   -- an empty set leaves nothing to list
   pub IsScanned-end : (set : ℕ) (moves : List Ply) (n k : ℕ) → set ≡ 0 → IsScanned b u from set moves n k → ListsBelow b ((square_number b.game from + 1) * 36 * 5) moves × (k ≤ n + 36)

@@ -12,6 +12,7 @@ ghost use Rattle.moves.specs.Listing.{ListsBelow, ListsFrom};
 ghost use Rattle.moves.specs.Mailbox.{place_in, IsCell};
 ghost use Rattle.moves.specs.Guard.{Guards};
 
+use crate::blocks::blocks;
 use crate::list::PROMOTIONS;
 use crate::look::{king_attacked, king_cell};
 use crate::mailbox::{Mailbox, cell_of, square_in};
@@ -24,13 +25,14 @@ use crate::words::{is_of_side, unit_of};
 use arrayvec::ArrayVec;
 use board::{Game, Kind, Unit};
 
-/// What the mover's king asks of each move: the cell where it stands, whether it is in check, and where it isn't, the cells
-/// of the units that are pinned to it.
+/// What the mover's king asks of each move: the cell where it stands, whether it is in check, where it isn't, the cells of the
+/// units that are pinned to it, and cells to which a unit other than the king must come.
 #[derive(Clone, Copy)]
 pub(crate) struct Guard {
-    king: u8,
-    checked: bool,
+    pub(crate) king: u8,
+    pub(crate) checked: bool,
     pins: u64,
+    pub(crate) blocks: u64,
 }
 
 /// The cell of the mover's king after the move.
@@ -54,7 +56,11 @@ fn is_safe(mail: &Mailbox, guard: Guard, m: Move, unit: Unit) -> bool
     requires pseudo { IsPseudoLegal mail.now m unit }
     ensures { IsTrue result ↔ (IsInCheck (after mail.now m unit) mail.now.mover → ⊥) }
 {
-    if !guard.checked && !is_king(Some(unit)) && !has(guard.pins, cell_of(m.from)) {
+    let is_piece = !is_king(Some(unit));
+    if is_piece && !has(guard.blocks, cell_of(m.to)) {
+        return false;
+    }
+    if is_piece && !guard.checked && !has(guard.pins, cell_of(m.from)) {
         return true;
     }
     let king = king_after(mail, guard, m, unit);
@@ -189,17 +195,24 @@ fn push_rank(mail: &Mailbox, guard: Guard, rank: u8, moves: &mut ArrayVec<Move, 
     }
 }
 
+/// Puts the lawful moves into the list, in order, in place of what it held.
+pub fn list_lawful(board: &Board, moves: &mut ArrayVec<Move, 512>)
+    ensures { ListsLawful board.now moves.new.items }
+{
+    let mail = Mailbox::of(board);
+    let guard = guard_of(&mail);
+    moves.clear();
+    for rank in 0..mail.game().width() {
+        push_rank(&mail, guard, rank, moves);
+    }
+}
+
 /// The lawful moves, in order.
 pub fn lawful_on(board: &Board) -> ArrayVec<Move, 512>
     ensures { ListsLawful board.now result.items }
 {
-    // First, so that the list's room is cleared once: a function clears its locals as it is entered.
     let mut moves = ArrayVec::new();
-    let mail = Mailbox::of(board);
-    let guard = guard_of(&mail);
-    for rank in 0..mail.game().width() {
-        push_rank(&mail, guard, rank, &mut moves);
-    }
+    list_lawful(board, &mut moves);
     moves
 }
 
@@ -213,10 +226,18 @@ pub(crate) fn guard_of(mail: &Mailbox) -> Guard
         unreachable!()
     };
     let checked = king_attacked(mail, king, side);
-    let pins = if checked { 0 } else { pinned(mail, side, king) };
+    if checked {
+        return Guard {
+            king,
+            checked,
+            pins: 0,
+            blocks: blocks(mail, king),
+        };
+    }
     Guard {
         king,
         checked,
-        pins,
+        pins: pinned(mail, side, king),
+        blocks: u64::MAX,
     }
 }

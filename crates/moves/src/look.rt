@@ -135,16 +135,23 @@ pub(crate) fn king_attacked(mail: &Mailbox, cell: u8, side: Side) -> bool
     is_attacked(mail, cell, side)
 }
 
+/// Whether the side's king is attacked, on a board laid out.
+pub(crate) fn is_checked(mail: &Mailbox, side: Side) -> bool
+    requires { IsPosition mail.now }
+    ensures { IsTrue result ↔ IsInCheck mail.now side }
+{
+    match king_cell(mail, side) {
+        Some(cell) => king_attacked(mail, cell, side),
+        None => false,
+    }
+}
+
 /// Whether the king of the side to move is attacked.
 pub fn mover_in_check(board: &Board) -> bool
     ensures { IsTrue result ↔ IsInCheck board.now board.now.mover }
 {
     let mail = Mailbox::of(board);
-    let side = mail.mover();
-    match king_cell(&mail, side) {
-        Some(cell) => king_attacked(&mail, cell, side),
-        None => false,
-    }
+    is_checked(&mail, mail.mover())
 }
 
 /// Whether the lawful move gives check.

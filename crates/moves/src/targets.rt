@@ -28,7 +28,7 @@ pub(crate) fn with_cell(set: u64, cell: u8, is_added: bool) -> u64
 }
 
 /// Adds the cells that the step of the unit reaches.
-fn add_targets(mail: &Mailbox, unit: Unit, step: &Step, cell: u8, set: u64) -> u64
+pub(crate) fn add_targets(mail: &Mailbox, unit: Unit, step: &Step, cell: u8, set: u64) -> u64
     requires cell { IsCell mail.now.game cell }
     requires near { IsNear step.now }
     requires goes { 0 < unsigned_abs step.now.dx + unsigned_abs step.now.dy }
@@ -77,4 +77,11 @@ pub(crate) fn without(set: u64, cell: u8) -> u64
     ensures others { (i : ℕ) → i < 64 → i ≢ cell → bit_at result i ≡ bit_at set i }
 {
     set & !(1 << cell)
+}
+
+/// The cells that are in both sets.
+pub(crate) fn common(set: u64, other: u64) -> u64
+    ensures { (i : ℕ) → Has result i ↔ (Has set i × Has other i) }
+{
+    set & other
 }

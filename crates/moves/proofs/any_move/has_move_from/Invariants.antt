@@ -1,10 +1,17 @@
-use Rattle.std.proofs.Common.{[]}
-use Rattle.moves.proofs.Scanning.{IsScanned}
+use Rattle.std.proofs.Common.{◌≡◌, ◌<◌, ◌^◌, ℕ}
+use Rattle.moves.specs.Squares.{Ply}
+use Rattle.moves.specs.Mailbox.{cell_of}
+use Rattle.moves.specs.Targets.{Has, IsTarget}
+use Rattle.moves.specs.Moves.{IsLawful}
 use Rattle.moves.proofs.any_move.has_move_from.Given as given
 
--- the cells so far are read, and no move to them is lawful
+-- the unit reaches what is left, and its lawful moves lead there
 abbrev pub invariant-cells : given.invariant-cells
-invariant-cells l = IsScanned l.mail l.unit l.from l.left [] 0 0
+invariant-cells l = record {
+  fits : l.left < 2 ^ 64;
+  cells : (i : ℕ) → Has l.left i → IsTarget l.mail l.unit l.from i;
+  all : (m : Ply) → m.from ≡ l.from → IsLawful l.mail m → Has l.left (cell_of m.to);
+}
 
 -- each turn takes the lowest cell away
 abbrev pub decreases-cells : given.decreases-cells

@@ -1,30 +1,38 @@
-use Rattle.std.proofs.Common.{◌≡◌, ℕ, ◌+◌, ◌*◌, get_or, None, refl, sym, ap, ◌∙◌, arith, add_assoc, [], subst}
-use Rattle.std.proofs.lemmas.Bool.{false≢true}
+use Rattle.std.proofs.Common.{◌≡◌, get_or, None, Some, sym, ap, ◌∙◌, arith, subst, inl, inr}
+use Rattle.std.proofs.lemmas.Bool.{false≢true, cases_lt}
 use Rattle.moves.specs.declared.list.TheConstants.{PROMOTIONS}
-use Rattle.moves.specs.Squares.{Ply, square_number}
+use Rattle.moves.specs.Squares.{unit_at}
 use Rattle.moves.specs.Moves.{Promotes, IsLawful}
 use Rattle.moves.specs.Order.{promotion_number}
-use Rattle.moves.specs.Listing.{ply_number}
-use Rattle.moves.proofs.Lists.{IsNumbered, numbered_promotion, ListsBelow-skip, ListsBelow-promoted}
+use Rattle.moves.specs.Mailbox.{place_in}
+use Rattle.moves.proofs.Cells.{place_in-cell_of}
+use Rattle.moves.proofs.AtOnce.{promotion_at, promotion_tried}
 use Rattle.moves.proofs.any_move.has_move_to.Goals as goal
 
-pub loop-i-preserved : goal.loop-i-preserved
-loop-i-preserved c =
+pub is_lawful_to-requires-clause-target : goal.is_lawful_to-requires-clause-target
+is_lawful_to-requires-clause-target c =
     let b = c.args.mail.now in
-    let i = c.loop-i.i in
-    let n : ℕ = (square_number b.game c.args.from * 36 + square_number b.game c.args.to) * 5 in
-    let m : Ply = record { from = c.args.from; to = c.args.to; promotion = get_or PROMOTIONS i None } in
-    let at : promotion_number m.promotion ≡ i = numbered_promotion i (omega (arith, c.promotion_count-i-end.ensures.within.1)) in
-    let numbered : IsNumbered b m = record { from = c.requires.from_on_board; to = c.requires.to_on_board; promotion = omega arith } in
-    let here : ply_number b.game m ≡ n + i = ap (λ x. n + x) at in
-    let unlawful : IsLawful b m → ⊥ = λ l. false≢true (sym c.if-is_lawful_to.false ∙ c.is_lawful_to.ensures.1 l) in
-    rw (← add_assoc n i 1) (ListsBelow-skip b (n + i) [] m c.loop-i.invariant numbered here unlawful)
+    c.unit_in-target.ensures ∙ ap (λ i. unit_at b (place_in i)) c.cell_of.ensures.value ∙ ap (unit_at b) (place_in-cell_of b.game c.args.to c.requires.to_on_board)
+
+pub loop-i-preserved : goal.loop-i-preserved
+loop-i-preserved c = λ j low w. elim (cases_lt j c.loop-i.i) [
+  | inl less ↦ c.loop-i.invariant j less w
+  | inr more ↦
+      let same : j ≡ c.loop-i.i = omega (arith, low, more) in
+      false≢true (sym c.if-is_lawful_to.false ∙ c.is_lawful_to.ensures.1 (subst (λ k. IsLawful c.args.mail.now (record { from = c.args.from; to = c.args.to; promotion = get_or PROMOTIONS k None })) same w))
+]
 
 pub returns-clause-none : goal.returns-clause-none
-returns-clause-none c = λ _.
+returns-clause-none c = λ _ m from to w.
     let b = c.args.mail.now in
+    let u = c.args.unit in
     let i = c.loop-i.i in
     let end : i ≡ c.promotion_count-i-end.result = omega arith in
-    let five : Promotes b.game c.args.unit c.args.to → i ≡ 5 = λ p. end ∙ c.promotion_count-i-end.ensures.five (subst (λ g. Promotes g c.args.unit c.args.to) (sym c.game.ensures.value) p) in
-    ListsBelow-promoted b (square_number b.game c.args.to) i [] c.args.unit c.args.from c.args.to c.requires.from_on_board c.requires.to_on_board refl c.requires.stands
-    (omega (arith, end, c.promotion_count-i-end.ensures.within.1)) five (omega (arith, end, c.promotion_count-i-end.ensures.within.0)) c.loop-i.invariant
+    let five : Promotes b.game u m.to → i ≡ 5 = λ p. end ∙ c.promotion_count-i-end.ensures.five (subst (λ g. Promotes g u c.args.to) (sym c.game.ensures.value) (subst (Promotes b.game u) to p)) in
+    let one = c.promotion_count-i-end.ensures.within.0 in
+    let five_most = c.promotion_count-i-end.ensures.within.1 in
+    let stands : unit_at b m.from ≡ Some u = ap (unit_at b) from ∙ c.requires.stands in
+    let tried = promotion_tried b m u stands w i five (omega (arith, one, end)) in
+    let named : get_or PROMOTIONS (promotion_number m.promotion) None ≡ m.promotion = promotion_at m.promotion (omega (arith, tried, end, five_most)) in
+    let same : m ≡ record { from = c.args.from; to = c.args.to; promotion = get_or PROMOTIONS (promotion_number m.promotion) None } = λ k. record { from = from k; to = to k; promotion = sym named k } in
+    c.loop-i.invariant (promotion_number m.promotion) tried (subst (IsLawful b) same w)

@@ -1,29 +1,37 @@
-use Rattle.std.proofs.Common.{◌≡◌, refl, sym, ap, subst, ◌∙◌, ◌↔◌, IsTrue, arith}
+use Rattle.std.proofs.Common.{◌≡◌, refl, sym, ap, subst, ◌∙◌, ◌↔◌, IsTrue}
 use Rattle.std.proofs.lemmas.Bool.{false≢true, not_from_true, not-true}
+use Rattle.board.specs.declared.game.Kind.TheVariants.{King}
 use Rattle.board.specs.Board.{PlainBoard}
 use Rattle.moves.specs.Squares.{Ply, unit_at}
 use Rattle.moves.specs.Reach.{IsInCheck}
 use Rattle.moves.specs.Moves.{after}
 use Rattle.moves.specs.Mailbox.{cell_of, place_in, IsCell}
 use Rattle.moves.specs.Pinned.{IsPinned}
+use Rattle.moves.specs.Targets.{Has}
 use Rattle.moves.proofs.Cells.{IsCell-cell_of, place_in-cell_of}
 use Rattle.moves.proofs.Pins.{stays_safe}
 use Rattle.moves.proofs.Guarding.{not_attacked_safe}
 use Rattle.moves.proofs.board_list.is_safe.Goals as goal
 
-pub has-requires : goal.has-requires
-has-requires c = omega (arith, c.cell_of.ensures.within)
-
 pub returns-then-not-has : goal.returns-then-not-has
 returns-then-not-has c =
     let b = c.args.mail.now in
-    let from : c.cell_of.result ≡ cell_of c.args.m.from = c.cell_of.ensures.value ∙ ap (λ (x : Ply). cell_of x.from) c.m.view_is in
-    let cell : IsCell b.game c.cell_of.result = subst (IsCell b.game) (sym from) (IsCell-cell_of b.game c.args.m.from c.requires.pseudo.on_board) in
-    let at : place_in c.cell_of.result ≡ c.args.m.from = ap place_in from ∙ place_in-cell_of b.game c.args.m.from c.requires.pseudo.on_board in
+    let to : c.cell_of.result ≡ cell_of c.args.m.to = c.cell_of.ensures.value ∙ ap (λ (x : Ply). cell_of x.to) c.m.view_is in
+    let piece : c.args.unit.kind ≡ King → ⊥ = λ e. false≢true (sym c.if-is_piece.true ∙ c.is_king-is_piece.ensures.1 e) in (
+      λ never. absurd (false≢true never),
+      λ safe. absurd (false≢true (sym c.if-not-has.true ∙ c.has.ensures.1 (subst (Has c.args.guard.blocks) (sym to) (c.requires.guards.blocks c.args.m c.args.unit c.requires.pseudo piece safe)))),
+    )
+
+pub returns-then-not-has-2 : goal.returns-then-not-has-2
+returns-then-not-has-2 c =
+    let b = c.args.mail.now in
+    let from : c.cell_of-then-not-guard.result ≡ cell_of c.args.m.from = c.cell_of-then-not-guard.ensures.value ∙ ap (λ (x : Ply). cell_of x.from) c.m-then-not-guard.view_is in
+    let cell : IsCell b.game c.cell_of-then-not-guard.result = subst (IsCell b.game) (sym from) (IsCell-cell_of b.game c.args.m.from c.requires.pseudo.on_board) in
+    let at : place_in c.cell_of-then-not-guard.result ≡ c.args.m.from = ap place_in from ∙ place_in-cell_of b.game c.args.m.from c.requires.pseudo.on_board in
     let free : IsPinned b b.mover (place_in c.args.guard.king) c.args.m.from → ⊥ =
-    λ w. false≢true (sym c.if-not-has.true ∙ c.has.ensures.1 (c.requires.guards.pins (not-true c.args.guard.checked c.if-not-guard.true) c.cell_of.result cell (subst (IsPinned b b.mover (place_in c.args.guard.king)) (sym at) w))) in (
+    λ w. false≢true (sym c.if-not-has-2.true ∙ c.has-then-not-guard.ensures.1 (c.requires.guards.pins (not-true c.args.guard.checked c.if-not-guard.true) c.cell_of-then-not-guard.result cell (subst (IsPinned b b.mover (place_in c.args.guard.king)) (sym at) w))) in (
       λ _ check. false≢true (sym (not_from_true c.args.guard.checked (c.requires.guards.checked.1
-          (stays_safe b c.args.m c.args.unit c.requires.position c.requires.pseudo (λ e. false≢true (sym c.if-not-is_king.true ∙ c.is_king.ensures.1 e))
+          (stays_safe b c.args.m c.args.unit c.requires.position c.requires.pseudo (λ e. false≢true (sym c.if-is_piece-2.true ∙ c.is_king-is_piece.ensures.1 e))
           (place_in c.args.guard.king) c.requires.guards.cell.on_board c.requires.guards.king free check))) ∙ c.if-not-guard.true),
       λ _. refl,
     )

@@ -1,7 +1,7 @@
 use Rattle.std.proofs.Common.{◌*◌}
 use Rattle.board.specs.Games.{width_of}
 use Rattle.moves.specs.Listing.{ListsFrom}
-use Rattle.moves.proofs.board_list.lawful_on.Given as given
+use Rattle.moves.proofs.board_list.list_lawful.Given as given
 
 -- the moves from the ranks so far are listed
 abbrev pub invariant-loop-rank : given.invariant-loop-rank

@@ -2,7 +2,7 @@ use Rattle.std.proofs.Common.{◌≡◌, ◌*◌, ◌≤◌, ap, subst, ◌∙�
 use Rattle.board.specs.Games.{width_of, squares_of}
 use Rattle.moves.specs.Order.{ListsLawful}
 use Rattle.moves.proofs.Lists.{ListsLawful-from}
-use Rattle.moves.proofs.board_list.lawful_on.Goals as goal
+use Rattle.moves.proofs.board_list.list_lawful.Goals as goal
 
 pub returns : goal.returns
 returns c =

@@ -1,0 +1,45 @@
+//! Calls on boards that make no list of moves, or fill one that is lent.
+use crate::leaves::LEAVES;
+use arrayvec::ArrayVec;
+use moves::{
+    Board, Goal, count_lawful, lawful_on, list_lawful, mates_at_once, reaches_at_once, read_sound,
+};
+use std::process::Abort;
+
+fn board(rt: &impl Abort, text: &str) -> Board {
+    Board::of(&read_sound(text.as_bytes()).expect(rt, "a position"))
+}
+
+#[test]
+fn counts_and_lists_lawful_moves(rt: HostRuntime) {
+    let mut lent = ArrayVec::new();
+    for (text, counts) in &LEAVES {
+        let board = board(&rt, text);
+        assert_eq!(rt; u64::from(count_lawful(&board)), counts[0], "{text}");
+        list_lawful(&board, &mut lent);
+        assert_eq!(rt; lent.as_slice(), lawful_on(&board).as_slice());
+    }
+}
+
+#[test]
+fn finds_goals_that_are_reached_at_once(rt: HostRuntime) {
+    for (text, mates, ends) in [
+        ("rnqknr/pppppp/6/6/PPPPPP/RNQKNR w", false, false),
+        // Rf6, mate
+        ("k5/6/1K4/6/6/5R w", true, true),
+        // c6=Q, mate
+        ("k5/2P3/1K4/6/6/6 w", true, true),
+        // Nc5, a smothered mate
+        ("kr4/pp4/6/1N4/6/K5 w", true, true),
+        // the same with the knight a rank too far
+        ("kr4/pp4/2N3/6/6/K5 w", false, false),
+        // Nc4, mate by the rook behind it
+        ("k5/1p4/1P4/N1K3/6/R5 w", true, true),
+        // Qc5, stalemate
+        ("k5/6/6/6/6/2Q2K w", false, true),
+    ] {
+        let board = board(&rt, text);
+        assert_eq!(rt; mates_at_once(&board), mates, "{text}");
+        assert_eq!(rt; reaches_at_once(&board, Goal::MateOrStale), ends, "{text}");
+    }
+}

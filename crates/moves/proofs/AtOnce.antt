@@ -1,0 +1,108 @@
+-- What a side reaches with its next move.
+use Rattle.std.proofs.Common.{◌≡◌, ◌≢◌, ℕ, ◌<◌, ◌≤◌, ◌^◌, ◌↔◌, IsTrue, Bool, true, false, not, inl, inr, refl, sym, ◌∙◌, ap, subst, arith, get_or, Option, Some, None}
+use Rattle.std.proofs.lemmas.Bool.{false≢true}
+use Rattle.std.proofs.lemmas.Option.{same_Some}
+use Rattle.std.specs.Int.{bit_at}
+use Rattle.std.proofs.lemmas.Bool.{cases_lt, cases_eq}
+use Rattle.std.proofs.lemmas.Nat.Bits.{bit_at_above}
+use Rattle.board.specs.declared.game.Kind.{Kind}
+use Rattle.board.specs.declared.game.Kind.TheVariants.{King, Queen, Rook, Bishop, Knight, Pawn}
+use Rattle.board.specs.declared.game.Unit.{Unit as Man}
+use Rattle.board.specs.Games.{is_same_side}
+use Rattle.board.specs.Board.{PlainBoard}
+use Rattle.moves.specs.declared.goal.Goal.{Goal}
+use Rattle.moves.specs.declared.goal.Goal.TheVariants.{Mate, MateOrStale}
+use Rattle.moves.specs.Squares.{Ply, unit_at}
+use Rattle.moves.specs.Reach.{IsInCheck}
+use Rattle.moves.specs.Moves.{Promotes, IsPseudoLegal, IsMove, IsLawful, IsMated, after}
+use Rattle.moves.specs.Order.{promotion_number}
+use Rattle.moves.specs.declared.list.TheConstants.{PROMOTIONS}
+use Rattle.moves.specs.Forces.{IsReached, Forces}
+use Rattle.moves.specs.Targets.{Has}
+use Rattle.moves.specs.Checking.{Attains}
+use Rattle.moves.proofs.Lists.{HasParts-lawful, promotes_to}
+use Rattle.moves.proofs.Forcing.{on_own, to_own, on_other, to_other, same_side-self, turn-own}
+
+-- ---- the goal, by check and by whether a move is lawful
+
+-- in check, mate is want of a lawful move
+mated_exactly : (b : PlainBoard) (some : Bool) → IsInCheck b b.mover → (IsTrue some ↔ ((m : Ply) × IsLawful b m)) → IsTrue (not some) ↔ IsMated b
+mated_exactly b true check h = (λ is. absurd (false≢true is), λ mated. absurd (let w = h.0 refl in mated.no_move w.0 w.1))
+mated_exactly b false check h = (λ _. record { check = check; no_move = λ m lawful. false≢true (h.1 (m, lawful)) }, λ _. refl)
+
+pub mated_if : (goal : Goal) (b : PlainBoard) (check some : Bool) → goal ≡ Mate → (IsTrue check ↔ IsInCheck b b.mover) → (IsTrue some ↔ ((m : Ply) × IsLawful b m)) → check ≡ true → IsTrue (not some) ↔ IsReached goal b
+mated_if goal b check some is h k e = subst (λ (g : Goal). IsTrue (not some) ↔ IsReached g b) (sym is) (mated_exactly b some (h.0 e) k)
+
+-- the second goal is want of a lawful move
+still : (b : PlainBoard) (check some : Bool) → (IsTrue check ↔ IsInCheck b b.mover) → (IsTrue some ↔ ((m : Ply) × IsLawful b m)) → some ≡ false → IsReached MateOrStale b
+still b true some h k e = inl (record { check = h.0 refl; no_move = λ m lawful. false≢true (sym e ∙ k.1 (m, lawful)) })
+still b false some h k e = inr (record { no_check = λ c. false≢true (h.1 c); no_move = λ m lawful. false≢true (sym e ∙ k.1 (m, lawful)) })
+
+no_move_of : (b : PlainBoard) → IsReached MateOrStale b → (m : Ply) → IsLawful b m → ⊥
+no_move_of b (inl mated) = mated.no_move
+no_move_of b (inr stale) = stale.no_move
+
+stale_exactly : (b : PlainBoard) (check some : Bool) → (IsTrue check ↔ IsInCheck b b.mover) → (IsTrue some ↔ ((m : Ply) × IsLawful b m)) → IsTrue (not some) ↔ IsReached MateOrStale b
+stale_exactly b check true h k = (λ is. absurd (false≢true is), λ r. absurd (let w = k.0 refl in no_move_of b r w.0 w.1))
+stale_exactly b check false h k = (λ _. still b check false h k refl, λ _. refl)
+
+pub stale_if : (goal : Goal) (b : PlainBoard) (check some : Bool) → goal ≡ MateOrStale → (IsTrue check ↔ IsInCheck b b.mover) → (IsTrue some ↔ ((m : Ply) × IsLawful b m)) → IsTrue (not some) ↔ IsReached goal b
+stale_if goal b check some is h k = subst (λ (g : Goal). IsTrue (not some) ↔ IsReached g b) (sym is) (stale_exactly b check some h k)
+
+-- ---- goals at once
+
+module _ (goal : Goal) (b : PlainBoard) where
+  pub forced_by : (m : Ply) → Attains goal b m → Forces goal b.mover b 1
+  forced_by m w =
+      to_own (is_same_side b.mover b.mover) _ _ (same_side-self b.mover)
+      (m, w.next, w.move, to_other (is_same_side b.mover w.next.mover) ⊥ (IsReached goal w.next) (turn-own b.mover b m w.next w.move (same_side-self b.mover)) w.reached)
+
+  pub not_forced : ((m : Ply) → Attains goal b m → ⊥) → Forces goal b.mover b 1 → ⊥
+  not_forced none f =
+      let (m, q, move, there) = on_own (is_same_side b.mover b.mover) _ _ (same_side-self b.mover) f in
+      none m (record { next = q; move = move; reached = on_other (is_same_side b.mover q.mover) ⊥ (IsReached goal q) (turn-own b.mover b m q move (same_side-self b.mover)) there })
+
+-- ---- the promotions that are tried
+
+pub promotion_at : (o : Option Kind) → promotion_number o < 5 → get_or PROMOTIONS (promotion_number o) None ≡ o
+promotion_at None h = refl
+promotion_at (Some Queen) h = refl
+promotion_at (Some Rook) h = refl
+promotion_at (Some Bishop) h = refl
+promotion_at (Some Knight) h = refl
+promotion_at (Some King) h = absurd (omega (arith, h))
+promotion_at (Some Pawn) h = absurd (omega (arith, h))
+
+pub promotion_tried : (b : PlainBoard) (m : Ply) (u : Man) → unit_at b m.from ≡ Some u → IsLawful b m → (n : ℕ) → (Promotes b.game u m.to → n ≡ 5) → 1 ≤ n → promotion_number m.promotion < n
+promotion_tried b m u stands l n five one = elim (cases_lt 0 (promotion_number m.promotion)) [
+  | inl some ↦ let e = five (promotes_to b m u stands some l) in let p = (HasParts-lawful b m l).promotion in omega (arith, e, p)
+  | inr none ↦ omega (arith, none, one)
+]
+
+-- ---- the cells that are left
+
+-- what is left without a cell was left with it
+pub Has-kept : (set rest cell : ℕ) → set < 2 ^ 64 → rest < set → bit_at rest cell ≡ 0 → ((i : ℕ) → i < 64 → i ≢ cell → bit_at rest i ≡ bit_at set i) → (i : ℕ) → Has rest i → Has set i
+Has-kept set rest cell fits less gone others i h = elim (cases_lt i 64) [
+  | inr more ↦ let zeroed = bit_at_above rest 64 i (omega (arith, less, fits)) more in absurd (omega (arith, h, zeroed))
+  | inl small ↦ elim (cases_eq i cell) [
+    | inl same ↦ let here : bit_at rest cell ≡ 1 = subst (λ x. bit_at rest x ≡ 1) same h in absurd (omega (arith, gone, here))
+    | inr other ↦ sym (others i small other) ∙ h
+  ]
+]
+
+-- ---- the move of the unit that stands there
+
+module _ (b : PlainBoard) (m : Ply) (u : Man) (stands : unit_at b m.from ≡ Some u) where
+  pub pseudo_by : IsLawful b m → IsPseudoLegal b m u
+  pseudo_by (q, move) = subst (IsPseudoLegal b m) (same_Some move.unit u (sym move.pseudo.stands ∙ stands)) move.pseudo
+
+  pub move_by : (l : IsLawful b m) → IsMove b m (after b m u)
+  move_by (q, move) =
+      let same : move.unit ≡ u = same_Some move.unit u (sym move.pseudo.stands ∙ stands) in
+      record {
+        unit = u;
+        pseudo = subst (IsPseudoLegal b m) same move.pseudo;
+        leads = refl;
+        safe = λ check. move.safe (subst (λ x. IsInCheck x b.mover) (ap (after b m) (sym same) ∙ sym move.leads) check);
+      }

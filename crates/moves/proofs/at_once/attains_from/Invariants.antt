@@ -1,0 +1,18 @@
+use Rattle.std.proofs.Common.{◌≡◌, ◌<◌, ◌^◌, ℕ}
+use Rattle.moves.specs.Squares.{Ply}
+use Rattle.moves.specs.Mailbox.{cell_of}
+use Rattle.moves.specs.Targets.{Has, IsTarget}
+use Rattle.moves.specs.Checking.{Attains}
+use Rattle.moves.proofs.at_once.attains_from.Given as given
+
+-- the unit reaches what is left, and the moves that attain the goal lead there
+abbrev pub invariant-cells : given.invariant-cells
+invariant-cells l = record {
+  fits : l.left < 2 ^ 64;
+  cells : (i : ℕ) → Has l.left i → IsTarget l.mail l.unit l.from i;
+  all : (m : Ply) → m.from ≡ l.from → Attains l.quest.goal l.mail m → Has l.left (cell_of m.to);
+}
+
+-- each turn takes the lowest cell away
+abbrev pub decreases-cells : given.decreases-cells
+decreases-cells l = l.left

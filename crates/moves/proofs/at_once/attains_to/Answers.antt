@@ -1,0 +1,32 @@
+use Rattle.std.proofs.Common.{◌≡◌, get_or, None, Some, sym, ap, ◌∙◌, arith, subst, inl, inr}
+use Rattle.std.proofs.lemmas.Bool.{false≢true, cases_lt}
+use Rattle.moves.specs.declared.list.TheConstants.{PROMOTIONS}
+use Rattle.moves.specs.Squares.{unit_at}
+use Rattle.moves.specs.Moves.{Promotes}
+use Rattle.moves.specs.Order.{promotion_number}
+use Rattle.moves.specs.Checking.{Attains}
+use Rattle.moves.proofs.AtOnce.{promotion_at, promotion_tried}
+use Rattle.moves.proofs.at_once.attains_to.Goals as goal
+
+pub loop-i-preserved : goal.loop-i-preserved
+loop-i-preserved c = λ j low w. elim (cases_lt j c.loop-i.i) [
+  | inl less ↦ c.loop-i.invariant j less w
+  | inr more ↦
+      let same : j ≡ c.loop-i.i = omega (arith, low, more) in
+      false≢true (sym c.if-attains.false ∙ c.attains.ensures.1 (subst (λ k. Attains c.args.goal c.args.mail.now (record { from = c.args.from; to = c.args.to; promotion = get_or PROMOTIONS k None })) same w))
+]
+
+pub returns-clause-none : goal.returns-clause-none
+returns-clause-none c = λ _ m from to w.
+    let b = c.args.mail.now in
+    let u = c.args.unit in
+    let i = c.loop-i.i in
+    let end : i ≡ c.promotion_count-i-end.result = omega arith in
+    let five : Promotes b.game u m.to → i ≡ 5 = λ p. end ∙ c.promotion_count-i-end.ensures.five (subst (λ g. Promotes g u c.args.to) (sym c.game.ensures.value) (subst (Promotes b.game u) to p)) in
+    let one = c.promotion_count-i-end.ensures.within.0 in
+    let five_most = c.promotion_count-i-end.ensures.within.1 in
+    let stands : unit_at b m.from ≡ Some u = ap (unit_at b) from ∙ c.requires.stands in
+    let tried = promotion_tried b m u stands (w.next, w.move) i five (omega (arith, one, end)) in
+    let named : get_or PROMOTIONS (promotion_number m.promotion) None ≡ m.promotion = promotion_at m.promotion (omega (arith, tried, end, five_most)) in
+    let same : m ≡ record { from = c.args.from; to = c.args.to; promotion = get_or PROMOTIONS (promotion_number m.promotion) None } = λ k. record { from = from k; to = to k; promotion = sym named k } in
+    c.loop-i.invariant (promotion_number m.promotion) tried (subst (Attains c.args.goal b) same w)

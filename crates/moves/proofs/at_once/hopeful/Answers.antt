@@ -1,0 +1,33 @@
+use Rattle.std.proofs.Common.{◌≡◌, Some, IfSome, sym, ap, subst, ◌∙◌}
+use Rattle.board.specs.Board.{PlainBoard}
+use Rattle.moves.specs.declared.checks.Watch.{Watch}
+use Rattle.moves.specs.declared.goal.Goal.{Goal}
+use Rattle.moves.specs.declared.goal.Goal.TheVariants.{Mate}
+use Rattle.moves.specs.Squares.{unit_at}
+use Rattle.moves.specs.Reach.{IsInCheck}
+use Rattle.moves.specs.Forces.{IsReached}
+use Rattle.moves.specs.Mailbox.{cell_of, place_in}
+use Rattle.moves.specs.Targets.{IsTarget}
+use Rattle.moves.proofs.Cells.{place_in-cell_of}
+use Rattle.moves.proofs.Keeps.{one_after}
+use Rattle.moves.proofs.AtOnce.{pseudo_by, move_by}
+use Rattle.moves.proofs.Checking.{IsTarget-move}
+use Rattle.moves.proofs.at_once.hopeful.Goals as goal
+
+pub returns-in-Some-clause-all : goal.returns-in-Some-clause-all
+returns-in-Some-clause-all c = λ m at w.
+    let b = c.args.mail.now in
+    let u = c.args.unit in
+    let stands : unit_at b m.from ≡ Some u = ap (unit_at b) at ∙ c.requires.stands in
+    let mate : c.args.quest.goal ≡ Mate = subst (λ o. IfSome o (λ (_ : Watch). c.args.quest.goal ≡ Mate)) c.in-Some.is c.requires.seeks.mate in
+    let mated = subst (λ (g : Goal). IsReached g w.next) mate w.reached in
+    c.checking.ensures.all m (pseudo_by b m u stands (w.next, w.move)) at
+    (subst (λ (q : PlainBoard). IsInCheck q q.mover) (one_after b m w.next _ w.move (move_by b m u stands (w.next, w.move))) mated.check)
+
+pub returns-in-None-clause-all : goal.returns-in-None-clause-all
+returns-in-None-clause-all c = λ m at w.
+    let b = c.args.mail.now in
+    let u = c.args.unit in
+    let stands : unit_at b m.from ≡ Some u = ap (unit_at b) at ∙ c.requires.stands in
+    let from : place_in c.cell_of.result ≡ c.args.from = ap place_in c.cell_of.ensures.value ∙ place_in-cell_of b.game c.args.from c.requires.on_board in
+    (c.targets.ensures (cell_of m.to)).1 (subst (λ s. IsTarget b u s (cell_of m.to)) (at ∙ sym from) (IsTarget-move b m u (pseudo_by b m u stands (w.next, w.move))))

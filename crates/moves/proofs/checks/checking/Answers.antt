@@ -1,0 +1,32 @@
+use Rattle.std.proofs.Common.{◌≡◌, inl, inr, sym, ap, subst, ◌∙◌}
+use Rattle.std.proofs.lemmas.Bool.{false≢true}
+use Rattle.board.specs.Games.{other_side}
+use Rattle.moves.specs.Mailbox.{cell_of, place_in, IsCell}
+use Rattle.moves.specs.Pinned.{IsPinned}
+use Rattle.moves.specs.Targets.{IsTarget}
+use Rattle.moves.proofs.Cells.{IsCell-cell_of, place_in-cell_of}
+use Rattle.moves.proofs.Checking.{who_checks, IsTarget-move}
+use Rattle.moves.proofs.checks.checking.Goals as goal
+
+pub returns-then-reached-eq0-clause-all : goal.returns-then-reached-eq0-clause-all
+returns-then-reached-eq0-clause-all c = λ m p at check.
+    let b = c.args.mail.now in
+    let from : place_in c.cell_of-cell.result ≡ c.args.from = ap place_in c.cell_of-cell.ensures.value ∙ place_in-cell_of b.game c.args.from c.requires.on_board in
+    (c.targets-reached.ensures (cell_of m.to)).1 (subst (λ s. IsTarget b c.args.unit s (cell_of m.to)) (at ∙ sym from) (IsTarget-move b m c.args.unit p))
+
+pub returns-clause-all : goal.returns-clause-all
+returns-clause-all c = λ m p at check.
+    let b = c.args.mail.now in
+    let u = c.args.unit in
+    let k = place_in c.args.watch.king in
+    let w = c.requires.watches in
+    let from : place_in c.cell_of-cell.result ≡ c.args.from = ap place_in c.cell_of-cell.ensures.value ∙ place_in-cell_of b.game c.args.from c.requires.on_board in
+    let cell : IsCell b.game c.cell_of-cell.result = subst (IsCell b.game) (sym c.cell_of-cell.ensures.value) (IsCell-cell_of b.game c.args.from c.requires.on_board) in
+    elim (who_checks b m u c.requires.position p k w.cell.on_board w.king w.safe check) [
+      | inl named ↦ absurd (false≢true (sym c.if-may_promote.false ∙ c.may_promote.ensures m at p named))
+      | inr (inl aims) ↦ (c.common.ensures (cell_of m.to)).1 (
+        (c.targets-reached.ensures (cell_of m.to)).1 (subst (λ s. IsTarget b u s (cell_of m.to)) (at ∙ sym from) (IsTarget-move b m u p)),
+        c.aiming.ensures m p aims,
+      )
+      | inr (inr pinned) ↦ absurd (false≢true (sym c.if-has.false ∙ c.has.ensures.1 (w.uncovers c.cell_of-cell.result cell (subst (IsPinned b (other_side b.mover) k) (at ∙ sym from) pinned))))
+    ]
