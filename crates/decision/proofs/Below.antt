@@ -1,11 +1,14 @@
 -- The positions below one.
-use Rattle.std.proofs.Common.{◌≡◌, ◌≢◌, ℕ, zero, suc, inl, inr, ◌⊎◌, ◌+◌, ◌-◌, ◌<◌, ◌↔◌, IsTrue, Bool, true, false, not, eqb, List, [], ◌∷◌, ◌++◌, take, length, get_or, All, Contains, refl, sym, ap, ◌∙◌, subst, arith, cond}
+use Rattle.std.specs.Option.{MatchOption, IfSome}
+use Rattle.std.proofs.Common.{Option, Some, None, ◌≡◌, ◌≢◌, ℕ, zero, suc, inl, inr, ◌⊎◌, ◌+◌, ◌-◌, ◌<◌, ◌↔◌, IsTrue, Bool, true, false, not, eqb, List, [], ◌∷◌, ◌++◌, take, length, get_or, All, Contains, refl, sym, ap, ◌∙◌, subst, arith, cond}
 use mathlib.Core.Bool.{beq}
 use Rattle.std.proofs.lemmas.Bool.{false≢true}
+use Rattle.std.proofs.lemmas.Grind.{common_steps, elements}
 use Rattle.std.proofs.lemmas.List.Elements.{All-append, All-contains, Contains-append_left, Contains-append_right, Contains-get_or}
+use Rattle.std.specs.List.{refill}
+use Rattle.std.specs.List.Sorted.{IsPermutation}
+use Rattle.std.proofs.lemmas.List.Sorted.{IsPermutation-sym, Contains-permutation}
 use Rattle.std.proofs.Math.Seq.{take-suc}
-use Rattle.atomic_table.specs.Seated.{TableId}
-use Rattle.atomic_table.specs.declared.shared.Seat.{Seat}
 use Rattle.board.specs.declared.game.Side.{Side}
 use Rattle.board.specs.Games.{is_same_side}
 use Rattle.board.specs.Board.{PlainBoard}
@@ -13,23 +16,20 @@ use Rattle.moves.specs.declared.goal.Goal.{Goal}
 use Rattle.moves.specs.declared.goal.Goal.TheVariants.{Mate, MateOrStale}
 use Rattle.moves.specs.Squares.{Ply}
 use Rattle.moves.specs.Moves.{IsMove, IsLawful}
-use Rattle.moves.specs.Order.{ListsLawful}
 use Rattle.moves.specs.Forces.{IsReached, Forces}
 use Rattle.moves.proofs.Keeps.{one_after}
-use Rattle.moves.proofs.Forcing.{on_own, to_own, on_other, to_other}
-use Rattle.slots.specs.declared.views.View.{View}
+use Rattle.moves.proofs.Forcing.{on_own, to_own, on_other, to_other, turn-own, turn-other}
 use Rattle.slots.specs.declared.calls.Call.{Call}
 use Rattle.slots.specs.declared.calls.Act.{Act}
 use Rattle.slots.specs.declared.calls.Act.TheVariants.{Asked}
 use Rattle.slots.specs.declared.calls.Probe.{Probe}
 use Rattle.slots.specs.Machine.{part, call}
-use Rattle.slots.specs.Promise.{number}
-use Rattle.decision.specs.Calls.{added, BeginsWith, Continues}
-use Rattle.decision.specs.Questions.{Question, question, key_for, first_slot}
+use Rattle.decision.specs.Calls.{BeginsWith}
+use Rattle.decision.specs.declared.question.Question.{Question}
+use Rattle.decision.specs.Questions.{question, IsForced, LeadsTo}
 use Rattle.decision.specs.Decisions.{Asks, IsAsked, RestsOnOne, AsksBelow}
 use Rattle.decision.specs.Decisions.Asks.{first_decides, one_slot, second_decides, neither_decides}
-use Rattle.decision.specs.Below.{Goes, Ends, IsTried, IsEnded, IsPassed, IsCut}
-use Rattle.decision.proofs.Calls.{added_more}
+use Rattle.decision.specs.Below.{ListsAll, is_own, Goes, Ends, IsPassed, IsCut, Tells, IsAskedAfter, Asked as AskedBelow}
 
 -- ---- an answer below
 
@@ -67,37 +67,12 @@ asked_first key slot slots n number counts calls (one_slot b s le) = (counts, fi
 asked_first key slot slots n number counts calls (second_decides {reply} b s lt b' s') = (reply, first_in slot number (Asked key reply) calls b)
 asked_first key slot slots n number counts calls (neither_decides {reply} b s lt b' s') = (counts, first_in slot number (Asked key counts) calls b)
 
--- a decision asks in its first slot
-pub asked_below : (t : TableId) (a b : Seat ℕ View) (q : Question) (slots n : ℕ) (counts : Probe) → number b ≡ number a → (calls : List Call) → Asks (key_for q) (first_slot (key_for q) slots) slots n (number b) counts calls → IsAsked q slots (number a) calls
-asked_below t a b q slots n counts same calls asks = asked_first (key_for q) (first_slot (key_for q) slots) slots n (number a) counts calls (subst (λ z. Asks (key_for q) (first_slot (key_for q) slots) slots n z counts calls) same asks)
-
 -- what was asked stays asked as calls follow, and as they come before
 pub asked_on : (q : Question) (slots number : ℕ) (xs ys : List Call) → IsAsked q slots number xs → IsAsked q slots number (xs ++ ys)
 asked_on q slots number xs ys a = (a.0, Contains-append_left xs ys _ a.1)
 
 pub asked_behind : (q : Question) (slots number : ℕ) (xs ys : List Call) → IsAsked q slots number ys → IsAsked q slots number (xs ++ ys)
 asked_behind q slots number xs ys a = (a.0, Contains-append_right xs ys _ a.1)
-
-tried_on : (q : Question) (slots n number : ℕ) (own : Bool) (xs ys : List Call) (m : Ply) → IsTried q slots n number own xs m → IsTried q slots n number own (xs ++ ys) m
-tried_on q slots n number own xs ys m h b move = let a = h b move in (asked_on (question b q.attacker q.goal) slots number xs ys a.0, a.1)
-
--- after one move more
-pub tried_more : (q : Question) (slots n number : ℕ) (own : Bool) (xs ys : List Call) (ms : List Ply) (i : ℕ) (m : Ply) (b : PlainBoard) → i < length ms → m ≡ get_or ms i m → IsMove q.position m b
-    → All (IsTried q slots n number own xs) (take i ms) → IsAsked (question b q.attacker q.goal) slots number ys → Goes own (Forces q.goal q.attacker b n)
-    → All (IsTried q slots n number own (xs ++ ys)) (take (suc i) ms)
-tried_more q slots n number own xs ys ms i m b lt is move before asked goes =
-    subst (All (IsTried q slots n number own (xs ++ ys))) (sym (take-suc ms i m lt))
-    (All-append (IsTried q slots n number own (xs ++ ys)) (take i ms) (get_or ms i m ∷ [])
-    (λ k d small. tried_on q slots n number own xs ys _ (before k d small))
-    (one (get_or ms i m) (subst (IsTried q slots n number own (xs ++ ys)) is tried)))
-  where
-    tried : IsTried q slots n number own (xs ++ ys) m
-    tried b' move' = subst (λ (z : PlainBoard). IsAsked (question z q.attacker q.goal) slots number (xs ++ ys) × Goes own (Forces q.goal q.attacker z n)) (one_after q.position m b b' move move')
-        (asked_behind (question b q.attacker q.goal) slots number xs ys asked, goes)
-
-    one : (x : Ply) → IsTried q slots n number own (xs ++ ys) x → All (IsTried q slots n number own (xs ++ ys)) (x ∷ [])
-    one x h zero d small = h
-    one x h (suc k) d small = absurd (omega arith)
 
 -- ---- the answer
 
@@ -108,11 +83,7 @@ not_reached MateOrStale b m lawful (inl mated) = mated.no_move m lawful
 not_reached MateOrStale b m lawful (inr stale) = stale.no_move m lawful
 
 module _ (q : Question) (n : ℕ) where
-  -- one more ply than k
-  abbrev pub IsForced : ℕ → Type 0
-  IsForced k = Forces q.goal q.attacker q.position k
-
-  ended : (own : Bool) (k : ℕ) → own ≡ is_same_side q.attacker q.position.mover → (m : Ply) (b : PlainBoard) → IsMove q.position m b → Ends own (Forces q.goal q.attacker b k) → IsTrue own ↔ IsForced (suc k)
+  ended : (own : Bool) (k : ℕ) → own ≡ is_same_side q.attacker q.position.mover → (m : Ply) (b : PlainBoard) → IsMove q.position m b → Ends own (Forces q.goal q.attacker b k) → IsTrue own ↔ IsForced q (suc k)
   ended true k turn m b move e = (λ _. to_own _ _ _ (sym turn) (m, b, move, e), λ _. refl)
   ended false k turn m b move e = (
     λ is. absurd (false≢true is),
@@ -123,10 +94,10 @@ module _ (q : Question) (n : ℕ) where
   )
 
   -- the answer below ends the search
-  pub ended_answer : (own : Bool) → own ≡ is_same_side q.attacker q.position.mover → 0 < n → (m : Ply) (b : PlainBoard) → IsMove q.position m b → Ends own (Forces q.goal q.attacker b (n - 1)) → IsTrue own ↔ IsForced n
-  ended_answer own turn some m b move e = let up : suc (n - 1) ≡ n = omega arith in subst (λ k. IsTrue own ↔ IsForced k) up (ended own (n - 1) turn m b move e)
+  pub ended_answer : (own : Bool) → own ≡ is_same_side q.attacker q.position.mover → 0 < n → (m : Ply) (b : PlainBoard) → IsMove q.position m b → Ends own (Forces q.goal q.attacker b (n - 1)) → IsTrue own ↔ IsForced q n
+  ended_answer own turn some m b move e = let up : suc (n - 1) ≡ n = omega arith in subst (λ k. IsTrue own ↔ IsForced q k) up (ended own (n - 1) turn m b move e)
 
-  gone : (own : Bool) (k : ℕ) → own ≡ is_same_side q.attacker q.position.mover → (m : Ply) × IsLawful q.position m → ((m : Ply) → IsLawful q.position m → IsPassed q k own m) → IsTrue (not own) ↔ IsForced (suc k)
+  gone : (own : Bool) (k : ℕ) → own ≡ is_same_side q.attacker q.position.mover → (m : Ply) × IsLawful q.position m → ((m : Ply) → IsLawful q.position m → IsPassed q k own m) → IsTrue (not own) ↔ IsForced q (suc k)
   gone true k turn some all = (
     λ is. absurd (false≢true is),
     λ f. absurd (let w = on_own _ _ _ (sym turn) f in all w.0 (w.1, w.2) w.1 w.2 w.3),
@@ -137,42 +108,24 @@ module _ (q : Question) (n : ℕ) where
   )
 
   -- no answer below ends it
-  pub gone_answer : (own : Bool) → own ≡ is_same_side q.attacker q.position.mover → 0 < n → (m : Ply) × IsLawful q.position m → ((m : Ply) → IsLawful q.position m → IsPassed q (n - 1) own m) → IsTrue (not own) ↔ IsForced n
-  gone_answer own turn plies some all = let up : suc (n - 1) ≡ n = omega arith in subst (λ k. IsTrue (not own) ↔ IsForced k) up (gone own (n - 1) turn some all)
-
-module _ (q : Question) (slots number n : ℕ) where
-  rests : (own : Bool) → own ≡ is_same_side q.attacker q.position.mover → RestsOnOne q own
-  rests true turn = to_own _ _ _ (sym turn) refl
-  rests false turn = to_other _ _ _ (sym turn) refl
-
-  pub ended_below : (own : Bool) → own ≡ is_same_side q.attacker q.position.mover → (m : Ply) (b : PlainBoard) → IsMove q.position m b → (calls : List Call) → IsAsked (question b q.attacker q.goal) slots number calls → AsksBelow q slots number own calls
-  ended_below own turn m b move calls asked = record { some = λ _. (m, b, move, asked); every = λ no_one. absurd (no_one (rests own turn)) }
-
-  rests_not : (own : Bool) → own ≡ is_same_side q.attacker q.position.mover → RestsOnOne q (not own) → ⊥
-  rests_not true turn r = false≢true (on_own _ _ _ (sym turn) r)
-  rests_not false turn r = false≢true (sym (on_other _ _ _ (sym turn) r))
-
-  pub gone_below : (own : Bool) (calls : List Call) → own ≡ is_same_side q.attacker q.position.mover → ((m : Ply) → IsLawful q.position m → IsTried q slots (n - 1) number own calls m) → AsksBelow q slots number (not own) calls
-  gone_below own calls turn all = record {
-    some = λ r. absurd (rests_not own turn r);
-    every = λ _ m b move. (all m (b, move) b move).0;
-  }
+  pub gone_answer : (own : Bool) → own ≡ is_same_side q.attacker q.position.mover → 0 < n → (m : Ply) × IsLawful q.position m → ((m : Ply) → IsLawful q.position m → IsPassed q (n - 1) own m) → IsTrue (not own) ↔ IsForced q n
+  gone_answer own turn plies some all = let up : suc (n - 1) ≡ n = omega arith in subst (λ k. IsTrue (not own) ↔ IsForced q k) up (gone own (n - 1) turn some all)
 
 -- an empty list has no lawful move, and another has one
-pub none_listed : (b : PlainBoard) (xs : List Ply) → ListsLawful b xs → length xs ≡ 0 → (m : Ply) → IsLawful b m → ⊥
-none_listed b xs lists e m lawful = let h = (lists.exact m).1 lawful in absurd (omega (arith, h.1))
+pub none_listed : (b : PlainBoard) (xs : List Ply) → ListsAll b xs → length xs ≡ 0 → (m : Ply) → IsLawful b m → ⊥
+none_listed b xs lists e m lawful = let h = (lists m).1 lawful in absurd (omega (arith, h.1))
 
-pub some_listed : (b : PlainBoard) (xs : List Ply) → ListsLawful b xs → 0 < length xs → (m : Ply) × IsLawful b m
-some_listed b xs lists lt = first xs lt (λ m. (lists.exact m).0)
+pub some_listed : (b : PlainBoard) (xs : List Ply) → ListsAll b xs → 0 < length xs → (m : Ply) × IsLawful b m
+some_listed b xs lists lt = first xs lt (λ m. (lists m).0)
   where
     first : (ys : List Ply) → 0 < length ys → ((m : Ply) → Contains ys m → IsLawful b m) → (m : Ply) × IsLawful b m
     first [] lt h = absurd (omega (arith, lt))
     first (y ∷ ys) lt h = (y, h y (zero, omega arith, refl))
 
-pub all_listed : (b : PlainBoard) (xs : List Ply) → ListsLawful b xs → All (IsLawful b) xs
-all_listed b xs lists k d lt = (lists.exact (get_or xs k d)).0 (Contains-get_or xs k d lt)
+pub all_listed : (b : PlainBoard) (xs : List Ply) → ListsAll b xs → All (IsLawful b) xs
+all_listed b xs lists k d lt = (lists (get_or xs k d)).0 (Contains-get_or xs k d lt)
 
--- ---- two lists of moves
+-- ---- what the moves say
 
 pub same_or_not : (a b : Bool) → (a ≡ b) ⊎ (a ≢ b)
 same_or_not true true = inl refl
@@ -190,48 +143,33 @@ pub not_self : (a : Bool) → not a ≢ a
 not_self true e = false≢true e
 not_self false e = false≢true (sym e)
 
-module _ (t : TableId) (a b c : Seat ℕ View) (ab : Continues t a b) (bc : Continues t b c) (q : Question) (slots n : ℕ) where
-  tried_behind : (own : Bool) (m : Ply) → IsTried q slots n (number b) own (added b c) m → IsTried q slots n (number a) own (added a c) m
-  tried_behind own m h x move =
-      let w = h x move in
-      (subst (IsAsked (question x q.attacker q.goal) slots (number a)) (sym (added_more a b c ab.grew bc.grew)) (asked_behind (question x q.attacker q.goal) slots (number a) (added a b) (added b c) (subst (λ k. IsAsked (question x q.attacker q.goal) slots k (added b c)) ab.number w.0)), w.1)
+-- of one's own turn and the other
+module _ (q : Question) where
+  rests : (own : Bool) → own ≡ is_own q → RestsOnOne q own
+  rests true turn = to_own _ _ _ (sym turn) refl
+  rests false turn = to_other _ _ _ (sym turn) refl
 
-  tried_before : (own : Bool) (m : Ply) → IsTried q slots n (number a) own (added a b) m → IsTried q slots n (number a) own (added a c) m
-  tried_before own m h = subst (λ (l : List Call). IsTried q slots n (number a) own l m) (sym (added_more a b c ab.grew bc.grew)) (tried_on q slots n (number a) own (added a b) (added b c) m h)
+  rests_not : (own : Bool) → own ≡ is_own q → RestsOnOne q (not own) → ⊥
+  rests_not true turn r = false≢true (on_own _ _ _ (sym turn) r)
+  rests_not false turn r = false≢true (sym (on_other _ _ _ (sym turn) r))
 
-  -- each move was tried in one list or the other
-  pub both_tried : (own : Bool) (xs fs ls : List Ply) → ((m : Ply) → Contains xs m → Contains fs m ⊎ Contains ls m) → All (IsTried q slots n (number a) own (added a b)) fs → All (IsTried q slots n (number b) own (added b c)) ls → All (IsTried q slots n (number a) own (added a c)) xs
-  both_tried own xs fs ls parts before after k d lt = elim (parts (get_or xs k d) (Contains-get_or xs k d lt)) [
-    | inl f ↦ tried_before own (get_or xs k d) (All-contains (IsTried q slots n (number a) own (added a b)) fs (get_or xs k d) before f)
-    | inr l ↦ tried_behind own (get_or xs k d) (All-contains (IsTried q slots n (number b) own (added b c)) ls (get_or xs k d) after l)
+module _ (q : Question) (n : ℕ) (answer : Bool) (plies : 0 < n) (some : (m : Ply) × IsLawful q.position m) (moves : List Ply) (lists : ListsAll q.position moves) where
+  -- what the lawful moves tell is the answer
+  pub answer_of : Tells q n moves answer → IsTrue answer ↔ IsForced q n
+  answer_of tells = elim (same_or_not answer (is_own q)) [
+    | inl same ↦ let (m, b, move, end) = tells.cut same in ended_answer q n answer same plies m b move end
+    | inr apart ↦ subst (λ (r : Bool). IsTrue r ↔ IsForced q n) (other_of answer (is_own q) apart)
+        (gone_answer q n (is_own q) refl plies some (λ m lawful. All-contains (IsPassed q (n - 1) (is_own q)) moves m (tells.passed apart) ((lists m).1 lawful)))
   ]
 
-  pub ended_behind : (own : Bool) → IsEnded q slots n (number b) own (added b c) → IsEnded q slots n (number a) own (added a c)
-  ended_behind own (m, x, move, asked, end) = (m, x, move, subst (IsAsked (question x q.attacker q.goal) slots (number a)) (sym (added_more a b c ab.grew bc.grew)) (asked_behind (question x q.attacker q.goal) slots (number a) (added a b) (added b c) (subst (λ k. IsAsked (question x q.attacker q.goal) slots k (added b c)) ab.number asked)), end)
-
--- what the lawful moves say
-pub answer_of : (q : Question) (n : ℕ) (answer : Bool) → 0 < n → (m : Ply) × IsLawful q.position m → (moves : List Ply) → ListsLawful q.position moves → (answer ≡ is_same_side q.attacker q.position.mover → IsCut q (n - 1) answer)
-    → (answer ≢ is_same_side q.attacker q.position.mover → All (IsPassed q (n - 1) (is_same_side q.attacker q.position.mover)) moves) → IsTrue answer ↔ Forces q.goal q.attacker q.position n
-answer_of q n answer plies some moves lists cut passed = elim (same_or_not answer (is_same_side q.attacker q.position.mover)) [
-  | inl same ↦ let (m, b, move, end) = cut same in ended_answer q n answer same plies m b move end
-  | inr apart ↦ subst (λ (r : Bool). IsTrue r ↔ Forces q.goal q.attacker q.position n) (other_of answer (is_same_side q.attacker q.position.mover) apart)
-      (gone_answer q n (is_same_side q.attacker q.position.mover) refl plies some (λ m lawful. All-contains (IsPassed q (n - 1) (is_same_side q.attacker q.position.mover)) moves m (passed apart) ((lists.exact m).1 lawful)))
-]
-
--- the same, and what was asked
-module _ (q : Question) (slots n number : ℕ) (calls : List Call) (answer : Bool) (plies : 0 < n) (some : (m : Ply) × IsLawful q.position m) (moves : List Ply) (lists : ListsLawful q.position moves)
-    (ended : answer ≡ is_same_side q.attacker q.position.mover → IsEnded q slots (n - 1) number answer calls)
-    (all_tried : answer ≢ is_same_side q.attacker q.position.mover → All (IsTried q slots (n - 1) number (is_same_side q.attacker q.position.mover) calls) moves) where
-  tried : answer ≢ is_same_side q.attacker q.position.mover → (m : Ply) → IsLawful q.position m → IsTried q slots (n - 1) number (is_same_side q.attacker q.position.mover) calls m
-  tried apart m lawful = All-contains (IsTried q slots (n - 1) number (is_same_side q.attacker q.position.mover) calls) moves m (all_tried apart) ((lists.exact m).1 lawful)
-
-  pub said_answer : IsTrue answer ↔ Forces q.goal q.attacker q.position n
-  said_answer = answer_of q n answer plies some moves lists (λ same. let e = ended same in (e.0, e.1, e.2, e.4)) (λ apart k d lt b move. (all_tried apart k d lt b move).1)
-
-  pub said_below : AsksBelow q slots number answer calls
-  said_below = elim (same_or_not answer (is_same_side q.attacker q.position.mover)) [
-    | inl same ↦ let e = ended same in ended_below q slots number n answer same e.0 e.1 e.2 calls e.3
-    | inr apart ↦ subst (λ (r : Bool). AsksBelow q slots number r calls) (other_of answer (is_same_side q.attacker q.position.mover) apart) (gone_below q slots number n (is_same_side q.attacker q.position.mover) calls refl (tried apart))
+  -- and where the table was asked of their positions, it was asked of those that count
+  pub below_of : (slots number : ℕ) (calls : List Call) → AskedBelow q slots number moves answer calls → AsksBelow q slots number answer calls
+  below_of slots number calls asked = elim (same_or_not answer (is_own q)) [
+    | inl same ↦ record { some = λ _. asked.one same; every = λ no_one. absurd (no_one (rests q answer same)) }
+    | inr apart ↦ record {
+      some = λ r. absurd (rests_not q (is_own q) refl (subst (RestsOnOne q) (sym (other_of answer (is_own q) apart)) r));
+      every = λ _ m b move. All-contains (IsAskedAfter q slots number calls) moves m (asked.all apart) ((lists m).1 (b, move)) b move;
+    }
   ]
 
 -- ---- one turn of the loop
@@ -252,20 +190,6 @@ beq_apart a b e same = false≢true (sym e ∙ ap (beq a) (sym same) ∙ beq_sel
 pub not_empty : (n : ℕ) → false ≡ eqb n 0 → 0 < n
 not_empty zero e = absurd (false≢true e)
 not_empty (suc n) e = omega arith
-
--- after one move more, by the seats
-pub tried_next : (t : TableId) (a b c : Seat ℕ View) → Continues t a b → Continues t b c → (q : Question) (slots n : ℕ) (own : Bool) (ms : List Ply) (i : ℕ) (m : Ply) (x : PlainBoard) → i < length ms → m ≡ get_or ms i m → IsMove q.position m x
-    → All (IsTried q slots n (number a) own (added a b)) (take i ms) → (counts : Probe) → Asks (key_for (question x q.attacker q.goal)) (first_slot (key_for (question x q.attacker q.goal)) slots) slots n (number b) counts (added b c) → Goes own (Forces q.goal q.attacker x n)
-    → All (IsTried q slots n (number a) own (added a c)) (take (i + 1) ms)
-tried_next t a b c ab bc q slots n own ms i m x lt is move before counts asks goes =
-    let up : suc i ≡ i + 1 = omega arith in
-    subst (λ k. All (IsTried q slots n (number a) own (added a c)) (take k ms)) up
-    (subst (λ (l : List Call). All (IsTried q slots n (number a) own l) (take (suc i) ms)) (sym (added_more a b c ab.grew bc.grew))
-    (tried_more q slots n (number a) own (added a b) (added b c) ms i m x lt is move before (asked_below t a b (question x q.attacker q.goal) slots n counts ab.number (added b c) asks) goes))
-
--- the last move is asked of behind the others
-pub asked_last : (t : TableId) (a b c : Seat ℕ View) → Continues t a b → Continues t b c → (q : Question) (slots n : ℕ) (counts : Probe) → Asks (key_for q) (first_slot (key_for q) slots) slots n (number b) counts (added b c) → IsAsked q slots (number a) (added a c)
-asked_last t a b c ab bc q slots n counts asks = subst (IsAsked q slots (number a)) (sym (added_more a b c ab.grew bc.grew)) (asked_behind q slots (number a) (added a b) (added b c) (asked_below t a b q slots n counts ab.number (added b c) asks))
 
 -- the answer of now holds for any number of plies, where there is no lawful move
 pub now_answer : (goal : Goal) (attacker : Side) (b : PlainBoard) (n : ℕ) (there : Bool) → ((m : Ply) → IsLawful b m → ⊥) → (IsTrue there ↔ Forces goal attacker b 0) → IsTrue there ↔ Forces goal attacker b n
@@ -296,9 +220,85 @@ passed_next q n own ms i m x lt is move before goes =
     one y h zero d small = h
     one y h (suc k) d small = absurd (omega arith)
 
--- two lists that hold each move
-pub both_lists : (q : Question) (n : ℕ) (own : Bool) (ms fs ls : List Ply) → ((m : Ply) → Contains ms m → Contains fs m ⊎ Contains ls m) → All (IsPassed q n own) fs → All (IsPassed q n own) ls → All (IsPassed q n own) ms
-both_lists q n own ms fs ls parts first later k d lt = elim (parts (get_or ms k d) (Contains-get_or ms k d lt)) [
-  | inl f ↦ All-contains (IsPassed q n own) fs (get_or ms k d) first f
-  | inr l ↦ All-contains (IsPassed q n own) ls (get_or ms k d) later l
-]
+-- what was asked stays asked, and after one move more
+pub after_on : (q : Question) (slots number : ℕ) (xs ys : List Call) (m : Ply) → IsAskedAfter q slots number xs m → IsAskedAfter q slots number (xs ++ ys) m
+after_on q slots number xs ys m h b move = asked_on (question b q.attacker q.goal) slots number xs ys (h b move)
+
+pub asked_next : (q : Question) (slots number : ℕ) (xs ys : List Call) (ms : List Ply) (i : ℕ) (m : Ply) (x : PlainBoard) → i < length ms → m ≡ get_or ms i m → IsMove q.position m x
+    → All (IsAskedAfter q slots number xs) (take i ms) → IsAsked (question x q.attacker q.goal) slots number ys → All (IsAskedAfter q slots number (xs ++ ys)) (take (i + 1) ms)
+asked_next q slots number xs ys ms i m x lt is move before asked =
+    let up : suc i ≡ i + 1 = omega arith in
+    let P : Ply → Type 0 = IsAskedAfter q slots number (xs ++ ys) in
+    subst (λ k. All P (take k ms)) up
+    (subst (All P) (sym (take-suc ms i m lt)) (All-append P (take i ms) (get_or ms i m ∷ []) (λ k d small. after_on q slots number xs ys _ (before k d small)) (one (get_or ms i m) (subst P is last))))
+  where
+    last : IsAskedAfter q slots number (xs ++ ys) m
+    last b move' = subst (λ (z : PlainBoard). IsAsked (question z q.attacker q.goal) slots number (xs ++ ys)) (one_after q.position m x b move move') (asked_behind (question x q.attacker q.goal) slots number xs ys asked)
+
+    one : (y : Ply) → IsAskedAfter q slots number (xs ++ ys) y → All (IsAskedAfter q slots number (xs ++ ys)) (y ∷ [])
+    one y h zero d small = h
+    one y h (suc k) d small = absurd (omega arith)
+
+-- ---- lists of moves in another order
+
+pub lists_permuted : (b : PlainBoard) (xs ys : List Ply) → IsPermutation xs ys → ListsAll b xs → ListsAll b ys
+lists_permuted b xs ys p lists m = (
+  λ h. (lists m).0 (Contains-permutation ys xs m (IsPermutation-sym xs ys p) h),
+  λ h. Contains-permutation xs ys m p ((lists m).1 h),
+)
+
+-- a list of the same length written over another
+pub refilled : (xs ys : List Ply) → length ys ≡ length xs → refill (length xs) xs ys ≡ ys
+refilled xs ys same = grind (arith, common_steps, elements)
+
+-- ---- by the questions below
+
+-- the move passes the turn
+pub passes_own : (q other : Question) (m : Ply) → LeadsTo q m other → is_own q ≡ true → is_own other ≡ false
+passes_own q other m l own = subst (λ (o : Question). is_own o ≡ false) (sym l.2) (turn-own q.attacker q.position m l.0 l.1 own)
+
+pub passes_other : (q other : Question) (m : Ply) → LeadsTo q m other → is_own q ≡ false → is_own other ≡ true
+passes_other q other m l own = subst (λ (o : Question). is_own o ≡ true) (sym l.2) (turn-other q.attacker q.position m l.0 l.1 own)
+
+-- one move more that ended nothing
+pub passed_after : (q : Question) (n : ℕ) (own : Bool) (ms : List Ply) (i : ℕ) (m : Ply) (other : Question) → i < length ms → m ≡ get_or ms i m → LeadsTo q m other → All (IsPassed q n own) (take i ms) → Goes own (IsForced other n)
+    → All (IsPassed q n own) (take (i + 1) ms)
+passed_after q n own ms i m other lt is l before goes =
+    passed_next q n own ms i m l.0 lt is l.1 before (subst (λ (o : Question). Goes own (IsForced o n)) l.2 goes)
+
+-- a move that ends it
+pub cut_after : (q : Question) (n : ℕ) (own : Bool) (m : Ply) (other : Question) → LeadsTo q m other → Ends own (IsForced other n) → IsCut q n own
+cut_after q n own m other l ends = (m, l.0, l.1, subst (λ (o : Question). Ends own (IsForced o n)) l.2 ends)
+
+-- the attacker has no move that wins
+pub lost : (q : Question) (n : ℕ) → is_own q ≡ true → 0 < n → (moves : List Ply) → ListsAll q.position moves → All (IsPassed q (n - 1) true) moves → IsTrue false ↔ IsForced q n
+lost q n turn plies moves lists all = (
+  λ is. absurd (false≢true is),
+  λ f.
+      let up : n ≡ suc (n - 1) = omega (arith, plies) in
+      let w = on_own _ _ _ turn (subst (IsForced q) up f) in
+      absurd (All-contains (IsPassed q (n - 1) true) moves w.0 all ((lists w.0).1 (w.1, w.2)) w.1 w.2 w.3),
+)
+
+-- what holds of all that are listed holds of each lawful move
+pub All-listed : (b : PlainBoard) (moves : List Ply) → ListsAll b moves → (P : Ply → Type 0) → All P moves → (m : Ply) → IsLawful b m → P m
+All-listed b moves lists P all m lawful = All-contains P moves m all ((lists m).1 lawful)
+
+-- with no lawful move, what is so now is so for any number of plies
+pub now_for : (q : Question) (n : ℕ) (answer : Bool) → ((m : Ply) → IsLawful q.position m → ⊥) → (IsTrue answer ↔ IsForced q 0) → IsTrue answer ↔ IsForced q n
+now_for q n answer none h = now_answer q.goal q.attacker q.position n answer none h
+
+-- what the moves tell, if they were all tried, is the answer
+pub tells_answer : (q : Question) (n : ℕ) (told : Type 0) (found : Option Bool) → 0 < n → (m : Ply) × IsLawful q.position m → (moves : List Ply) → ListsAll q.position moves → MatchOption found told (Tells q n moves) → MatchOption found told (λ yes. IsTrue yes ↔ IsForced q n)
+tells_answer q n told None plies some moves lists h = h
+tells_answer q n told (Some answer) plies some moves lists h = answer_of q n answer plies some moves lists h
+
+-- with no ply left
+pub now_zero : (q : Question) (n : ℕ) (answer : Bool) → 0 ≡ n → (IsTrue answer ↔ IsForced q 0) → IsTrue answer ↔ IsForced q n
+now_zero q n answer none h = subst (λ k. IsTrue answer ↔ IsForced q k) none h
+
+-- and what was asked of their positions
+pub tells_below : (q : Question) (n : ℕ) (found : Option Bool) (moves : List Ply) → ListsAll q.position moves → (slots number : ℕ) (calls : List Call) → IfSome found (λ answer. AskedBelow q slots number moves answer calls)
+    → IfSome found (λ answer. 0 < n → (m : Ply) × IsLawful q.position m → AsksBelow q slots number answer calls)
+tells_below q n None moves lists slots number calls h = h
+tells_below q n (Some answer) moves lists slots number calls h = λ plies some. below_of q n answer plies some moves lists slots number calls h

@@ -32,6 +32,12 @@ added_more a b c g h =
 pub one_added : (slot : ℕ) (act : Act) (a b : Seat ℕ View) → Called mate_way slot act a b → added a b ≡ call slot (number a) act ∷ []
 one_added slot act a b d = added_is a b (call slot (number a) act ∷ []) d.whole.own
 
+pub one_history : (slot : ℕ) (act : Act) (a b : Seat ℕ View) → Called mate_way slot act a b → KnowsHistory b
+one_history slot act a b d = record {
+  legal = d.whole.legal;
+  once = subst (λ n. calls_by n (all_seen b) ≡ all_mine b) (sym d.same) d.whole.once;
+}
+
 pub one_continues : (t : TableId) (slot : ℕ) (act : Act) (a b : Seat ℕ View) → IsSeatOf t b → b.id ≡ a.id → Called mate_way slot act a b → HitFits key_words IsTruePacking act → Continues t a b
 one_continues t slot act a b seat id d hit = record {
   seat = seat;
@@ -39,12 +45,7 @@ one_continues t slot act a b seat id d hit = record {
   number = d.same;
   grew = grew_by mate_way slot act a b d;
   hits = subst AreHitsTrue (sym (one_added slot act a b d)) (all_one (λ c. HitFits key_words IsTruePacking c.act) (call slot (number a) act) hit);
-}
-
-pub one_history : (slot : ℕ) (act : Act) (a b : Seat ℕ View) → Called mate_way slot act a b → KnowsHistory b
-one_history slot act a b d = record {
-  legal = d.whole.legal;
-  once = subst (λ n. calls_by n (all_seen b) ≡ all_mine b) (sym d.same) d.whole.once;
+  history = λ _. one_history slot act a b d;
 }
 
 -- no call
@@ -55,6 +56,7 @@ continues_none t a seat = record {
   number = refl;
   grew = grew_none a;
   hits = subst AreHitsTrue (sym (added_is a a [] (sym (append-nil (all_mine a))))) (λ k d lt. absurd (omega (arith, lt)));
+  history = λ h. h;
 }
 
 pub continues_more : (t : TableId) (a b c : Seat ℕ View) → Continues t a b → Continues t b c → Continues t a c
@@ -64,4 +66,5 @@ continues_more t a b c p q = record {
   number = q.number ∙ p.number;
   grew = grew_more a b c p.grew q.grew;
   hits = subst AreHitsTrue (sym (added_more a b c p.grew q.grew)) (All-append (λ x. HitFits key_words IsTruePacking x.act) (added a b) (added b c) p.hits q.hits);
+  history = λ h. q.history (p.history h);
 }

@@ -1,24 +1,25 @@
 -- What a decision's calls amount to.
-use Rattle.std.proofs.Common.{◌≡◌, ℕ, ◌+◌, ◌<◌, Bool, true, false, MatchBool, List, ◌++◌, All, refl, sym, ap, ◌∙◌, subst, arith}
+use Rattle.std.proofs.Common.{length, take, get_or, ◌≡◌, ℕ, ◌+◌, ◌<◌, Bool, true, false, MatchBool, List, ◌++◌, All, refl, sym, ap, ◌∙◌, subst, arith}
 use Rattle.atomic_table.specs.Seated.{TableId}
-use Rattle.atomic_table.specs.declared.shared.Seat.{Seat}
 use Rattle.board.specs.Games.{is_same_side}
 use Rattle.board.specs.Board.{PlainBoard}
-use Rattle.moves.proofs.Forcing.{to_own}
-use Rattle.slots.specs.declared.views.View.{View}
 use Rattle.slots.specs.declared.calls.Call.{Call}
 use Rattle.slots.specs.declared.calls.Act.TheVariants.{Asked, Offered}
 use Rattle.slots.specs.declared.calls.Probe.{Probe}
-use Rattle.slots.specs.Promise.{number}
+use Rattle.slots.specs.Promise.{slots_of, number}
 use Rattle.entry.specs.Bounds.{Bounds}
 use Rattle.decision.specs.declared.decision.Decision.{Decision}
-use Rattle.decision.specs.Calls.{added, Continues}
-use Rattle.decision.specs.Questions.{Question, question, entry_for, words_of, key_for, first_slot, Settles, said, IsMetWith}
+use Rattle.decision.specs.declared.caller.Caller.{Caller}
+use Rattle.decision.specs.Callers.{GoesOn, adds}
+use Rattle.decision.specs.declared.question.Question.{Question}
+use Rattle.decision.specs.Questions.{question, LeadsTo, entry_for, words_of, key_for, first_slot, Settles, said, IsMetWith}
 use Rattle.decision.specs.Decisions.{Asks, IsAsked, IsProbeOf, OffersBoth, AsksBelow, Decides}
 use Rattle.decision.specs.Decisions.Asks.{first_decides, one_slot, second_decides, neither_decides}
-use Rattle.decision.proofs.Calls.{added_more, continues_more}
+use Rattle.decision.proofs.Callers.{adds_more, goes_more}
 use Rattle.decision.proofs.Slots.{begins_on, ends_behind}
-use Rattle.decision.proofs.Below.{asked_on, asked_behind}
+use Rattle.moves.specs.Squares.{Ply}
+use Rattle.decision.specs.Below.{IsAskedAfter}
+use Rattle.decision.proofs.Below.{asked_first, asked_on, asked_behind, asked_next}
 
 -- the key's and the slot's own names
 pub asks_as : (q : Question) (key : List ℕ) (slot slots n number : ℕ) (counts : Probe) (calls : List Call) → key ≡ key_for q → slot ≡ first_slot key slots → Asks key slot slots n number counts calls
@@ -43,16 +44,6 @@ decided_at_once q key slot slots n number answer first calls k s a probes settle
   stored = λ lt. absurd (omega (arith, lt));
 }
 
--- the attacker has no ply left
-pub decided_unmoved : (q : Question) (key : List ℕ) (slot slots n number : ℕ) (answer : Bool) (first : Probe) (calls : List Call) → key ≡ key_for q → slot ≡ first_slot key slots → Asks key slot slots n number first calls
-    → (Settles first n → ⊥) → n ≡ 0 → is_same_side q.attacker q.position.mover ≡ true → Decides q slots n number (record { yes = answer; expanded = 0; first = first }) calls
-decided_unmoved q key slot slots n number answer first calls k s a silent zero_plies turn = record {
-  asked = asks_as q key slot slots n number first calls k s a;
-  at_once = λ settles. absurd (silent settles);
-  searched = λ _. to_own _ _ _ turn (λ lt. absurd (omega (arith, lt, zero_plies)));
-  stored = λ lt. absurd (omega (arith, lt));
-}
-
 on_either : (r : Bool) (P Q : Type 0) → P → Q → MatchBool r P Q
 on_either true P Q p q = p
 on_either false P Q p q = q
@@ -62,6 +53,19 @@ offers_behind slot slots number words xs ys o = record {
   first = (o.first.0, ends_behind slot number (Offered words o.first.0) xs ys o.first.1);
   second = λ lt. let s = o.second lt in (s.0, ends_behind (slot + 1) number (Offered words s.0) xs ys s.1);
 }
+
+-- what is kept in the question's own slots, behind other calls
+pub kept_last : (a b c : Caller) (q : Question) (i : Bounds) (key : List ℕ) (slot : ℕ) (words : List ℕ) → GoesOn a b → GoesOn b c → key ≡ key_for q → slot ≡ first_slot key (slots_of b.slots.now) → words ≡ words_of (entry_for q i)
+    → OffersBoth slot (slots_of b.slots.now) (number b.seat.now) words (adds b c) → OffersBoth (first_slot (key_for q) (slots_of a.slots.now)) (slots_of a.slots.now) (number a.seat.now) (words_of (entry_for q i)) (adds a c)
+kept_last a b c q i key slot words ab bc k s is offers =
+    let P : List ℕ → ℕ → ℕ → List ℕ → Type 0 = λ z slots n w. OffersBoth (first_slot z slots) slots n w (adds b c) in
+    let own = subst (λ z. OffersBoth z (slots_of b.slots.now) (number b.seat.now) words (adds b c)) s offers in
+    let named = subst (λ z. P z (slots_of b.slots.now) (number b.seat.now) words) k own in
+    let here = subst (λ (t : TableId). P (key_for q) (slots_of t) (number b.seat.now) words) ab.table named in
+    let mine = subst (λ n. P (key_for q) (slots_of a.slots.now) n words) ab.calls.number here in
+    let right = subst (P (key_for q) (slots_of a.slots.now) (number a.seat.now)) is mine in
+    subst (OffersBoth (first_slot (key_for q) (slots_of a.slots.now)) (slots_of a.slots.now) (number a.seat.now) (words_of (entry_for q i))) (sym (adds_more a b c ab bc))
+    (offers_behind _ (slots_of a.slots.now) (number a.seat.now) (words_of (entry_for q i)) (adds a b) (adds b c) right)
 
 below_within : (q : Question) (slots number : ℕ) (answer : Bool) (xs ys zs : List Call) → AsksBelow q slots number answer ys → AsksBelow q slots number answer ((xs ++ ys) ++ zs)
 below_within q slots number answer xs ys zs a = record {
@@ -88,19 +92,56 @@ decided_by_parts q key slot slots n number d xs ys zs words i k s a silent some 
   };
 }
 
--- the same by the seats between
-pub decided_searched : (t : TableId) (a b c e : Seat ℕ View) (q : Question) (key : List ℕ) (slot slots n : ℕ) (d : Decision) (words : List ℕ) → Continues t a b → Continues t b c → Continues t c e → key ≡ key_for q → slot ≡ first_slot key slots
-    → Asks key slot slots n (number a) d.first (added a b) → (Settles d.first n → ⊥) → 0 < d.expanded
-    → (i : Bounds) × IsMetWith d.first (said d.yes n) i × (words ≡ words_of (entry_for q i)) → OffersBoth slot slots (number c) words (added c e) → Decides q slots n (number a) d (added a e)
-decided_searched t a b c e q key slot slots n d words ab bc ce k s asks silent some met offers =
-    let parts : added a e ≡ (added a b ++ added b c) ++ added c e = added_more a c e (continues_more t a b c ab bc).grew ce.grew ∙ ap (λ (l : List Call). l ++ added c e) (added_more a b c ab.grew bc.grew) in
-    subst (Decides q slots n (number a) d) (sym parts)
-    (decided_by_parts q key slot slots n (number a) d (added a b) (added b c) (added c e) words met.0 k s asks silent some
-    met.1 met.2 (subst (λ z. OffersBoth slot slots z words (added c e)) (bc.number ∙ ab.number) offers))
+-- the same by the callers between
+module _ (a b c e : Caller) (ab : GoesOn a b) (bc : GoesOn b c) (ce : GoesOn c e) (q : Question) where
+  -- its calls in three parts
+  in_parts : adds a e ≡ (adds a b ++ adds b c) ++ adds c e
+  in_parts = adds_more a c e (goes_more a b c ab bc) ce ∙ ap (λ (l : List Call). l ++ adds c e) (adds_more a b c ab bc)
 
--- what is asked below is among the calls of the whole
-pub asks_within : (t : TableId) (a b c e : Seat ℕ View) (q : Question) (slots : ℕ) (answer : Bool) → Continues t a b → Continues t b c → Continues t c e → AsksBelow q slots (number b) answer (added b c) → AsksBelow q slots (number a) answer (added a e)
-asks_within t a b c e q slots answer ab bc ce below =
-    let parts : added a e ≡ (added a b ++ added b c) ++ added c e = added_more a c e (continues_more t a b c ab bc).grew ce.grew ∙ ap (λ (l : List Call). l ++ added c e) (added_more a b c ab.grew bc.grew) in
-    subst (AsksBelow q slots (number a) answer) (sym parts)
-    (below_within q slots (number a) answer (added a b) (added b c) (added c e) (subst (λ z. AsksBelow q slots z answer (added b c)) ab.number below))
+  pub decided_searched : (key : List ℕ) (slot n : ℕ) (d : Decision) (i : Bounds) → key ≡ key_for q → slot ≡ first_slot key (slots_of a.slots.now)
+      → Asks key slot (slots_of a.slots.now) n (number a.seat.now) d.first (adds a b) → (Settles d.first n → ⊥) → 0 < d.expanded → IsMetWith d.first (said d.yes n) i
+      → OffersBoth (first_slot (key_for q) (slots_of c.slots.now)) (slots_of c.slots.now) (number c.seat.now) (words_of (entry_for q i)) (adds c e) → Decides q (slots_of a.slots.now) n (number a.seat.now) d (adds a e)
+  decided_searched key slot n d i k s asks silent some met kept =
+      let ac = goes_more a b c ab bc in
+      let slots = slots_of a.slots.now in
+      let here = subst (λ (t : TableId). OffersBoth (first_slot (key_for q) (slots_of t)) (slots_of t) (number c.seat.now) (words_of (entry_for q i)) (adds c e)) ac.table kept in
+      let mine = subst (λ m. OffersBoth (first_slot (key_for q) slots) slots m (words_of (entry_for q i)) (adds c e)) ac.calls.number here in
+      subst (Decides q slots n (number a.seat.now) d) (sym in_parts)
+      (decided_by_parts q (key_for q) (first_slot (key_for q) slots) slots n (number a.seat.now) d (adds a b) (adds b c) (adds c e) (words_of (entry_for q i)) i refl refl
+      (asks_as q key slot slots n (number a.seat.now) d.first (adds a b) k s asks) silent some met refl mine)
+
+  -- what is asked below is among the calls of the whole
+  pub below_searched : (answer : Bool) → AsksBelow q (slots_of b.slots.now) (number b.seat.now) answer (adds b c) → AsksBelow q (slots_of a.slots.now) (number a.seat.now) answer (adds a e)
+  below_searched answer below =
+      let slots = slots_of a.slots.now in
+      let here = subst (λ (t : TableId). AsksBelow q (slots_of t) (number b.seat.now) answer (adds b c)) ab.table below in
+      let mine = subst (λ m. AsksBelow q slots m answer (adds b c)) ab.calls.number here in
+      subst (AsksBelow q slots (number a.seat.now) answer) (sym in_parts) (below_within q slots (number a.seat.now) answer (adds a b) (adds b c) (adds c e) mine)
+
+-- who asks in both slots asks in the first
+pub asked_of : (q : Question) (key : List ℕ) (slot slots n number : ℕ) (counts : Probe) (calls : List Call) → key ≡ key_for q → slot ≡ first_slot key slots → Asks key slot slots n number counts calls → IsAsked q slots number calls
+asked_of q key slot slots n number counts calls k s asks = asked_first (key_for q) (first_slot (key_for q) slots) slots n number counts calls (asks_as q key slot slots n number counts calls k s asks)
+
+-- what was asked stays asked as the caller goes on
+pub asked_then : (a b c : Caller) → GoesOn a b → GoesOn b c → (q : Question) → IsAsked q (slots_of a.slots.now) (number a.seat.now) (adds a b) → IsAsked q (slots_of a.slots.now) (number a.seat.now) (adds a c)
+asked_then a b c ab bc q asked = subst (IsAsked q (slots_of a.slots.now) (number a.seat.now)) (sym (adds_more a b c ab bc)) (asked_on q (slots_of a.slots.now) (number a.seat.now) (adds a b) (adds b c) asked)
+
+-- what was asked later, by the names of the beginning
+pub asked_by : (a b c : Caller) → GoesOn a b → GoesOn b c → (q : Question) → IsAsked q (slots_of b.slots.now) (number b.seat.now) (adds b c) → IsAsked q (slots_of a.slots.now) (number a.seat.now) (adds b c)
+asked_by a b c ab bc q asked =
+    subst (λ n. IsAsked q (slots_of a.slots.now) n (adds b c)) ab.calls.number
+    (subst (λ (t : TableId). IsAsked q (slots_of t) (number b.seat.now) (adds b c)) ab.table asked)
+
+pub asked_later : (a b c : Caller) → GoesOn a b → GoesOn b c → (q : Question) (m : Ply) (other : Question) (l : LeadsTo q m other) → IsAsked other (slots_of b.slots.now) (number b.seat.now) (adds b c)
+    → IsAsked (question l.0 q.attacker q.goal) (slots_of a.slots.now) (number a.seat.now) (adds a c)
+asked_later a b c ab bc q m other l asked =
+    subst (λ (o : Question). IsAsked o (slots_of a.slots.now) (number a.seat.now) (adds a c)) l.2
+    (subst (IsAsked other (slots_of a.slots.now) (number a.seat.now)) (sym (adds_more a b c ab bc)) (asked_behind other (slots_of a.slots.now) (number a.seat.now) (adds a b) (adds b c) (asked_by a b c ab bc other asked)))
+
+pub after_next : (a b c : Caller) → GoesOn a b → GoesOn b c → (q : Question) (ms : List Ply) (i : ℕ) (m : Ply) (other : Question) → i < length ms → m ≡ get_or ms i m → (l : LeadsTo q m other)
+    → All (IsAskedAfter q (slots_of a.slots.now) (number a.seat.now) (adds a b)) (take i ms) → IsAsked other (slots_of b.slots.now) (number b.seat.now) (adds b c)
+    → All (IsAskedAfter q (slots_of a.slots.now) (number a.seat.now) (adds a c)) (take (i + 1) ms)
+after_next a b c ab bc q ms i m other lt is l before asked =
+    subst (λ (calls : List Call). All (IsAskedAfter q (slots_of a.slots.now) (number a.seat.now) calls) (take (i + 1) ms)) (sym (adds_more a b c ab bc))
+    (asked_next q (slots_of a.slots.now) (number a.seat.now) (adds a b) (adds b c) ms i m l.0 lt is l.1 before
+    (subst (λ (o : Question). IsAsked o (slots_of a.slots.now) (number a.seat.now) (adds b c)) l.2 (asked_by a b c ab bc other asked)))

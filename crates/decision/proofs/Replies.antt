@@ -1,6 +1,6 @@
 -- What replies say.
 use Rattle.std.proofs.Common.{◌≡◌, ℕ, ◌<◌, ◌≤◌, ◌-◌, ◌↔◌, IsTrue, Bool, true, false, List, Option, Some, None, refl, sym, ap, ◌∙◌, subst, arith}
-use Rattle.std.specs.Option.{IfSome}
+use Rattle.std.specs.Option.{IfSome, MatchOption}
 use Rattle.std.proofs.lemmas.Bool.{false≢true}
 use Rattle.board.specs.Board.{IsPosition}
 use Rattle.moves.specs.Forces.{Forces}
@@ -9,14 +9,15 @@ use Rattle.slots.specs.declared.calls.Probe.TheVariants.{Hit, Vacant, Other, Bus
 use Rattle.slots.specs.declared.calls.Act.TheVariants.{Asked}
 use Rattle.slots.specs.Steps.{HitFits}
 use Rattle.entry.specs.declared.entries.Entry.{Entry}
-use Rattle.entry.specs.Bounds.{Bounds, bounds_of}
+use Rattle.entry.specs.Bounds.{Bounds, bounds_of, least, meeting}
 use Rattle.entry.specs.Packing.{Packing}
 use Rattle.entry.specs.Keys.{key_words}
 use Rattle.entry.specs.Truth.{IsRight, IsTruePacking}
 use Rattle.entry.specs.Laws.{MeetingIsRight}
 use Rattle.entry.proofs.Questions.{one_entry}
 use Rattle.entry.proofs.Truths.{hit_right, yes_right, no_right, raise}
-use Rattle.decision.specs.Questions.{Question, entry_for, words_of, key_for, EndsBy, Says, RepliesThat, Settles, said, IsMetWith, IsWhole, Tells}
+use Rattle.decision.specs.declared.question.Question.{Question}
+use Rattle.decision.specs.Questions.{IsForced, IsKnownOf, entry_for, words_of, key_for, EndsBy, Says, RepliesThat, Settles, said, IsMetWith, IsWhole, Tells}
 
 -- a hit with the key is whole
 pub whole_of : (key : List ℕ) (reply : Probe) → HitFits key_words IsTruePacking (Asked key reply) → IsWhole reply
@@ -32,14 +33,17 @@ says_of Vacant i n answer t r = absurd t
 says_of Other i n answer t r = absurd t
 says_of Busy i n answer t r = absurd t
 
-not_by : (i : Bounds) (n : ℕ) → (n < i.below → ⊥) → (EndsBy i.upto n → ⊥) → (answer : Bool) → Says i n answer → ⊥
-not_by i n low high true s = high s
-not_by i n low high false s = low s
+-- and what it says, the hit says
+pub replies_of : (reply : Probe) (i : Bounds) (n : ℕ) (answer : Bool) → Tells reply (Some i) → Says i n answer → RepliesThat reply n answer
+replies_of (Hit words) i n answer t s = (t.0, t.1, subst (λ (j : Bounds). Says j n answer) t.2 s)
+replies_of Vacant i n answer t s = absurd t
+replies_of Other i n answer t s = absurd t
+replies_of Busy i n answer t s = absurd t
 
--- an interval of these parts that decides nothing settles nothing
-pub unsettled : (reply : Probe) (i : Bounds) (low : ℕ) (end : Option ℕ) (n : ℕ) → bounds_of low end ≡ i → Tells reply (Some i) → low ≤ n → (EndsBy end n → ⊥) → Settles reply n → ⊥
-unsettled reply i low end n is t le high s =
-    not_by (bounds_of low end) n (λ lt. absurd (omega arith)) high s.0 (says_of reply (bounds_of low end) n s.0 (subst (λ (j : Bounds). Tells reply (Some j)) (sym is) t) s.1)
+-- an interval that says neither decides nothing
+pub says_neither : (i : Bounds) (n : ℕ) → i.below ≤ n → (EndsBy i.upto n → ⊥) → (answer : Bool) → Says i n answer → ⊥
+says_neither i n low high true s = high s
+says_neither i n low high false s = omega (arith, low, s)
 
 -- an end that comes later, and one that isn't known
 pub ends_later : (end : Option ℕ) (m n : ℕ) → end ≡ Some m → n < m → EndsBy end n → ⊥
@@ -52,6 +56,14 @@ ends_later (Some k) m n is lt e = let same : k ≡ m = some_same k m is in omega
 pub ends_never : (end : Option ℕ) (n : ℕ) → end ≡ None → EndsBy end n → ⊥
 ends_never None n is e = e
 ends_never (Some k) n is e = cc
+
+-- what one reply says is settled by it
+pub settles_not : (reply : Probe) (i : Bounds) (n : ℕ) → Tells reply (Some i) → ((answer : Bool) → Says i n answer → ⊥) → Settles reply n → ⊥
+settles_not reply i n t none s = none s.0 (says_of reply i n s.0 t s.1)
+
+pub settles_by : (reply : Probe) (i : Bounds) (n : ℕ) (found : Option Bool) → Tells reply (Some i) → MatchOption found ((answer : Bool) → Says i n answer → ⊥) (λ answer. Says i n answer) → MatchOption found (Settles reply n → ⊥) (λ answer. RepliesThat reply n answer)
+settles_by reply i n None t none = settles_not reply i n t none
+settles_by reply i n (Some answer) t s = replies_of reply i n answer t s
 
 -- what is no hit settles nothing
 pub silent : (reply : Probe) (n : ℕ) → Tells reply None → Settles reply n → ⊥
@@ -109,3 +121,29 @@ reply_is_right q position (Hit words) h n false r = (λ e. absurd (false≢true 
 reply_is_right q position Vacant h n answer r = absurd r
 reply_is_right q position Other h n answer r = absurd r
 reply_is_right q position Busy h n answer r = absurd r
+
+-- what is known and decides n is the answer
+pub known_is_right : (q : Question) (i : Bounds) → IsKnownOf q i → (n : ℕ) (answer : Bool) → Says i n answer → IsTrue answer ↔ IsForced q n
+known_is_right q i right n true s = (λ e. ends_in i.upto n s right.upto, λ f. refl)
+  where
+    ends_in : (end : Option ℕ) (n : ℕ) → EndsBy end n → IfSome end (Forces q.goal q.attacker q.position) → Forces q.goal q.attacker q.position n
+    ends_in None n by f = absurd by
+    ends_in (Some m) n by f = raise (asked_for q) (n - m) m n (omega (arith, by)) f
+known_is_right q i right n false s = (λ e. absurd (false≢true e), λ f. absurd (right.below n s f))
+
+-- nothing is known at first
+pub nothing_known : (q : Question) → IsKnownOf q (bounds_of 0 None)
+nothing_known q = record { below = λ n lt. absurd (omega (arith, lt)); upto = tt }
+
+-- an answer met with what is known still says so
+pub says_on : (n : ℕ) (answer : Bool) (i : Bounds) → Says (meeting (said answer n) i) n answer
+says_on n true i = ends (i.upto)
+  where
+    ends : (end : Option ℕ) → EndsBy (least (Some n) end) n
+    ends None = omega arith
+    ends (Some m) = omega arith
+says_on n false i = omega arith
+
+-- what is forced within fewer plies is forced within more
+pub forced_later : (q : Question) (k n : ℕ) → k ≤ n → IsForced q k → IsForced q n
+forced_later q k n le f = raise (asked_for q) (n - k) k n (omega (arith, le)) f

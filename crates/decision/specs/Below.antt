@@ -1,12 +1,21 @@
 -- What the moves that were tried tell: what the functions inside keep, and no caller sees.
-use Rattle.std.specs.Prelude.{ℕ, Bool, true, false, List}
+use Rattle.std.specs.Prelude.{◌≡◌, ◌≢◌, ◌-◌, ◌↔◌, ℕ, Bool, true, false, List, All, Contains}
+use Rattle.board.specs.Games.{is_same_side}
 use Rattle.board.specs.Board.{PlainBoard}
 use Rattle.moves.specs.Squares.{Ply}
-use Rattle.moves.specs.Moves.{IsMove}
-use Rattle.moves.specs.Forces.{Forces}
+use Rattle.moves.specs.Moves.{IsMove, IsLawful}
 use Rattle.slots.specs.declared.calls.Call.{Call}
-use Rattle.decision.specs.Questions.{Question, question}
+use Rattle.decision.specs.declared.question.Question.{Question}
+use Rattle.decision.specs.Questions.{question, IsForced}
 use Rattle.decision.specs.Decisions.{IsAsked}
+
+-- the list has each lawful move, and no other
+abbrev pub ListsAll : PlainBoard → List Ply → Type 0
+ListsAll b moves = (m : Ply) → Contains moves m ↔ IsLawful b m
+
+-- whether the attacker is to move
+abbrev pub is_own : Question → Bool
+is_own q = is_same_side q.attacker q.position.mover
 
 -- what an answer says that doesn't end the search: no on the attacker's turn, yes on the defender's
 abbrev pub Goes : Bool → Type 0 → Type 0
@@ -18,18 +27,24 @@ abbrev pub Ends : Bool → Type 0 → Type 0
 Ends true P = P
 Ends false P = P → ⊥
 
--- the position after the move was asked of, and didn't end the search
-abbrev pub IsTried : Question → ℕ → ℕ → ℕ → Bool → List Call → Ply → Type 0
-IsTried q slots n number own calls m = (b : PlainBoard) → IsMove q.position m b → IsAsked (question b q.attacker q.goal) slots number calls × Goes own (Forces q.goal q.attacker b n)
-
--- the position after some move was asked of, and ended the search
-abbrev pub IsEnded : Question → ℕ → ℕ → ℕ → Bool → List Call → Type 0
-IsEnded q slots n number own calls = (m : Ply) × (b : PlainBoard) × IsMove q.position m b × IsAsked (question b q.attacker q.goal) slots number calls × Ends own (Forces q.goal q.attacker b n)
-
 -- the position after the move didn't end the search
 abbrev pub IsPassed : Question → ℕ → Bool → Ply → Type 0
-IsPassed q n own m = (b : PlainBoard) → IsMove q.position m b → Goes own (Forces q.goal q.attacker b n)
+IsPassed q n own m = (b : PlainBoard) → IsMove q.position m b → Goes own (IsForced (question b q.attacker q.goal) n)
 
 -- the position after some move ended it
 abbrev pub IsCut : Question → ℕ → Bool → Type 0
-IsCut q n own = (m : Ply) × (b : PlainBoard) × IsMove q.position m b × Ends own (Forces q.goal q.attacker b n)
+IsCut q n own = (m : Ply) × (b : PlainBoard) × IsMove q.position m b × Ends own (IsForced (question b q.attacker q.goal) n)
+
+-- what the moves that were tried tell of n plies: one ended the search, or none did
+pub record Tells (q : Question) (n : ℕ) (moves : List Ply) (answer : Bool) : Type 0 where
+  pub cut : answer ≡ is_own q → IsCut q (n - 1) answer
+  pub passed : answer ≢ is_own q → All (IsPassed q (n - 1) (is_own q)) moves
+
+-- the table was asked of the position after the move
+abbrev pub IsAskedAfter : Question → ℕ → ℕ → List Call → Ply → Type 0
+IsAskedAfter q slots number calls m = (b : PlainBoard) → IsMove q.position m b → IsAsked (question b q.attacker q.goal) slots number calls
+
+-- the table was asked of the positions below: of one where a move ended the search, else after each move
+pub record Asked (q : Question) (slots number : ℕ) (moves : List Ply) (answer : Bool) (calls : List Call) : Type 0 where
+  pub one : answer ≡ is_own q → (m : Ply) × (b : PlainBoard) × IsMove q.position m b × IsAsked (question b q.attacker q.goal) slots number calls
+  pub all : answer ≢ is_own q → All (IsAskedAfter q slots number calls) moves

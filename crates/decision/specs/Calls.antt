@@ -38,10 +38,11 @@ pub record KnowsHistory (seat : Seat ℕ View) : Type 0 where
   pub legal : (slot : ℕ) → IsLegal (way_at slot mate_way) (seen slot seat)
   pub once : calls_by (number seat) (all_seen seat) ≡ all_mine seat
 
--- the seat of one caller, before and after some calls
+-- The seat of one caller, before and after some calls: it is a seat of the table still, its calls grow, their hits are true, and what it knew of the history stays whole
 pub record Continues (table : TableId) (before after : Seat ℕ View) : Type 0 where
   pub seat : IsSeatOf table after
   pub id : after.id ≡ before.id
   pub number : number after ≡ number before
   pub grew : Grew before after
   pub hits : AreHitsTrue (added before after)
+  pub history : KnowsHistory before → KnowsHistory after

@@ -1,8 +1,8 @@
 -- What a decision promises of the calls that it adds.
-use Rattle.std.specs.Prelude.{◌≡◌, ℕ, ◌+◌, ◌<◌, ◌≤◌, Bool, true, false, List, All, Contains}
+use Rattle.std.specs.Prelude.{◌≡◌, ℕ, ◌+◌, ◌<◌, ◌≤◌, ◌↔◌, IsTrue, Bool, true, false, List, All, Contains}
 use Rattle.board.specs.Board.{PlainBoard}
 use Rattle.moves.specs.Squares.{Ply}
-use Rattle.moves.specs.Moves.{IsMove}
+use Rattle.moves.specs.Moves.{IsMove, IsLawful}
 use Rattle.moves.specs.Forces.{OnTurn}
 use Rattle.slots.specs.declared.calls.Call.{Call}
 use Rattle.slots.specs.declared.calls.Act.TheVariants.{Asked, Offered}
@@ -12,7 +12,8 @@ use Rattle.slots.specs.Machine.{call}
 use Rattle.entry.specs.Bounds.{Bounds}
 use Rattle.decision.specs.declared.decision.Decision.{Decision}
 use Rattle.decision.specs.Calls.{BeginsWith, EndsWith}
-use Rattle.decision.specs.Questions.{Question, question, entry_for, words_of, key_for, first_slot, Settles, said, IsMetWith}
+use Rattle.decision.specs.declared.question.Question.{Question}
+use Rattle.decision.specs.Questions.{question, IsForced, entry_for, words_of, key_for, first_slot, Settles, said, IsMetWith}
 
 -- The key is asked in its first slot, and then in its second, if the table has it, where the first reply doesn't decide n. The reply that counts is the one that decides n, else the first slot's
 pub data Asks (key : List ℕ) (slot slots n number : ℕ) (counts : Probe) (calls : List Call) : Type 0 where
@@ -61,3 +62,9 @@ pub record Decides (q : Question) (slots n number : ℕ) (d : Decision) (calls :
   pub at_once : Settles d.first n → (d.expanded ≡ 0) × All (IsProbeOf (key_for q)) calls
   pub searched : (Settles d.first n → ⊥) → OnTurn q.attacker q.position (0 < n → 0 < d.expanded) (0 < d.expanded)
   pub stored : 0 < d.expanded → StoresAnswer q slots n number d calls
+
+-- what a decision promises: the answer is the definition's, its calls are these, and where it had to search it asked of the positions below
+pub record IsDecided (q : Question) (slots n number : ℕ) (d : Decision) (calls : List Call) : Type 0 where
+  pub answer : IsTrue d.yes ↔ IsForced q n
+  pub decides : Decides q slots n number d calls
+  pub below : 0 < d.expanded → 0 < n → ((m : Ply) × IsLawful q.position m) → AsksBelow q slots number d.yes calls

@@ -1,5 +1,6 @@
 pub mod Answer
 pub mod Calls
+pub mod Callers
 pub mod Questions
 pub mod Decisions
 pub mod Below

@@ -3,22 +3,29 @@ use Rattle.std.specs.Prelude.{◌≡◌, ℕ, ◌+◌, ◌*◌, ◌/◌, ◌<◌
 use Rattle.board.specs.declared.game.Side.{Side}
 use Rattle.board.specs.Board.{PlainBoard}
 use Rattle.moves.specs.declared.goal.Goal.{Goal}
+use Rattle.moves.specs.Squares.{Ply}
+use Rattle.moves.specs.Moves.{IsMove}
+use Rattle.moves.specs.Forces.{Forces}
 use Rattle.slots.specs.declared.calls.Probe.{Probe}
 use Rattle.slots.specs.declared.calls.Probe.TheVariants.{Hit}
 use Rattle.entry.specs.declared.entries.Entry.{Entry}
 use Rattle.entry.specs.Bounds.{Bounds, bounds_of, meeting}
 use Rattle.entry.specs.Packing.{Packing, entry_of, first_word, second_word, third_word}
 use Rattle.entry.specs.Keys.{key_words, slot_number}
-use Rattle.entry.specs.Truth.{IsTruePacking}
+use Rattle.entry.specs.Truth.{IsRight, IsTruePacking}
+use Rattle.decision.specs.declared.question.Question.{Question}
 
 -- whether the attacker forces the goal from the position
-pub record Question : Type 0 where
-  pub position : PlainBoard
-  pub attacker : Side
-  pub goal : Goal
-
 abbrev pub question : PlainBoard → Side → Goal → Question
 question b attacker goal = record { position = b; attacker = attacker; goal = goal }
+
+-- the attacker forces the goal within n plies
+abbrev pub IsForced : Question → ℕ → Type 0
+IsForced q n = Forces q.goal q.attacker q.position n
+
+-- the move leads to the other question: the same, of the position after it
+abbrev pub LeadsTo : Question → Ply → Question → Type 0
+LeadsTo q m other = (b : PlainBoard) × IsMove q.position m b × (other ≡ question b q.attacker q.goal)
 
 -- the entry that gives the question this interval
 abbrev pub entry_for : Question → Bounds → Entry
@@ -45,6 +52,10 @@ EndsBy (Some m) n = m ≤ n
 abbrev pub Says : Bounds → ℕ → Bool → Type 0
 Says i n true = EndsBy i.upto n
 Says i n false = n < i.below
+
+-- the interval is right of the question
+abbrev pub IsKnownOf : Question → Bounds → Type 0
+IsKnownOf q i = IsRight (entry_for q (bounds_of 0 None)) i
 
 -- the reply is a hit that says so
 abbrev pub RepliesThat : Probe → ℕ → Bool → Type 0

@@ -1,32 +1,20 @@
 //! Asking the table, and what its replies say.
-ghost use Rattle.std.specs.Prelude.{◌≡◌, ◌<◌, ◌≤◌, ◌+◌, All, MatchOption, Some};
+ghost use Rattle.std.specs.Prelude.{◌≡◌, ◌<◌, ◌≤◌, ◌+◌, Bool, All, MatchOption};
 ghost use Rattle.board.specs.Board.{IsPosition};
-ghost use Rattle.slots.specs.Promise.{slots_of, number, IsSeatOf};
+ghost use Rattle.slots.specs.Promise.{slots_of, number};
 ghost use Rattle.slots.specs.Steps.{HitFits};
 ghost use Rattle.slots.specs.declared.calls.Act.TheVariants.{Asked};
 ghost use Rattle.entry.specs.Keys.{key_words};
 ghost use Rattle.entry.specs.Truth.{IsTruePacking};
-ghost use Rattle.decision.specs.Calls.{added, Continues, KnowsHistory};
-ghost use Rattle.decision.specs.Questions.{question, key_for, first_slot, RepliesThat, Settles, IsWhole, Tells};
-ghost use Rattle.decision.specs.Decisions.{Asks, IsProbeOf};
+ghost use Rattle.decision.specs.Calls.{KnowsHistory};
+ghost use Rattle.decision.specs.Callers.{GoesOn, adds};
+ghost use Rattle.decision.specs.Questions.{key_for, first_slot, RepliesThat, Settles, Says, IsWhole, Tells, IsKnownOf};
+ghost use Rattle.decision.specs.Decisions.{Asks, IsAsked, IsProbeOf};
 
-use crate::calling::probe;
-use board::Side;
-use entry::{Interval, MateLore, interval_of, key_of, pack_board, slot_of};
-use moves::{Board, Goal};
-use slots::{Probe, Seat, Slots};
-
-/// The key by which the table is asked of a position.
-pub(crate) fn key_on(board: &Board, attacker: Side, goal: Goal) -> [u64; 3]
-    ensures value { result ≡ key_for (question board.now attacker goal) }
-    ensures position { IsPosition board.now }
-{
-    let nothing = Interval {
-        below: 0,
-        upto: None,
-    };
-    key_of(pack_board(board, attacker, goal, nothing))
-}
+use crate::caller::Caller;
+use crate::question::{NOTHING, Question};
+use entry::{Interval, MateLore, interval_laws, interval_of, meet, slot_of};
+use slots::{Probe, Slots};
 
 /// The first of the key's two slots.
 pub(crate) fn first_slot(slots: &Slots<MateLore>, key: [u64; 3]) -> usize
@@ -34,6 +22,19 @@ pub(crate) fn first_slot(slots: &Slots<MateLore>, key: [u64; 3]) -> usize
     ensures below { result < slots_of slots.now }
 {
     slot_of(&key, slots.len()) / 2 * 2
+}
+
+/// The first of two slots more, in which an entry is kept too. Their number mixes all bits of the key: that of the format leaves
+/// some squares out where the number of slots is a power of two, and spreads small endings over few slots.
+pub(crate) fn far_slot(slots: &Slots<MateLore>, key: [u64; 3]) -> usize
+    ensures { result < slots_of slots.now }
+{
+    let first = key[0].wrapping_mul(0x9E3779B97F4A7C15);
+    let second = key[1].wrapping_mul(0xC2B2AE3D27D4EB4F).rotate_left(21);
+    let third = key[2].wrapping_mul(0x165667B19E3779F9).rotate_left(42);
+    let mixed = first ^ second ^ third;
+    let number = (mixed ^ (mixed >> 32)).wrapping_mul(0xD6E8FEB86659FD93) >> 32;
+    number as usize % slots.len() / 2 * 2
 }
 
 /// The interval of a hit.
@@ -47,12 +48,10 @@ pub(crate) fn known(reply: Probe) -> Option<Interval>
     }
 }
 
-/// What the reply says of n plies, if it decides them.
-pub(crate) fn settled(reply: Probe, n: u8) -> Option<bool>
-    requires { IsWhole reply }
-    ensures { MatchOption result (Settles reply n → ⊥) (λ answer. RepliesThat reply n answer) }
+/// What the interval says of n plies, if it decides them.
+pub(crate) fn decided(interval: Interval, n: u8) -> Option<bool>
+    ensures { MatchOption result ((answer : Bool) → Says interval n answer → ⊥) (λ answer. Says interval n answer) }
 {
-    let interval = known(reply)?;
     if n < interval.below {
         return Some(false);
     }
@@ -62,35 +61,66 @@ pub(crate) fn settled(reply: Probe, n: u8) -> Option<bool>
     }
 }
 
+/// What the reply says of n plies, if it decides them.
+pub(crate) fn settled(reply: Probe, n: u8) -> Option<bool>
+    requires { IsWhole reply }
+    ensures { MatchOption result (Settles reply n → ⊥) (λ answer. RepliesThat reply n answer) }
+{
+    decided(known(reply)?, n)
+}
+
 /// Asks the first slot, and then the second, if the table has it, where the first reply doesn't decide n plies. The reply is
 /// the one that decides them, or else the first slot's.
-pub(crate) fn ask(
-    slots: &Slots<MateLore>,
-    seat: &mut Seat,
-    key: [u64; 3],
-    slot: usize,
-    n: u8,
-) -> Probe
-    requires seat { IsSeatOf slots.now seat.old }
-    requires slot { slot < slots_of slots.now }
-    ensures continues { Continues slots.now seat.old seat.new }
-    ensures history { KnowsHistory seat.new }
-    ensures asked { Asks key slot (slots_of slots.now) n (number seat.old) result (added seat.old seat.new) }
-    ensures probes { All (IsProbeOf key) (added seat.old seat.new) }
+pub(crate) fn ask(caller: &mut Caller<'_>, key: [u64; 3], slot: usize, n: u8) -> Probe
+    requires slot { slot < slots_of caller.old.slots.now }
+    ensures goes_on { GoesOn caller.old caller.new }
+    ensures history { KnowsHistory caller.new.seat.now }
+    ensures asked { Asks key slot (slots_of caller.old.slots.now) n (number caller.old.seat.now) result (adds caller.old caller.new) }
+    ensures probes { All (IsProbeOf key) (adds caller.old caller.new) }
     ensures hit { HitFits key_words IsTruePacking (Asked key result) }
 {
-    let count = slots.len();
-    let reply = probe(slots, seat, slot, key);
+    let count = caller.slots.len();
+    let reply = caller.probe(slot, key);
     if settled(reply, n).is_some() {
         return reply;
     }
     if count <= slot + 1 {
         return reply;
     }
-    let second = probe(slots, seat, slot + 1, key);
+    let second = caller.probe(slot + 1, key);
     if settled(second, n).is_some() {
         second
     } else {
         reply
     }
+}
+
+/// What the reply to its key says of the question.
+fn told(q: &Question, reply: Probe) -> Interval
+    requires position { IsPosition q.now.position }
+    requires hit { HitFits key_words IsTruePacking (Asked (key_for q.now) reply) }
+    ensures { IsKnownOf q.now result }
+{
+    match known(reply) {
+        Some(interval) => interval,
+        None => NOTHING,
+    }
+}
+
+/// What the table knows of the question: its own two slots are asked, and two more where these don't decide n plies.
+pub(crate) fn look(caller: &mut Caller<'_>, q: &Question, n: u8) -> Interval
+    ensures goes_on { GoesOn caller.old caller.new }
+    ensures asked { IsAsked q.now (slots_of caller.old.slots.now) (number caller.old.seat.now) (adds caller.old caller.new) }
+    ensures right { IsKnownOf q.now result }
+{
+    let key = q.key();
+    let slot = first_slot(caller.slots, key);
+    let near = ask(caller, key, slot, n);
+    if settled(near, n).is_some() {
+        return told(q, near);
+    }
+    let slot = far_slot(caller.slots, key);
+    let far = ask(caller, key, slot, n);
+    interval_laws();
+    meet(told(q, near), told(q, far))
 }

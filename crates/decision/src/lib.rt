@@ -1,16 +1,22 @@
-//! Forced mates: the answer of a solve.
+//! One decision: whether the attacker forces the goal within so many plies, over a table that others use too.
 #![tactic(auto)]
 
 mod answer;
 mod asking;
-mod calling;
+mod caller;
 mod deciding;
 mod decision;
+mod leaf;
+mod memory;
 mod order;
+mod question;
+mod scout;
+mod searching;
 mod storing;
-mod until;
 
 pub use answer::{Answer, MOST_LIMIT};
-pub use deciding::{decide, decide_on};
+pub use deciding::{decide, decide_on, decide_until};
 pub use decision::Decision;
-pub use until::{Stop, decide_until};
+pub use memory::Memory;
+pub use question::Question;
+pub use scout::{Never, Scout, Stop};

@@ -1,35 +1,86 @@
-//! Which of the attacker's moves are tried first. The answer doesn't depend on it.
-ghost use Rattle.std.specs.Prelude.{◌≡◌, ◌⊎◌, ◌+◌, ◌≤◌, ◌↔◌, All, Contains, length};
-ghost use Rattle.moves.specs.Squares.{Ply};
+//! Which moves are tried first. No answer depends on it.
+ghost use Rattle.std.specs.Prelude.{◌<◌, All, IfSome, length};
+ghost use Rattle.std.specs.List.Sorted.{IsPermutation};
 ghost use Rattle.moves.specs.Moves.{IsLawful};
+ghost use Rattle.decision.specs.Below.{ListsAll};
 
+use crate::memory::{Memory, pair_of};
+use crate::question::Question;
 use arrayvec::ArrayVec;
-use moves::{Board, Move, gives_check};
+use moves::{Move, after, lawful_on, mover_in_check};
 
-/// The moves to try first, and those to try later.
+/// The costs of moves, by their two squares: those of less cost are tried first.
 #[derive(Drop)]
-pub(crate) struct InOrder {
-    pub(crate) first: ArrayVec<Move, 512>,
-    pub(crate) later: ArrayVec<Move, 512>,
+struct Costs {
+    of_pair: [u16; 1296],
 }
 
-/// The moves in two lists: those that give check, and the others.
-#[inline(never)]
-pub(crate) fn put_in_order(board: &Board, moves: &[Move]) -> InOrder
-    requires lawful { All (IsLawful board.now) moves.now }
-    requires room { length moves.now ≤ 512 }
-    ensures all { (m : Ply) → Contains moves.now m → Contains result.first.items m ⊎ Contains result.later.items m }
-    ensures first { All (IsLawful board.now) result.first.items }
-    ensures later { All (IsLawful board.now) result.later.items }
+/// From so many plies on the replies to a move are counted.
+const COUNTED_FROM: u8 = 4;
+
+/// What counts against the move: for the defender, how many moves it leaves the attacker; for the attacker, that it gives no
+/// check, then how many replies it leaves, and then how seldom it won.
+fn cost(memory: &Memory, q: &Question, n: u8, m: Move) -> u16
+    requires { IsLawful q.now.position m }
 {
-    let mut first = ArrayVec::new();
-    let mut later = ArrayVec::new();
+    let next = after(&q.position, m);
+    let replies = if n < COUNTED_FROM {
+        0
+    } else {
+        lawful_on(&next).len() as u16
+    };
+    if !q.is_own_turn() {
+        return replies;
+    }
+    let quiet = if mover_in_check(&next) { 0 } else { 0x8000 };
+    let seldom = u8::MAX - memory.wins_of(m);
+    quiet + replies.min(127) * 256 + u16::from(seldom)
+}
+
+/// The costs of the moves. Where moves have the same two squares, it is that of the last.
+fn costs_of(memory: &Memory, q: &Question, n: u8, moves: &[Move]) -> Costs
+    requires { All (IsLawful q.now.position) moves.now }
+{
+    let mut costs = Costs { of_pair: [0; 1296] };
     for m in moves {
-        if gives_check(board, *m) {
-            first.push(*m);
-        } else {
-            later.push(*m);
+        costs.of_pair[pair_of(*m)] = cost(memory, q, n, *m);
+    }
+    costs
+}
+
+/// The lawful moves, those of least cost first.
+#[inline(never)]
+pub(crate) fn in_order(memory: &Memory, q: &Question, n: u8) -> ArrayVec<Move, 512>
+    ensures { ListsAll q.now.position result.items }
+{
+    let mut moves = lawful_on(&q.position);
+    let costs = costs_of(memory, q, n, moves.as_slice());
+    moves
+        .as_mut_slice()
+        .sort_unstable_by_key(|m: &Move| costs.of_pair[pair_of(*m)]);
+    moves
+}
+
+/// Where the move stands, if it is among them.
+fn place_of(moves: &[Move], wanted: Move) -> Option<usize>
+    ensures { IfSome result (λ place. place < length moves.now) }
+{
+    for i in 0..moves.len() {
+        if moves[i] == wanted {
+            return Some(i);
         }
     }
-    InOrder { first, later }
+    None
+}
+
+/// Puts the move first, if there is one and it is among them.
+pub(crate) fn bring_forward(moves: &mut ArrayVec<Move, 512>, wanted: Option<Move>)
+    ensures { IsPermutation moves.old.items moves.new.items }
+{
+    let Some(m) = wanted else {
+        return;
+    };
+    if let Some(place) = place_of(moves.as_slice(), m) {
+        moves.as_mut_slice().swap(0, place);
+    }
 }

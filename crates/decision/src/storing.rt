@@ -1,26 +1,25 @@
 //! What is stored after a search.
-ghost use Rattle.std.specs.Prelude.{◌≡◌, ◌<◌, ◌≤◌, ◌+◌, ◌↔◌, IsTrue, Some, List, ℕ};
+ghost use Rattle.std.specs.Prelude.{◌≡◌, ◌<◌, ◌≤◌, ◌+◌, ◌↔◌, IsTrue, Some};
 ghost use Rattle.board.specs.Board.{IsPosition};
-ghost use Rattle.slots.specs.Promise.{slots_of, number, IsSeatOf};
+ghost use Rattle.slots.specs.Promise.{slots_of, number};
 ghost use Rattle.slots.specs.Steps.{HitFits};
 ghost use Rattle.slots.specs.declared.calls.Act.TheVariants.{Asked};
-ghost use Rattle.moves.specs.Forces.{Forces};
 ghost use Rattle.entry.specs.Bounds.{Bounds, AreConsistent};
 ghost use Rattle.entry.specs.Keys.{key_words};
 ghost use Rattle.entry.specs.Truth.{IsTruePacking};
-ghost use Rattle.decision.specs.Calls.{added, Continues, KnowsHistory};
-ghost use Rattle.decision.specs.Questions.{question, key_for, entry_for, words_of, said, IsMetWith, IsWhole, Tells};
+ghost use Rattle.decision.specs.Calls.{KnowsHistory};
+ghost use Rattle.decision.specs.Callers.{GoesOn, adds};
+ghost use Rattle.decision.specs.Questions.{key_for, entry_for, words_of, first_slot, said, IsForced, IsMetWith, IsWhole, IsKnownOf, Says, Tells};
 ghost use Rattle.decision.specs.Decisions.{OffersBoth};
 
-use crate::asking::known;
-use crate::calling::store;
-use board::Side;
-use entry::{Interval, MateLore, interval_laws, meet, pack_board};
-use moves::{Board, Goal};
-use slots::{Probe, Seat, Slots};
+use crate::asking::{far_slot, first_slot, known};
+use crate::caller::Caller;
+use crate::question::Question;
+use entry::{Interval, interval_laws, meet, pack_board};
+use slots::{Probe, Store};
 
 /// What an answer for n plies says.
-fn said(yes: bool, n: u8) -> Interval
+pub(crate) fn said(yes: bool, n: u8) -> Interval
     requires { n ≤ 63 }
     ensures { result ≡ said yes n }
 {
@@ -49,38 +48,69 @@ fn met_with(reply: Probe, interval: Interval) -> Interval
     }
 }
 
-/// The words to store after the answer for n plies, where the table had given this reply.
-pub(crate) fn answer_words(
-    board: &Board,
-    attacker: Side,
-    goal: Goal,
-    n: u8,
-    yes: bool,
-    reply: Probe,
-) -> [u64; 3]
-    requires position { IsPosition board.now }
+/// What is known after the answer for n plies, where the table had given this reply.
+pub(crate) fn known_after(q: &Question, n: u8, yes: bool, reply: Probe) -> Interval
+    requires position { IsPosition q.now.position }
     requires plies { n ≤ 63 }
-    requires answer { IsTrue yes ↔ Forces goal attacker board.now n }
-    requires hit { HitFits key_words IsTruePacking (Asked (key_for (question board.now attacker goal)) reply) }
-    ensures holds { IsTruePacking result }
-    ensures met { (i : Bounds) × IsMetWith reply (said yes n) i × (result ≡ words_of (entry_for (question board.now attacker goal) i)) }
+    requires answer { IsTrue yes ↔ IsForced q.now n }
+    requires hit { HitFits key_words IsTruePacking (Asked (key_for q.now) reply) }
+    ensures right { IsKnownOf q.now result }
+    ensures met { IsMetWith reply (said yes n) result }
 {
     interval_laws();
-    pack_board(board, attacker, goal, met_with(reply, said(yes, n)))
+    met_with(reply, said(yes, n))
+}
+
+/// What is known with the answer for n plies.
+pub(crate) fn known_with(q: &Question, n: u8, yes: bool, known: Interval) -> Interval
+    requires plies { n ≤ 63 }
+    requires answer { IsTrue yes ↔ IsForced q.now n }
+    requires known { IsKnownOf q.now known }
+    ensures right { IsKnownOf q.now result }
+    ensures says { Says result n yes }
+{
+    let _ = q;
+    interval_laws();
+    meet(said(yes, n), known)
 }
 
 /// Offers the words to both slots, if the table has the second.
-pub(crate) fn offer(slots: &Slots<MateLore>, seat: &mut Seat, slot: usize, words: [u64; 3])
-    requires seat { IsSeatOf slots.now seat.old }
-    requires slot { slot < slots_of slots.now }
+fn offer(caller: &mut Caller<'_>, slot: usize, words: [u64; 3])
+    requires slot { slot < slots_of caller.old.slots.now }
     requires holds { IsTruePacking words }
-    ensures continues { Continues slots.now seat.old seat.new }
-    ensures history { KnowsHistory seat.new }
-    ensures offered { OffersBoth slot (slots_of slots.now) (number seat.old) words (added seat.old seat.new) }
+    ensures goes_on { GoesOn caller.old caller.new }
+    ensures offered { OffersBoth slot (slots_of caller.old.slots.now) (number caller.old.seat.now) words (adds caller.old caller.new) }
 {
-    let count = slots.len();
-    store(slots, seat, slot, words);
+    let count = caller.slots.len();
+    caller.store(slot, words);
     if slot + 1 < count {
-        store(slots, seat, slot + 1, words);
+        caller.store(slot + 1, words);
     }
+}
+
+/// Offers the words to one of two slots more: the second, where another entry is preferred in the first.
+fn offer_far(caller: &mut Caller<'_>, slot: usize, words: [u64; 3])
+    requires slot { slot < slots_of caller.old.slots.now }
+    requires holds { IsTruePacking words }
+    ensures { GoesOn caller.old caller.new }
+{
+    let count = caller.slots.len();
+    match caller.store(slot, words) {
+        Store::Kept(_) if slot + 1 < count => {
+            caller.store(slot + 1, words);
+        }
+        _ => {}
+    }
+}
+
+/// Stores what is known of the question: in one of the far slots, and last in its own two.
+pub(crate) fn keep(caller: &mut Caller<'_>, q: &Question, known: Interval)
+    requires { IsKnownOf q.now known }
+    ensures goes_on { GoesOn caller.old caller.new }
+    ensures kept { OffersBoth (first_slot (key_for q.now) (slots_of caller.old.slots.now)) (slots_of caller.old.slots.now) (number caller.old.seat.now) (words_of (entry_for q.now known)) (adds caller.old caller.new) }
+{
+    let key = q.key();
+    let words = pack_board(&q.position, q.attacker, q.goal, known);
+    offer_far(caller, far_slot(caller.slots, key), words);
+    offer(caller, first_slot(caller.slots, key), words);
 }

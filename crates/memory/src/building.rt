@@ -5,10 +5,10 @@ ghost use Rattle.decision.specs.Answer.{IsFewest};
 
 use crate::solving::root;
 use board::{Position, Side};
+use decision::{Answer, decide};
 use entry::MateLore;
 use moves::Goal;
 use rounds::{NoGate, solve};
-use decision::{Answer, decide};
 use slots::{Seat, Slots};
 use std::alloc::Global;
 use std::sync::Wait;

@@ -1,4 +1,4 @@
-//! Makes one call that requests memory, and says how it ended: `minimate_memory solve`. `tools/sweep.sh` refuses each of its
+//! Makes one call that requests memory, and says how it ended: `minimate_memory solve`. `tools/refuse_memory` refuses each of its
 //! requests in turn. The call is `table` where none is named.
 #![tactic(auto)]
 

@@ -1,8 +1,8 @@
 //! A solve by two workers. One whose start is refused is left out.
 use board::{Position, read_fen};
+use decision::Answer;
 use moves::{Goal, Move, Square};
 use rounds::{NoGate, SolveFault, solve};
-use decision::Answer;
 use std::alloc::Global;
 use std::sync::Wait;
 use std::thread::Threads;

@@ -1,13 +1,13 @@
 -- What a round's end says of the root's moves, and of the answer.
 use Rattle.std.proofs.Common.{◌≡◌, ℕ, ◌+◌, ◌-◌, ◌*◌, ◌<◌, ◌≤◌, ◌⊎◌, inl, inr, refl, sym, ap, subst, ◌∙◌, arith, List, length, get_or, Some, Bool, Contains, ◌↔◌, IsTrue, slice_get}
 use Rattle.std.proofs.lemmas.Option.{slice_get_read, get_or_from_slice_get}
-use Rattle.board.specs.declared.game.Side.{Side}
 use Rattle.board.specs.Board.{PlainBoard}
 use Rattle.moves.specs.Squares.{Ply}
 use Rattle.moves.specs.declared.goal.Goal.{Goal}
 use Rattle.moves.specs.Moves.{IsLawful}
 use Rattle.moves.specs.Order.{IsPlyBefore, ListsLawful}
-use Rattle.moves.specs.Forces.{Forces}
+use Rattle.decision.specs.declared.question.Question.{Question}
+use Rattle.decision.specs.Questions.{IsForced}
 use Rattle.decision.specs.Answer.{Wins, IsLeastWin, ForcesNothing, IsAnswer}
 use Rattle.decision.specs.declared.answer.Answer.TheVariants.{Mate}
 use Rattle.decision.proofs.Winning.{wins_by, forced_by, next_round}
@@ -39,9 +39,9 @@ module _ (goal : Goal) (b : PlainBoard) (n : ℕ) (xs : List Ply) where
   job_by job m answer at h = (λ yes. (m, at, h.0 yes), λ w. h.1 (job_move job m at w))
 
   -- a job wins where the goal is forced from the position that its move leads to
-  pub job_after : (job : ℕ) (q : PlainBoard) (attacker : Side) (answer : Bool) → attacker ≡ b.mover → LeadsTo b xs job q → (IsTrue answer ↔ Forces goal attacker q (n - 1)) → IsTrue answer ↔ JobWins goal b n xs job
-  job_after job q attacker answer side (m, at, move) h =
-      job_by job m answer at (wins_by goal b n m q answer move (subst (λ (s : Side). IsTrue answer ↔ Forces goal s q (n - 1)) side h))
+  pub job_after : (job : ℕ) (q : Question) (answer : Bool) → LeadsTo goal b xs job q → (IsTrue answer ↔ IsForced q (n - 1)) → IsTrue answer ↔ JobWins goal b n xs job
+  job_after job q answer (m, at, move, is) h =
+      job_by job m answer at (wins_by goal b n m q.position answer move (subst (λ (o : Question). IsTrue answer ↔ IsForced o (n - 1)) is h))
 
   module _ (lists : ListsLawful b xs) where
     listed : (m : Ply) → Wins goal b n m → Contains xs m

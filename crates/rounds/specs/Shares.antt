@@ -4,7 +4,6 @@ use Rattle.board.specs.Board.{PlainBoard}
 use Rattle.moves.specs.declared.goal.Goal.{Goal}
 use Rattle.moves.specs.Order.{ListsLawful}
 use Rattle.slots.specs.Promise.{IsSeatOf}
-use Rattle.least.specs.Promise.{IsJobSeatOf}
 use Rattle.rounds.specs.declared.root.RootJobs.{RootJobs}
 use Rattle.rounds.specs.declared.bench.Bench.{Bench}
 use Rattle.rounds.specs.declared.share.Share.{Share}
@@ -31,6 +30,6 @@ WinsHere b job = JobWins b.root.now.goal b.root.now.position b.round b.root.now.
 abbrev pub IsRow : {T : Type 0} → Bench T → List Verdict → Type 0
 IsRow b row = (length row ≡ length b.root.now.moves.items) × AreRight (WinsHere b) row
 
--- its seats are seats of the round's table and word, and its row is right
+-- its seat is one of the round's table, its searches are stopped by the round's word, and its row is right
 abbrev pub IsShare : {T J : Type 0} → Bench T → Share J → Type 0
-IsShare b s = IsSeatOf b.slots.now s.seat × IsJobSeatOf b.least.now s.jobs × IsRow b s.row.items
+IsShare b s = IsSeatOf b.slots.now s.seat × (s.scout.stop.least.now ≡ b.least.now) × IsRow b s.row.items

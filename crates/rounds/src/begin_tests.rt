@@ -1,7 +1,9 @@
 //! That each job is begun once, and by more than one thread.
-use crate::Gate;
-use crate::tests::{expected, solved};
+use crate::tests::{expected, read, solved};
+use crate::{Gate, solve};
+use decision::Answer;
 use entry::MateLore;
+use moves::Goal;
 use slots::{Seat, Slots};
 use std::alloc::{AllocError, Global};
 use std::sync::atomic::{AtomicBool, AtomicU64, Ordering};
@@ -58,6 +60,51 @@ fn each_job_is_begun_once(rt: HostRuntime) -> Result<(), Fail> {
         }
         let last = count(&gate.third, 16);
         assert!(rt; last <= 1 && gate.all.load(Ordering::SeqCst) == 33 + last);
+    }
+    Ok(())
+}
+
+// How often each of the root's 11 jobs is begun in round 5.
+#[derive(Drop)]
+struct FifthRound {
+    begun: Vec<AtomicU64>,
+}
+
+impl Gate for FifthRound {
+    fn begin(&self, round: u8, job: u16, _slots: &Slots<MateLore>, _seat: &mut Seat) {
+        if round != 5 {
+            return;
+        }
+        if let Some(begun) = self.begun.get(usize::from(job)) {
+            begun.fetch_add(1, Ordering::SeqCst);
+        }
+    }
+}
+
+// White has 11 lawful moves, as a second reading of the rules has it, and mates in nine plies and no fewer, as another program has
+// it: so no job of round 5 wins, and none is left out or stopped.
+#[test]
+fn each_job_of_a_round_that_is_lost_is_begun_once(rt: HostRuntime) -> Result<(), Fail> {
+    let position = read(&rt, b"6/p1P3/N4p/k5/6/4K1 w");
+    for workers in [1, 4] {
+        let gate = FifthRound {
+            begun: counters(rt.alloc())?,
+        };
+        let answer = solve(
+            &rt,
+            rt.alloc(),
+            &position,
+            Goal::Mate,
+            9,
+            workers,
+            64,
+            &gate,
+        );
+        assert!(rt; matches!(answer, Ok(Answer::Mate { plies: 9, .. })));
+        for job in 0..11 {
+            assert!(rt; count(&gate.begun, job) == 1);
+        }
+        assert!(rt; count(&gate.begun, 11) == 0);
     }
     Ok(())
 }

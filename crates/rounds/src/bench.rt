@@ -4,7 +4,6 @@ use crate::root::{Root, RootJobs};
 use entry::MateLore;
 use least::Least;
 use slots::Slots;
-use std::sync::atomic::AtomicU64;
 
 #[derive(Drop)]
 pub(crate) struct Bench<'a, T: Gate> {
@@ -12,8 +11,6 @@ pub(crate) struct Bench<'a, T: Gate> {
     pub slots: &'a Slots<MateLore>,
     /// The least job known to win.
     pub least: &'a Least<RootJobs>,
-    /// The same number, for decisions that it may stop.
-    pub lowest: &'a AtomicU64,
     pub gate: &'a T,
     /// So many plies.
     pub round: u8,

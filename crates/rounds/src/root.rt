@@ -1,15 +1,17 @@
 //! What is solved, and its jobs.
-ghost use Rattle.std.specs.Prelude.{◌≡◌, ◌<◌, ◌≤◌, ◌↔◌, IsTrue, IfSome, length};
+ghost use Rattle.std.specs.Prelude.{◌≡◌, ◌<◌, ◌≤◌, ◌↔◌, IsTrue, MatchOption, length};
 ghost use Rattle.moves.specs.Order.{ListsLawful};
 ghost use Rattle.slots.specs.Promise.{IsSeatOf};
+ghost use Rattle.least.specs.Promise.{least_known};
 ghost use Rattle.rounds.specs.Jobs.{LeadsTo, JobWins, RootJobWins};
 
+use crate::stopping::JobStop;
 use arrayvec::ArrayVec;
 use board::Position;
+use decision::{Question, Scout, decide_on, decide_until};
 use entry::MateLore;
 use least::Wins;
 use moves::{Board, Goal, Move, apply, lawful};
-use decision::{Stop, decide_on, decide_until};
 use slots::{Seat, Slots};
 
 /// The jobs that win in a round: those whose moves win within so many plies.
@@ -53,13 +55,17 @@ impl Root {
         self.moves.len() as u16
     }
 
-    /// The board after the job's move.
-    fn board_after(&self, job: u16) -> Board
+    /// Whether the attacker forces the goal after the job's move.
+    fn question_of(&self, job: u16) -> Question
         requires lists { ListsLawful self.now.position self.now.moves.items }
         requires job { job < length self.now.moves.items }
-        ensures { LeadsTo self.now.position self.now.moves.items job result }
+        ensures { LeadsTo self.now.goal self.now.position self.now.moves.items job result }
     {
-        Board::of(&apply(&self.position, self.moves[usize::from(job)]))
+        Question {
+            position: Board::of(&apply(&self.position, self.moves[usize::from(job)])),
+            attacker: self.position.mover(),
+            goal: self.goal,
+        }
     }
 
     /// Whether the job wins within so many plies.
@@ -71,29 +77,28 @@ impl Root {
         ensures seat { IsSeatOf slots.now seat.new }
         ensures wins { IsTrue result ↔ JobWins self.now.goal self.now.position plies self.now.moves.items job }
     {
-        let board = self.board_after(job);
-        let attacker = self.position.mover();
-        decide_on(slots, seat, &board, attacker, self.goal, plies - 1).yes
+        decide_on(slots, seat, &self.question_of(job), plies - 1).yes
     }
 
-    /// The same, or `None` where it is told to stop first.
-    pub(crate) fn wins_until<S: Stop>(
+    /// The same, or `None` where a job below wins by then.
+    pub(crate) fn wins_until(
         &self,
         slots: &Slots<MateLore>,
         seat: &mut Seat,
+        scout: &mut Scout<JobStop<'_>>,
         plies: u8,
         job: u16,
-        stop: &S,
     ) -> Option<bool>
         requires lists { ListsLawful self.now.position self.now.moves.items }
         requires seat { IsSeatOf slots.now seat.old }
         requires plies { (0 < plies) × (plies ≤ 63) }
         requires job { job < length self.now.moves.items }
         ensures seat { IsSeatOf slots.now seat.new }
-        ensures wins { IfSome result (λ wins. IsTrue wins ↔ JobWins self.now.goal self.now.position plies self.now.moves.items job) }
+        ensures least { scout.new.stop.least.now ≡ scout.old.stop.least.now }
+        ensures wins { MatchOption result (least_known scout.new.stop.seat < scout.old.stop.job)
+            (λ wins. IsTrue wins ↔ JobWins self.now.goal self.now.position plies self.now.moves.items job) }
     {
-        let board = self.board_after(job);
-        let attacker = self.position.mover();
-        decide_until(slots, seat, &board, attacker, self.goal, plies - 1, stop)
+        let q = self.question_of(job);
+        Some(decide_until(slots, seat, scout, &q, plies - 1)?.yes)
     }
 }

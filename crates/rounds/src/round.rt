@@ -20,7 +20,6 @@ use least::{JobSeat, Least, MakeFault};
 use slots::{Seat, Slots};
 use std::alloc::{AllocError, Global};
 use std::sync::Wait;
-use std::sync::atomic::AtomicU64;
 use std::thread;
 use std::thread::Threads;
 
@@ -29,7 +28,7 @@ fn work_all<J: Count + Send + Sync, T: Gate, R: Threads + Wait + Sync>(
     rt: &R,
     bench: &Bench<'_, T>,
     thieves: &Vec<Thief<J>>,
-    shares: &mut Vec<Share<J>>,
+    shares: &mut Vec<Share<'_, J>>,
 )
     requires jobs { length bench.now.root.now.moves.items ≡ J.jobs }
     requires bench { IsBench bench.now }
@@ -45,7 +44,7 @@ fn work_all<J: Count + Send + Sync, T: Gate, R: Threads + Wait + Sync>(
         rt,
         shares.as_mut_slice(),
         threads,
-        &|_, share: &mut Share<J>|
+        &|_, share: &mut Share<'_, J>|
             requires { (length bench.now.root.now.moves.items ≡ J.jobs) × IsBench bench.now × IsShare bench.now share.now }
             ensures { IsShare bench.entry.now share.exit.now }
         { work(rt, bench, thieves, share) },
@@ -76,7 +75,7 @@ fn play<J: Count + Send + Sync, T: Gate, R: Threads + Wait + Sync>(
     let Share {
         mut seat,
         local: _,
-        jobs: _,
+        scout: _,
         row,
     } = own;
     let first = settle(bench, &shares, &row, &mut seat);
@@ -107,14 +106,12 @@ pub(crate) fn round<J: Count + Send + Sync, T: Gate, R: Threads + Wait + Sync>(
         goal: root.goal,
         plies: round,
     };
-    let lowest = AtomicU64::new(u64::from(root.jobs()));
     match Least::make(alloc, &wins, root.jobs(), callers) {
         Ok((least, job_seats)) => {
             let bench = Bench {
                 root,
                 slots,
                 least: &least,
-                lowest: &lowest,
                 gate,
                 round,
             };

@@ -24,7 +24,7 @@ fn said<T: Gate>(bench: &Bench<'_, T>, row: &Vec<Verdict>, job: u16) -> Verdict
 /// What the caller's own row, or else some share, says of a job.
 fn found<J: Count, T: Gate>(
     bench: &Bench<'_, T>,
-    shares: &Vec<Share<J>>,
+    shares: &Vec<Share<'_, J>>,
     own: &Vec<Verdict>,
     job: u16,
 ) -> Verdict
@@ -49,7 +49,7 @@ fn found<J: Count, T: Gate>(
 /// Whether a job wins. The caller decides it where no share has.
 fn wins<J: Count, T: Gate>(
     bench: &Bench<'_, T>,
-    shares: &Vec<Share<J>>,
+    shares: &Vec<Share<'_, J>>,
     own: &Vec<Verdict>,
     seat: &mut Seat,
     job: u16,
@@ -75,7 +75,7 @@ fn wins<J: Count, T: Gate>(
 /// Decides, by number, each job that no share decided, up to the least that wins.
 pub(crate) fn settle<J: Count, T: Gate>(
     bench: &Bench<'_, T>,
-    shares: &Vec<Share<J>>,
+    shares: &Vec<Share<'_, J>>,
     own: &Vec<Verdict>,
     seat: &mut Seat,
 ) -> Option<u16>

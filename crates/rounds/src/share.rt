@@ -1,15 +1,15 @@
 //! What one thread has in a round.
 use crate::deal::{Count, Owner};
-use crate::root::RootJobs;
+use crate::stopping::JobStop;
 use crate::verdict::Verdict;
-use least::JobSeat;
+use decision::Scout;
 use slots::Seat;
 
-/// The thread's deque, its seats, and what it found of each job.
+/// The thread's deque, its seat, what leads its searches, and what it found of each job.
 #[derive(Drop)]
-pub(crate) struct Share<J: Count> {
+pub(crate) struct Share<'a, J: Count> {
     pub local: Owner<J>,
     pub seat: Seat,
-    pub jobs: JobSeat<RootJobs>,
+    pub scout: Scout<JobStop<'a>>,
     pub row: Vec<Verdict>,
 }

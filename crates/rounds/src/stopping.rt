@@ -1,17 +1,36 @@
-//! When the decision of a job is of no more use.
-use decision::Stop;
-use std::sync::atomic::{AtomicU64, Ordering};
+//! When the decision of a job is of no more use: once a job below it wins.
+ghost use Rattle.std.specs.Prelude.{◌≡◌};
+ghost use Rattle.least.specs.Promise.{IsJobSeatOf};
 
-/// Stops once a job below this one wins. The word is a copy of the least job's, which can be read without a seat; no contract
-/// rests on it, since the caller decides each job below the answer that was stopped.
+use crate::root::RootJobs;
+use decision::Stop;
+use least::{JobSeat, Least};
+
+/// The round's word, a thread's seat of it, and the job that the thread is at.
 #[derive(Drop)]
-pub(crate) struct UntilBelow<'a> {
-    pub lowest: &'a AtomicU64,
+pub(crate) struct JobStop<'a> {
+    pub least: &'a Least<RootJobs>,
+    pub seat: JobSeat<RootJobs>,
+    pub jobs: u16,
     pub job: u16,
+    ghost belongs: { IsJobSeatOf least.now seat },
+    ghost of_board: { jobs ≡ least.now.jobs },
 }
 
-impl Stop for UntilBelow<'_> {
-    fn is_set(&self) -> bool {
-        self.lowest.load(Ordering::SeqCst) < u64::from(self.job)
+impl Stop for JobStop<'_> {
+    ghost use Rattle.std.specs.Prelude.{◌≡◌, ◌<◌};
+    ghost use Rattle.std.proofs.Common.{◌∙◌, refl};
+    ghost use Rattle.least.specs.Promise.{least_known};
+
+    ghost told = { λ s. least_known s.seat < s.job };
+
+    ghost stays = { λ a b. (b.least.now ≡ a.least.now) × (b.job ≡ a.job) };
+
+    fn is_set(&mut self) -> bool {
+        self.job < self.jobs && self.least.is_below(&mut self.seat, self.job)
     }
+
+    ghost stays_at_once = { λ _. (refl, refl) };
+
+    ghost stays_on = { λ _ _ _ p q. (q.0 ∙ p.0, q.1 ∙ p.1) };
 }

@@ -1,15 +1,15 @@
 //! That an answer is found, with few workers and many, and the first fault of several.
 use crate::{Gate, NoGate, SolveFault, solve};
 use board::{Kind, Position, read_fen};
-use moves::{Goal, Move, Square};
 use decision::Answer;
+use moves::{Goal, Move, Square};
 use std::alloc::Global;
 use std::process::Abort;
 use std::sync::Wait;
 use std::test::*;
 use std::thread::Threads;
 
-fn read(rt: &impl Abort, text: &[u8]) -> Position {
+pub(crate) fn read(rt: &impl Abort, text: &[u8]) -> Position {
     let Ok(position) = read_fen(text) else {
         panic!(rt; "no position")
     };

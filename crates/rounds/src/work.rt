@@ -6,34 +6,32 @@ use crate::bench::Bench;
 use crate::deal::{Count, Thief, next_job};
 use crate::gate::Gate;
 use crate::share::Share;
-use crate::stopping::UntilBelow;
 use crate::verdict::Verdict;
 use std::sync::Wait;
-use std::sync::atomic::Ordering;
 
 /// Decides a job, unless one below it wins by then.
-fn take_up<J: Count, T: Gate>(bench: &Bench<'_, T>, share: &mut Share<J>, job: u16)
+fn take_up<J: Count, T: Gate>(bench: &Bench<'_, T>, share: &mut Share<'_, J>, job: u16)
     requires bench { IsBench bench.now }
     requires share { IsShare bench.now share.old }
     requires job { job < length bench.now.root.now.moves.items }
     ensures { IsShare bench.now share.new }
 {
-    if bench.least.is_below(&mut share.jobs, job) {
+    let stop = &mut share.scout.stop;
+    if bench.least.is_below(&mut stop.seat, job) {
         return;
     }
+    stop.job = job;
     let round = bench.round;
-    let lowest = bench.lowest;
     bench.gate.begin(round, job, bench.slots, &mut share.seat);
-    let until = UntilBelow { lowest, job };
     let decided = bench
         .root
-        .wins_until(bench.slots, &mut share.seat, round, job, &until);
+        .wins_until(bench.slots, &mut share.seat, &mut share.scout, round, job);
     let Some(wins) = decided else {
         return;
     };
     if wins {
-        bench.least.lower(&mut share.jobs, job);
-        lowest.fetch_min(u64::from(job), Ordering::SeqCst);
+        let stop = &mut share.scout.stop;
+        bench.least.lower(&mut stop.seat, job);
         share.row[usize::from(job)] = Verdict::Wins;
     } else {
         share.row[usize::from(job)] = Verdict::Loses;
@@ -45,7 +43,7 @@ pub(crate) fn work<J: Count, T: Gate, R: Wait>(
     rt: &R,
     bench: &Bench<'_, T>,
     thieves: &Vec<Thief<J>>,
-    share: &mut Share<J>,
+    share: &mut Share<'_, J>,
 )
     requires jobs { length bench.now.root.now.moves.items ≡ J.jobs }
     requires bench { IsBench bench.now }

@@ -7,9 +7,9 @@ ghost use Rattle.decision.specs.Answer.{Wins, IsLeastWin};
 ghost use Rattle.decision.specs.Calls.{Continues};
 ghost use Rattle.trees.specs.Best.{IsBestMove};
 
+use decision::{Question, decide_on};
 use entry::MateLore;
 use moves::{Board, Goal, Move, after, lawful_on};
-use decision::decide_on;
 use slots::{Seat, Slots};
 
 /// The least move that wins within n plies.
@@ -28,7 +28,12 @@ fn least_win(
     let attacker = board.mover();
     let moves = lawful_on(board);
     for m in moves.as_slice() {
-        if decide_on(slots, seat, &after(board, *m), attacker, goal, n - 1).yes {
+        let q = Question {
+            position: after(board, *m),
+            attacker,
+            goal,
+        };
+        if decide_on(slots, seat, &q, n - 1).yes {
             return Some(*m);
         }
     }

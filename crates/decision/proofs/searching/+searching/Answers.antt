@@ -1,0 +1,152 @@
+use Rattle.std.proofs.Common.{◌-◌, Bool, All, length, sym, ◌∙◌, subst, arith, refl, ◌↔◌, IsTrue}
+use Rattle.std.proofs.lemmas.Bool.Decides.{Decides-eqb}
+use Rattle.std.proofs.lemmas.List.{take_all}
+use Rattle.moves.specs.Moves.{IsLawful}
+use Rattle.decision.specs.Questions.{IsForced}
+use Rattle.decision.specs.Below.{ListsAll, is_own, IsPassed}
+use Rattle.decision.proofs.Callers.{goes_more}
+use Rattle.decision.proofs.Replies.{known_is_right, forced_later}
+use Rattle.decision.proofs.Decided.{asked_then}
+use Rattle.decision.proofs.Below.{none_listed, some_listed, all_listed, not_empty, ended_answer, now_for, tells_answer, passed_after, cut_after, goes_by, ends_by, beq_same, beq_apart, not_self}
+use Rattle.decision.proofs.searching.+searching.Goals as goal
+
+pub search-returns-then-is_empty-clause-answer : goal.search-returns-then-is_empty-clause-answer
+search-returns-then-is_empty-clause-answer g t c =
+    now_for c.args.q.now c.args.n c.answer_now.result
+    (none_listed c.args.q.now.position c.in_order-moves.result.items c.in_order-moves.ensures ((Decides-eqb (length c.in_order-moves.result.items) 0).0 (sym c.is_empty.ensures ∙ c.if-is_empty.true)))
+    c.answer_now.ensures
+
+pub search-is_cut-requires-clause-lawful : goal.search-is_cut-requires-clause-lawful
+search-is_cut-requires-clause-lawful g t c = subst (All (IsLawful c.args.q.now.position)) (sym c.as_slice.ensures.value) (all_listed c.args.q.now.position c.in_order-moves.result.items c.in_order-moves.ensures)
+
+pub search-returns-then-is_cut-clause-answer : goal.search-returns-then-is_cut-clause-answer
+search-returns-then-is_cut-clause-answer g t c =
+    let w = c.is_cut.ensures.cut c.if-is_cut.true in
+    let own = c.is_own_turn.ensures in
+    subst (λ (own : Bool). IsTrue own ↔ IsForced c.args.q.now c.args.n) (sym own)
+    (ended_answer c.args.q.now c.args.n (is_own c.args.q.now) refl (omega (arith, c.if-n-le-LEAF.false)) w.0 w.1 w.2 w.3)
+
+pub search-try_moves-requires : goal.search-try_moves-requires
+search-try_moves-requires g t c κs within =
+    (omega (arith, c.decreases), (within, ((omega (arith, c.if-n-le-LEAF.false), c.requires), subst (All (IsLawful c.args.q.now.position)) (sym c.as_slice-2.ensures.value) (all_listed c.args.q.now.position c.in_order-moves.result.items c.in_order-moves.ensures))))
+
+pub search-returns-clause-goes_on : goal.search-returns-clause-goes_on
+search-returns-clause-goes_on g t c = record {
+  caller = goes_more _ _ _ c.is_cut.ensures.goes_on c.try_moves.ensures.goes_on.caller;
+  stop = g.met.S.Stop.stays_on _ _ _ c.is_set.ensures.stays c.try_moves.ensures.goes_on.stop;
+}
+
+pub search-returns-clause-answer : goal.search-returns-clause-answer
+search-returns-clause-answer g t c =
+    tells_answer c.args.q.now c.args.n _ c.try_moves.result (omega (arith, c.if-n-le-LEAF.false))
+    (some_listed c.args.q.now.position c.in_order-moves.result.items c.in_order-moves.ensures (not_empty (length c.in_order-moves.result.items) c.if-is_empty.ensures))
+    c.as_slice-2.result.now (subst (ListsAll c.args.q.now.position) (sym c.as_slice-2.ensures.value) c.in_order-moves.ensures) c.try_moves.ensures.tells
+
+pub search_in_rounds-returns-in_err-yes-clause-goes_on : goal.search_in_rounds-returns-in_err-yes-clause-goes_on
+search_in_rounds-returns-in_err-yes-clause-goes_on g t c = record {
+  caller = goes_more _ _ _ c.loop-plies.invariant.goes_on.caller c.search.ensures.goes_on.caller;
+  stop = g.met.S.Stop.stays_on _ _ _ c.loop-plies.invariant.goes_on.stop c.search.ensures.goes_on.stop;
+}
+
+pub search_in_rounds-returns-then-yes-clause-goes_on : goal.search_in_rounds-returns-then-yes-clause-goes_on
+search_in_rounds-returns-then-yes-clause-goes_on g t c = record {
+  caller = goes_more _ _ _ c.loop-plies.invariant.goes_on.caller c.search.ensures.goes_on.caller;
+  stop = g.met.S.Stop.stays_on _ _ _ c.loop-plies.invariant.goes_on.stop c.search.ensures.goes_on.stop;
+}
+
+pub search_in_rounds-loop-plies-preserved : goal.search_in_rounds-loop-plies-preserved
+search_in_rounds-loop-plies-preserved g t c = record {
+  goes_on = record {
+    caller = goes_more _ _ _ c.loop-plies.invariant.goes_on.caller c.search.ensures.goes_on.caller;
+    stop = g.met.S.Stop.stays_on _ _ _ c.loop-plies.invariant.goes_on.stop c.search.ensures.goes_on.stop;
+  };
+  known = c.known_with-known.ensures.right;
+}
+
+pub search_in_rounds-returns-in_err-yes-2-clause-goes_on : goal.search_in_rounds-returns-in_err-yes-2-clause-goes_on
+search_in_rounds-returns-in_err-yes-2-clause-goes_on g t c = record {
+  caller = goes_more _ _ _ c.loop-plies.invariant.goes_on.caller c.search-2.ensures.goes_on.caller;
+  stop = g.met.S.Stop.stays_on _ _ _ c.loop-plies.invariant.goes_on.stop c.search-2.ensures.goes_on.stop;
+}
+
+pub search_in_rounds-returns-clause-goes_on : goal.search_in_rounds-returns-clause-goes_on
+search_in_rounds-returns-clause-goes_on g t c = record {
+  caller = goes_more _ _ _ c.loop-plies.invariant.goes_on.caller c.search-2.ensures.goes_on.caller;
+  stop = g.met.S.Stop.stays_on _ _ _ c.loop-plies.invariant.goes_on.stop c.search-2.ensures.goes_on.stop;
+}
+
+pub try_moves-after-requires : goal.try_moves-after-requires
+try_moves-after-requires g t c = subst (IsLawful c.args.q.now.position) (sym c.m-item.is) (c.requires.lawful c.loop-m.m-index c.m-item.result c.loop-m-test.true)
+
+pub try_moves-returns-in_err-yes-clause-goes_on : goal.try_moves-returns-in_err-yes-clause-goes_on
+try_moves-returns-in_err-yes-clause-goes_on g t c = record {
+  caller = goes_more _ _ _ c.loop-m.invariant.goes_on.caller c.visit.ensures.goes_on.caller;
+  stop = g.met.S.Stop.stays_on _ _ _ c.loop-m.invariant.goes_on.stop c.visit.ensures.goes_on.stop;
+}
+
+pub try_moves-returns-then-yes-own-clause-goes_on : goal.try_moves-returns-then-yes-own-clause-goes_on
+try_moves-returns-then-yes-own-clause-goes_on g t c = record {
+  caller = goes_more _ _ _ c.loop-m.invariant.goes_on.caller c.visit.ensures.goes_on.caller;
+  stop = g.met.S.Stop.stays_on _ _ _ c.loop-m.invariant.goes_on.stop c.visit.ensures.goes_on.stop;
+}
+
+pub try_moves-returns-then-yes-own-clause-tells : goal.try_moves-returns-then-yes-own-clause-tells
+try_moves-returns-then-yes-own-clause-tells g t c = record {
+  cut = λ _. cut_after c.args.q.now (c.args.n - 1) c.is_own_turn-own.result c.m-item.result c.after.result c.after.ensures
+      (ends_by c.is_own_turn-own.result c.in_ok-yes.yes _ c.in_ok-yes.ensures.answer (beq_same _ _ c.if-yes-own.true));
+  passed = λ apart. absurd (apart c.is_own_turn-own.ensures);
+}
+
+pub try_moves-loop-m-preserved : goal.try_moves-loop-m-preserved
+try_moves-loop-m-preserved g t c = record {
+  goes_on = record {
+    caller = goes_more _ _ _ c.loop-m.invariant.goes_on.caller c.visit.ensures.goes_on.caller;
+    stop = g.met.S.Stop.stays_on _ _ _ c.loop-m.invariant.goes_on.stop c.visit.ensures.goes_on.stop;
+  };
+  passed = passed_after c.args.q.now (c.args.n - 1) c.is_own_turn-own.result c.args.moves.now c.loop-m.m-index c.m-item.result c.after.result c.loop-m-test.true c.m-item.is c.after.ensures c.loop-m.invariant.passed
+      (goes_by c.is_own_turn-own.result c.in_ok-yes.yes _ c.in_ok-yes.ensures.answer (beq_apart _ _ c.if-yes-own.false));
+}
+
+pub try_moves-returns-clause-tells : goal.try_moves-returns-clause-tells
+try_moves-returns-clause-tells g t c = record {
+  cut = λ same. absurd (not_self c.is_own_turn-own.result (same ∙ sym c.is_own_turn-own.ensures));
+  passed = λ _.
+      subst (λ (own : Bool). All (IsPassed c.args.q.now (c.args.n - 1) own) c.args.moves.now) c.is_own_turn-own.ensures
+      (subst (All (IsPassed c.args.q.now (c.args.n - 1) c.is_own_turn-own.result)) (take_all c.loop-m.m-index c.args.moves.now c.loop-m-test.false) c.loop-m.invariant.passed);
+}
+
+pub visit-returns-in-Some-clause-answer : goal.visit-returns-in-Some-clause-answer
+visit-returns-in-Some-clause-answer g t c = known_is_right c.args.q.now c.look-known.result c.look-known.ensures.right c.args.n c.in-Some.yes c.in-Some.ensures
+
+pub visit-returns-in-Some-clause-goes_on : goal.visit-returns-in-Some-clause-goes_on
+visit-returns-in-Some-clause-goes_on g t c = record { caller = c.look-known.ensures.goes_on; stop = g.met.S.Stop.stays_at_once _ }
+
+pub visit-returns-in_err-found-clause-goes_on : goal.visit-returns-in_err-found-clause-goes_on
+visit-returns-in_err-found-clause-goes_on g t c = record {
+  caller = goes_more _ _ _ c.look-known.ensures.goes_on c.search_in_rounds.ensures.goes_on.caller;
+  stop = c.search_in_rounds.ensures.goes_on.stop;
+}
+
+pub visit-returns-in_err-found-clause-asked : goal.visit-returns-in_err-found-clause-asked
+visit-returns-in_err-found-clause-asked g t c =
+    asked_then c.args.caller.now c.look-known.new.caller c.search_in_rounds.new.caller c.look-known.ensures.goes_on c.search_in_rounds.ensures.goes_on.caller c.args.q.now c.look-known.ensures.asked
+
+pub visit-returns-clause-goes_on : goal.visit-returns-clause-goes_on
+visit-returns-clause-goes_on g t c = record {
+  caller = goes_more _ _ _ (goes_more _ _ _ c.look-known.ensures.goes_on c.search_in_rounds.ensures.goes_on.caller) c.keep.ensures.goes_on;
+  stop = c.search_in_rounds.ensures.goes_on.stop;
+}
+
+pub visit-returns-clause-asked : goal.visit-returns-clause-asked
+visit-returns-clause-asked g t c =
+    asked_then c.args.caller.now c.look-known.new.caller c.keep.new.caller c.look-known.ensures.goes_on
+    (goes_more c.look-known.new.caller c.search_in_rounds.new.caller c.keep.new.caller c.search_in_rounds.ensures.goes_on.caller c.keep.ensures.goes_on) c.args.q.now c.look-known.ensures.asked
+
+pub search_in_rounds-returns-then-yes-clause-found : goal.search_in_rounds-returns-then-yes-clause-found
+search_in_rounds-returns-then-yes-clause-found g t c = (
+  (
+    λ _. forced_later c.args.q.now c.loop-plies.plies c.args.n (omega (arith, c.loop-plies-test.true)) (c.in_ok-yes.ensures.answer.0 c.if-yes.true),
+    λ _. c.if-yes.true,
+  ),
+  c.known_with-known.ensures.right,
+)

@@ -1,0 +1,36 @@
+use Rattle.std.proofs.Common.{◌+◌, ◌*◌, ◌-◌, take, All}
+use Rattle.decision.specs.Callers.{Searches}
+use Rattle.decision.specs.Questions.{IsKnownOf}
+use Rattle.decision.specs.Below.{IsPassed}
+use Rattle.decision.proofs.searching.+searching.Given as goal
+
+abbrev pub decreases-visit : goal.decreases-visit
+decreases-visit g l = 4 * l.n + 3
+
+abbrev pub decreases-search_in_rounds : goal.decreases-search_in_rounds
+decreases-search_in_rounds g l = 4 * l.n + 2
+
+abbrev pub decreases-search : goal.decreases-search
+decreases-search g l = 4 * l.n + 1
+
+abbrev pub decreases-try_moves : goal.decreases-try_moves
+decreases-try_moves g l = 4 * l.n
+
+-- the moves so far ended nothing
+abbrev pub invariant-try_moves-loop-m : goal.invariant-try_moves-loop-m
+invariant-try_moves-loop-m g l =
+    record {
+      goes_on : Searches g.S.Stop.stays l.fn.caller l.caller l.fn.scout l.scout;
+      passed : All (IsPassed l.q (l.n - 1) l.own) (take l.m-index l.moves);
+    }
+
+-- what is known stays right, round by round
+abbrev pub invariant-search_in_rounds-loop-plies : goal.invariant-search_in_rounds-loop-plies
+invariant-search_in_rounds-loop-plies g l =
+    record {
+      goes_on : Searches g.S.Stop.stays l.fn.caller l.caller l.fn.scout l.scout;
+      known : IsKnownOf l.q l.known;
+    }
+
+abbrev pub decreases-search_in_rounds-loop-plies : goal.decreases-search_in_rounds-loop-plies
+decreases-search_in_rounds-loop-plies g l = l.n - l.plies

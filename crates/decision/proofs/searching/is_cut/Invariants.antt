@@ -1,0 +1,5 @@
+use Rattle.decision.specs.Callers.{GoesOn}
+use Rattle.decision.proofs.searching.is_cut.Given as goal
+
+abbrev pub invariant-loop-m : goal.invariant-loop-m
+invariant-loop-m l = GoesOn l.fn.caller l.caller

@@ -1,0 +1,47 @@
+//! A caller of the table, and one call on it.
+ghost use Rattle.slots.specs.Promise.{IsSeatOf};
+
+use entry::MateLore;
+use slots::{Probe, Seat, Slots, Store};
+
+/// The table, and the seat of one of its callers.
+#[derive(Drop)]
+pub(crate) struct Caller<'a> {
+    pub slots: &'a Slots<MateLore>,
+    pub seat: &'a mut Seat,
+    ghost belongs: { IsSeatOf slots.now seat.now },
+}
+
+impl Caller<'_> {
+    ghost use Rattle.std.specs.Prelude.{◌≡◌, ◌<◌, [], ◌∷◌};
+    ghost use Rattle.slots.specs.Machine.{call};
+    ghost use Rattle.slots.specs.Promise.{slots_of, number};
+    ghost use Rattle.slots.specs.Steps.{HitFits};
+    ghost use Rattle.slots.specs.declared.calls.Act.TheVariants.{Asked, Offered};
+    ghost use Rattle.entry.specs.Keys.{key_words};
+    ghost use Rattle.entry.specs.Truth.{IsTruePacking};
+    ghost use Rattle.decision.specs.Calls.{KnowsHistory};
+    ghost use Rattle.decision.specs.Callers.{GoesOn, adds};
+
+    /// Asks a slot for the key.
+    pub(crate) fn probe(&mut self, slot: usize, key: [u64; 3]) -> Probe
+        requires slot { slot < slots_of self.old.slots.now }
+        ensures goes_on { GoesOn self.old self.new }
+        ensures history { KnowsHistory self.new.seat.now }
+        ensures one { adds self.old self.new ≡ call slot (number self.old.seat.now) (Asked key result) ∷ [] }
+        ensures hit { HitFits key_words IsTruePacking (Asked key result) }
+    {
+        self.slots.probe(self.seat, slot, key)
+    }
+
+    /// Offers the words to a slot.
+    pub(crate) fn store(&mut self, slot: usize, words: [u64; 3]) -> Store
+        requires slot { slot < slots_of self.old.slots.now }
+        requires holds { IsTruePacking words }
+        ensures goes_on { GoesOn self.old self.new }
+        ensures history { KnowsHistory self.new.seat.now }
+        ensures one { adds self.old self.new ≡ call slot (number self.old.seat.now) (Offered words result) ∷ [] }
+    {
+        self.slots.store(self.seat, slot, words)
+    }
+}

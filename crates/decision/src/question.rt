@@ -1,0 +1,53 @@
+//! What is asked: whether the attacker forces the goal from a position.
+ghost use Rattle.std.specs.Prelude.{◌≡◌};
+ghost use Rattle.board.specs.Board.{IsPosition};
+ghost use Rattle.board.specs.Games.{is_same_side};
+ghost use Rattle.moves.specs.Moves.{IsLawful};
+ghost use Rattle.decision.specs.Questions.{key_for, LeadsTo};
+
+use board::Side;
+use entry::{Interval, key_of, pack_board};
+use moves::{Board, Goal, Move, after};
+
+/// Whether the attacker forces the goal from the position.
+#[derive(Drop)]
+pub struct Question {
+    pub position: Board,
+    pub attacker: Side,
+    pub goal: Goal,
+}
+
+/// Nothing is known.
+pub(crate) const NOTHING: Interval = Interval {
+    below: 0,
+    upto: None,
+};
+
+impl Question {
+    /// The same of the position after a lawful move.
+    pub(crate) fn after(&self, m: Move) -> Question
+        requires { IsLawful self.now.position m }
+        ensures { LeadsTo self.now m result }
+    {
+        Question {
+            position: after(&self.position, m),
+            attacker: self.attacker,
+            goal: self.goal,
+        }
+    }
+
+    /// Whether the attacker is to move.
+    pub(crate) fn is_own_turn(&self) -> bool
+        ensures { result ≡ is_same_side self.now.attacker self.now.position.mover }
+    {
+        self.attacker == self.position.mover()
+    }
+
+    /// The key by which the table is asked.
+    pub(crate) fn key(&self) -> [u64; 3]
+        ensures value { result ≡ key_for self.now }
+        ensures position { IsPosition self.now.position }
+    {
+        key_of(pack_board(&self.position, self.attacker, self.goal, NOTHING))
+    }
+}

@@ -1,0 +1,49 @@
+//! What leads a search: what may stop it, and what it remembers.
+ghost use Rattle.std.specs.Prelude.{IsTrue};
+
+use crate::memory::Memory;
+
+/// What may stop a search. It is asked before the moves of a position are tried, down to the last plies.
+pub trait Stop {
+    /// It was told to stop.
+    ghost told: { Self → Type 0 };
+
+    /// It is the same, later.
+    ghost stays: { Self → Self → Type 0 };
+
+    /// Whether it was told to stop.
+    fn is_set(&mut self) -> bool
+        ensures told { IsTrue result → told self.new }
+        ensures stays { stays self.old self.new };
+
+    // Nothing happened.
+    ghost stays_at_once: { (a : Self) → stays a a };
+
+    // One thing happened after another.
+    ghost stays_on: { (a b c : Self) → stays a b → stays b c → stays a c };
+}
+
+/// What leads a search.
+#[derive(Drop)]
+pub struct Scout<S> {
+    pub stop: S,
+    pub memory: Memory,
+}
+
+/// Nothing stops a search.
+#[derive(Clone, Copy, PartialEq, Eq, Debug)]
+pub struct Never;
+
+impl Stop for Never {
+    ghost told = { λ _. ⊥ };
+
+    ghost stays = { λ _ _. Unit {0} };
+
+    fn is_set(&mut self) -> bool {
+        false
+    }
+
+    ghost stays_at_once = { λ _. tt };
+
+    ghost stays_on = { λ _ _ _ _ _. tt };
+}

@@ -1,0 +1,173 @@
+//! The search below the given position: the table is asked of each position but those of the last plies.
+ghost use Rattle.std.specs.Prelude.{◌≡◌, ◌<◌, ◌≤◌, ◌-◌, ◌↔◌, IsTrue, All, MatchOption};
+ghost use Rattle.moves.specs.Moves.{IsLawful};
+ghost use Rattle.slots.specs.Promise.{slots_of, number};
+ghost use Rattle.decision.specs.Callers.{GoesOn, adds, Searches};
+ghost use Rattle.decision.specs.Questions.{IsForced, IsKnownOf};
+ghost use Rattle.decision.specs.Below.{is_own, IsCut, Tells};
+ghost use Rattle.decision.specs.Decisions.{IsAsked};
+
+use crate::asking::{decided, look};
+use crate::caller::Caller;
+use crate::leaf::{answer_now, leaf};
+use crate::order::in_order;
+use crate::question::Question;
+use crate::scout::{Scout, Stop};
+use crate::storing::{keep, known_with};
+use entry::Interval;
+use moves::Move;
+
+/// The most plies of the leaf.
+const LEAF: u8 = 3;
+
+/// From so many plies on the table is asked of all positions below before one is searched.
+const LOOKED_FROM: u8 = 6;
+
+/// From so many plies on an attacker's position is searched round by round.
+const ROUNDS_FROM: u8 = 7;
+
+/// Whether the table knows of a position below that ends the search: on the attacker's turn one that wins, on the defender's
+/// one that escapes.
+fn is_cut(caller: &mut Caller<'_>, q: &Question, n: u8, moves: &[Move]) -> bool
+    requires plies { (0 < n) × (n ≤ 63) }
+    requires lawful { All (IsLawful q.now.position) moves.now }
+    ensures goes_on { GoesOn caller.old caller.new }
+    ensures cut { IsTrue result → IsCut q.now (n - 1) (is_own q.now) }
+{
+    if n < LOOKED_FROM {
+        return false;
+    }
+    let own = q.is_own_turn();
+    for m in moves {
+        let below = q.after(*m);
+        let known = look(caller, &below, n - 1);
+        match decided(known, n - 1) {
+            Some(yes) if yes == own => return true,
+            _ => {}
+        }
+    }
+    false
+}
+
+/// Tries the moves in turn, until one ends the search.
+#[cycle(searching)]
+fn try_moves<S: Stop>(
+    caller: &mut Caller<'_>,
+    scout: &mut Scout<S>,
+    q: &Question,
+    n: u8,
+    moves: &[Move],
+) -> Option<bool>
+    requires plies { (0 < n) × (n ≤ 63) }
+    requires lawful { All (IsLawful q.now.position) moves.now }
+    ensures goes_on { Searches S.stays caller.old caller.new scout.old scout.new }
+    ensures tells { MatchOption result (S.told scout.new.stop) (Tells q.now n moves.now) }
+{
+    let own = q.is_own_turn();
+    for m in moves {
+        let yes = visit(caller, scout, &q.after(*m), n - 1)?;
+        if yes == own {
+            scout.memory.remember(*m, n, own);
+            return Some(own);
+        }
+    }
+    Some(!own)
+}
+
+/// The answer for n plies by the positions below.
+#[cycle(searching)]
+pub(crate) fn search<S: Stop>(
+    caller: &mut Caller<'_>,
+    scout: &mut Scout<S>,
+    q: &Question,
+    n: u8,
+) -> Option<bool>
+    requires { n ≤ 63 }
+    ensures goes_on { Searches S.stays caller.old caller.new scout.old scout.new }
+    ensures answer { MatchOption result (S.told scout.new.stop) (λ yes. IsTrue yes ↔ IsForced q.now n) }
+{
+    if n <= LEAF {
+        return Some(leaf(&mut scout.memory, q, n));
+    }
+    if scout.stop.is_set() {
+        return None;
+    }
+    scout.memory.count();
+    let moves = in_order(&scout.memory, q, n);
+    if moves.is_empty() {
+        return Some(answer_now(q));
+    }
+    if is_cut(caller, q, n, moves.as_slice()) {
+        return Some(q.is_own_turn());
+    }
+    try_moves(caller, scout, q, n, moves.as_slice())
+}
+
+/// The answer for some plies, and what is known with it.
+#[derive(Drop)]
+struct Found {
+    yes: bool,
+    known: Interval,
+}
+
+/// The answer for n plies, and what is known with it: an attacker's position is searched for three plies, for five and so on, from what is
+/// known on.
+#[cycle(searching)]
+fn search_in_rounds<S: Stop>(
+    caller: &mut Caller<'_>,
+    scout: &mut Scout<S>,
+    q: &Question,
+    n: u8,
+    known: Interval,
+) -> Option<Found>
+    requires plies { n ≤ 63 }
+    requires known { IsKnownOf q.now known }
+    ensures goes_on { Searches S.stays caller.old caller.new scout.old scout.new }
+    ensures found { MatchOption result (S.told scout.new.stop) (λ found. (IsTrue found.yes ↔ IsForced q.now n) × IsKnownOf q.now found.known) }
+{
+    let mut known = known;
+    let mut plies = first_round(q, n, known);
+    while plies < n {
+        let yes = search(caller, scout, q, plies)?;
+        known = known_with(q, plies, yes, known);
+        if yes {
+            return Some(Found { yes, known });
+        }
+        plies += 2;
+    }
+    let yes = search(caller, scout, q, n)?;
+    let known = known_with(q, n, yes, known);
+    Some(Found { yes, known })
+}
+
+/// The plies of the first round.
+fn first_round(q: &Question, n: u8, known: Interval) -> u8
+    ensures { result ≤ n }
+{
+    if n < ROUNDS_FROM || !q.is_own_turn() {
+        return n;
+    }
+    (known.below | 1).max(3).min(n)
+}
+
+/// The answer for n plies. The table is asked first, and what is found is stored last.
+#[cycle(searching)]
+pub(crate) fn visit<S: Stop>(
+    caller: &mut Caller<'_>,
+    scout: &mut Scout<S>,
+    q: &Question,
+    n: u8,
+) -> Option<bool>
+    requires { n ≤ 63 }
+    ensures goes_on { Searches S.stays caller.old caller.new scout.old scout.new }
+    ensures asked { IsAsked q.now (slots_of caller.old.slots.now) (number caller.old.seat.now) (adds caller.old caller.new) }
+    ensures answer { MatchOption result (S.told scout.new.stop) (λ yes. IsTrue yes ↔ IsForced q.now n) }
+{
+    let known = look(caller, q, n);
+    if let Some(yes) = decided(known, n) {
+        return Some(yes);
+    }
+    let found = search_in_rounds(caller, scout, q, n, known)?;
+    keep(caller, q, found.known);
+    Some(found.yes)
+}
