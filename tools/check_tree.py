@@ -16,6 +16,10 @@ import re
 import sys
 from typing import NamedTuple
 
+sys.dont_write_bytecode = True
+
+import checking  # noqa: E402 (no compiled copy of it is to be left in tools/)
+
 # The most bytes of an input, its last line feed counted, and the braces that are too many.
 MOST_BYTES = 1 << 20
 TOO_DEEP = 32
@@ -431,37 +435,29 @@ def leaves(position, depth):
 
 def counted_leaves():
     """The positions with another engine's counts, out of the acceptance tests' table."""
-    top = os.path.join(os.path.dirname(os.path.abspath(__file__)), "..")
-    with open(os.path.join(top, LEAVES), encoding="ascii") as table:
+    with open(os.path.join(checking.TOP, LEAVES), encoding="ascii") as table:
         found = re.findall(r'\(\s*"([^"]+)",\s*\[([0-9, ]+)\],?\s*\)', table.read())
     return [(fen, [int(count) for count in counts.split(",")]) for fen, counts in found]
 
 
 def self_test():
     """Says what differs; the status is 1 where something does."""
-    wrong = 0
-
-    def expect(what, got, wanted):
-        nonlocal wrong
-        if got != wanted:
-            wrong += 1
-            print(f"{what}: got {got!r}, want {wanted!r}")
-
+    tally = checking.Tally()
     for fen, tree, goal, wanted in CASES:
         got, status = answer(fen.encode(), tree.encode, goal)
-        expect(f"{fen} {goal} {tree[:40]}", got, wanted)
-        expect(f"status of {fen} {tree[:40]}", status, int(wanted.startswith("refused")))
+        tally.expect(f"{fen} {goal} {tree[:40]}", got, wanted)
+        tally.expect(f"status of {fen} {tree[:40]}", status, int(wanted.startswith("refused")))
     unread = answer(b"k5", lambda: 1 / 0)
-    expect("a refused position leaves the input alone", unread, ("refused: Fields", 1))
+    tally.expect("a refused position leaves the input alone", unread, ("refused: Fields", 1))
     for fen, moves in MOVES:
-        expect(fen, " ".join(map(move_text, lawful(read_position(fen.encode())))), moves)
+        tally.expect(fen, " ".join(map(move_text, lawful(read_position(fen.encode())))), moves)
     table = counted_leaves()
-    expect("positions with counts", len(table), 62)
+    tally.expect("positions with counts", len(table), 62)
     for fen, counts in table:
         for depth in range(1, LEAVES_DEPTH + 1):
-            expect(f"{fen} to depth {depth}", leaves(read_position(fen.encode()), depth), counts[depth - 1])
-    print(f"{len(CASES)} trees, {len(MOVES)} lists of moves, {len(table)} positions to depth {LEAVES_DEPTH}: {wrong} wrong")
-    return int(wrong > 0)
+            tally.expect(f"{fen} to depth {depth}", leaves(read_position(fen.encode()), depth), counts[depth - 1])
+    print(f"{len(CASES)} trees, {len(MOVES)} lists of moves, {len(table)} positions to depth {LEAVES_DEPTH}")
+    return tally.end()
 
 
 def main():

@@ -57,6 +57,7 @@ void free(void *block) {
 
 static void report(void) {
     long requests = seen, was_refused = refused, left = live;
+    fail_at = 0; // what is requested from here on is this report's own
     const char *name = getenv("FAIL_LOG");
     FILE *log = name ? fopen(name, "w") : NULL;
     if (!log) return;

@@ -1,0 +1,122 @@
+"""What the tools beside this file share: the count of what passed, the lines of the bench, and the programs that are tried."""
+
+import os
+import re
+import shutil
+import subprocess
+import sys
+from typing import NamedTuple, Optional
+
+TOP = os.path.dirname(os.path.dirname(os.path.abspath(__file__)))
+SHOWN = 300
+
+
+class Tally:
+    """Counts checks, and tells each one that failed."""
+
+    def __init__(self):
+        self.passed, self.failed = 0, 0
+
+    def expect(self, what, got, wanted):
+        """One check: whether what came is what was wanted."""
+        return self.note(got == wanted, f"{what}: got {shown(got)}, want {shown(wanted)}")
+
+    def note(self, is_well, what):
+        """One check whose words are told where it failed."""
+        self.passed += is_well
+        self.failed += not is_well
+        if not is_well:
+            print(f"FAILED: {what}", flush=True)
+        return is_well
+
+    def end(self):
+        """The last line, and the status."""
+        print(f"{self.passed} passed, {self.failed} failed", flush=True)
+        return int(self.failed > 0)
+
+
+def shown(value):
+    text = repr(value)
+    return text if len(text) <= SHOWN else f"{text[:SHOWN]} .. ({len(text)} characters)"
+
+
+# Programs
+
+
+class Ran(NamedTuple):
+    """How a run ended: no status where time was over, and a negative one after a signal."""
+
+    status: Optional[int]
+    output: bytes
+    error: bytes
+
+
+def run(words, text=b"", timeout=60, **how):
+    """One run with this text on its input."""
+    try:
+        ran = subprocess.run(words, input=text, capture_output=True, timeout=timeout, check=False, **how)
+    except subprocess.TimeoutExpired as late:
+        return Ran(None, late.stdout or b"", late.stderr or b"")
+    return Ran(ran.returncode, ran.stdout, ran.stderr)
+
+
+def stop(why):
+    """A tool that can't do its work says why, and ends with a status of its own."""
+    print(f"{os.path.basename(sys.argv[0])}: {why}", file=sys.stderr)
+    sys.exit(2)
+
+
+def need(tool):
+    """The path of a tool of the machine."""
+    return shutil.which(tool) or stop(f"found no {tool} on the path: install it")
+
+
+def find_program(path):
+    """The launcher builds, if need be; then what it would start is run, so that it needn't look at the sources each time."""
+    if path:
+        return executable(path)
+    if subprocess.run([os.path.join(TOP, "minimate"), "moves", "k5/6/6/6/6/5K w"], stdout=subprocess.DEVNULL, check=False).returncode:
+        stop("./minimate can't be run")
+    return os.path.join(TOP, "out", "minimate")
+
+
+def find_calls(path):
+    """The program of the crate `memory`, which makes one call. The toolchain proves and builds it, if need be."""
+    if path:
+        return executable(path)
+    crate = os.path.join(TOP, "crates", "memory")
+    if subprocess.run([need("rt"), "run"], cwd=crate, stdout=subprocess.DEVNULL, check=False).returncode:
+        stop("the crate memory can't be built")
+    return os.path.join(crate, "out", "memory")
+
+
+def executable(path):
+    return os.path.abspath(path) if os.access(path, os.X_OK) and os.path.isfile(path) else stop(f"no program at {path}")
+
+
+# The bench
+
+
+class BenchLine(NamedTuple):
+    """A line of the bench. Plies and move are None where nothing is forced within the limit."""
+
+    number: int
+    table: str
+    limit: int
+    goal: str
+    fen: str
+    plies: Optional[int]
+    move: Optional[str]
+
+
+def bench_lines():
+    """The lines of all tables, numbered through as bench/mates/run does."""
+    rows = [(name, *row) for name in ("cases", "hard", "rook") for row in rows_of(name)]
+    for number, (name, limit, goal, fen, answer, _) in enumerate(rows, 1):
+        found = re.match(r"(?:mate|goal) (\d+) (\w+)$", answer)
+        yield BenchLine(number, name, int(limit), goal, fen, int(found[1]) if found else None, found and found[2])
+
+
+def rows_of(name):
+    with open(os.path.join(TOP, "bench", "mates", name + ".tsv"), encoding="ascii") as table:
+        return [line.rstrip("\n").split("\t") for line in table if not line.startswith("#")]
