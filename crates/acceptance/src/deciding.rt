@@ -99,4 +99,6 @@ fn a_decision_is_stopped_or_right(rt: HostRuntime) {
     assert!(rt; table.decide_until(&position, Goal::Mate, 4, Never) == Some(false));
     assert!(rt; table.decide_until(&position, Goal::Mate, 5, Never) == Some(true));
     assert!(rt; table.decide_until(&position, Goal::Mate, 5, AtOnce) == Some(true));
+    assert!(rt; !table.decide_on(&position, Goal::Mate, 4));
+    assert!(rt; table.decide_on(&position, Goal::Mate, 5));
 }

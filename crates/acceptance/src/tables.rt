@@ -8,7 +8,7 @@ ghost use Rattle.slots.specs.Promise.{IsSeatOf, AllNew};
 ghost use Rattle.entry.specs.Truth.{IsTruePacking};
 
 use board::{Position, Side};
-use decision::{Decision, Memory, Question, Scout, Stop, decide, decide_until};
+use decision::{Decision, Memory, Question, Scout, Stop, decide, decide_on, decide_until};
 use entry::{Entry, Interval, MateLore, interval_laws, key_of, meet, pack};
 use moves::{Board, Goal, read_sound};
 use slots::{Probe, Seat, Slots, Store};
@@ -32,6 +32,19 @@ fn last_seat(slots: &Slots<MateLore>, seats: &mut Vec<Seat>) -> Option<Seat>
     ensures { IfSome result (λ s. IsSeatOf slots.now s) }
 {
     seats.pop()
+}
+
+// Whether White forces the goal.
+fn question(position: &Position, goal: Goal) -> Question
+    ensures position { result.position ≡ position.now }
+    ensures attacker { result.attacker ≡ White }
+    ensures goal { result.goal ≡ goal }
+{
+    Question {
+        position: Board::of(position),
+        attacker: Side::White,
+        goal,
+    }
 }
 
 impl Table {
@@ -63,15 +76,20 @@ impl Table {
         stop: S,
     ) -> Option<bool>
         requires { n ≤ 63 }
+        ensures { IfSome result (λ yes. IsTrue yes ↔ Forces goal White position.now n) }
     {
-        let q = Question {
-            position: Board::of(position),
-            attacker: Side::White,
-            goal,
-        };
+        let q = question(position, goal);
         let memory = Memory::new();
         let mut scout = Scout { stop, memory };
         Some(decide_until(&self.slots, &mut self.seat, &mut scout, &q, n)?.yes)
+    }
+
+    /// White attacks, and nothing stops it.
+    pub(crate) fn decide_on(&mut self, position: &Position, goal: Goal, n: u8) -> bool
+        requires { n ≤ 63 }
+        ensures { IsTrue result ↔ Forces goal White position.now n }
+    {
+        decide_on(&self.slots, &mut self.seat, &question(position, goal), n).yes
     }
 
     pub(crate) fn probe(&mut self, rt: &impl Abort, slot: usize, words: [u64; 3]) -> Probe {

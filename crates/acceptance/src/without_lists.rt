@@ -1,8 +1,10 @@
 //! Calls on boards that make no list of moves, or fill one that is lent.
 use crate::leaves::LEAVES;
 use arrayvec::ArrayVec;
+use board::Kind;
 use moves::{
-    Board, Goal, count_lawful, lawful_on, list_lawful, mates_at_once, reaches_at_once, read_sound,
+    Board, Goal, Move, Square, count_lawful, is_lawful_on, lawful_on, list_lawful, mates_at_once,
+    reaches_at_once, read_sound,
 };
 use std::process::Abort;
 
@@ -18,6 +20,50 @@ fn counts_and_lists_lawful_moves(rt: HostRuntime) {
         assert_eq!(rt; u64::from(count_lawful(&board)), counts[0], "{text}");
         list_lawful(&board, &mut lent);
         assert_eq!(rt; lent.as_slice(), lawful_on(&board).as_slice());
+    }
+}
+
+const BECOMES: [Option<Kind>; 5] = [
+    None,
+    Some(Kind::Queen),
+    Some(Kind::Rook),
+    Some(Kind::Bishop),
+    Some(Kind::Knight),
+];
+
+/// How many of the moves between two squares, by their numbers, are lawful.
+fn lawful_between(board: &Board, from: u8, to: u8) -> u64 {
+    let mut count = 0;
+    for promotion in BECOMES {
+        let m = Move {
+            from: Square {
+                file: from % 6,
+                rank: from / 6,
+            },
+            to: Square {
+                file: to % 6,
+                rank: to / 6,
+            },
+            promotion,
+        };
+        count += u64::from(is_lawful_on(board, m));
+    }
+    count
+}
+
+/// How many of all moves are lawful, those between squares that the board lacks among them.
+fn lawful_of_all(board: &Board) -> u64 {
+    let mut count = 0;
+    for pair in 0..1296u16 {
+        count += lawful_between(board, (pair / 36) as u8, (pair % 36) as u8);
+    }
+    count
+}
+
+#[test]
+fn tells_lawful_moves_one_by_one(rt: HostRuntime) {
+    for (text, counts) in &LEAVES {
+        assert_eq!(rt; lawful_of_all(&board(&rt, text)), counts[0], "{text}");
     }
 }
 

@@ -4,3 +4,4 @@ pub mod Callers
 pub mod Questions
 pub mod Decisions
 pub mod Below
+pub mod Memories

@@ -20,6 +20,7 @@ use crate::question::Question;
 use crate::scout::{Never, Scout, Stop};
 use crate::searching::visit;
 use crate::storing::{keep, known_after};
+use arrayvec::ArrayVec;
 use board::{Position, Side};
 use entry::MateLore;
 use moves::{Board, Goal, Move};
@@ -66,7 +67,8 @@ fn search_given<S: Stop>(
     if n == 0 {
         return Some(answer_now(q));
     }
-    let moves = in_order(&scout.memory, q, n);
+    let mut moves = ArrayVec::new();
+    in_order(&scout.memory, q, n, &mut moves);
     if moves.is_empty() {
         return Some(answer_now(q));
     }

@@ -1,14 +1,16 @@
 //! The last three plies, with no table and no key.
-ghost use Rattle.std.specs.Prelude.{◌≡◌, ◌≤◌, ◌↔◌, IsTrue, true, false};
+ghost use Rattle.std.specs.Prelude.{◌≡◌, ◌≤◌, ◌↔◌, IsTrue, IfSome, true, false};
 ghost use Rattle.moves.specs.Forces.{IsReached};
 ghost use Rattle.decision.specs.Questions.{IsForced};
-ghost use Rattle.decision.specs.Below.{ListsAll, is_own};
+ghost use Rattle.decision.specs.Below.{is_own};
 
 use crate::memory::Memory;
-use crate::order::{bring_forward, in_order};
+use crate::order::in_order;
 use crate::question::Question;
 use arrayvec::ArrayVec;
-use moves::{Board, Goal, Move, has_lawful_move, lawful_on, mover_in_check, reaches_at_once};
+use moves::{
+    Board, Goal, Move, has_lawful_move, is_lawful_on, list_lawful, mover_in_check, reaches_at_once,
+};
 
 /// Whether the side to move is where the goal wants it.
 fn is_reached(board: &Board, goal: Goal) -> bool
@@ -40,15 +42,31 @@ fn wins_at_once(memory: &mut Memory, q: &Question) -> bool
     reaches_at_once(&q.position, q.goal)
 }
 
-/// The defender's lawful moves, those first that refuted last.
-fn replies(memory: &Memory, q: &Question) -> ArrayVec<Move, 512>
-    ensures { ListsAll q.now.position result.items }
+/// Whether the move is one of the defender's, and keeps the attacker from reaching the goal by its next.
+fn refutes(memory: &mut Memory, q: &Question, m: Move) -> bool
+    requires { is_own q.now ≡ false }
+    ensures { IsTrue result → IsForced q.now 2 → ⊥ }
 {
-    let [latest, earlier] = memory.replies();
-    let mut moves = lawful_on(&q.position);
-    bring_forward(&mut moves, earlier);
-    bring_forward(&mut moves, latest);
-    moves
+    if !is_lawful_on(&q.position, m) {
+        return false;
+    }
+    !wins_at_once(memory, &q.after(m))
+}
+
+/// One of the replies that refuted last, if it does again: where it does, no list is made.
+fn remembered_refutation(memory: &mut Memory, q: &Question) -> Option<Move>
+    requires { is_own q.now ≡ false }
+    ensures { IfSome result (λ _. IsForced q.now 2 → ⊥) }
+{
+    for reply in memory.replies() {
+        let Some(m) = reply else {
+            continue;
+        };
+        if refutes(memory, q, m) {
+            return Some(m);
+        }
+    }
+    None
 }
 
 /// Whether each move of the defender, who is to move and has one, lets the attacker reach the goal by its next.
@@ -58,7 +76,12 @@ fn loses_in_two(memory: &mut Memory, q: &Question) -> bool
     ensures { IsTrue result ↔ IsForced q.now 2 }
 {
     memory.count();
-    let moves = replies(memory, q);
+    if let Some(m) = remembered_refutation(memory, q) {
+        memory.remember_reply(m);
+        return false;
+    }
+    let mut moves = ArrayVec::new();
+    list_lawful(&q.position, &mut moves);
     if moves.is_empty() {
         return is_reached(&q.position, q.goal);
     }
@@ -78,7 +101,8 @@ fn wins_in_three(memory: &mut Memory, q: &Question) -> bool
     ensures { IsTrue result ↔ IsForced q.now 3 }
 {
     memory.count();
-    let moves = in_order(memory, q, 3);
+    let mut moves = ArrayVec::new();
+    in_order(memory, q, 3, &mut moves);
     for m in moves.as_slice() {
         if loses_in_two(memory, &q.after(*m)) {
             return true;

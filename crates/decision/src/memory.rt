@@ -22,8 +22,12 @@ pub(crate) fn pair_of(m: Move) -> usize
 }
 
 impl Memory {
+    ghost use Rattle.decision.specs.Memories.{IsBlank};
+
     /// Nothing is remembered.
-    pub fn new() -> Memory {
+    pub fn new() -> Memory
+        ensures { IsBlank result }
+    {
         Memory {
             won: [0; 1296],
             latest: None,

@@ -7,7 +7,7 @@ ghost use Rattle.decision.specs.Below.{ListsAll};
 use crate::memory::{Memory, pair_of};
 use crate::question::Question;
 use arrayvec::ArrayVec;
-use moves::{Move, after, lawful_on, mover_in_check};
+use moves::{Move, after, lawful_on, list_lawful, mover_in_check};
 
 /// The costs of moves, by their two squares: those of less cost are tried first.
 #[derive(Drop)]
@@ -48,39 +48,14 @@ fn costs_of(memory: &Memory, q: &Question, n: u8, moves: &[Move]) -> Costs
     costs
 }
 
-/// The lawful moves, those of least cost first.
+/// Puts the lawful moves into the list in place of what it held, those of least cost first.
 #[inline(never)]
-pub(crate) fn in_order(memory: &Memory, q: &Question, n: u8) -> ArrayVec<Move, 512>
-    ensures { ListsAll q.now.position result.items }
+pub(crate) fn in_order(memory: &Memory, q: &Question, n: u8, moves: &mut ArrayVec<Move, 512>)
+    ensures { ListsAll q.now.position moves.new.items }
 {
-    let mut moves = lawful_on(&q.position);
+    list_lawful(&q.position, moves);
     let costs = costs_of(memory, q, n, moves.as_slice());
     moves
         .as_mut_slice()
         .sort_unstable_by_key(|m: &Move| costs.of_pair[pair_of(*m)]);
-    moves
-}
-
-/// Where the move stands, if it is among them.
-fn place_of(moves: &[Move], wanted: Move) -> Option<usize>
-    ensures { IfSome result (λ place. place < length moves.now) }
-{
-    for i in 0..moves.len() {
-        if moves[i] == wanted {
-            return Some(i);
-        }
-    }
-    None
-}
-
-/// Puts the move first, if there is one and it is among them.
-pub(crate) fn bring_forward(moves: &mut ArrayVec<Move, 512>, wanted: Option<Move>)
-    ensures { IsPermutation moves.old.items moves.new.items }
-{
-    let Some(m) = wanted else {
-        return;
-    };
-    if let Some(place) = place_of(moves.as_slice(), m) {
-        moves.as_mut_slice().swap(0, place);
-    }
 }

@@ -14,6 +14,7 @@ use crate::order::in_order;
 use crate::question::Question;
 use crate::scout::{Scout, Stop};
 use crate::storing::{keep, known_with};
+use arrayvec::ArrayVec;
 use entry::Interval;
 use moves::Move;
 
@@ -93,7 +94,8 @@ pub(crate) fn search<S: Stop>(
         return None;
     }
     scout.memory.count();
-    let moves = in_order(&scout.memory, q, n);
+    let mut moves = ArrayVec::new();
+    in_order(&scout.memory, q, n, &mut moves);
     if moves.is_empty() {
         return Some(answer_now(q));
     }

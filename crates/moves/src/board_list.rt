@@ -14,7 +14,7 @@ ghost use Rattle.moves.specs.Guard.{Guards};
 
 use crate::blocks::blocks;
 use crate::list::PROMOTIONS;
-use crate::look::{king_attacked, king_cell};
+use crate::look::{is_attacked, king_attacked, king_cell};
 use crate::mailbox::{Mailbox, cell_of, square_in};
 use crate::packed::Board;
 use crate::pinned::pinned;
@@ -49,6 +49,17 @@ fn king_after(mail: &Mailbox, guard: Guard, m: Move, unit: Unit) -> u8
     guard.king
 }
 
+/// Whether the step of the king, which isn't in check, leaves it out of check: what attacks the square after it does so before.
+fn is_safe_step(mail: &Mailbox, m: Move, king: Unit) -> bool
+    requires position { IsPosition mail.now }
+    requires pseudo { IsPseudoLegal mail.now m king }
+    requires king { king.kind ≡ King }
+    requires unchecked { IsInCheck mail.now mail.now.mover → ⊥ }
+    ensures { IsTrue result ↔ (IsInCheck (after mail.now m king) mail.now.mover → ⊥) }
+{
+    !is_attacked(mail, cell_of(m.to), king.side)
+}
+
 /// Whether the move leaves the mover's king out of check.
 fn is_safe(mail: &Mailbox, guard: Guard, m: Move, unit: Unit) -> bool
     requires position { IsPosition mail.now }
@@ -62,6 +73,9 @@ fn is_safe(mail: &Mailbox, guard: Guard, m: Move, unit: Unit) -> bool
     }
     if is_piece && !guard.checked && !has(guard.pins, cell_of(m.from)) {
         return true;
+    }
+    if !is_piece && !guard.checked {
+        return is_safe_step(mail, m, unit);
     }
     let king = king_after(mail, guard, m, unit);
     !king_attacked(&mail.moved(m, unit), king, unit.side)

@@ -99,7 +99,7 @@ fn is_hit(mail: &Mailbox, cell: u8, side: Side) -> bool
 }
 
 /// Whether some unit of the other side attacks the cell.
-fn is_attacked(mail: &Mailbox, cell: u8, side: Side) -> bool
+pub(crate) fn is_attacked(mail: &Mailbox, cell: u8, side: Side) -> bool
     requires cell { IsCell mail.now.game cell }
     requires position { IsPosition mail.now }
     ensures { IsTrue result ↔ IsAttacked mail.now (place_in cell) (other_side side) }

@@ -9,7 +9,7 @@ use Rattle.decision.proofs.leaf.loses_in_two.Goals as goal
 
 pub after-requires : goal.after-requires
 after-requires c =
-    (subst (ListsAll c.args.q.now.position) (sym c.as_slice-m-items.ensures.value) c.replies-moves.ensures c.m-item.result).0 (c.loop-m.m-index, c.loop-m-test.true, sym c.m-item.is)
+    (subst (ListsAll c.args.q.now.position) (sym c.as_slice-m-items.ensures.value) c.list_lawful.ensures.exact c.m-item.result).0 (c.loop-m.m-index, c.loop-m-test.true, sym c.m-item.is)
 
 pub wins_at_once-requires : goal.wins_at_once-requires
 wins_at_once-requires c = passes_other c.args.q.now c.after.result c.m-item.result c.after.ensures c.requires
@@ -17,7 +17,7 @@ wins_at_once-requires c = passes_other c.args.q.now c.after.result c.m-item.resu
 pub returns-then-is_empty : goal.returns-then-is_empty
 returns-then-is_empty c =
     other_stuck c.args.q.now c.is_reached.result c.requires
-    (none_listed c.args.q.now.position c.replies-moves.result.items c.replies-moves.ensures ((Decides-eqb (length c.replies-moves.result.items) 0).0 (sym c.is_empty.ensures ∙ c.if-is_empty.true)))
+    (none_listed c.args.q.now.position c.list_lawful.new.moves.items c.list_lawful.ensures.exact ((Decides-eqb (length c.list_lawful.new.moves.items) 0).0 (sym c.is_empty.ensures ∙ c.if-is_empty.true)))
     c.is_reached.ensures
 
 pub returns-then-not-wins_at_once : goal.returns-then-not-wins_at_once
@@ -33,6 +33,6 @@ loop-m-preserved c =
 pub returns : goal.returns
 returns c =
     gone_answer c.args.q.now 2 false (sym c.requires) (omega arith)
-    (some_listed c.args.q.now.position c.replies-moves.result.items c.replies-moves.ensures (not_empty (length c.replies-moves.result.items) c.if-is_empty.ensures))
-    (All-listed c.args.q.now.position c.as_slice-m-items.result.now (subst (ListsAll c.args.q.now.position) (sym c.as_slice-m-items.ensures.value) c.replies-moves.ensures) (IsPassed c.args.q.now 1 false)
+    (some_listed c.args.q.now.position c.list_lawful.new.moves.items c.list_lawful.ensures.exact (not_empty (length c.list_lawful.new.moves.items) c.if-is_empty.ensures))
+    (All-listed c.args.q.now.position c.as_slice-m-items.result.now (subst (ListsAll c.args.q.now.position) (sym c.as_slice-m-items.ensures.value) c.list_lawful.ensures.exact) (IsPassed c.args.q.now 1 false)
     (subst (All (IsPassed c.args.q.now 1 false)) (take_all c.loop-m.m-index c.as_slice-m-items.result.now c.loop-m-test.false) c.loop-m.invariant))

@@ -13,11 +13,11 @@ use Rattle.decision.proofs.searching.+searching.Goals as goal
 pub search-returns-then-is_empty-clause-answer : goal.search-returns-then-is_empty-clause-answer
 search-returns-then-is_empty-clause-answer g t c =
     now_for c.args.q.now c.args.n c.answer_now.result
-    (none_listed c.args.q.now.position c.in_order-moves.result.items c.in_order-moves.ensures ((Decides-eqb (length c.in_order-moves.result.items) 0).0 (sym c.is_empty.ensures ∙ c.if-is_empty.true)))
+    (none_listed c.args.q.now.position c.in_order.new.moves.items c.in_order.ensures ((Decides-eqb (length c.in_order.new.moves.items) 0).0 (sym c.is_empty.ensures ∙ c.if-is_empty.true)))
     c.answer_now.ensures
 
 pub search-is_cut-requires-clause-lawful : goal.search-is_cut-requires-clause-lawful
-search-is_cut-requires-clause-lawful g t c = subst (All (IsLawful c.args.q.now.position)) (sym c.as_slice.ensures.value) (all_listed c.args.q.now.position c.in_order-moves.result.items c.in_order-moves.ensures)
+search-is_cut-requires-clause-lawful g t c = subst (All (IsLawful c.args.q.now.position)) (sym c.as_slice.ensures.value) (all_listed c.args.q.now.position c.in_order.new.moves.items c.in_order.ensures)
 
 pub search-returns-then-is_cut-clause-answer : goal.search-returns-then-is_cut-clause-answer
 search-returns-then-is_cut-clause-answer g t c =
@@ -28,7 +28,7 @@ search-returns-then-is_cut-clause-answer g t c =
 
 pub search-try_moves-requires : goal.search-try_moves-requires
 search-try_moves-requires g t c κs within =
-    (omega (arith, c.decreases), (within, ((omega (arith, c.if-n-le-LEAF.false), c.requires), subst (All (IsLawful c.args.q.now.position)) (sym c.as_slice-2.ensures.value) (all_listed c.args.q.now.position c.in_order-moves.result.items c.in_order-moves.ensures))))
+    (omega (arith, c.decreases), (within, ((omega (arith, c.if-n-le-LEAF.false), c.requires), subst (All (IsLawful c.args.q.now.position)) (sym c.as_slice-2.ensures.value) (all_listed c.args.q.now.position c.in_order.new.moves.items c.in_order.ensures))))
 
 pub search-returns-clause-goes_on : goal.search-returns-clause-goes_on
 search-returns-clause-goes_on g t c = record {
@@ -39,8 +39,8 @@ search-returns-clause-goes_on g t c = record {
 pub search-returns-clause-answer : goal.search-returns-clause-answer
 search-returns-clause-answer g t c =
     tells_answer c.args.q.now c.args.n _ c.try_moves.result (omega (arith, c.if-n-le-LEAF.false))
-    (some_listed c.args.q.now.position c.in_order-moves.result.items c.in_order-moves.ensures (not_empty (length c.in_order-moves.result.items) c.if-is_empty.ensures))
-    c.as_slice-2.result.now (subst (ListsAll c.args.q.now.position) (sym c.as_slice-2.ensures.value) c.in_order-moves.ensures) c.try_moves.ensures.tells
+    (some_listed c.args.q.now.position c.in_order.new.moves.items c.in_order.ensures (not_empty (length c.in_order.new.moves.items) c.if-is_empty.ensures))
+    c.as_slice-2.result.now (subst (ListsAll c.args.q.now.position) (sym c.as_slice-2.ensures.value) c.in_order.ensures) c.try_moves.ensures.tells
 
 pub search_in_rounds-returns-in_err-yes-clause-goes_on : goal.search_in_rounds-returns-in_err-yes-clause-goes_on
 search_in_rounds-returns-in_err-yes-clause-goes_on g t c = record {

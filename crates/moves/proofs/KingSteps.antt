@@ -1,0 +1,98 @@
+-- A king that isn't in check steps into check exactly where the square is attacked already.
+use Rattle.std.proofs.Common.{◌≡◌, ◌+◌, ◌<◌, refl, sym, ap, ◌∙◌, arith, inl, inr, IsTrue, ◌↔◌, Bool, true, false, not, Some}
+use Rattle.std.specs.Int.RustNames.{unsigned_abs}
+use Rattle.std.proofs.lemmas.Bool.{false≢true}
+use Rattle.std.proofs.lemmas.Option.{same_Some}
+use Rattle.board.specs.declared.game.Side.{Side}
+use Rattle.board.specs.declared.game.Kind.TheVariants.{King}
+use Rattle.board.specs.declared.game.Unit.{Unit as Man}
+use Rattle.board.specs.declared.step.Step.{Step}
+use Rattle.board.specs.Denotation.{terms_of}
+use Rattle.board.specs.Games.{other_side}
+use Rattle.board.specs.Board.{PlainBoard, IsPosition}
+use Rattle.board.proofs.Leaps.{goes_somewhere}
+use Rattle.moves.specs.Squares.{Place, Ply, IsOnBoard, unit_at}
+use Rattle.moves.specs.Reach.{Leads, IsAttacked, IsInCheck}
+use Rattle.moves.specs.Reach.Leads.{once, again}
+use Rattle.moves.specs.Moves.{IsPseudoLegal, after}
+use Rattle.moves.proofs.Rides.{room_of, room_of-step}
+use Rattle.moves.proofs.Keeps.{to_on_board, IsPosition-after}
+use Rattle.moves.proofs.Laying.{unit_at-from, unit_at-other}
+use Rattle.moves.proofs.Kings.{king_of, check_at, check_from}
+use Rattle.moves.proofs.Guarding.{king_moved}
+use Rattle.moves.proofs.Pins.{own_or_other, place_cases, stood, walked}
+
+-- a walk ends where there is less room
+less_room : (b : PlainBoard) (side : Side) (step : Step) (s t : Place) → IsOnBoard b.game s → 0 < unsigned_abs step.dx + unsigned_abs step.dy → Leads b side step s t → room_of side step t < room_of side step s
+less_room b side step s t at goes (once on a) = room_of-step b.game side step s t at on a goes
+less_room b side step s t at goes (again {u = v} r on a e l) =
+    let first = room_of-step b.game side step s v at on a goes in
+    let rest = less_room b side step v t on goes l in
+    omega (arith, first, rest)
+
+-- so it doesn't end where it began
+elsewhere : (b : PlainBoard) (side : Side) (step : Step) (s t : Place) → IsOnBoard b.game s → 0 < unsigned_abs step.dx + unsigned_abs step.dy → Leads b side step s t → s ≡ t → ⊥
+elsewhere b side step s t at goes l e =
+    let less = less_room b side step s t at goes l in
+    let same : room_of side step s ≡ room_of side step t = ap (room_of side step) e in
+    omega (arith, less, same)
+
+module _ (b : PlainBoard) (m : Ply) (u : Man) (is : IsPosition b) (p : IsPseudoLegal b m u) (king : u.kind ≡ King) where
+  before : unit_at b m.from ≡ king_of b.mover
+  before = p.stands ∙ λ i. Some (record { side = p.owner i; kind = king i })
+
+  behind : unit_at (after b m u) m.to ≡ king_of b.mover
+  behind = king_moved b m u is p king ∙ ap king_of p.owner
+
+  -- a walk to the king's new square stays one
+  walks : (side : Side) (step : Step) (s : Place) → 0 < unsigned_abs step.dx + unsigned_abs step.dy → Leads b side step s m.to → Leads (after b m u) side step s m.to
+  walks side step s goes (once on a) = once on a
+  walks side step s goes (again {u = v} r on a e l) =
+      again r on a (elim (place_cases b.game v m.from on p.on_board) [
+        | inl same ↦ ap (unit_at (after b m u)) same ∙ unit_at-from b m u is p
+        | inr apart ↦ unit_at-other b m u is p v on apart (elsewhere b side step v m.to on goes l) ∙ e
+      ]) (walks side step v goes l)
+
+  attacked_then : IsAttacked b m.to (other_side b.mover) → IsInCheck (after b m u) b.mover
+  attacked_then (s, a) =
+      let r = a.reaches in
+      let goes = goes_somewhere (terms_of a.unit.kind) r.step r.denoted in
+      let away : s ≡ m.from → ⊥ = λ e. own_or_other b.mover (ap (λ (x : Man). x.side) (same_Some _ a.unit (sym before ∙ ap (unit_at b) (sym e) ∙ a.stands)) ∙ a.owner) in
+      let apart : s ≡ m.to → ⊥ = elsewhere b a.unit.side r.step s m.to a.on_board goes r.reaches.leads in
+      check_from (after b m u) b.mover m.to (to_on_board b m u p) behind (
+        s,
+        record {
+          unit = a.unit;
+          on_board = a.on_board;
+          stands = unit_at-other b m u is p s a.on_board away apart ∙ a.stands;
+          owner = a.owner;
+          reaches = record { step = r.step; played = r.played; denoted = r.denoted; reaches = record { allows = r.reaches.allows; leads = walks a.unit.side r.step s goes r.reaches.leads } };
+        },
+      )
+
+  module _ (unchecked : IsInCheck b b.mover → ⊥) where
+    attacked_now : IsAttacked (after b m u) m.to (other_side b.mover) → IsAttacked b m.to (other_side b.mover)
+    attacked_now (s, a) =
+        let r = a.reaches in
+        let stands : unit_at b s ≡ Some a.unit = stood b m u is p s a.unit a.on_board a.stands (λ e. own_or_other b.mover (sym p.owner ∙ sym (ap (λ (x : Man). x.side) e) ∙ a.owner)) in
+        let by : (to : Place) → Leads b a.unit.side r.step s to → IsAttacked b to (other_side b.mover) = λ to l. (
+          s,
+          record {
+            unit = a.unit;
+            on_board = a.on_board;
+            stands = stands;
+            owner = a.owner;
+            reaches = record { step = r.step; played = r.played; denoted = r.denoted; reaches = record { allows = r.reaches.allows; leads = l } };
+          },
+        ) in
+        elim (walked b m u is p a.unit.side r.step s m.to r.reaches.leads) [
+          | inl l ↦ by m.to l
+          | inr w ↦ absurd (unchecked (check_from b b.mover m.from p.on_board before (by m.from w.1)))
+        ]
+
+    check_now : IsInCheck (after b m u) b.mover → IsAttacked b m.to (other_side b.mover)
+    check_now check = attacked_now (check_at (after b m u) (IsPosition-after b m u is p) b.mover m.to (to_on_board b m u p) behind check)
+
+    pub steps_safely : (r : Bool) → (IsTrue r ↔ IsAttacked b m.to (other_side b.mover)) → IsTrue (not r) ↔ (IsInCheck (after b m u) b.mover → ⊥)
+    steps_safely true h = (λ no. absurd (false≢true no), λ safe. absurd (safe (attacked_then (h.0 refl))))
+    steps_safely false h = (λ _ check. false≢true (h.1 (check_now check)), λ _. refl)

@@ -1,0 +1,18 @@
+use Rattle.std.proofs.Common.{IsTrue, ◌↔◌, sym, subst, ◌∙◌}
+use Rattle.std.proofs.lemmas.Bool.{false≢true}
+use Rattle.board.specs.Board.{PlainBoard}
+use Rattle.moves.specs.Moves.{IsLawful}
+use Rattle.moves.proofs.Keeps.{to_on_board}
+use Rattle.moves.proofs.one_move.is_lawful_on.Goals as goal
+
+pub returns-then-has_squares : goal.returns-then-has_squares
+returns-then-has_squares c = subst (λ (b : PlainBoard). IsTrue c.is_lawful_in.result ↔ IsLawful b c.args.m) c.of.ensures c.is_lawful_in.ensures
+
+pub returns-else-has_squares : goal.returns-else-has_squares
+returns-else-has_squares c = (
+  λ yes. absurd (false≢true (sym c.if-has_squares.false ∙ yes)),
+  λ l.
+      let b = c.args.board.now in
+      let pseudo = l.1.pseudo in
+      c.has_squares.ensures.1 (rw (c.game.ensures.value) (pseudo.on_board, to_on_board b c.args.m l.1.unit pseudo)),
+)
