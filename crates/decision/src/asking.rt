@@ -50,7 +50,8 @@ pub(crate) fn known(reply: Probe) -> Option<Interval>
 
 /// What the interval says of n plies, if it decides them.
 pub(crate) fn decided(interval: Interval, n: u8) -> Option<bool>
-    ensures { MatchOption result ((answer : Bool) → Says interval n answer → ⊥) (λ answer. Says interval n answer) }
+    ensures { MatchOption result ((answer : Bool) → Says interval n answer → ⊥)
+        (λ answer. Says interval n answer) }
 {
     if n < interval.below {
         return Some(false);
@@ -75,7 +76,8 @@ pub(crate) fn ask(caller: &mut Caller<'_>, key: [u64; 3], slot: usize, n: u8) ->
     requires slot { slot < slots_of caller.old.slots.now }
     ensures goes_on { GoesOn caller.old caller.new }
     ensures history { KnowsHistory caller.new.seat.now }
-    ensures asked { Asks key slot (slots_of caller.old.slots.now) n (number caller.old.seat.now) result (adds caller.old caller.new) }
+    ensures asked { Asks key slot (slots_of caller.old.slots.now) n (number caller.old.seat.now) result
+        (adds caller.old caller.new) }
     ensures probes { All (IsProbeOf key) (adds caller.old caller.new) }
     ensures hit { HitFits key_words IsTruePacking (Asked key result) }
 {
@@ -110,7 +112,8 @@ fn told(q: &Question, reply: Probe) -> Interval
 /// What the table knows of the question: its own two slots are asked, and two more where these don't decide n plies.
 pub(crate) fn look(caller: &mut Caller<'_>, q: &Question, n: u8) -> Interval
     ensures goes_on { GoesOn caller.old caller.new }
-    ensures asked { IsAsked q.now (slots_of caller.old.slots.now) (number caller.old.seat.now) (adds caller.old caller.new) }
+    ensures asked { IsAsked q.now (slots_of caller.old.slots.now) (number caller.old.seat.now)
+        (adds caller.old caller.new) }
     ensures right { IsKnownOf q.now result }
 {
     let key = q.key();

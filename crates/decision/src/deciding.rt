@@ -162,8 +162,11 @@ pub fn decide(
     ensures continues { Continues slots.now seat.old seat.new }
     ensures history { KnowsHistory seat.new }
     ensures answer { IsTrue result.yes ↔ Forces goal attacker position.now n }
-    ensures calls { Decides (question position.now attacker goal) (slots_of slots.now) n (number seat.old) result (added seat.old seat.new) }
-    ensures below { 0 < result.expanded → 0 < n → ((m : Ply) × IsLawful position.now m) → AsksBelow (question position.now attacker goal) (slots_of slots.now) (number seat.old) result.yes (added seat.old seat.new) }
+    ensures calls { Decides (question position.now attacker goal) (slots_of slots.now) n (number seat.old) result
+        (added seat.old seat.new) }
+    ensures below { 0 < result.expanded → 0 < n → ((m : Ply) × IsLawful position.now m)
+        → AsksBelow (question position.now attacker goal) (slots_of slots.now) (number seat.old) result.yes
+        (added seat.old seat.new) }
 {
     let q = Question {
         position: Board::of(position),

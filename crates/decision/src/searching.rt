@@ -125,7 +125,8 @@ fn search_in_rounds<S: Stop>(
     requires plies { n ≤ 63 }
     requires known { IsKnownOf q.now known }
     ensures goes_on { Searches S.stays caller.old caller.new scout.old scout.new }
-    ensures found { MatchOption result (S.told scout.new.stop) (λ found. (IsTrue found.yes ↔ IsForced q.now n) × IsKnownOf q.now found.known) }
+    ensures found { MatchOption result (S.told scout.new.stop)
+        (λ found. (IsTrue found.yes ↔ IsForced q.now n) × IsKnownOf q.now found.known) }
 {
     let mut known = known;
     let mut plies = first_round(q, n, known);
@@ -162,7 +163,8 @@ pub(crate) fn visit<S: Stop>(
 ) -> Option<bool>
     requires { n ≤ 63 }
     ensures goes_on { Searches S.stays caller.old caller.new scout.old scout.new }
-    ensures asked { IsAsked q.now (slots_of caller.old.slots.now) (number caller.old.seat.now) (adds caller.old caller.new) }
+    ensures asked { IsAsked q.now (slots_of caller.old.slots.now) (number caller.old.seat.now)
+        (adds caller.old caller.new) }
     ensures answer { MatchOption result (S.told scout.new.stop) (λ yes. IsTrue yes ↔ IsForced q.now n) }
 {
     let known = look(caller, q, n);

@@ -79,7 +79,8 @@ fn offer(caller: &mut Caller<'_>, slot: usize, words: [u64; 3])
     requires slot { slot < slots_of caller.old.slots.now }
     requires holds { IsTruePacking words }
     ensures goes_on { GoesOn caller.old caller.new }
-    ensures offered { OffersBoth slot (slots_of caller.old.slots.now) (number caller.old.seat.now) words (adds caller.old caller.new) }
+    ensures offered { OffersBoth slot (slots_of caller.old.slots.now) (number caller.old.seat.now) words
+        (adds caller.old caller.new) }
 {
     let count = caller.slots.len();
     caller.store(slot, words);
@@ -107,7 +108,8 @@ fn offer_far(caller: &mut Caller<'_>, slot: usize, words: [u64; 3])
 pub(crate) fn keep(caller: &mut Caller<'_>, q: &Question, known: Interval)
     requires { IsKnownOf q.now known }
     ensures goes_on { GoesOn caller.old caller.new }
-    ensures kept { OffersBoth (first_slot (key_for q.now) (slots_of caller.old.slots.now)) (slots_of caller.old.slots.now) (number caller.old.seat.now) (words_of (entry_for q.now known)) (adds caller.old caller.new) }
+    ensures kept { OffersBoth (first_slot (key_for q.now) (slots_of caller.old.slots.now))
+        (slots_of caller.old.slots.now) (number caller.old.seat.now) (words_of (entry_for q.now known)) (adds caller.old caller.new) }
 {
     let key = q.key();
     let words = pack_board(&q.position, q.attacker, q.goal, known);
