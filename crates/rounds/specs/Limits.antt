@@ -1,5 +1,5 @@
 -- What a solve by workers accepts.
-use Rattle.std.specs.Prelude.{ℕ, nat_lt, ◌||◌, Option, None, Some, if◌then◌else◌}
+use Rattle.std.specs.Prelude.{ℕ, nat_lt, ◌<◌, ◌≤◌, ◌||◌, Option, None, Some, if◌then◌else◌}
 use Rattle.rounds.specs.declared.fault.SolveFault.{SolveFault}
 use Rattle.rounds.specs.declared.fault.SolveFault.TheVariants.{Limit, Workers, Slots}
 
@@ -9,3 +9,7 @@ limits_fault limit workers slots =
     if nat_lt limit 1 || nat_lt 63 limit then Some Limit
     else (if nat_lt workers 1 || nat_lt 16 workers then Some Workers
     else (if nat_lt slots 1 || nat_lt 1048576 slots then Some Slots else None))
+
+-- so many plies are searched: 1 to 63
+abbrev pub IsLimit : ℕ → Type 0
+IsLimit plies = (0 < plies) × (plies ≤ 63)

@@ -1,0 +1,11 @@
+use Rattle.std.proofs.Common.{◌<◌, ℕ}
+use Rattle.rounds.specs.Shares.{WinsHere, IsShare}
+use Rattle.rounds.proofs.round.settle.Given as goal
+
+-- none of the jobs so far wins
+abbrev pub invariant-loop-job : goal.invariant-loop-job
+invariant-loop-job g l =
+    record {
+      own : IsShare g.J.Count.jobs l.fn.bench l.own;
+      none : (k : ℕ) → k < l.job → WinsHere l.fn.bench k → ⊥;
+    }

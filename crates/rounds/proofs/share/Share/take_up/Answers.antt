@@ -1,0 +1,42 @@
+use Rattle.std.proofs.Common.{sym, ◌∙◌, arith}
+use Rattle.std.proofs.lemmas.Bool.{false≢true}
+use Rattle.least.specs.Promise.{least_known}
+use Rattle.rounds.specs.declared.share.Verdict.TheVariants.{Wins, Loses}
+use Rattle.rounds.specs.Shares.{WinsHere}
+use Rattle.rounds.proofs.Jobs.{job_after}
+use Rattle.rounds.proofs.Rows.{row_with, knows_win, knows_loss}
+use Rattle.rounds.proofs.Shares.{may_lower}
+use Rattle.rounds.proofs.share.Share.take_up.Goals as goal
+
+pub lower-requires-clause-wins : goal.lower-requires-clause-wins
+lower-requires-clause-wins g c =
+    may_lower c.args.bench.now g.J.Count.jobs c.args.job c.requires.share.bench c.requires.job
+    ((job_after c.args.bench.now.root.now c.args.bench.now.plies c.args.job c.question_of-q.result c.in-Some.decision.yes c.question_of-q.ensures c.in-Some.ensures.decided.answer).0 c.if-decision.true)
+
+pub returns-then-decision : goal.returns-then-decision
+returns-then-decision g c = let s = c.requires.share in
+    let win = (job_after c.args.bench.now.root.now c.args.bench.now.plies c.args.job c.question_of-q.result c.in-Some.decision.yes c.question_of-q.ensures c.in-Some.ensures.decided.answer).0 c.if-decision.true in
+    let row = row_with (WinsHere c.args.bench.now) c.args.self.now.row.items s.right c.from.result c.args.job g.J.Count.jobs Wins c.from.ensures s.row c.requires.job win in
+    record {
+      bench = s.bench;
+      seat = c.in-Some.ensures.continues.seat;
+      stop = c.in-Some.ensures.stop.0 ∙ s.stop;
+      row = row.0;
+      right = row.1;
+      knows = knows_win c.args.self.now.row.items (least_known c.args.self.now.scout.stop.seat) (least_known c.lower.new.seat) c.from.result c.args.job c.from.ensures
+          (omega (arith, c.lower.ensures.falls, c.in-Some.ensures.stop.2, c.is_below.ensures.falls)) c.lower.ensures.lowered s.knows;
+    }
+
+pub returns-else-decision : goal.returns-else-decision
+returns-else-decision g c = let s = c.requires.share in
+    let loss : WinsHere c.args.bench.now c.args.job → ⊥ = λ w. false≢true (sym c.if-decision.false ∙ (job_after c.args.bench.now.root.now c.args.bench.now.plies c.args.job c.question_of-q.result c.in-Some.decision.yes c.question_of-q.ensures c.in-Some.ensures.decided.answer).1 w) in
+    let row = row_with (WinsHere c.args.bench.now) c.args.self.now.row.items s.right c.from-else-decision.result c.args.job g.J.Count.jobs Loses c.from-else-decision.ensures s.row c.requires.job loss in
+    record {
+      bench = s.bench;
+      seat = c.in-Some.ensures.continues.seat;
+      stop = c.in-Some.ensures.stop.0 ∙ s.stop;
+      row = row.0;
+      right = row.1;
+      knows = knows_loss c.args.self.now.row.items (least_known c.args.self.now.scout.stop.seat) (least_known c.decide_until-decided.new.scout.stop.seat) c.from-else-decision.result
+          (omega (arith, c.from-else-decision.ensures, s.row, c.requires.job)) (omega (arith, c.in-Some.ensures.stop.2, c.is_below.ensures.falls)) s.knows;
+    }
