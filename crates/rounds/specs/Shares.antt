@@ -28,7 +28,7 @@ WinsHere b job = WinsIn b.root.now b.plies job
 abbrev pub KnowsWins : List Verdict → ℕ → Type 0
 KnowsWins row known = (job : ℕ) → slice_index_or row job Open ≡ Wins → known ≤ job
 
--- a thread's share of a round of so many jobs: its seat is one of the round's table, its searches are stopped by the round's word, it has a
+-- A thread's share of a round of so many jobs: its seat is one of the table, the round's word stops its searches, it has a
 -- right verdict for each job, and its seat of the word knows of each win that it found
 pub record IsShare {T J : Type 0} (n : ℕ) (b : Bench T) (s : Share J) : Type 0 where
   pub bench : IsBench n b
@@ -40,4 +40,5 @@ pub record IsShare {T J : Type 0} (n : ℕ) (b : Bench T) (s : Share J) : Type 0
 
 -- of so many threads each is dealt its part of the jobs, by its number
 abbrev pub AreDealt : {J : Type 0} → ℕ → ℕ → List (Share J) → Type 0
-AreDealt count threads shares = (k : ℕ) (s : Share _) → slice_get shares k ≡ Some s → Deals threads count k (worker_view s.local)
+AreDealt count threads shares =
+    (k : ℕ) (s : Share _) → slice_get shares k ≡ Some s → Deals threads count k (worker_view s.local)

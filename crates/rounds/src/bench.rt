@@ -100,8 +100,8 @@ pub(crate) struct Bench<'a, T: Gate> {
     pub plies: u8,
 }
 
-/// Stops the search of a job once one below it wins: the round's word, a thread's seat of it, and the job that the thread
-/// is at.
+/// Stops the search of a job once one below it wins: the round's word, a thread's seat of it, and the job
+/// that the thread is at.
 #[derive(Drop)]
 pub(crate) struct JobStop<'a> {
     pub least: &'a Least<RootJobs>,
@@ -119,7 +119,8 @@ impl Stop for JobStop<'_> {
 
     ghost told = { λ s. least_known s.seat < s.job };
 
-    ghost stays = { λ a b. (b.least.now ≡ a.least.now) × (b.job ≡ a.job) × (least_known b.seat ≤ least_known a.seat) };
+    ghost stays = { λ a b. (b.least.now ≡ a.least.now) × (b.job ≡ a.job)
+        × (least_known b.seat ≤ least_known a.seat) };
 
     fn is_set(&mut self) -> bool {
         self.job < self.jobs && self.least.is_below(&mut self.seat, self.job)

@@ -4,8 +4,8 @@ ghost use Rattle.slots.specs.Promise.{IsSeatOf};
 use entry::MateLore;
 use slots::{Seat, Slots};
 
-/// Called before a job is decided, by the thread that decides it, with the solve's table and that thread's seat. The round
-/// is the number of plies, the job the number of a lawful root move.
+/// Called before a job is decided, by the thread that decides it, with the solve's table and that thread's
+/// seat. The round is the number of plies, the job the number of a lawful root move.
 pub trait Gate: Sync {
     fn begin(&self, round: u8, job: u16, slots: &Slots<MateLore>, seat: &mut Seat)
         requires { IsSeatOf slots.now seat.old }

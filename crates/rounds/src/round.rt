@@ -60,7 +60,8 @@ fn all_thieves<J: Count>(
     Ok(thieves)
 }
 
-/// Each share is worked on by a thread of its own, where one can be made, and the last share by the caller's.
+/// Each share is worked on by a thread of its own, where one can be made, and the last share by the
+/// caller's.
 fn work_all<J: Count + Send + Sync, T: Gate, R: Threads + Wait + Sync>(
     rt: &R,
     bench: &Bench<'_, T>,

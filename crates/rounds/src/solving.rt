@@ -1,11 +1,10 @@
 //! A solve: rounds of more and more plies, each by all workers, over one table.
-ghost use Rattle.std.specs.Prelude.{◌≡◌, ◌⊎◌, ◌+◌, IfOk, IfErr, None, Some};
+ghost use Rattle.std.specs.Prelude.{◌≡◌, ◌+◌, IfOk, IfErr, None, Some};
 ghost use Rattle.slots.specs.Promise.{slots_of};
 ghost use Rattle.decision.specs.Answer.{IsAnswer};
-ghost use Rattle.rounds.specs.Limits.{limits_fault, IsLimit};
+ghost use Rattle.rounds.specs.Limits.{limits_fault, IsRefusal, IsLimit};
 ghost use Rattle.rounds.specs.Roots.{IsRoot};
 ghost use Rattle.rounds.specs.Seats.{AreSeats, AreCallers};
-ghost use Rattle.rounds.specs.declared.fault.SolveFault.TheVariants.{NoMemory as no_memory};
 
 use crate::bench::{Root, Search};
 use crate::fault::SolveFault;
@@ -34,7 +33,7 @@ struct Limits {
 
 /// The limits, or the first of them that is outside what is taken.
 fn limits_of(plies: u8, workers: u8, slots: usize) -> Result<Limits, SolveFault>
-    ensures kept { IfOk result (λ limits. (limits.plies ≡ plies) × (limits.workers ≡ workers) × (limits.slots ≡ slots)) }
+    ensures kept { IfOk result (λ limits. limits ≡ record { plies = plies; workers = workers; slots = slots }) }
     ensures accepted { IfOk result (λ _. limits_fault plies workers slots ≡ None) }
     ensures refused { IfErr result (λ fault. limits_fault plies workers slots ≡ Some fault) }
 {
@@ -66,7 +65,8 @@ fn table_for(alloc: Global, limits: Limits) -> Result<(Slots<MateLore>, Vec<Seat
     }
 }
 
-/// The rounds: 1, 3, 5 and so on up to the limit. An even number of plies forces no more than the odd one below it.
+/// The rounds: 1, 3, 5 and so on up to the limit. An even number of plies forces no more than the odd one
+/// below it.
 fn play_rounds<T: Gate, R: Threads + Wait + Sync>(
     rt: &R,
     alloc: Global,
@@ -95,9 +95,9 @@ fn play_rounds<T: Gate, R: Threads + Wait + Sync>(
     Ok(Answer::NoneWithin(limit))
 }
 
-/// The fewest plies in which the side to move forces the goal, with the least first move, or that there are none up to
-/// the limit: searched by so many workers and the caller's own thread, over a table of so many slots. A worker that can't
-/// be started is left out.
+/// The fewest plies in which the side to move forces the goal, with the least first move, or that there are
+/// none up to the limit: searched by so many workers and the caller's own thread, over a table of so many
+/// slots. A worker that can't be started is left out.
 pub fn solve<T: Gate, R: Threads + Wait + Sync>(
     rt: &R,
     alloc: Global,
@@ -108,9 +108,9 @@ pub fn solve<T: Gate, R: Threads + Wait + Sync>(
     slots: usize,
     gate: &T,
 ) -> Result<Answer, SolveFault>
-    ensures answer { IfOk result (λ answer. IsAnswer goal position.now limit answer) }
+    ensures answer { IfOk result (IsAnswer goal position.now limit) }
     ensures accepted { IfOk result (λ _. limits_fault limit workers slots ≡ None) }
-    ensures refused { IfErr result (λ fault. ((fault ≡ no_memory) × (limits_fault limit workers slots ≡ None)) ⊎ (limits_fault limit workers slots ≡ Some fault)) }
+    ensures refused { IfErr result (IsRefusal limit workers slots) }
 {
     let limits = limits_of(limit, workers, slots)?;
     let Ok((table, seats)) = table_for(alloc, limits) else {

@@ -1,4 +1,4 @@
-use Rattle.std.proofs.Common.{sym, ◌∙◌, arith}
+use Rattle.std.proofs.Common.{rules, sym, ◌∙◌, arith}
 use Rattle.std.proofs.lemmas.Bool.{false≢true}
 use Rattle.least.specs.Promise.{least_known}
 use Rattle.rounds.specs.declared.share.Verdict.TheVariants.{Wins, Loses}
@@ -23,8 +23,7 @@ returns-then-decision g c = let s = c.requires.share in
       stop = c.in-Some.ensures.stop.0 ∙ s.stop;
       row = row.0;
       right = row.1;
-      knows = knows_win c.args.self.now.row.items (least_known c.args.self.now.scout.stop.seat) (least_known c.lower.new.seat) c.from.result c.args.job c.from.ensures
-          (omega (arith, c.lower.ensures.falls, c.in-Some.ensures.stop.2, c.is_below.ensures.falls)) c.lower.ensures.lowered s.knows;
+      knows = knows_win c.args.self.now.row.items (least_known c.args.self.now.scout.stop.seat) _ c.from.result c.args.job c.from.ensures (search rules) (search rules) s.knows;
     }
 
 pub returns-else-decision : goal.returns-else-decision
