@@ -1,4 +1,5 @@
 pub mod Deals
+pub mod Going
 pub mod Jobs
 pub mod Lists
 pub mod Rows

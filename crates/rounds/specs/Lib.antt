@@ -5,3 +5,4 @@ pub mod Roots
 pub mod Verdicts
 pub mod Seats
 pub mod Shares
+pub mod Going

@@ -6,6 +6,7 @@ ghost use Rattle.rounds.specs.Roots.{IsRoot, EndsRound};
 ghost use Rattle.rounds.specs.Seats.{AreSeats, AreCallers, AreJobSeats};
 ghost use Rattle.rounds.specs.Limits.{IsLimit};
 ghost use Rattle.rounds.specs.Shares.{IsBench, WinsHere, IsShare, AreDealt};
+ghost use Rattle.rounds.specs.Going.{GoesOn, EachGoesOn};
 
 use crate::bench::{Bench, RootJobs, Search};
 use crate::deal::{Count, Thief, deal};
@@ -71,6 +72,7 @@ fn work_all<J: Count + Send + Sync, T: Gate, R: Threads + Wait + Sync>(
     requires { All (IsShare J.jobs bench.now) shares.old.items }
     ensures count { length shares.new.items ≡ length shares.old.items }
     ensures shares { All (IsShare J.jobs bench.now) shares.new.items }
+    ensures go_on { EachGoesOn T.keeps bench.now.slots.now shares.old.items shares.new.items }
 {
     let threads = shares.len();
     if threads == 0 {
@@ -82,7 +84,8 @@ fn work_all<J: Count + Send + Sync, T: Gate, R: Threads + Wait + Sync>(
         threads,
         &|_, share: &mut Share<'_, J>|
             requires { IsShare J.jobs bench.now share.now }
-            ensures { IsShare J.jobs bench.entry.now share.exit.now }
+            ensures { IsShare J.jobs bench.entry.now share.exit.now
+                × GoesOn T.keeps bench.entry.now.slots.now share.entry.now.seat share.exit.now.seat }
         { share.work(rt, bench, thieves) },
     );
 }
@@ -123,6 +126,7 @@ fn wins<J: Count, T: Gate>(
     requires own { IsShare J.jobs bench.now own.old }
     requires job { job < J.jobs }
     ensures own { IsShare J.jobs bench.now own.new }
+    ensures goes_on { GoesOn T.keeps bench.now.slots.now own.old.seat own.new.seat }
     ensures wins { IsTrue result ↔ WinsHere bench.now job }
 {
     match found(bench, shares, own, job) {
@@ -141,6 +145,7 @@ fn settle<J: Count, T: Gate>(
     requires shares { All (IsShare J.jobs bench.now) shares.now.items }
     requires own { IsShare J.jobs bench.now own.old }
     ensures own { IsShare J.jobs bench.now own.new }
+    ensures goes_on { GoesOn T.keeps bench.now.slots.now own.old.seat own.new.seat }
     ensures end { EndsRound bench.now.root.now bench.now.plies result }
 {
     for job in 0..bench.root.jobs() {

@@ -34,6 +34,7 @@ impl<'a, J: Count> Share<'a, J> {
     ghost use Rattle.least.specs.Promise.{IsJobSeatOf};
     ghost use Rattle.rounds.specs.Verdicts.{IsRight};
     ghost use Rattle.rounds.specs.Shares.{IsBench, WinsHere, IsShare};
+    ghost use Rattle.rounds.specs.Going.{GoesOn};
 
     /// A share that has found nothing yet.
     pub(crate) fn new<T: Gate>(
@@ -84,6 +85,7 @@ impl<'a, J: Count> Share<'a, J> {
         requires share { IsShare J.jobs bench.now self.old }
         requires job { job < J.jobs }
         ensures share { IsShare J.jobs bench.now self.new }
+        ensures goes_on { GoesOn T.keeps bench.now.slots.now self.old.seat self.new.seat }
         ensures wins { IsTrue result ↔ WinsHere bench.now job }
     {
         bench
@@ -97,7 +99,8 @@ impl<'a, J: Count> Share<'a, J> {
     fn take_up<T: Gate>(&mut self, bench: &Bench<'_, T>, job: u16)
         requires share { IsShare J.jobs bench.now self.old }
         requires job { job < J.jobs }
-        ensures { IsShare J.jobs bench.now self.new }
+        ensures share { IsShare J.jobs bench.now self.new }
+        ensures goes_on { GoesOn T.keeps bench.now.slots.now self.old.seat self.new.seat }
     {
         let stop = &mut self.scout.stop;
         if bench.least.is_below(&mut stop.seat, job) {
@@ -130,7 +133,8 @@ impl<'a, J: Count> Share<'a, J> {
         thieves: &Vec<Thief<J>>,
     )
         requires { IsShare J.jobs bench.now self.old }
-        ensures { IsShare J.jobs bench.now self.new }
+        ensures share { IsShare J.jobs bench.now self.new }
+        ensures goes_on { GoesOn T.keeps bench.now.slots.now self.old.seat self.new.seat }
     {
         for _ in rt.forever() {
             let Some(job) = next_job(rt, &mut self.local, thieves) else {
