@@ -11,7 +11,9 @@ use Rattle.decision.specs.Questions.{IsForced}
 use Rattle.decision.specs.Answer.{Wins, IsLeastWin, ForcesNothing, IsAnswer}
 use Rattle.decision.specs.declared.answer.Answer.TheVariants.{Mate}
 use Rattle.decision.proofs.Winning.{wins_by, forced_by, next_round}
-use Rattle.rounds.specs.Jobs.{LeadsTo, JobWins}
+use Rattle.rounds.specs.declared.bench.Root.{Root}
+use Rattle.rounds.specs.Jobs.{JobWins}
+use Rattle.rounds.specs.Roots.{LeadsTo, WinsIn}
 use Rattle.rounds.specs.Verdicts.{IsLeast, NoneWins}
 
 same_some : (l m : Ply) → Some l ≡ Some m → l ≡ m
@@ -37,11 +39,6 @@ module _ (goal : Goal) (b : PlainBoard) (n : ℕ) (xs : List Ply) where
   -- a job wins where its move does
   job_by : (job : ℕ) (m : Ply) (answer : Bool) → slice_get xs job ≡ Some m → (IsTrue answer ↔ Wins goal b n m) → IsTrue answer ↔ JobWins goal b n xs job
   job_by job m answer at h = (λ yes. (m, at, h.0 yes), λ w. h.1 (job_move job m at w))
-
-  -- a job wins where the goal is forced from the position that its move leads to
-  pub job_after : (job : ℕ) (q : Question) (answer : Bool) → LeadsTo goal b xs job q → (IsTrue answer ↔ IsForced q (n - 1)) → IsTrue answer ↔ JobWins goal b n xs job
-  job_after job q answer (m, at, move, is) h =
-      job_by job m answer at (wins_by goal b n m q.position answer move (subst (λ (o : Question). IsTrue answer ↔ IsForced o (n - 1)) is h))
 
   module _ (lists : ListsLawful b xs) where
     listed : (m : Ply) → Wins goal b n m → Contains xs m
@@ -70,6 +67,12 @@ module _ (goal : Goal) (b : PlainBoard) (n : ℕ) (xs : List Ply) where
     -- where no job wins, no move does
     pub none_moves : NoneWins (JobWins goal b n xs) (length xs) → (m : Ply) → Wins goal b n m → ⊥
     none_moves none m w = let among = listed m w in none among.0 among.1 (job_of m w among)
+
+-- a job wins where the goal is forced from the position that its move leads to
+pub job_after : (r : Root) (n job : ℕ) (q : Question) (answer : Bool) → LeadsTo r job q → (IsTrue answer ↔ IsForced q (n - 1)) → IsTrue answer ↔ WinsIn r n job
+job_after r n job q answer (m, at, move, is) h =
+    job_by r.goal r.board n r.moves.items job m answer at
+    (wins_by r.goal r.board n m q.position answer move (subst (λ (o : Question). IsTrue answer ↔ IsForced o (n - 1)) is h))
 
 -- after rounds in vain, the first that has a winning job gives the answer
 pub answered : (goal : Goal) (b : PlainBoard) (xs : List Ply) → ListsLawful b xs → (r n limit job : ℕ) (m : Ply) → n ≡ 2 * r + 1 → n ≤ limit → ForcesNothing goal b (2 * r)

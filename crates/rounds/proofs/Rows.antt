@@ -1,12 +1,16 @@
 -- A row of verdicts, read and written at a job.
-use Rattle.std.proofs.Common.{◌≡◌, ◌≢◌, ℕ, ◌+◌, ◌<◌, List, length, get_or, sym, ap, subst, ◌∙◌, arith}
+use Rattle.std.proofs.Common.{◌≡◌, ◌≢◌, ℕ, ◌+◌, ◌<◌, ◌≤◌, List, length, get_or, sym, ap, subst, ◌∙◌, arith}
 use Rattle.std.proofs.lemmas.Grind.{common_steps, elements}
 use mathlib.Core.Logic.{dite}
 use native.Mathlib.Decide.{ℕ_discrete}
 use lib.ListN.{set}
-use Rattle.rounds.specs.declared.verdict.Verdict.{Verdict}
-use Rattle.rounds.specs.declared.verdict.Verdict.TheVariants.{Open}
+use Rattle.rounds.specs.declared.share.Verdict.{Verdict}
+use Rattle.rounds.specs.declared.share.Verdict.TheVariants.{Open, Wins, Loses}
 use Rattle.rounds.specs.Verdicts.{IsRight, AreRight}
+use Rattle.rounds.specs.Shares.{KnowsWins}
+
+loses_apart : Loses ≡ Wins → ⊥
+loses_apart e = grind arith
 
 -- within a row no default is read
 same_default : (row : List Verdict) (i : ℕ) (d v : Verdict) → i < length row → v ≡ get_or row i v → get_or row i d ≡ v
@@ -44,3 +48,19 @@ pub none_next : (win : ℕ → Type 0) (i : ℕ) → (win i → ⊥) → ((k : �
 none_next win i last before k h w = dite (ℕ_discrete k i)
     (λ e. last (subst win e w))
     (λ other. before k (omega (arith, h, other)) w)
+
+-- what is known falls, and no job is found to win by it
+pub knows_less : (row : List Verdict) (a b : ℕ) → b ≤ a → KnowsWins row a → KnowsWins row b
+knows_less row a b falls knows job e = omega (arith, falls, knows job e)
+
+-- one job more is found to win, and is known
+pub knows_win : (row : List Verdict) (a b at job : ℕ) → at ≡ job → b ≤ a → b ≤ job → KnowsWins row a → KnowsWins (set row at Wins) b
+knows_win row a b at job same falls lowered knows k e = dite (ℕ_discrete k at)
+    (λ here. omega (arith, here, same, lowered))
+    (λ other. omega (arith, falls, knows k (sym (set_there row at k Open Wins other) ∙ e)))
+
+-- one job more is found to lose
+pub knows_loss : (row : List Verdict) (a b at : ℕ) → at < length row → b ≤ a → KnowsWins row a → KnowsWins (set row at Loses) b
+knows_loss row a b at inside falls knows k e = dite (ℕ_discrete k at)
+    (λ here. absurd (loses_apart (sym (set_here row at Open Loses inside) ∙ ap (λ i. get_or (set row at Loses) i Open) (sym here) ∙ e)))
+    (λ other. omega (arith, falls, knows k (sym (set_there row at k Open Loses other) ∙ e)))

@@ -1,7 +1,7 @@
 -- What a solve by workers accepts.
-use Rattle.std.specs.Prelude.{ℕ, nat_lt, ◌||◌, Option, None, Some, if◌then◌else◌}
+use Rattle.std.specs.Prelude.{◌≡◌, ◌⊎◌, ℕ, nat_lt, ◌<◌, ◌≤◌, ◌||◌, Option, None, Some, if◌then◌else◌}
 use Rattle.rounds.specs.declared.fault.SolveFault.{SolveFault}
-use Rattle.rounds.specs.declared.fault.SolveFault.TheVariants.{Limit, Workers, Slots}
+use Rattle.rounds.specs.declared.fault.SolveFault.TheVariants.{Limit, Workers, Slots, NoMemory}
 
 -- the first fault of these values: a limit outside 1 to 63 plies, workers outside 1 to 16, slots outside 1 to 1,048,576
 abbrev pub limits_fault : ℕ → ℕ → ℕ → Option SolveFault
@@ -9,3 +9,13 @@ limits_fault limit workers slots =
     if nat_lt limit 1 || nat_lt 63 limit then Some Limit
     else (if nat_lt workers 1 || nat_lt 16 workers then Some Workers
     else (if nat_lt slots 1 || nat_lt 1048576 slots then Some Slots else None))
+
+-- why a solve with these values is refused: memory, where none of them is refused, or else their first fault
+abbrev pub IsRefusal : ℕ → ℕ → ℕ → SolveFault → Type 0
+IsRefusal limit workers slots fault =
+    ((fault ≡ NoMemory) × (limits_fault limit workers slots ≡ None))
+    ⊎ (limits_fault limit workers slots ≡ Some fault)
+
+-- so many plies are searched: 1 to 63
+abbrev pub IsLimit : ℕ → Type 0
+IsLimit plies = (0 < plies) × (plies ≤ 63)

@@ -1,35 +1,44 @@
 -- What the threads have in a round.
-use Rattle.std.specs.Prelude.{◌≡◌, ℕ, ◌<◌, ◌≤◌, List, length}
-use Rattle.board.specs.Board.{PlainBoard}
-use Rattle.moves.specs.declared.goal.Goal.{Goal}
-use Rattle.moves.specs.Order.{ListsLawful}
+use Rattle.std.specs.Prelude.{◌≡◌, ℕ, ◌≤◌, List, length, slice_get, slice_index_or, Some}
+use Rattle.crossbeam_deque.specs.Handles.{worker_view}
 use Rattle.slots.specs.Promise.{IsSeatOf}
-use Rattle.rounds.specs.declared.root.RootJobs.{RootJobs}
+use Rattle.least.specs.Promise.{least_known}
 use Rattle.rounds.specs.declared.bench.Bench.{Bench}
 use Rattle.rounds.specs.declared.share.Share.{Share}
-use Rattle.rounds.specs.declared.verdict.Verdict.{Verdict}
-use Rattle.rounds.specs.Jobs.{JobWins}
+use Rattle.rounds.specs.declared.share.Verdict.{Verdict}
+use Rattle.rounds.specs.declared.share.Verdict.TheVariants.{Open, Wins}
+use Rattle.rounds.specs.Limits.{IsLimit}
+use Rattle.rounds.specs.Deals.{Deals}
+use Rattle.rounds.specs.Roots.{IsRoot, WinsIn, root_jobs}
 use Rattle.rounds.specs.Verdicts.{AreRight}
 
--- the jobs of a round of n plies
-abbrev pub root_jobs : PlainBoard → Goal → ℕ → RootJobs
-root_jobs b goal n = record { position = b; goal = goal; plies = n }
-
--- the jobs are the lawful moves, the round is one of those that are searched, and the word is that of its jobs
-pub record IsBench {T : Type 0} (b : Bench T) : Type 0 where
-  pub lists : ListsLawful b.root.now.position b.root.now.moves.items
-  pub round : (0 < b.round) × (b.round ≤ 63)
-  pub wins : b.least.now.wins ≡ root_jobs b.root.now.position b.root.now.goal b.round
-  pub jobs : b.least.now.jobs ≡ length b.root.now.moves.items
+-- the jobs are the lawful moves, so many, the round is one that is searched, and the word is that of its jobs
+pub record IsBench {T : Type 0} (n : ℕ) (b : Bench T) : Type 0 where
+  pub root : IsRoot b.root.now
+  pub count : length b.root.now.moves.items ≡ n
+  pub plies : IsLimit b.plies
+  pub wins : b.least.now.wins ≡ root_jobs b.root.now b.plies
+  pub jobs : b.least.now.jobs ≡ n
 
 -- the job wins in the round
 abbrev pub WinsHere : {T : Type 0} → Bench T → ℕ → Type 0
-WinsHere b job = JobWins b.root.now.goal b.root.now.position b.round b.root.now.moves.items job
+WinsHere b job = WinsIn b.root.now b.plies job
 
--- a verdict for each job of the round, and each is right
-abbrev pub IsRow : {T : Type 0} → Bench T → List Verdict → Type 0
-IsRow b row = (length row ≡ length b.root.now.moves.items) × AreRight (WinsHere b) row
+-- each job that the row finds to win is known: the number isn't above it
+abbrev pub KnowsWins : List Verdict → ℕ → Type 0
+KnowsWins row known = (job : ℕ) → slice_index_or row job Open ≡ Wins → known ≤ job
 
--- its seat is one of the round's table, its searches are stopped by the round's word, and its row is right
-abbrev pub IsShare : {T J : Type 0} → Bench T → Share J → Type 0
-IsShare b s = IsSeatOf b.slots.now s.seat × (s.scout.stop.least.now ≡ b.least.now) × IsRow b s.row.items
+-- A thread's share of a round of so many jobs: its seat is one of the table, the round's word stops its searches, it has a
+-- right verdict for each job, and its seat of the word knows of each win that it found
+pub record IsShare {T J : Type 0} (n : ℕ) (b : Bench T) (s : Share J) : Type 0 where
+  pub bench : IsBench n b
+  pub seat : IsSeatOf b.slots.now s.seat
+  pub stop : s.scout.stop.least.now ≡ b.least.now
+  pub row : length s.row.items ≡ n
+  pub right : AreRight (WinsHere b) s.row.items
+  pub knows : KnowsWins s.row.items (least_known s.scout.stop.seat)
+
+-- of so many threads each is dealt its part of the jobs, by its number
+abbrev pub AreDealt : {J : Type 0} → ℕ → ℕ → List (Share J) → Type 0
+AreDealt count threads shares =
+    (k : ℕ) (s : Share _) → slice_get shares k ≡ Some s → Deals threads count k (worker_view s.local)

@@ -81,8 +81,8 @@ impl Gate for FifthRound {
     }
 }
 
-// White has 11 lawful moves, as a second reading of the rules has it, and mates in nine plies and no fewer, as another program has
-// it: so no job of round 5 wins, and none is left out or stopped.
+// White has 11 lawful moves, as a second reading of the rules has it, and mates in nine plies and no fewer,
+// as another program has it: so no job of round 5 wins, and none is left out or stopped.
 #[test]
 fn each_job_of_a_round_that_is_lost_is_begun_once(rt: HostRuntime) -> Result<(), Fail> {
     let position = read(&rt, b"6/p1P3/N4p/k5/6/4K1 w");
@@ -120,30 +120,40 @@ pub(crate) fn comes_above(number: &AtomicU64, least: u64) -> bool {
     false
 }
 
-// Holds the first job begun in round 1 until a second one of that round has begun.
+// Holds each job begun in round 1 until so many others have begun, and notes the size of the table.
 #[derive(Drop)]
 struct Hold {
+    others: u64,
     begun: AtomicU64,
+    slots: AtomicU64,
     gave_up: AtomicBool,
 }
 
 impl Gate for Hold {
-    fn begin(&self, round: u8, _job: u16, _slots: &Slots<MateLore>, _seat: &mut Seat) {
-        if round != 1 || self.begun.fetch_add(1, Ordering::SeqCst) > 0 {
+    fn begin(&self, round: u8, _job: u16, slots: &Slots<MateLore>, _seat: &mut Seat) {
+        if round != 1 {
             return;
         }
-        if !comes_above(&self.begun, 1) {
+        self.slots.store(slots.len() as u64, Ordering::SeqCst);
+        self.begun.fetch_add(1, Ordering::SeqCst);
+        if !comes_above(&self.begun, self.others) {
             self.gave_up.store(true, Ordering::SeqCst);
         }
     }
 }
 
+// A thread that holds a job begins no other, so each is held by its own: by a worker, or by the caller's thread.
 #[test]
-fn a_second_job_begins_while_the_first_is_held(rt: HostRuntime) {
-    let gate = Hold {
-        begun: AtomicU64::new(0),
-        gave_up: AtomicBool::new(false),
-    };
-    assert!(rt; solved(&rt, rt.alloc(), 2, 64, &gate) == expected());
-    assert!(rt; !gate.gave_up.load(Ordering::SeqCst));
+fn each_thread_holds_a_job_at_once(rt: HostRuntime) {
+    for (workers, slots) in [(1, 64), (2, 1), (16, 64)] {
+        let gate = Hold {
+            others: u64::from(workers),
+            begun: AtomicU64::new(0),
+            slots: AtomicU64::new(0),
+            gave_up: AtomicBool::new(false),
+        };
+        assert!(rt; solved(&rt, rt.alloc(), workers, slots, &gate) == expected());
+        assert!(rt; !gate.gave_up.load(Ordering::SeqCst));
+        assert!(rt; gate.slots.load(Ordering::SeqCst) == slots as u64);
+    }
 }

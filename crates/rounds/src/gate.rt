@@ -4,12 +4,21 @@ ghost use Rattle.slots.specs.Promise.{IsSeatOf};
 use entry::MateLore;
 use slots::{Seat, Slots};
 
-/// Called before a job is decided, by the thread that decides it, with the solve's table and that thread's seat. The round
-/// is the number of plies, the job the number of a lawful root move.
+/// Called before a job is decided, by the thread that decides it, with the solve's table and that thread's
+/// seat. The round is the number of plies, the job the number of a lawful root move.
 pub trait Gate: Sync {
+    ghost use Rattle.std.specs.Prelude.{ℕ};
+    ghost use Rattle.atomic_table.specs.Seated.{TableId};
+    ghost use Rattle.atomic_table.specs.declared.shared.Seat.{Seat};
+    ghost use Rattle.slots.specs.declared.views.View.{View};
+
+    /// What a call does to a seat of the table. Nothing is said where a gate doesn't say it.
+    ghost keeps: { TableId → Seat ℕ View → Seat ℕ View → Type 0 } = { λ _ _ _. Unit {0} };
+
     fn begin(&self, round: u8, job: u16, slots: &Slots<MateLore>, seat: &mut Seat)
         requires { IsSeatOf slots.now seat.old }
-        ensures { IsSeatOf slots.now seat.new };
+        ensures seat { IsSeatOf slots.now seat.new }
+        ensures keeps { keeps slots.now seat.old seat.new };
 }
 
 /// The gate that does nothing.
@@ -17,5 +26,9 @@ pub trait Gate: Sync {
 pub struct NoGate;
 
 impl Gate for NoGate {
+    ghost use Rattle.std.specs.Prelude.{◌≡◌};
+
+    ghost keeps = { λ _ before after. after ≡ before };
+
     fn begin(&self, _round: u8, _job: u16, _slots: &Slots<MateLore>, _seat: &mut Seat) {}
 }

@@ -7,19 +7,13 @@ mod bench;
 mod deal;
 mod fault;
 mod gate;
-mod root;
 mod round;
-mod settling;
 mod share;
-mod sharing;
 mod solving;
-mod stopping;
 #[cfg(test)]
 mod table_tests;
 #[cfg(test)]
 mod tests;
-mod verdict;
-mod work;
 
 pub use fault::SolveFault;
 pub use gate::{Gate, NoGate};

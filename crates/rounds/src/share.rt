@@ -1,9 +1,23 @@
-//! What one thread has in a round.
-use crate::deal::{Count, Owner};
-use crate::stopping::JobStop;
-use crate::verdict::Verdict;
-use decision::Scout;
+//! What one thread has in a round, and does.
+ghost use Rattle.std.specs.Prelude.{◌≡◌};
+
+use crate::bench::{Bench, JobStop, RootJobs};
+use crate::deal::{Count, Owner, Thief, next_job};
+use crate::gate::Gate;
+use decision::{Memory, Scout, decide_on, decide_until};
+use least::JobSeat;
 use slots::Seat;
+use std::alloc::{AllocError, Global};
+use std::sync::Wait;
+
+/// What is known of a job in a round.
+#[derive(Clone, Copy, PartialEq, Eq, Debug)]
+pub(crate) enum Verdict {
+    /// Nothing.
+    Open,
+    Wins,
+    Loses,
+}
 
 /// The thread's deque, its seat, what leads its searches, and what it found of each job.
 #[derive(Drop)]
@@ -12,4 +26,121 @@ pub(crate) struct Share<'a, J: Count> {
     pub seat: Seat,
     pub scout: Scout<JobStop<'a>>,
     pub row: Vec<Verdict>,
+}
+
+impl<'a, J: Count> Share<'a, J> {
+    ghost use Rattle.std.specs.Prelude.{◌<◌, ◌↔◌, IfOk, IsTrue};
+    ghost use Rattle.slots.specs.Promise.{IsSeatOf};
+    ghost use Rattle.least.specs.Promise.{IsJobSeatOf};
+    ghost use Rattle.rounds.specs.Verdicts.{IsRight};
+    ghost use Rattle.rounds.specs.Shares.{IsBench, WinsHere, IsShare};
+    ghost use Rattle.rounds.specs.Going.{GoesOn};
+
+    /// A share that has found nothing yet.
+    pub(crate) fn new<T: Gate>(
+        alloc: Global,
+        bench: &Bench<'a, T>,
+        seat: Seat,
+        jobs: JobSeat<RootJobs>,
+        local: Owner<J>,
+    ) -> Result<Share<'a, J>, AllocError>
+        requires bench { IsBench J.jobs bench.now }
+        requires seat { IsSeatOf bench.now.slots.now seat }
+        requires jobs { IsJobSeatOf bench.now.least.now jobs }
+        ensures share { IfOk result (IsShare J.jobs bench.now) }
+        ensures local { IfOk result (λ share. share.local ≡ local) }
+    {
+        let count = bench.root.jobs();
+        let row = Vec::from_elem(alloc, Verdict::Open, usize::from(count))?;
+        let stop = JobStop {
+            least: bench.least,
+            seat: jobs,
+            jobs: count,
+            job: 0,
+        };
+        let scout = Scout {
+            stop,
+            memory: Memory::new(),
+        };
+        Ok(Share {
+            local,
+            seat,
+            scout,
+            row,
+        })
+    }
+
+    /// What the share says of a job.
+    pub(crate) fn says<T: Gate>(&self, bench: &Bench<'_, T>, job: u16) -> Verdict
+        requires share { IsShare J.jobs bench.now self.now }
+        requires job { job < J.jobs }
+        ensures { IsRight (WinsHere bench.now job) result }
+    {
+        let _ = bench;
+        self.row[usize::from(job)]
+    }
+
+    /// Whether the job wins, whatever else is known by then.
+    pub(crate) fn decide<T: Gate>(&mut self, bench: &Bench<'_, T>, job: u16) -> bool
+        requires share { IsShare J.jobs bench.now self.old }
+        requires job { job < J.jobs }
+        ensures share { IsShare J.jobs bench.now self.new }
+        ensures goes_on { GoesOn T.keeps bench.now.slots.now self.old.seat self.new.seat }
+        ensures wins { IsTrue result ↔ WinsHere bench.now job }
+    {
+        bench
+            .gate
+            .begin(bench.plies, job, bench.slots, &mut self.seat);
+        let q = bench.root.question_of(job);
+        decide_on(bench.slots, &mut self.seat, &q, bench.plies - 1).yes
+    }
+
+    /// Decides a job, unless one below it wins by then.
+    fn take_up<T: Gate>(&mut self, bench: &Bench<'_, T>, job: u16)
+        requires share { IsShare J.jobs bench.now self.old }
+        requires job { job < J.jobs }
+        ensures share { IsShare J.jobs bench.now self.new }
+        ensures goes_on { GoesOn T.keeps bench.now.slots.now self.old.seat self.new.seat }
+    {
+        let stop = &mut self.scout.stop;
+        if bench.least.is_below(&mut stop.seat, job) {
+            return;
+        }
+        stop.job = job;
+        bench
+            .gate
+            .begin(bench.plies, job, bench.slots, &mut self.seat);
+        let q = bench.root.question_of(job);
+        let plies = bench.plies - 1;
+        let decided = decide_until(bench.slots, &mut self.seat, &mut self.scout, &q, plies);
+        let Some(decision) = decided else {
+            return;
+        };
+        if decision.yes {
+            let stop = &mut self.scout.stop;
+            bench.least.lower(&mut stop.seat, job);
+            self.row[usize::from(job)] = Verdict::Wins;
+        } else {
+            self.row[usize::from(job)] = Verdict::Loses;
+        }
+    }
+
+    /// Takes up one job after another, until none is found.
+    pub(crate) fn work<T: Gate, R: Wait>(
+        &mut self,
+        rt: &R,
+        bench: &Bench<'_, T>,
+        thieves: &Vec<Thief<J>>,
+    )
+        requires { IsShare J.jobs bench.now self.old }
+        ensures share { IsShare J.jobs bench.now self.new }
+        ensures goes_on { GoesOn T.keeps bench.now.slots.now self.old.seat self.new.seat }
+    {
+        for _ in rt.forever() {
+            let Some(job) = next_job(rt, &mut self.local, thieves) else {
+                break;
+            };
+            self.take_up(bench, job);
+        }
+    }
 }

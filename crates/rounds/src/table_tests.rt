@@ -55,8 +55,8 @@ fn two_kings(rt: &impl Abort) -> Position {
     position
 }
 
-// The first job begun in round 1 stores an entry and is held until a second one of that round has begun, which waits for
-// the entry.
+// The first job begun in round 1 stores an entry and is held until a second one of that round has begun,
+// which waits for the entry.
 #[derive(Drop)]
 struct Stores {
     position: Position,

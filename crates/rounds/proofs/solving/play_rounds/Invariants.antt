@@ -1,16 +1,15 @@
-use Rattle.std.proofs.Common.{◌≡◌, ◌*◌, length, All}
-use Rattle.slots.specs.Promise.{IsSeatOf}
+use Rattle.std.proofs.Common.{◌*◌, length}
 use Rattle.decision.specs.Answer.{ForcesNothing}
+use Rattle.rounds.specs.Seats.{AreSeats}
 use Rattle.rounds.proofs.solving.play_rounds.Given as goal
 
 abbrev pub ghosts-round : goal.ghosts-round
-ghosts-round g a = record { jobs = length a.root.now.moves.items }
+ghosts-round g a = record { jobs = length a.search.now.root.moves.items }
 
 -- the rounds so far were in vain, and the seats have come back
 abbrev pub invariant-loop-number : goal.invariant-loop-number
 invariant-loop-number g l =
     record {
-      count : length l.seats.items ≡ length l.fn.seats.items;
-      seats : All (IsSeatOf l.slots) l.seats.items;
-      nothing : ForcesNothing l.root.goal l.root.position (2 * l.number);
+      seats : AreSeats l.search.slots.now (length l.fn.seats.items) l.seats.items;
+      nothing : ForcesNothing l.search.root.goal l.search.root.board (2 * l.number);
     }

@@ -1,6 +1,0 @@
-use Rattle.std.proofs.Common.{◌≡◌, length}
-use Rattle.rounds.proofs.sharing.all_thieves.Given as goal
-
--- a stealer for each share so far
-abbrev pub invariant-loop-share : goal.invariant-loop-share
-invariant-loop-share g l = length l.thieves.items ≡ l.share-index

@@ -1,0 +1,37 @@
+-- The jobs of a solve: the lawful moves of the root, by number.
+use Rattle.std.specs.Prelude.{◌≡◌, ℕ, ◌<◌, length, slice_get, Option, Some}
+use Rattle.moves.specs.Squares.{Ply}
+use Rattle.moves.specs.Moves.{IsMove}
+use Rattle.moves.specs.Order.{ListsLawful}
+use Rattle.decision.specs.declared.question.Question.{Question}
+use Rattle.decision.specs.Questions.{question}
+use Rattle.rounds.specs.declared.bench.Root.{Root}
+use Rattle.rounds.specs.declared.bench.RootJobs.{RootJobs}
+use Rattle.rounds.specs.Jobs.{JobWins}
+use Rattle.rounds.specs.Verdicts.{IsRoundEnd}
+
+-- its moves are the lawful ones
+abbrev pub IsRoot : Root → Type 0
+IsRoot r = ListsLawful r.board r.moves.items
+
+-- the number is that of a lawful move
+abbrev pub IsJobOf : Root → ℕ → Type 0
+IsJobOf r job = IsRoot r × (job < length r.moves.items)
+
+-- what a decision of the job is asked: whether the mover forces the goal from the position after its move
+abbrev pub LeadsTo : Root → ℕ → Question → Type 0
+LeadsTo r job q =
+    (m : Ply) × (slice_get r.moves.items job ≡ Some m) × IsMove r.board m q.position
+    × (q ≡ question q.position r.board.mover r.goal)
+
+-- the job wins within n plies
+abbrev pub WinsIn : Root → ℕ → ℕ → Type 0
+WinsIn r n job = JobWins r.goal r.board n r.moves.items job
+
+-- the jobs that win within n plies, as a set
+abbrev pub root_jobs : Root → ℕ → RootJobs
+root_jobs r n = record { position = r.board; goal = r.goal; plies = n }
+
+-- the round of n plies finds the least job that wins, or none where none does
+abbrev pub EndsRound : Root → ℕ → Option ℕ → Type 0
+EndsRound r n found = IsRoundEnd (WinsIn r n) (length r.moves.items) found
