@@ -13,6 +13,8 @@ fn shows_words(rt: HostRuntime) {
         los_alamos.words(),
         [0x0000_6666_6635_1253, 0, 0x0000_9B78_B9CC_CCCC]
     );
+    let kings = board(&rt, "k5/6/6/6/6/5K w");
+    assert_eq!(rt; kings.words(), [0x0010_0000, 0, 0x0700_0000]);
     let gardner = board(&rt, "rnbqk/ppppp/5/PPPPP/RNBQK b");
     assert_eq!(rt;
         gardner.words(),

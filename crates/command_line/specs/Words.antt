@@ -49,9 +49,10 @@ MeansFound found line = (first_of (codes "FEN") found.1 ≡ Some line.fen.now) �
 abbrev pub HasLine : Option (Text × List Row) → Line → Type 0
 HasLine found line = IsSomeAnd found (λ f. MeansFound f line)
 
--- the words, of which the first is the program's name, mean the line
-abbrev pub MeansLine : List Text → Line → Type 0
-MeansLine words line = HasLine (subcommand_of program words) line
+-- the words, of which the first is the program's name, mean the line: `clap` finds no fault in them, and what it finds is the line
+pub record MeansLine (words : List Text) (line : Line) : Type 0 where
+  pub faultless : fault_of program words ≡ []
+  pub found : HasLine (subcommand_of program words) line
 
 -- the words mean no line: `clap` finds a fault in them, or what it finds is none
 abbrev pub MeansNoLine : List Text → Type 0

@@ -1,8 +1,8 @@
 //! Reading the words of a command line.
-ghost use Rattle.std.specs.Prelude.{◌≡◌, ◌≢◌, false, IfErr, IfNone, IfOk, IfSome, None, Some, ℕ, codes, map};
+ghost use Rattle.std.specs.Prelude.{◌≡◌, ◌↔◌, false, IfErr, IfNone, IfOk, IfSome, None, OnErr, Some, ℕ, codes, map};
 ghost use Rattle.moves.specs.declared.goal.Goal.{Goal as TheGoal};
 ghost use Rattle.clap.specs.declared.error.kind.ErrorKind.TheVariants.{OutOfMemory};
-ghost use Rattle.command_line.specs.declared.reading.LineFault.TheVariants.{Words};
+ghost use Rattle.command_line.specs.declared.reading.LineFault.TheVariants.{NoMemory, Words};
 ghost use Rattle.command_line.specs.declared.line.Line.{Line as TheLine};
 ghost use Rattle.command_line.specs.declared.line.Limits.{Limits as TheLimits};
 ghost use Rattle.command_line.specs.declared.line.Action.{Action as TheAction};
@@ -28,7 +28,7 @@ pub enum LineFault {
 }
 
 impl From<Error> for LineFault {
-    ghost from_gives = { λ error fault. fault ≡ Words → kind_of error ≢ OutOfMemory };
+    ghost from_gives = { λ error fault. (fault ≡ NoMemory) ↔ (kind_of error ≡ OutOfMemory) };
 
     fn from(error: Error) -> LineFault {
         match error.kind() {
@@ -225,11 +225,20 @@ fn line_of<'a>(matches: &ArgMatches<'a>) -> Option<Line<'a>>
     Some(Line { fen, action })
 }
 
+/// The line that was found. That there is none is the words' fault, and no want of memory.
+fn found_line<'a>(matches: &ArgMatches<'a>) -> Result<Line<'a>, LineFault>
+    ensures line { IfOk result (HasLine (subcommand_rows_of matches.now)) }
+    ensures none { OnErr result ((line : TheLine) → HasLine (subcommand_rows_of matches.now) line → ⊥) }
+    ensures words { IfErr result (λ fault. fault ≡ Words) }
+{
+    line_of(matches).ok_or(LineFault::Words)
+}
+
 /// The line that the words mean. The first word is the program's name.
 pub fn read_line<'a, W: AsStr>(alloc: Global, words: &'a [W]) -> Result<Line<'a>, LineFault>
     ensures line { IfOk result (MeansLine (map W.text words.entry.now)) }
     ensures refused { IfErr result (λ fault. fault ≡ Words → MeansNoLine (map W.text words.entry.now)) }
 {
     let matches = matches(alloc, words)?;
-    line_of(&matches).ok_or(LineFault::Words)
+    found_line(&matches)
 }

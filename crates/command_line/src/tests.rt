@@ -64,6 +64,10 @@ fn refuses_what_is_no_line(rt: HostRuntime) {
     expect_none(&rt, &["minimate", "solve", "--limit", "4294967296", FEN]);
     expect_none(&rt, &["minimate", "check", "--goal", "Mate", FEN]);
     expect_none(&rt, &["minimate", "moves"]);
+    expect_none(&rt, &["minimate", "moves", FEN, "x"]);
+    expect_none(&rt, &["minimate", "--version"]);
+    expect_none(&rt, &["minimate", "--help"]);
+    expect_none(&rt, &["minimate", "moves", "--help"]);
 }
 
 // The parser takes any word for a goal, and refuses an option that a command doesn't have.

@@ -34,8 +34,8 @@ fn sizes_out_of_range(rt: HostRuntime) {
 
 // With no job lowered, the word is still the number of jobs.
 #[test]
-fn the_least_and_the_greatest_size(rt: HostRuntime) {
-    for (jobs, callers) in [(0, 1), (6, 2), (512, 17)] {
+fn sizes_from_the_least_to_the_greatest(rt: HostRuntime) {
+    for (jobs, callers) in [(0, 1), (6, 2), (300, 9), (512, 17)] {
         let Ok((least, mut seats)) = Least::make(rt.alloc(), &Only(3), jobs, callers) else {
             panic!(rt; "not made")
         };

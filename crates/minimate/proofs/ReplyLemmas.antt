@@ -14,7 +14,6 @@ use Rattle.command_line.specs.declared.line.Line.{Line}
 use Rattle.command_line.specs.declared.line.Action.{Action}
 use Rattle.minimate.specs.declared.refusal.Refusal.{Refusal}
 use Rattle.minimate.specs.declared.refusal.Refusal.TheVariants.{NoMemory}
-use Rattle.minimate.specs.declared.transfer.TheConstants.{MOST_INPUT}
 use Rattle.minimate.specs.declared.trouble.Trouble.{Trouble}
 use Rattle.minimate.specs.declared.trouble.Trouble.TheVariants.{Refused, ReadFailed}
 
@@ -62,9 +61,9 @@ gives_reply {B} bytes line known b action r sound is gives =
 -- ---- a check
 
 -- an input that isn't too long is checked
-shows_check : (goal : Goal) (b : PlainBoard) (input : List ℕ) (reply : Reply) → length input ≤ MOST_INPUT
+shows_check : (goal : Goal) (b : PlainBoard) (input : List ℕ) (reply : Reply) → length input ≤ 1048576
     → ShowsTree goal b (without_line_feed input) reply → ShowsCheck goal b input reply
-shows_check goal b input reply fits shows = rw (le-ltb MOST_INPUT (length input) fits) shows
+shows_check goal b input reply fits shows = rw (le-ltb 1048576 (length input) fits) shows
 
 -- what is refused of the input that was read is refused of the reader's input
 pub check_refused : {B : Type 0} (bytes : B → List ℕ) (goal : Goal) (b : PlainBoard) (known : Option (List ℕ)) (read : List ℕ) (r : Result B Trouble) (refusal : Refusal)

@@ -4,3 +4,4 @@ pub mod Refusal
 pub mod Output
 pub mod Outcome
 pub mod Run
+pub mod Program

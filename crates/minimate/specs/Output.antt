@@ -32,7 +32,6 @@ use Rattle.command_line.specs.declared.line.Action.{Action}
 use Rattle.command_line.specs.declared.line.Action.TheVariants.{Solve, Moves, Tree, Check}
 use Rattle.minimate.specs.declared.refusal.Refusal.{Refusal}
 use Rattle.minimate.specs.declared.refusal.Refusal.TheVariants.{TooLong}
-use Rattle.minimate.specs.declared.transfer.TheConstants.{MOST_INPUT}
 
 -- what is written, and the status
 pub record Reply : Type 0 where
@@ -118,10 +117,10 @@ ShowsTree goal b text reply =
     ((plan : Plan) × IsTreeText text plan × ShowsPlan goal b plan reply)
     ⊎ ((fault : TreeFault) × IsTreeFault text fault × (reply ≡ refused (refusal_of_tree fault)))
 
--- the same of the input without a line feed at its end, or that the input is too long
+-- the same of the input without a line feed at its end, or that the input is too long: more than 1,048,576 bytes
 abbrev pub ShowsCheck : Goal → PlainBoard → List ℕ → Reply → Type 0
 ShowsCheck goal b input reply =
-    MatchBool (nat_lt MOST_INPUT (length input)) (reply ≡ refused TooLong) (ShowsTree goal b (without_line_feed input) reply)
+    MatchBool (nat_lt 1048576 (length input)) (reply ≡ refused TooLong) (ShowsTree goal b (without_line_feed input) reply)
 
 -- the reply of the command
 abbrev pub Shows : PlainBoard → Action → List ℕ → Reply → Type 0

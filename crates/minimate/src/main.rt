@@ -2,6 +2,11 @@
 #![tactic(auto)]
 
 mod device;
+#[cfg(test)]
+mod device_tests;
+mod program;
+#[cfg(test)]
+mod program_tests;
 mod refusal;
 mod reply;
 mod run;
@@ -11,6 +16,7 @@ mod transfer;
 mod trouble;
 
 use crate::device::Counted;
+use crate::program::run_program;
 use std::process::ExitCode;
 use std::{env, io};
 
@@ -20,34 +26,10 @@ fn words(rt: &HostRuntime) -> io::Result<Vec<String>> {
     Ok(words)
 }
 
-/// Says on standard error why the words are no line, or prints the help that they ask for. The parser
-/// takes any word for a goal.
-fn explain(rt: &HostRuntime, words: &[String]) {
-    let _ = match command_line::matches(rt.alloc(), words) {
-        Ok(_) => eprintln!(rt; "error: the goal is neither `mate` nor `stale`"),
-        Err(error) => eprint!(rt; "{error}"),
-    };
-}
-
 fn main(rt: HostRuntime) -> ExitCode {
+    let words = words(&rt);
     let mut reader = Counted::new(rt.stdin());
     let mut writer = Counted::new(rt.stdout());
-    let status = match words(&rt) {
-        Ok(words) => {
-            let words = words.as_slice();
-            let status = run::run(&rt, rt.alloc(), words, &mut reader, &mut writer);
-            if status == run::REFUSED_WORDS {
-                explain(&rt, words);
-            }
-            status
-        }
-        Err(error) if error.kind() == io::ErrorKind::OutOfMemory => {
-            run::give_up_for_memory(&mut writer)
-        }
-        Err(_) => {
-            let _ = eprintln!(rt; "error: a word of the command line is not UTF-8");
-            run::REFUSED_WORDS
-        }
-    };
-    ExitCode::from(status)
+    let mut errors = rt.stderr();
+    ExitCode::from(run_program(&rt, words, &mut reader, &mut writer, &mut errors))
 }

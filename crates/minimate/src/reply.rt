@@ -1,5 +1,5 @@
 //! The reply to a line: the text of its answer, or why there is none.
-ghost use Rattle.std.specs.Prelude.{◌≡◌, ◌⊎◌, ◌+◌, ◌<◌, ◌≤◌, IfOk, IfSome, string_bytes, vec_items};
+ghost use Rattle.std.specs.Prelude.{◌≡◌, ◌⊎◌, ◌+◌, ◌<◌, ◌≤◌, IfOk, IfSome, min, string_bytes, vec_items};
 ghost use Rattle.wintree.specs.Plan.{depth};
 ghost use Rattle.wintree.specs.Text.{text as tree_words};
 ghost use Rattle.minimate.specs.Outcome.{Solves, Gives, GivesIfRead, GivesReply, reads_failed};
@@ -22,8 +22,35 @@ use std::thread::Threads;
 use trees::winning_tree;
 use wintree::{NoMemory, Tree, check, read_tree, tree_text};
 
-/// The answer within the limits. A number too great for the type that `solve` takes is outside what is
-/// searched, and stays so as the type's greatest.
+/// With what `solve` searches.
+#[derive(Clone, Copy)]
+struct Search {
+    limit: u8,
+    workers: u8,
+    slots: usize,
+}
+
+/// The number as a byte. One that is too great is outside what is searched with, and stays so as 255.
+fn byte_of(number: u32) -> u8
+    ensures { result ≡ min number 255 }
+{
+    u8::try_from(number).unwrap_or(u8::MAX)
+}
+
+/// The values of the line, in the types that `solve` takes.
+fn search_of(limits: Limits) -> Search
+    ensures limit { result.limit ≡ min limits.limit 255 }
+    ensures workers { result.workers ≡ min limits.workers 255 }
+    ensures slots { result.slots ≡ limits.slots }
+{
+    Search {
+        limit: byte_of(limits.limit),
+        workers: byte_of(limits.workers),
+        slots: limits.slots as usize,
+    }
+}
+
+/// The answer within the limits.
 fn answer_within<R: Threads + Wait + Sync>(
     rt: &R,
     alloc: Global,
@@ -33,9 +60,11 @@ fn answer_within<R: Threads + Wait + Sync>(
 ) -> Result<Answer, SolveFault>
     ensures { Solves goal position.now limits result }
 {
-    let limit = u8::try_from(limits.limit).unwrap_or(u8::MAX);
-    let workers = u8::try_from(limits.workers).unwrap_or(u8::MAX);
-    let slots = limits.slots as usize;
+    let Search {
+        limit,
+        workers,
+        slots,
+    } = search_of(limits);
     solve(rt, alloc, position, goal, limit, workers, slots, &NoGate)
 }
 
@@ -102,7 +131,7 @@ fn plan_text<R: Threads + Wait + Sync>(
 {
     match answer_within(rt, alloc, position, goal, limits)? {
         Answer::Mate { plies, .. } => {
-            let tree = winning_tree(alloc, position, goal, plies, limits.slots as usize)?;
+            let tree = winning_tree(alloc, position, goal, plies, search_of(limits).slots)?;
             Ok(tree_line(alloc, &tree)?)
         }
         Answer::NoneWithin(limit) => Ok(none_text(alloc, limit)?.into_bytes()),

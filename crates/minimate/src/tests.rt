@@ -3,7 +3,6 @@ ghost use Rattle.std.specs.Prelude.{◌≡◌, None, Some, IfOk};
 
 use crate::device::{Counted, Failed, Sink, Source};
 use crate::run::run;
-use crate::transfer::MOST_INPUT;
 use std::alloc::{AllocError, Global};
 use std::process::Abort;
 use std::sync::Wait;
@@ -25,6 +24,14 @@ const PAWN_MATES: &str = "k4/2P2/1K3/5/5 w";
 const STALEMATED: &str = "k5/2Q3/6/6/6/5K b";
 
 const OTHER_IN_CHECK: &str = "k4R/6/1K4/6/6/6 w";
+
+const KINGS_ALONE: &str = "k4/5/5/5/4K w";
+
+// Black has forty lawful replies to the first move, by the count of another program.
+const FORTY_REPLIES: &str = "1qQqRq/3q1q/QN1QRN/q4k/R1QQR1/3q1K w";
+
+// The fewest plies are another program's.
+const MATE_IN_ELEVEN: &str = "3k1/1K1R1/1p3/2q1R/1b2n b";
 
 /// A reader that gives `left` of its bytes, and then fails.
 #[derive(Drop)]
@@ -238,21 +245,23 @@ fn answers_the_same_with_any_slots(rt: HostRuntime) {
 }
 
 #[test]
-fn answers_the_same_with_any_workers(rt: HostRuntime) {
-    for workers in ["1", "2", "16"] {
+fn answers_the_same_with_any_workers(rt: HostRuntime) -> Result<(), Fail> {
+    for workers in 1..17 {
+        let workers = format!(in rt.alloc(); "{workers}")?;
         let words = [
             "minimate",
             "solve",
             "--limit",
             "3",
             "--workers",
-            workers,
+            workers.as_str(),
             "--slots",
             "1",
             ROOK_MATES_IN_THREE,
         ];
         expect(&rt, &words, 0, "mate 3 c4c5\n");
     }
+    Ok(())
 }
 
 /// Writes the tree for a goal within a limit, and expects an output with status 0.
@@ -276,6 +285,8 @@ fn writes_trees(rt: HostRuntime) {
         expect_tree(&rt, "mate", limit, ROOK_MATES_IN_THREE, tree);
         expect_check(&rt, ROOK_MATES_IN_THREE, tree, 0, "yes 3\n");
     }
+    let no_goal = ["minimate", "tree", "--limit", "3", ROOK_MATES_IN_THREE];
+    expect(&rt, &no_goal, 0, "c4c5{a6a5:b1a1#}\n");
     expect_tree(&rt, "mate", "2", ROOK_MATES_IN_THREE, "none within 2\n");
     expect_tree(&rt, "mate", "5", STALEMATED, "none within 5\n");
     expect_tree(&rt, "stale", "3", ROOK_MATES_IN_THREE, "b1b5=\n");
@@ -308,10 +319,44 @@ fn checks_the_trees_that_it_writes(rt: HostRuntime) {
         ("3", ROOK_MATES_IN_THREE, "yes 3\n"),
         ("3", "1k4/5R/6/6/6/2R2K w", "yes 3\n"),
         ("1", "5r/6/6/1k4/6/K5 b", "yes 1\n"),
+        ("3", FORTY_REPLIES, "yes 3\n"),
+        ("11", MATE_IN_ELEVEN, "yes 11\n"),
     ] {
         let checked = checked_tree(&rt, limit, fen);
         assert_eq!(rt; checked.as_slice(), output.as_bytes());
     }
+}
+
+#[test]
+fn writes_a_node_of_forty_replies(rt: HostRuntime) {
+    let words = ["minimate", "tree", "--limit", "3", FORTY_REPLIES];
+    let mut reader = Counted::new(b"".as_slice());
+    let mut writer = Counted::new(Vec::new(rt.alloc()));
+    let status = run(&rt, rt.alloc(), words.as_slice(), &mut reader, &mut writer);
+    assert_eq!(rt; status, 0);
+    // In a tree of three plies one node has replies, each of which is met by a mate.
+    let text = writer.device.as_slice();
+    assert_eq!(rt; text.iter().filter(|byte| **byte == b',').count(), 39);
+    assert_eq!(rt; text.iter().filter(|byte| **byte == b'#').count(), 40);
+}
+
+// Bare kings mate nobody.
+#[test]
+fn searches_to_the_greatest_limit(rt: HostRuntime) {
+    for command in ["solve", "tree"] {
+        let words = [
+            "minimate",
+            command,
+            "--limit",
+            "63",
+            "--slots",
+            "65521",
+            KINGS_ALONE,
+        ];
+        expect(&rt, &words, 0, "none within 63\n");
+    }
+    expect_answer(&rt, "63", ROOK_MATES_IN_THREE, "mate 3 c4c5\n");
+    expect_tree(&rt, "mate", "63", ROOK_MATES_IN_THREE, "c4c5{a6a5:b1a1#}\n");
 }
 
 #[test]
@@ -347,6 +392,10 @@ fn refuses_positions_by_name(rt: HostRuntime) {
     expect_refused(&rt, "k5/QQQQQQ/QQQQQQ/6/6/K5 w", "refused: Units\n");
     expect_refused(&rt, "k5/6/6/6/6/P4K w", "refused: PawnRank\n");
     expect_refused(&rt, OTHER_IN_CHECK, "refused: OtherInCheck\n");
+    for command in ["solve", "tree"] {
+        let words = ["minimate", command, "--limit", "1", OTHER_IN_CHECK];
+        expect(&rt, &words, 1, "refused: OtherInCheck\n");
+    }
 }
 
 #[test]
@@ -439,6 +488,7 @@ fn refuses_words(rt: HostRuntime) {
     expect_no_line(&rt, &[]);
     expect_no_line(&rt, &["minimate"]);
     expect_no_line(&rt, &["minimate", "--help"]);
+    expect_no_line(&rt, &["minimate", "--version"]);
     expect_no_line(&rt, &["minimate", "solve", "--help"]);
     expect_no_line(&rt, &["minimate", "play", START]);
     expect_no_line(&rt, &["minimate", "moves"]);
@@ -547,10 +597,10 @@ fn refuses_what_is_no_tree(rt: HostRuntime) -> Result<(), Fail> {
 #[test]
 fn takes_at_most_a_mebibyte(rt: HostRuntime) -> Result<(), Fail> {
     let words = ["minimate", "check", ROOK_MATES_IN_THREE];
-    let most = vec![in rt.alloc(); b'x'; MOST_INPUT]?;
+    let most = vec![in rt.alloc(); b'x'; 1_048_576]?;
     let first = "refused: Grammar at offset 0\n";
     expect_with(&rt, &words, most.as_slice(), 1, first);
-    let above = vec![in rt.alloc(); b'\n'; MOST_INPUT + 1]?;
+    let above = vec![in rt.alloc(); b'\n'; 1_048_577]?;
     expect_with(&rt, &words, above.as_slice(), 1, "refused: TooLong\n");
     Ok(())
 }

@@ -1,0 +1,127 @@
+//! Readers and writers of the standard library that fail once and would work if they were asked again.
+ghost use Rattle.std.specs.Prelude.{None};
+
+use crate::device::Counted;
+use crate::run::run;
+use std::io::{self, Read, Write};
+use std::test::Fail;
+
+const FEN: &str = "k5/6/2K3/6/6/1R4 w";
+
+const TREE: &[u8] = b"c4c5{a6a5:b1a1#}\n";
+
+/// The kinds of failures: the first is one that other readers and writers try again.
+const KINDS: [io::ErrorKind; 3] = [
+    io::ErrorKind::Interrupted,
+    io::ErrorKind::WouldBlock,
+    io::ErrorKind::Other,
+];
+
+/// A reader that gives four bytes a call, and fails at one of its calls alone.
+#[derive(Drop)]
+struct Stumbling<'a> {
+    bytes: &'a [u8],
+    calls: u64,
+    fails_at: u64,
+    kind: io::ErrorKind,
+}
+
+impl Read for Stumbling<'_> {
+    ghost remaining = { λ _. None };
+
+    fn read(&mut self, buffer: &mut [u8]) -> io::Result<usize> {
+        self.calls = self.calls.saturating_add(1);
+        if self.calls == self.fails_at {
+            return Err(io::Error::from(self.kind));
+        }
+        let most = buffer.len().min(4);
+        self.bytes.read(&mut buffer[..most])
+    }
+}
+
+/// A writer that takes three bytes a call, and fails at one of its calls alone.
+#[derive(Drop)]
+struct Halting {
+    taken: Vec<u8>,
+    calls: u64,
+    fails_at: u64,
+    kind: io::ErrorKind,
+}
+
+impl Write for Halting {
+    ghost contents = { λ _. None };
+
+    fn write(&mut self, bytes: &[u8]) -> io::Result<usize> {
+        self.calls = self.calls.saturating_add(1);
+        if self.calls == self.fails_at {
+            return Err(io::Error::from(self.kind));
+        }
+        let count = bytes.len().min(3);
+        self.taken.write(&bytes[..count])
+    }
+
+    fn flush(&mut self) -> io::Result<()> {
+        Ok(())
+    }
+}
+
+#[test]
+fn reads_nothing_after_a_failed_read(rt: HostRuntime) {
+    let words = ["minimate", "check", FEN];
+    for kind in KINDS {
+        for fails_at in [1, 2, 5] {
+            let mut reader = Counted::new(Stumbling {
+                bytes: TREE,
+                calls: 0,
+                fails_at,
+                kind,
+            });
+            let mut writer = Counted::new(Vec::new(rt.alloc()));
+            let status = run(&rt, rt.alloc(), words.as_slice(), &mut reader, &mut writer);
+            assert_eq!(rt; status, 4);
+            assert_eq!(rt; reader.device.calls, fails_at);
+            assert_eq!(rt; writer.device.as_slice(), b"".as_slice());
+        }
+    }
+}
+
+#[test]
+fn writes_nothing_after_a_failed_write(rt: HostRuntime) {
+    let words = ["minimate", "tree", "--limit", "3", FEN];
+    for kind in KINDS {
+        for (fails_at, taken) in [(1, ""), (2, "c4c"), (6, "c4c5{a6a5:b1a1#")] {
+            let mut reader = Counted::new(b"".as_slice());
+            let mut writer = Counted::new(Halting {
+                taken: Vec::new(rt.alloc()),
+                calls: 0,
+                fails_at,
+                kind,
+            });
+            let status = run(&rt, rt.alloc(), words.as_slice(), &mut reader, &mut writer);
+            assert_eq!(rt; status, 4);
+            assert_eq!(rt; writer.device.calls, fails_at);
+            assert_eq!(rt; writer.device.taken.as_slice(), taken.as_bytes());
+        }
+    }
+}
+
+// The same reader and writer, where the call that would fail isn't made.
+#[test]
+fn works_where_nothing_fails(rt: HostRuntime) {
+    let words = ["minimate", "check", FEN];
+    let mut reader = Counted::new(Stumbling {
+        bytes: TREE,
+        calls: 0,
+        fails_at: 7,
+        kind: io::ErrorKind::Interrupted,
+    });
+    let mut writer = Counted::new(Halting {
+        taken: Vec::new(rt.alloc()),
+        calls: 0,
+        fails_at: 3,
+        kind: io::ErrorKind::Interrupted,
+    });
+    let status = run(&rt, rt.alloc(), words.as_slice(), &mut reader, &mut writer);
+    assert_eq!(rt; status, 0);
+    assert_eq!(rt; writer.device.taken.as_slice(), b"yes 3\n".as_slice());
+}
