@@ -6,9 +6,12 @@ use entry::MateLore;
 use moves::Goal;
 use slots::{Seat, Slots};
 use std::alloc::{AllocError, Global};
+use std::process::Abort;
+use std::sync::Wait;
 use std::sync::atomic::{AtomicBool, AtomicU64, Ordering};
 use std::test::*;
 use std::thread;
+use std::thread::Threads;
 
 // How often each of the root's 17 jobs is begun in rounds 1 and 3, and how often any is.
 #[derive(Drop)]
@@ -120,10 +123,31 @@ pub(crate) fn comes_above(number: &AtomicU64, least: u64) -> bool {
     false
 }
 
-// Holds each job begun in round 1 until so many others have begun, and notes the size of the table.
+// Until when a job that is begun in round 1 is held.
+#[derive(Clone, Copy)]
+enum Until {
+    // So many others have begun.
+    Others(u64),
+    // Its partner has: the second is the first's, the fourth the third's, and so on.
+    Partner,
+    // All others have, where it is the first.
+    All,
+}
+
+// How many of the 17 jobs have begun before it, at least, when it is let go; the job has so many before it.
+fn awaited(until: Until, before: u64) -> u64 {
+    match until {
+        Until::Others(others) => others,
+        Until::Partner if before < 16 && before % 2 == 0 => before + 1,
+        Until::All if before == 0 => 16,
+        _ => 0,
+    }
+}
+
+// Holds the jobs of round 1, and notes the size of the table.
 #[derive(Drop)]
 struct Hold {
-    others: u64,
+    until: Until,
     begun: AtomicU64,
     slots: AtomicU64,
     gave_up: AtomicBool,
@@ -135,25 +159,49 @@ impl Gate for Hold {
             return;
         }
         self.slots.store(slots.len() as u64, Ordering::SeqCst);
-        self.begun.fetch_add(1, Ordering::SeqCst);
-        if !comes_above(&self.begun, self.others) {
+        let before = self.begun.fetch_add(1, Ordering::SeqCst);
+        if !comes_above(&self.begun, awaited(self.until, before)) {
             self.gave_up.store(true, Ordering::SeqCst);
         }
     }
 }
 
-// A thread that holds a job begins no other, so each is held by its own: by a worker, or by the caller's thread.
+// Whether all jobs could be held so long, in a solve over a table of the size asked.
+fn held<R: Threads + Wait + Abort + Sync>(
+    rt: &R,
+    alloc: Global,
+    workers: u8,
+    slots: usize,
+    until: Until,
+) -> bool {
+    let gate = Hold {
+        until,
+        begun: AtomicU64::new(0),
+        slots: AtomicU64::new(0),
+        gave_up: AtomicBool::new(false),
+    };
+    let answer = solved(rt, alloc, workers, slots, &gate);
+    answer == expected()
+        && !gate.gave_up.load(Ordering::SeqCst)
+        && gate.slots.load(Ordering::SeqCst) == slots as u64
+}
+
+// A thread that holds a job begins no other, so each is held by its own: by a worker, or by the caller's.
 #[test]
 fn each_thread_holds_a_job_at_once(rt: HostRuntime) {
     for (workers, slots) in [(1, 64), (2, 1), (16, 64)] {
-        let gate = Hold {
-            others: u64::from(workers),
-            begun: AtomicU64::new(0),
-            slots: AtomicU64::new(0),
-            gave_up: AtomicBool::new(false),
-        };
-        assert!(rt; solved(&rt, rt.alloc(), workers, slots, &gate) == expected());
-        assert!(rt; !gate.gave_up.load(Ordering::SeqCst));
-        assert!(rt; gate.slots.load(Ordering::SeqCst) == slots as u64);
+        let others = Until::Others(u64::from(workers));
+        assert!(rt; held(&rt, rt.alloc(), workers, slots, others));
     }
+}
+
+#[test]
+fn a_thread_goes_on_after_its_first_job(rt: HostRuntime) {
+    assert!(rt; held(&rt, rt.alloc(), 1, 64, Until::Partner));
+}
+
+// One of two threads is held at its first job: the other begins all that were dealt to either.
+#[test]
+fn the_jobs_of_a_thread_that_is_held_are_stolen(rt: HostRuntime) {
+    assert!(rt; held(&rt, rt.alloc(), 1, 64, Until::All));
 }
