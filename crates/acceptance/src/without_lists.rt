@@ -1,4 +1,7 @@
 //! Calls on boards that make no list of moves, or fill one that is lent.
+ghost use Rattle.std.specs.Prelude.{◌<◌, IfSome};
+ghost use Rattle.moves.specs.Moves.{IsPromoted};
+
 use crate::leaves::LEAVES;
 use arrayvec::ArrayVec;
 use board::Kind;
@@ -23,39 +26,42 @@ fn counts_and_lists_lawful_moves(rt: HostRuntime) {
     }
 }
 
-const BECOMES: [Option<Kind>; 5] = [
-    None,
-    Some(Kind::Queen),
-    Some(Kind::Rook),
-    Some(Kind::Bishop),
-    Some(Kind::Knight),
-];
+/// 1 where the move between two squares, by their numbers, is lawful, and 0 else.
+fn count_move(board: &Board, from: u8, to: u8, promotion: Option<Kind>) -> u64
+    requires squares { (from < 36) × (to < 36) }
+    requires promotion { IfSome promotion IsPromoted }
+{
+    let m = Move {
+        from: Square {
+            file: from % 6,
+            rank: from / 6,
+        },
+        to: Square {
+            file: to % 6,
+            rank: to / 6,
+        },
+        promotion,
+    };
+    u64::from(is_lawful_on(board, m))
+}
 
-/// How many of the moves between two squares, by their numbers, are lawful.
-fn lawful_between(board: &Board, from: u8, to: u8) -> u64 {
-    let mut count = 0;
-    for promotion in BECOMES {
-        let m = Move {
-            from: Square {
-                file: from % 6,
-                rank: from / 6,
-            },
-            to: Square {
-                file: to % 6,
-                rank: to / 6,
-            },
-            promotion,
-        };
-        count += u64::from(is_lawful_on(board, m));
-    }
-    count
+/// How many of the moves between two squares are lawful.
+fn lawful_between(board: &Board, from: u8, to: u8) -> u64
+    requires { (from < 36) × (to < 36) }
+{
+    count_move(board, from, to, None)
+        .saturating_add(count_move(board, from, to, Some(Kind::Queen)))
+        .saturating_add(count_move(board, from, to, Some(Kind::Rook)))
+        .saturating_add(count_move(board, from, to, Some(Kind::Bishop)))
+        .saturating_add(count_move(board, from, to, Some(Kind::Knight)))
 }
 
 /// How many of all moves are lawful, those between squares that the board lacks among them.
 fn lawful_of_all(board: &Board) -> u64 {
-    let mut count = 0;
+    let mut count = 0u64;
     for pair in 0..1296u16 {
-        count += lawful_between(board, (pair / 36) as u8, (pair % 36) as u8);
+        let more = lawful_between(board, (pair / 36) as u8, (pair % 36) as u8);
+        count = count.saturating_add(more);
     }
     count
 }
