@@ -81,13 +81,13 @@ def find_program(path):
 
 
 def find_calls(path):
-    """The program of the crate `memory`, which makes one call. The toolchain proves and builds it, if need be."""
+    """The program of the crate `one_call`, which makes one call. The toolchain proves and builds it, if need be."""
     if path:
         return executable(path)
-    crate = os.path.join(TOP, "crates", "memory")
+    crate = os.path.join(TOP, "crates", "one_call")
     if subprocess.run([need("rt"), "run"], cwd=crate, stdout=subprocess.DEVNULL, check=False).returncode:
-        stop("the crate memory can't be built")
-    return os.path.join(crate, "out", "memory")
+        stop("the crate one_call can't be built")
+    return os.path.join(crate, "out", "one_call")
 
 
 def executable(path):

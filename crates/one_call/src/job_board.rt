@@ -12,6 +12,15 @@ impl Wins for Only {
     ghost wins = { λ only job. job ≡ only.0 };
 }
 
+/// A job board is made alone.
+pub(crate) fn make(alloc: Global) -> &'static str {
+    match Least::make(alloc, &Only(3), 6, 2) {
+        Ok(_) => "made",
+        Err(MakeFault::Size) => "size",
+        Err(MakeFault::NoMemory) => "no memory",
+    }
+}
+
 /// A job board is made, a job is lowered, and another seat asks.
 pub(crate) fn answer(alloc: Global) -> &'static str {
     let (least, mut seats) = match Least::make(alloc, &Only(3), 6, 2) {

@@ -1,8 +1,11 @@
-//! Makes one call that requests memory, and says how it ended: `minimate_memory solve`. `tools/refuse_memory` refuses each of its
-//! requests in turn. The call is `table` where none is named.
+//! Makes one call, the one that its word names, and says how it ended: `one_call solve`. `tools/refuse_memory` refuses each request
+//! for memory of such a call in turn, and counts that calls which take none make none: of two words the one makes the same calls as
+//! the other, and others besides. The call is `table` where none is named.
 #![tactic(auto)]
 
 mod building;
+mod chess;
+mod deciding;
 mod job_board;
 mod solving;
 mod table;
@@ -16,10 +19,18 @@ use std::{env, io};
 /// What the call that the word names ended in: `no memory`, or what stands here beside it.
 fn said<R: Threads + Wait + Sync>(rt: &R, alloc: Global, call: &str) -> &'static str {
     match call {
+        "nothing" => "done",
+        "chess" => chess::answer(),
+        "table_alone" => table::make(alloc),
         "table" => table::answer(alloc),
+        "job_board_alone" => job_board::make(alloc),
         "job_board" => job_board::answer(alloc),
         "solve" => solving::answer(rt, alloc),
         "build_tree" => building::answer(rt, alloc),
+        "entries_alone" => deciding::answer(alloc, false),
+        "decide" => deciding::answer(alloc, true),
+        "parse" => texts::parse(alloc),
+        "check" => texts::check_read(alloc),
         "tree_text" => texts::written(alloc),
         "read_tree" => texts::read(alloc),
         _ => "no such call",

@@ -58,6 +58,15 @@ fn calls(slots: &Slots<Keyed>, mut one: Seat, mut two: Seat) -> bool
     replies && hit == Probe::Hit([1, 2, 3]) && slots.len() == 2 && count.calls == 9
 }
 
+/// A table is made alone.
+pub(crate) fn make(alloc: Global) -> &'static str {
+    match Slots::<Keyed>::make(alloc, 2, 3) {
+        Ok(_) => "made",
+        Err(MakeFault::Size) => "size",
+        Err(MakeFault::NoMemory) => "no memory",
+    }
+}
+
 /// A table is made, and each of its calls is made once.
 pub(crate) fn answer(alloc: Global) -> &'static str {
     let (slots, mut seats) = match Slots::<Keyed>::make(alloc, 2, 3) {
