@@ -1,5 +1,5 @@
 //! Calls of `board`, `moves` and `entry`, which take no memory. Each is made once or more.
-use arrayvec::ArrayVec;
+use arrayvec::{ArrayString, ArrayVec};
 use board::{Game, Kind, Position, Side, fen_text, notation_laws, parse_betza, pieces, read_fen};
 use entry::{
     Entry, Interval, MateLore, interval_laws, interval_of, key_laws, key_of, meet, pack,
@@ -11,6 +11,7 @@ use moves::{
     mates_at_once, mover_in_check, ray, reaches_at_once, read_sound, sound,
 };
 use slots::Lore;
+use std::fmt::Write;
 
 /// White mates by f1f6.
 const TEXT: &[u8] = b"k5/6/1K4/6/6/5R w";
@@ -45,7 +46,8 @@ fn of_board(root: &Position) -> bool {
     }
     let steps = pieces(game).steps(Kind::Rook).is_some() && parse_betza(b"R").is_ok();
     let text = fen_text(root).as_bytes() == TEXT && read_fen(b"").is_err();
-    steps && text && is_same(&again, root) && root.unit(0).is_none()
+    let sides = root.mover().other() == Side::Black && root.unit(0).is_none();
+    steps && text && sides && is_same(&again, root)
 }
 
 /// The calls of `moves` on positions.
@@ -53,12 +55,17 @@ fn of_positions(root: &Position) -> bool {
     forced_mate_laws();
     let listed = lawful(root).len() == 16 && sound(root) && !in_check(root, Side::Black);
     let far = ray(Game::LosAlamos, 5, 0, 1).len() == 5;
-    let square = F1.is_on_board(Game::LosAlamos) && Square::of_number(Game::LosAlamos, 5) == F1;
+    let mut text = ArrayString::<8>::new();
+    let shown = write!(text, "{F1F6}").is_ok() && text.as_bytes() == b"f1f6".as_slice();
+    let mut square = Square::of_number(Game::LosAlamos, 5) == F1;
+    if F1.is_on_board(Game::LosAlamos) {
+        square = square && F1.number(Game::LosAlamos) == 5;
+    }
     let mut mates = false;
     if is_lawful(root, F1F6) {
         mates = in_check(&apply(root, F1F6), Side::Black);
     }
-    listed && far && square && mates && read_sound(TEXT).is_ok()
+    listed && far && square && shown && mates && read_sound(TEXT).is_ok()
 }
 
 /// The calls of `moves` on boards.
@@ -72,6 +79,9 @@ fn of_boards(root: &Position) -> bool {
     if is_lawful_on(&board, F1F6) {
         let next = after(&board, F1F6);
         mates = gives_check(&board, F1F6) && !has_lawful_move(&next) && mover_in_check(&next);
+    }
+    if board.game().squares() != 36 || board.unit(5).is_none() {
+        return false;
     }
     let same = is_same(&board.position(), root) && board.game() == root.game();
     counts && goals && mates && same && board.mover() == Side::White && board.words()[2] != 0
