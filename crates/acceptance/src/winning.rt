@@ -5,12 +5,14 @@ use crate::solving::solved;
 use crate::tables::position;
 use board::Position;
 use decision::Answer;
+use entry::MateLore;
 use moves::Goal;
+use slots::Slots;
 use std::process::Abort;
 use std::sync::Wait;
 use std::test::Fail;
 use std::thread::Threads;
-use trees::winning_tree;
+use trees::build_tree;
 use wintree::{Tree, check, tree_text};
 
 /// The tree of a position where the side to move forces the goal within nine plies.
@@ -25,7 +27,11 @@ fn tree_of<R: Threads + Wait + Abort + AllocGlobal + Sync>(
     let Ok(Answer::Mate { plies, .. }) = solved(rt, rt.alloc(), position, goal, 9, 64) else {
         panic!(rt; "no mate")
     };
-    winning_tree(rt.alloc(), position, goal, plies, slots).expect(rt, "memory")
+    let (table, mut seats) = Slots::<MateLore>::make(rt.alloc(), slots, 1).expect(rt, "a table");
+    let Some(mut seat) = seats.pop() else {
+        panic!(rt; "no seat")
+    };
+    build_tree(rt.alloc(), &table, &mut seat, position, goal, plies).expect(rt, "memory")
 }
 
 // Each of these positions has one reply at most to its best move; the trees were worked out by hand.

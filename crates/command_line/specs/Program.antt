@@ -35,25 +35,36 @@ goal_rule = record (new_rule (codes "goal")) {
   defaults = codes "mate" ∷ [];
 }
 
--- with what a search takes: `--limit N [--workers K] [--slots S] [--goal GOAL] FEN`
-abbrev pub search_app : App → App
-search_app app = with_rule (with_rule (with_rule (with_rule (with_rule app limit_rule) workers_rule) slots_rule) goal_rule) fen_rule
+-- with the options of a search: `--limit N [--workers K] [--slots S] [--goal GOAL]`
+abbrev pub limits_app : App → App
+limits_app app = with_rule (with_rule (with_rule (with_rule app limit_rule) workers_rule) slots_rule) goal_rule
 
--- `solve`, and what a search takes
+-- a command of this name with the options of a search, and a position
+abbrev pub search_app : Text → App
+search_app name = with_rule (limits_app (new_app name)) fen_rule
+
+-- `solve` and `tree` search at a position
 abbrev pub solve_app : App
-solve_app = search_app (new_app (codes "solve"))
+solve_app = search_app (codes "solve")
 
--- `tree`, and what a search takes
 abbrev pub tree_app : App
-tree_app = search_app (new_app (codes "tree"))
+tree_app = search_app (codes "tree")
+
+-- `check [--goal GOAL] FEN`
+abbrev pub check_app : App
+check_app = with_rule (with_rule (new_app (codes "check")) goal_rule) fen_rule
 
 -- `moves FEN`
 abbrev pub moves_app : App
 moves_app = with_rule (new_app (codes "moves")) fen_rule
 
--- `check [--goal GOAL] FEN`
-abbrev pub check_app : App
-check_app = with_rule (with_rule (new_app (codes "check")) goal_rule) fen_rule
+-- `show FEN`
+abbrev pub show_app : App
+show_app = with_rule (new_app (codes "show")) fen_rule
+
+-- `batch`, and the options of a search
+abbrev pub batch_app : App
+batch_app = limits_app (new_app (codes "batch"))
 
 -- the program without its commands
 abbrev pub bare_app : App
@@ -62,4 +73,6 @@ bare_app = let new = new_app (codes "minimate") in
 
 -- the program, whose first word is one of its commands
 abbrev pub program : App
-program = with_subcommand (with_subcommand (with_subcommand (with_subcommand bare_app solve_app.top) moves_app.top) tree_app.top) check_app.top
+program =
+    with_subcommand (with_subcommand (with_subcommand (with_subcommand (with_subcommand (with_subcommand bare_app
+    solve_app.top) tree_app.top) check_app.top) moves_app.top) show_app.top) batch_app.top

@@ -1,4 +1,4 @@
--- The line that the words of the command line mean: what `clap` finds in them, read as a line.
+-- The order that the words of the command line mean: what `clap` finds in them, read as an order.
 use Rattle.std.specs.Prelude.{◌≡◌, ◌≢◌, ◌⊎◌, ◌<◌, ◌^◌, ℕ, List, [], Option, Some, IsSomeAnd, codes}
 use Rattle.std.specs.Str.Parse.{IsNumeral, digits_value, without_leading_plus}
 use Rattle.clap.specs.Words.{Row, Text, fault_of, first_of, one_of, subcommand_of}
@@ -8,7 +8,9 @@ use Rattle.command_line.specs.Program.{program}
 use Rattle.command_line.specs.declared.line.Line.{Line}
 use Rattle.command_line.specs.declared.line.Limits.{Limits}
 use Rattle.command_line.specs.declared.line.Action.{Action}
-use Rattle.command_line.specs.declared.line.Action.TheVariants.{Solve, Moves, Tree, Check}
+use Rattle.command_line.specs.declared.line.Action.TheVariants.{Solve, Tree, Check, Moves, Show}
+use Rattle.command_line.specs.declared.line.Order.{Order}
+use Rattle.command_line.specs.declared.line.Order.TheVariants.{One, Batch}
 
 -- the text is the number: decimal digits, perhaps after a plus, below 2^32
 abbrev pub IsNumber : Text → ℕ → Type 0
@@ -19,7 +21,7 @@ IsNumber text n = (IsNumeral 10 (without_leading_plus text) × (digits_value 10 
 abbrev pub HasNumber : Text → List Row → ℕ → Type 0
 HasNumber id rows n = (text : Text) × (one_of id rows ≡ Some text) × IsNumber text n
 
--- the numbers that were found for the limits' names
+-- what was found for the limits' names
 pub record HasLimits (rows : List Row) (limits : Limits) : Type 0 where
   pub limit : HasNumber (codes "limit") rows limits.limit
   pub workers : HasNumber (codes "workers") rows limits.workers
@@ -37,23 +39,29 @@ HasGoal rows goal = first_of (codes "goal") rows ≡ Some (goal_word goal)
 -- the command of that name with the values that were found for it
 abbrev pub MeansAction : Text → List Row → Action → Type 0
 MeansAction name rows (Solve goal limits) = (name ≡ codes "solve") × HasGoal rows goal × HasLimits rows limits
-MeansAction name rows Moves = name ≡ codes "moves"
 MeansAction name rows (Tree goal limits) = (name ≡ codes "tree") × HasGoal rows goal × HasLimits rows limits
 MeansAction name rows (Check goal) = (name ≡ codes "check") × HasGoal rows goal
+MeansAction name rows Moves = name ≡ codes "moves"
+MeansAction name rows Show = name ≡ codes "show"
 
--- the command's name and rows, as found, are the line's
-abbrev pub MeansFound : Text × List Row → Line → Type 0
-MeansFound found line = (first_of (codes "FEN") found.1 ≡ Some line.fen.now) × MeansAction found.0 found.1 line.action
+-- the command at the position that was found for it
+abbrev pub HasLine : Text → List Row → Line → Type 0
+HasLine name rows line = (first_of (codes "FEN") rows ≡ Some line.fen.now) × MeansAction name rows line.action
 
--- a command was found, and it is the line's
-abbrev pub HasLine : Option (Text × List Row) → Line → Type 0
-HasLine found line = IsSomeAnd found (λ f. MeansFound f line)
+-- the command of that name with what was found for it
+abbrev pub MeansFound : Text → List Row → Order → Type 0
+MeansFound name rows (One line) = HasLine name rows line
+MeansFound name rows (Batch goal limits) = (name ≡ codes "batch") × HasGoal rows goal × HasLimits rows limits
 
--- the words, of which the first is the program's name, mean the line: `clap` finds no fault in them, and what it finds is the line
-pub record MeansLine (words : List Text) (line : Line) : Type 0 where
+-- a command was found, and it is the order
+abbrev pub HasOrder : Option (Text × List Row) → Order → Type 0
+HasOrder found order = IsSomeAnd found (λ f. MeansFound f.0 f.1 order)
+
+-- the words, of which the first is the program's name, mean the order: `clap` finds no fault in them, and what it finds is the order
+pub record MeansOrder (words : List Text) (order : Order) : Type 0 where
   pub faultless : fault_of program words ≡ []
-  pub found : HasLine (subcommand_of program words) line
+  pub found : HasOrder (subcommand_of program words) order
 
--- the words mean no line: `clap` finds a fault in them, or what it finds is none
-abbrev pub MeansNoLine : List Text → Type 0
-MeansNoLine words = (fault_of program words ≢ []) ⊎ ((line : Line) → MeansLine words line → ⊥)
+-- the words mean no order: `clap` finds a fault in them, or what it finds is none
+abbrev pub MeansNoOrder : List Text → Type 0
+MeansNoOrder words = (fault_of program words ≢ []) ⊎ ((order : Order) → MeansOrder words order → ⊥)

@@ -1,47 +1,74 @@
-//! The texts of the program's help.
+//! The texts of the program's help: the short ones of `-h`, and the long ones of `--help`.
 
-pub const PROGRAM: &str =
-    "Finds forced mates in Los Alamos chess (6 by 6) and in Gardner minichess (5 by 5)";
+pub const PROGRAM: &str = "Finds forced mates in two small chess games, and proves them";
 
 pub const PROGRAM_NOTES: &str = "\
-Exit status:
-  0  answered
-  1  refused; the output says why, as `refused: Kings`
-  2  the words are no command, or they ask for help
-  3  out of memory; the output is `refused: NoMemory`
-  4  the input could not be read or the output not be written
+A mate in M moves is `--limit 2M-1`; beyond three moves give `--slots 1048573`.
+`minimate --help` and `minimate solve --help` say more.
 
 Example:
   minimate solve --limit 3 'k5/6/2K3/6/6/1R4 w'";
 
+pub const PROGRAM_MORE: &str = "\
+The games are Los Alamos chess (6 by 6) and Gardner minichess (5 by 5).
+
+A mate in M moves is `--limit 2M-1`: limits and answers count plies, the moves
+of both sides. For a mate beyond three moves give `--slots 1048573`, which takes
+some 65 MB; the number is a prime, since a table of a power of two spreads its
+entries badly.
+
+A session:
+  $ minimate show 'k5/6/2K3/6/6/1R4 w'
+   6  k . . . . .
+   5  . . . . . .
+   4  . . K . . .
+   3  . . . . . .
+   2  . . . . . .
+   1  . R . . . .
+      a b c d e f      White to move
+  $ minimate solve --limit 3 'k5/6/2K3/6/6/1R4 w'
+  mate 3 c4c5
+  $ minimate tree --limit 3 'k5/6/2K3/6/6/1R4 w'
+  c4c5{a6a5:b1a1#}
+  $ minimate batch --limit 3 < positions
+  mate 3 c4c5
+  none within 3
+
+Exit status:
+  0  answered
+  1  refused; the output says what, as `refused: Kings`, and standard error why
+  2  the words are no command, or they ask for help
+  3  out of memory; the output is `refused: NoMemory`
+  4  the input could not be read or the output not be written";
+
 pub const SOLVE: &str = "Find the fewest plies to mate and the first move";
 
 pub const SOLVE_NOTES: &str = "\
-The side to move attacks. The output is `mate 3 c4c5`, the fewest plies within which it forces mate
-and the least first move that keeps them, or `none within 3`. With `--goal stale` it is
-`goal 1 b1b5`. `minimate --help` lists the exit statuses.
+Example:
+  minimate solve --limit 3 'k5/6/2K3/6/6/1R4 w'";
+
+pub const SOLVE_MORE: &str = "\
+The side to move attacks. The output is `mate 3 c4c5`, the fewest plies within
+which it forces mate and the least first move that keeps them, or
+`none within 3`. With `--goal stale` it is `goal 1 b1b5`.
 
 Examples:
   minimate solve --limit 3 'k5/6/2K3/6/6/1R4 w'
-  minimate solve --limit 1 --goal stale 'k5/6/2K3/6/6/1R4 w'";
-
-pub const MOVES: &str = "List the lawful moves";
-
-pub const MOVES_NOTES: &str = "\
-Each move has a line of its own: the square it leaves, the square it comes to, and for a promotion
-q, r, b or n, as `c5c6q`. They are ordered by the first square, the second, and the promotion in
-that order; squares go by ranks, a1, b1 and so on. `minimate --help` lists the exit statuses.
-
-Example:
-  minimate moves 'rnqknr/pppppp/6/6/PPPPPP/RNQKNR w'";
+  minimate solve --limit 1 --goal stale 'k5/6/2K3/6/6/1R4 w'
+  minimate solve --limit 9 --slots 1048573 '2qK1/3B1/1k1NQ/3b1/r1Q2 w'";
 
 pub const TREE: &str = "Write the tree of moves that forces mate";
 
 pub const TREE_NOTES: &str = "\
-The output is the tree that shows the answer of `solve`, on one line, or `none within 3`: a move of
-the attacker, then # for mate, = for stalemate, or in braces each lawful reply in order, a colon and
-the tree that meets it. At each turn the attacker's move is the least of those that force the goal
-in the fewest plies. `minimate check` checks it. `minimate --help` lists the exit statuses.
+Example:
+  minimate tree --limit 3 'k5/6/2K3/6/6/1R4 w'";
+
+pub const TREE_MORE: &str = "\
+The output is the tree that shows the answer of `solve`, on one line, or
+`none within 3`: a move of the attacker, then # for mate, = for stalemate, or in
+braces each lawful reply in order, a colon and the tree that meets it. At each
+turn the attacker's move is the least of those that force the goal in the fewest
+plies. `minimate check` checks it.
 
 Example:
   minimate tree --limit 3 'k5/6/2K3/6/6/1R4 w'";
@@ -49,34 +76,96 @@ Example:
 pub const CHECK: &str = "Check a tree of moves that is read from the input";
 
 pub const CHECK_NOTES: &str = "\
-The input is one tree, perhaps with a line feed after it, of at most 1048576 bytes in all: a move of
-the attacker, then # for mate, = for stalemate, or in braces each lawful reply in order, a colon and
-the tree that meets it. The output is `yes 3`, the plies within which the tree forces the goal, or
-`no`. What is no tree is refused with the offset at which it goes wrong, and so is a tree in which
-more than 32 moves of the attacker are nested. `minimate --help` lists the exit statuses.
+Example:
+  echo 'c4c5{a6a5:b1a1#}' | minimate check 'k5/6/2K3/6/6/1R4 w'";
+
+pub const CHECK_MORE: &str = "\
+The input is one tree, perhaps with a line feed after it, of at most 1048576
+bytes in all: a move of the attacker, then # for mate, = for stalemate, or in
+braces each lawful reply in order, a colon and the tree that meets it. The
+output is `yes 3`, the plies within which the tree forces the goal, or `no`.
+What is no tree is refused with the offset at which it goes wrong, and so is a
+tree in which more than 32 moves of the attacker are nested.
 
 Example:
   echo 'c4c5{a6a5:b1a1#}' | minimate check 'k5/6/2K3/6/6/1R4 w'";
 
-pub const FEN: &str = "\
-The position as one word, so quote it: the ranks from the last one down, with / between
-them, then a space and w or b, the side to move. A rank goes from the a-file: K Q R B N P
-are White's units, k q r b n p Black's, and a digit is a run of empty squares. Six ranks
-of six are Los Alamos chess, five of five Gardner minichess.
-'k5/6/1K4/6/6/5R w': Black's king on a6, White's on b4, White's rook on f1, White to move.";
+pub const MOVES: &str = "List the lawful moves";
 
-pub const LIMIT: &str = "\
-The most plies to the goal, 1 to 63.
-A ply is one move of one side.";
+pub const MOVES_NOTES: &str = "\
+Example:
+  minimate moves 'rnqknr/pppppp/6/6/PPPPPP/RNQKNR w'";
 
-pub const GOAL: &str = "\
-What the attacker plays for: `mate`, or `stale`, by which a stalemated defender
-is as good as a mated one.";
+pub const MOVES_MORE: &str = "\
+Each move has a line of its own: the square it leaves, the square it comes to,
+and for a promotion q, r, b or n, as `c5c6q`. They are ordered by the first
+square, the second, and the promotion in that order; squares go by ranks, a1, b1
+and so on.
 
-pub const WORKERS: &str = "\
-How many threads search, 1 to 16, beside the one that the program begins with.
-It changes how long the search takes, and never the answer.";
+Example:
+  minimate moves 'rnqknr/pppppp/6/6/PPPPPP/RNQKNR w'";
 
-pub const SLOTS: &str = "\
-How many slots the table of decided positions has, 1 to 1048576.
-It changes how long the search takes and how much memory, and never the answer.";
+pub const SHOW: &str = "Draw the board";
+
+pub const SHOW_NOTES: &str = "\
+Example:
+  minimate show 'k5/6/1K4/6/6/5R w'";
+
+pub const SHOW_MORE: &str = "\
+The board is drawn with its ranks and files, a letter for each unit, a point for
+each empty square, and the side to move.
+
+Example:
+  minimate show 'k5/6/1K4/6/6/5R w'";
+
+pub const BATCH: &str = "Solve each position that is read from the input";
+
+pub const BATCH_NOTES: &str = "\
+Example:
+  minimate batch --limit 5 --slots 1048573 < positions";
+
+pub const BATCH_MORE: &str = "\
+The input has a position on each line. Each is answered on a line of its own, as
+by `solve`, or refused, and the next is read; all share one table. An empty line
+and one that begins with # are passed on as they are. A line has at most 256
+bytes.
+
+Example:
+  minimate batch --limit 5 --slots 1048573 < positions";
+
+pub const FEN: &str = "The position as one word, as 'k5/6/1K4/6/6/5R w'";
+
+pub const FEN_MORE: &str = "\
+The position as one word, so quote it: the ranks from the last one
+down, with / between them, then a space and w or b, the side to move.
+A rank goes from the a-file: K Q R B N P are White's units, k q r b n
+p Black's, and a digit is a run of empty squares. Six ranks of six
+are Los Alamos chess, five of five Gardner minichess.
+'k5/6/1K4/6/6/5R w': Black's king on a6, White's on b4, White's rook
+on f1, White to move.";
+
+pub const LIMIT: &str = "The most plies to the goal, 1 to 63";
+
+pub const LIMIT_MORE: &str = "\
+The most plies to the goal, 1 to 63. A ply is one move of one side,
+so a mate in M moves is 2M-1.";
+
+pub const GOAL: &str = "What to play for, `mate` or `stale`";
+
+pub const GOAL_MORE: &str = "\
+What the attacker plays for: `mate`, or `stale`, by which a
+stalemated defender is as good as a mated one.";
+
+pub const WORKERS: &str = "How many threads search, 1 to 16";
+
+pub const WORKERS_MORE: &str = "\
+How many threads search, 1 to 16, beside the one that the program
+begins with. It changes how long the search takes, and never the
+answer.";
+
+pub const SLOTS: &str = "How many slots the table has, 1 to 1048576";
+
+pub const SLOTS_MORE: &str = "\
+How many slots the table of decided positions has, 1 to 1048576. It
+changes how long the search takes and how much memory (some 65 bytes
+a slot), and never the answer. Give a prime, as 1048573.";

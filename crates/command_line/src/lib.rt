@@ -1,4 +1,4 @@
-//! The words of the program's command line, and the line that they mean.
+//! The words of the program's command line, and the order that they mean.
 #![tactic(auto)]
 
 mod help;
@@ -7,5 +7,5 @@ mod reading;
 #[cfg(test)]
 mod tests;
 
-pub use line::{Action, Limits, Line};
-pub use reading::{LineFault, matches, read_line};
+pub use line::{Action, Limits, Line, Order};
+pub use reading::{LineFault, matches, read_order};

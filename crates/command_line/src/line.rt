@@ -1,5 +1,14 @@
-//! A line: what the words of a command line mean.
+//! An order: what the words of a command line mean.
 use moves::Goal;
+
+/// What the words of a command line ask for.
+#[derive(Clone, Copy)]
+pub enum Order<'a> {
+    /// A command at one position.
+    One(Line<'a>),
+    /// A solve of each position of the input.
+    Batch(Goal, Limits),
+}
 
 /// A command and the position that it is about.
 #[derive(Clone, Copy)]
@@ -16,6 +25,8 @@ pub enum Action {
     Solve(Goal, Limits),
     /// Each lawful move.
     Moves,
+    /// The board, drawn.
+    Show,
     /// The tree that shows the answer of a solve.
     Tree(Goal, Limits),
     /// In how many plies the tree of the input wins, if it wins.

@@ -4,15 +4,16 @@ ghost use Rattle.moves.specs.declared.goal.Goal.{Goal as TheGoal};
 ghost use Rattle.clap.specs.declared.error.kind.ErrorKind.TheVariants.{OutOfMemory};
 ghost use Rattle.command_line.specs.declared.reading.LineFault.TheVariants.{NoMemory, Words};
 ghost use Rattle.command_line.specs.declared.line.Line.{Line as TheLine};
+ghost use Rattle.command_line.specs.declared.line.Order.{Order as TheOrder};
 ghost use Rattle.command_line.specs.declared.line.Limits.{Limits as TheLimits};
 ghost use Rattle.command_line.specs.declared.line.Action.{Action as TheAction};
-ghost use Rattle.clap.specs.Words.{FailsBy, app_of, fault_of, first_of, found_of, kind_of, rows_of, rule_of, subcommand_of, subcommand_rows_of};
-ghost use Rattle.command_line.specs.Words.{HasGoal, HasLimits, HasLine, HasNumber, MeansAction, MeansLine, MeansNoLine};
+ghost use Rattle.clap.specs.Words.{FailsBy, app_of, fault_of, first_of, found_of, kind_of, new_app, rows_of, rule_of, subcommand_of, subcommand_rows_of};
+ghost use Rattle.command_line.specs.Words.{HasGoal, HasLimits, HasLine, HasNumber, HasOrder, MeansAction, MeansFound, MeansOrder, MeansNoOrder};
 ghost use Rattle.clap.specs.declared.builder.command.Command.TheViews.{out-Command as fields_of};
-ghost use Rattle.command_line.specs.Program.{fen_rule, goal_rule, number_rule, limit_rule, workers_rule, slots_rule, search_app, solve_app, moves_app, tree_app, check_app, program};
+ghost use Rattle.command_line.specs.Program.{fen_rule, goal_rule, number_rule, limit_rule, workers_rule, slots_rule, limits_app, search_app, solve_app, tree_app, check_app, moves_app, show_app, batch_app, program};
 
 use crate::help;
-use crate::line::{Action, Limits, Line};
+use crate::line::{Action, Limits, Line, Order};
 use clap::error::ErrorKind;
 use clap::{Arg, ArgMatches, Command, Error, value_parser};
 use moves::Goal;
@@ -42,10 +43,13 @@ fn fen<'a>(alloc: Global) -> Arg<'a>
     ensures rule { rule_of result ≡ fen_rule }
     ensures local { result.global ≡ false }
 {
-    Arg::new(alloc, "FEN").required(true).help(help::FEN)
+    Arg::new(alloc, "FEN")
+        .required(true)
+        .help(help::FEN)
+        .long_help(help::FEN_MORE)
 }
 
-fn number<'a>(alloc: Global, name: &'a str, value_name: &'a str, help: &'a str) -> Arg<'a>
+fn number<'a>(alloc: Global, name: &'a str, value_name: &'a str) -> Arg<'a>
     ensures rule { rule_of result ≡ number_rule name.entry.now }
     ensures local { result.global ≡ false }
 {
@@ -53,7 +57,6 @@ fn number<'a>(alloc: Global, name: &'a str, value_name: &'a str, help: &'a str) 
         .long(name)
         .value_name(value_name)
         .value_parser(value_parser!(u32))
-        .help(help)
 }
 
 fn goal<'a>(alloc: Global) -> Arg<'a>
@@ -65,96 +68,173 @@ fn goal<'a>(alloc: Global) -> Arg<'a>
         .value_name("GOAL")
         .default_value("mate")
         .help(help::GOAL)
+        .long_help(help::GOAL_MORE)
 }
 
 fn limit<'a>(alloc: Global) -> Arg<'a>
     ensures rule { rule_of result ≡ limit_rule }
     ensures local { result.global ≡ false }
 {
-    number(alloc, "limit", "N", help::LIMIT).required(true)
+    number(alloc, "limit", "N")
+        .required(true)
+        .help(help::LIMIT)
+        .long_help(help::LIMIT_MORE)
 }
 
 fn workers<'a>(alloc: Global) -> Arg<'a>
     ensures rule { rule_of result ≡ workers_rule }
     ensures local { result.global ≡ false }
 {
-    number(alloc, "workers", "K", help::WORKERS).default_value("2")
+    number(alloc, "workers", "K")
+        .default_value("2")
+        .help(help::WORKERS)
+        .long_help(help::WORKERS_MORE)
 }
 
 fn slots<'a>(alloc: Global) -> Arg<'a>
     ensures rule { rule_of result ≡ slots_rule }
     ensures local { result.global ≡ false }
 {
-    number(alloc, "slots", "S", help::SLOTS).default_value("64")
+    number(alloc, "slots", "S")
+        .default_value("64")
+        .help(help::SLOTS)
+        .long_help(help::SLOTS_MORE)
 }
 
-/// Adds what a search takes.
-fn with_search<'a>(alloc: Global, command: Command<'a>) -> Result<Command<'a>, AllocError>
-    ensures app { IfOk result (λ made. app_of made ≡ search_app (app_of command.entry)) }
+/// A command without its arguments: what it does, and what its short and its long help say below.
+fn named<'a>(
+    alloc: Global,
+    name: &'a str,
+    about: &'a str,
+    notes: &'a str,
+    more: &'a str,
+) -> Command<'a>
+    ensures app { app_of result ≡ new_app name.entry.now }
+    ensures local { (fields_of result).has_globals ≡ false }
+{
+    Command::new(alloc, name)
+        .about(about)
+        .after_help(notes)
+        .after_long_help(more)
+}
+
+/// Adds what a search takes, but for the position.
+fn with_limits<'a>(alloc: Global, command: Command<'a>) -> Result<Command<'a>, AllocError>
+    ensures app { IfOk result (λ made. app_of made ≡ limits_app (app_of command.entry)) }
     ensures local { IfOk result (λ made. (fields_of made).has_globals ≡ (fields_of command.entry).has_globals) }
 {
     command
         .arg(limit(alloc))?
         .arg(workers(alloc))?
         .arg(slots(alloc))?
-        .arg(goal(alloc))?
-        .arg(fen(alloc))
+        .arg(goal(alloc))
+}
+
+/// A command that searches at a position.
+fn search_command<'a>(
+    alloc: Global,
+    name: &'a str,
+    about: &'a str,
+    notes: &'a str,
+    more: &'a str,
+) -> Result<Command<'a>, AllocError>
+    ensures app { IfOk result (λ command. app_of command ≡ search_app name.entry.now) }
+    ensures local { IfOk result (λ command. (fields_of command).has_globals ≡ false) }
+{
+    with_limits(alloc, named(alloc, name, about, notes, more))?.arg(fen(alloc))
 }
 
 fn solve_command<'a>(alloc: Global) -> Result<Command<'a>, AllocError>
     ensures app { IfOk result (λ command. app_of command ≡ solve_app) }
     ensures local { IfOk result (λ command. (fields_of command).has_globals ≡ false) }
 {
-    let command = Command::new(alloc, "solve")
-        .about(help::SOLVE)
-        .after_help(help::SOLVE_NOTES);
-    with_search(alloc, command)
+    search_command(
+        alloc,
+        "solve",
+        help::SOLVE,
+        help::SOLVE_NOTES,
+        help::SOLVE_MORE,
+    )
 }
 
 fn tree_command<'a>(alloc: Global) -> Result<Command<'a>, AllocError>
     ensures app { IfOk result (λ command. app_of command ≡ tree_app) }
     ensures local { IfOk result (λ command. (fields_of command).has_globals ≡ false) }
 {
-    let command = Command::new(alloc, "tree")
-        .about(help::TREE)
-        .after_help(help::TREE_NOTES);
-    with_search(alloc, command)
+    search_command(alloc, "tree", help::TREE, help::TREE_NOTES, help::TREE_MORE)
+}
+
+fn batch_command<'a>(alloc: Global) -> Result<Command<'a>, AllocError>
+    ensures app { IfOk result (λ command. app_of command ≡ batch_app) }
+    ensures local { IfOk result (λ command. (fields_of command).has_globals ≡ false) }
+{
+    with_limits(
+        alloc,
+        named(
+            alloc,
+            "batch",
+            help::BATCH,
+            help::BATCH_NOTES,
+            help::BATCH_MORE,
+        ),
+    )
 }
 
 fn moves_command<'a>(alloc: Global) -> Result<Command<'a>, AllocError>
     ensures app { IfOk result (λ command. app_of command ≡ moves_app) }
     ensures local { IfOk result (λ command. (fields_of command).has_globals ≡ false) }
 {
-    Command::new(alloc, "moves")
-        .about(help::MOVES)
-        .after_help(help::MOVES_NOTES)
-        .arg(fen(alloc))
+    named(
+        alloc,
+        "moves",
+        help::MOVES,
+        help::MOVES_NOTES,
+        help::MOVES_MORE,
+    )
+    .arg(fen(alloc))
+}
+
+fn show_command<'a>(alloc: Global) -> Result<Command<'a>, AllocError>
+    ensures app { IfOk result (λ command. app_of command ≡ show_app) }
+    ensures local { IfOk result (λ command. (fields_of command).has_globals ≡ false) }
+{
+    named(alloc, "show", help::SHOW, help::SHOW_NOTES, help::SHOW_MORE).arg(fen(alloc))
 }
 
 fn check_command<'a>(alloc: Global) -> Result<Command<'a>, AllocError>
     ensures app { IfOk result (λ command. app_of command ≡ check_app) }
     ensures local { IfOk result (λ command. (fields_of command).has_globals ≡ false) }
 {
-    Command::new(alloc, "check")
-        .about(help::CHECK)
-        .after_help(help::CHECK_NOTES)
-        .arg(goal(alloc))?
-        .arg(fen(alloc))
+    named(
+        alloc,
+        "check",
+        help::CHECK,
+        help::CHECK_NOTES,
+        help::CHECK_MORE,
+    )
+    .arg(goal(alloc))?
+    .arg(fen(alloc))
 }
 
 /// The program's commands.
 fn command<'a>(alloc: Global) -> Result<Command<'a>, AllocError>
     ensures { IfOk result (λ command. app_of command ≡ program) }
 {
-    Command::new(alloc, "minimate")
-        .version("0.1.0")
-        .about(help::PROGRAM)
-        .after_help(help::PROGRAM_NOTES)
-        .subcommand_required(true)
-        .subcommand(solve_command(alloc)?)?
-        .subcommand(moves_command(alloc)?)?
-        .subcommand(tree_command(alloc)?)?
-        .subcommand(check_command(alloc)?)
+    named(
+        alloc,
+        "minimate",
+        help::PROGRAM,
+        help::PROGRAM_NOTES,
+        help::PROGRAM_MORE,
+    )
+    .version("0.1.0")
+    .subcommand_required(true)
+    .subcommand(solve_command(alloc)?)?
+    .subcommand(tree_command(alloc)?)?
+    .subcommand(check_command(alloc)?)?
+    .subcommand(moves_command(alloc)?)?
+    .subcommand(show_command(alloc)?)?
+    .subcommand(batch_command(alloc)?)
 }
 
 /// What `clap` makes of the words.
@@ -201,6 +281,7 @@ fn action_of(name: &str, values: &ArgMatches<'_>) -> Option<Action>
     match name {
         "solve" => Some(Action::Solve(goal_of(values)?, limits(values)?)),
         "moves" => Some(Action::Moves),
+        "show" => Some(Action::Show),
         "tree" => Some(Action::Tree(goal_of(values)?, limits(values)?)),
         "check" => Some(Action::Check(goal_of(values)?)),
         _ => None,
@@ -215,30 +296,47 @@ fn fen_of<'a>(values: &ArgMatches<'a>) -> Option<&'a [u8]>
     Some(text.as_bytes())
 }
 
-fn line_of<'a>(matches: &ArgMatches<'a>) -> Option<Line<'a>>
-    ensures some { IfSome result (HasLine (subcommand_rows_of matches.now)) }
-    ensures none { IfNone result ((line : TheLine) → HasLine (subcommand_rows_of matches.now) line → ⊥) }
+fn line_of<'a>(name: &str, values: &ArgMatches<'a>) -> Option<Line<'a>>
+    ensures some { IfSome result (HasLine name.now (rows_of (found_of values.now))) }
+    ensures none { IfNone result ((line : TheLine) → HasLine name.now (rows_of (found_of values.now)) line → ⊥) }
 {
-    let (name, values) = matches.subcommand()?;
     let action = action_of(name, values)?;
     let fen = fen_of(values)?;
     Some(Line { fen, action })
 }
 
-/// The line that was found. That there is none is the words' fault, and no want of memory.
-fn found_line<'a>(matches: &ArgMatches<'a>) -> Result<Line<'a>, LineFault>
-    ensures line { IfOk result (HasLine (subcommand_rows_of matches.now)) }
-    ensures none { OnErr result ((line : TheLine) → HasLine (subcommand_rows_of matches.now) line → ⊥) }
-    ensures words { IfErr result (λ fault. fault ≡ Words) }
+fn order_at<'a>(name: &str, values: &ArgMatches<'a>) -> Option<Order<'a>>
+    ensures some { IfSome result (MeansFound name.now (rows_of (found_of values.now))) }
+    ensures none { IfNone result ((order : TheOrder) → MeansFound name.now (rows_of (found_of values.now)) order → ⊥) }
 {
-    line_of(matches).ok_or(LineFault::Words)
+    match name {
+        "batch" => Some(Order::Batch(goal_of(values)?, limits(values)?)),
+        _ => Some(Order::One(line_of(name, values)?)),
+    }
 }
 
-/// The line that the words mean. The first word is the program's name.
-pub fn read_line<'a, W: AsStr>(alloc: Global, words: &'a [W]) -> Result<Line<'a>, LineFault>
-    ensures line { IfOk result (MeansLine (map W.text words.entry.now)) }
-    ensures refused { IfErr result (λ fault. fault ≡ Words → MeansNoLine (map W.text words.entry.now)) }
+fn order_of<'a>(matches: &ArgMatches<'a>) -> Option<Order<'a>>
+    ensures some { IfSome result (HasOrder (subcommand_rows_of matches.now)) }
+    ensures none { IfNone result ((order : TheOrder) → HasOrder (subcommand_rows_of matches.now) order → ⊥) }
+{
+    let (name, values) = matches.subcommand()?;
+    order_at(name, values)
+}
+
+/// The order that was found. That there is none is the words' fault, and no want of memory.
+fn found_order<'a>(matches: &ArgMatches<'a>) -> Result<Order<'a>, LineFault>
+    ensures order { IfOk result (HasOrder (subcommand_rows_of matches.now)) }
+    ensures none { OnErr result ((order : TheOrder) → HasOrder (subcommand_rows_of matches.now) order → ⊥) }
+    ensures words { IfErr result (λ fault. fault ≡ Words) }
+{
+    order_of(matches).ok_or(LineFault::Words)
+}
+
+/// The order that the words mean. The first word is the program's name.
+pub fn read_order<'a, W: AsStr>(alloc: Global, words: &'a [W]) -> Result<Order<'a>, LineFault>
+    ensures order { IfOk result (MeansOrder (map W.text words.entry.now)) }
+    ensures refused { IfErr result (λ fault. fault ≡ Words → MeansNoOrder (map W.text words.entry.now)) }
 {
     let matches = matches(alloc, words)?;
-    found_line(&matches)
+    found_order(&matches)
 }

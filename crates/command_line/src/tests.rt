@@ -1,5 +1,5 @@
 //! The line of some words, and words that mean none.
-use crate::{Action, Limits, LineFault, matches, read_line};
+use crate::{Action, Limits, LineFault, Order, matches, read_order};
 use moves::Goal;
 use std::process::Abort;
 
@@ -7,18 +7,18 @@ const FEN: &str = "k5/6/1K4/6/6/5R w";
 
 /// Expects the words to mean a command at the position of `FEN`.
 fn expect_action<R: Abort + AllocGlobal>(rt: &R, words: &[&str], action: Action) {
-    match read_line(rt.alloc(), words) {
-        Ok(line) => {
+    match read_order(rt.alloc(), words) {
+        Ok(Order::One(line)) => {
             assert_eq!(rt; line.fen, FEN.as_bytes());
             assert!(rt; line.action == action);
         }
-        Err(_) => panic!(rt; "no line"),
+        _ => panic!(rt; "no command at a position"),
     }
 }
 
 /// Expects the words to mean no line.
 fn expect_none<R: Abort + AllocGlobal>(rt: &R, words: &[&str]) {
-    match read_line(rt.alloc(), words) {
+    match read_order(rt.alloc(), words) {
         Err(LineFault::Words) => {}
         _ => panic!(rt; "a line, or no memory"),
     }
@@ -51,6 +51,7 @@ fn reads_each_command(rt: HostRuntime) {
     };
     expect_action(&rt, &all, Action::Solve(Goal::MateOrStale, greatest));
     expect_action(&rt, &["minimate", "moves", FEN], Action::Moves);
+    expect_action(&rt, &["minimate", "show", FEN], Action::Show);
     let tree = ["minimate", "tree", "--limit", "1", FEN];
     expect_action(&rt, &tree, Action::Tree(Goal::Mate, least));
     expect_action(&rt, &["minimate", "check", FEN], Action::Check(Goal::Mate));
@@ -59,11 +60,33 @@ fn reads_each_command(rt: HostRuntime) {
 }
 
 #[test]
+fn reads_a_batch(rt: HostRuntime) {
+    let words = ["minimate", "batch", "--goal", "stale", "--limit", "5"];
+    match read_order(rt.alloc(), &words) {
+        Ok(Order::Batch(goal, limits)) => {
+            assert!(rt; goal == Goal::MateOrStale);
+            assert_eq!(rt; limits.limit, 5);
+            assert_eq!(rt; limits.slots, 64);
+        }
+        _ => panic!(rt; "no batch"),
+    }
+}
+
+#[test]
 fn refuses_what_is_no_line(rt: HostRuntime) {
     expect_none(&rt, &["minimate", "solve", FEN]);
     expect_none(&rt, &["minimate", "solve", "--limit", "4294967296", FEN]);
     expect_none(&rt, &["minimate", "check", "--goal", "Mate", FEN]);
     expect_none(&rt, &["minimate", "moves"]);
+    expect_none(&rt, &["minimate", "show"]);
+    expect_none(&rt, &["minimate", "batch"]);
+    expect_none(&rt, &["minimate", "batch", "--limit", "1", FEN]);
+    expect_none(&rt, &["minimate", "moves", "--progress", FEN]);
+    expect_none(
+        &rt,
+        &["minimate", "solve", "--progress=yes", "--limit=1", FEN],
+    );
+    expect_none(&rt, &["minimate", "show", "--goal", "mate", FEN]);
     expect_none(&rt, &["minimate", "moves", FEN, "x"]);
     expect_none(&rt, &["minimate", "--version"]);
     expect_none(&rt, &["minimate", "--help"]);

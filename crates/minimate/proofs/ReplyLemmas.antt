@@ -18,7 +18,7 @@ use Rattle.minimate.specs.declared.trouble.Trouble.{Trouble}
 use Rattle.minimate.specs.declared.trouble.Trouble.TheVariants.{Refused, ReadFailed}
 
 -- what holds of each value holds of the one that is known
-of_any : {X : Type 0} (known : Option X) (P : X → Type 0) → ((x : X) → P x) → IfSome known P
+pub of_any : {X : Type 0} (known : Option X) (P : X → Type 0) → ((x : X) → P x) → IfSome known P
 of_any None P all = tt
 of_any (Some x) P all = all x
 

@@ -24,12 +24,13 @@ use Rattle.wintree.specs.Offset.{IsFaultOf}
 use Rattle.wintree.specs.Plan.{Plan, depth}
 use Rattle.wintree.specs.Text.{TreeText, text as plan_text}
 use Rattle.wintree.specs.Wins.{Wins, height}
+use Rattle.minimate.specs.Drawing.{board_drawn}
 use Rattle.minimate.specs.Input.{without_line_feed}
 use Rattle.minimate.specs.Refusal.{refusal_status, refusal_text, refusal_of_fen, refusal_of_solve, refusal_of_tree}
 use Rattle.command_line.specs.declared.line.Line.{Line}
 use Rattle.command_line.specs.declared.line.Limits.{Limits}
 use Rattle.command_line.specs.declared.line.Action.{Action}
-use Rattle.command_line.specs.declared.line.Action.TheVariants.{Solve, Moves, Tree, Check}
+use Rattle.command_line.specs.declared.line.Action.TheVariants.{Solve, Moves, Show, Tree, Check}
 use Rattle.minimate.specs.declared.refusal.Refusal.{Refusal}
 use Rattle.minimate.specs.declared.refusal.Refusal.TheVariants.{TooLong}
 
@@ -126,6 +127,7 @@ ShowsCheck goal b input reply =
 abbrev pub Shows : PlainBoard → Action → List ℕ → Reply → Type 0
 Shows b (Solve goal limits) input reply = ShowsAnswer goal b limits reply
 Shows b Moves input reply = ShowsMoves b reply
+Shows b Show input reply = reply ≡ answered (board_drawn b)
 Shows b (Tree goal limits) input reply = ShowsPlanFound goal b limits reply
 Shows b (Check goal) input reply = ShowsCheck goal b input reply
 

@@ -6,7 +6,8 @@ use Rattle.std.specs.declared.io.ErrorKind.{ErrorKind}
 use Rattle.std.specs.declared.io.ErrorKind.TheVariants.{OutOfMemory}
 use Rattle.std.specs.Prelude.{String, Vec}
 use Rattle.std.specs.declared.alloc.Global.{Global}
-use Rattle.minimate.specs.Run.{Run, Writes, GivesUp, RunsWords, MayReadFor, failures_of}
+use Rattle.minimate.specs.Order.{RunsWords, MayReadFor, MeansBatch}
+use Rattle.minimate.specs.Run.{Run, Writes, GivesUp, failures_of}
 
 -- the words, as the system hands them over
 abbrev pub Words : Type 0
@@ -29,10 +30,15 @@ abbrev pub RunsProgram : Result Words Error → Run → Type 0
 RunsProgram (Ok words) run = RunsWords (texts_of words) run
 RunsProgram (Err error) run = RunsNoWords (error_kind error) run
 
--- there are words, and they mean a line that reads the input
+-- there are words, and they mean an order that reads the input
 abbrev pub MayReadIn : Result Words Error → Type 0
 MayReadIn (Ok words) = MayReadFor (texts_of words)
 MayReadIn (Err error) = ⊥
+
+-- there are words, and they mean a batch
+abbrev pub MeansBatchIn : Result Words Error → Type 0
+MeansBatchIn (Ok words) = MeansBatch (texts_of words)
+MeansBatchIn (Err error) = ⊥
 
 -- what is said of a word that is no text
 abbrev pub no_text : List ℕ

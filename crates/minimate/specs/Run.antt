@@ -1,12 +1,10 @@
 -- What a run of the program does: its status, and what it reads and writes.
 use Rattle.std.specs.Prelude.{◌≡◌, ◌⊎◌, ◌↔◌, ◌+◌, ◌-◌, ◌<◌, ◌≤◌, ℕ, List, [], Option, IfSome}
 use Rattle.std.specs.Io.KnownBytes.{Appends}
-use Rattle.clap.specs.Words.{Text}
 use Rattle.minimate.specs.Device.{AppendsBeginning}
 use Rattle.board.specs.Board.{PlainBoard}
 use Rattle.moves.specs.declared.goal.Goal.{Goal}
 use Rattle.minimate.specs.Output.{Reply, IsSoundText, IsOutput, input_of, refused}
-use Rattle.command_line.specs.Words.{MeansLine, MeansNoLine}
 use Rattle.command_line.specs.declared.line.Line.{Line}
 use Rattle.command_line.specs.declared.line.Action.TheVariants.{Check}
 use Rattle.minimate.specs.declared.refusal.Refusal.{Refusal}
@@ -63,6 +61,10 @@ HasReply line run Is =
 abbrev pub MayRead : Line → Type 0
 MayRead line = ((goal : Goal) × (line.action ≡ Check goal)) × ((b : PlainBoard) × IsSoundText line.fen.now b)
 
+-- a run with this status tells why: its line was refused, or memory was
+abbrev pub MayTell : ℕ → Type 0
+MayTell status = (status ≡ 1) ⊎ (status ≡ 3)
+
 -- the line that is written for want of memory
 abbrev pub no_memory : List ℕ
 no_memory = (refused NoMemory).text
@@ -102,21 +104,6 @@ Finishes ending text asked =
 abbrev pub Refuses : Ending → Refusal → Type 0
 Refuses ending refusal = Finishes ending (refused refusal).text (refused refusal).status ⊎ Finishes ending no_memory 3
 
--- ---- a run of words
-
--- the words mean no line: status 2, nothing is written, and nothing fails
-abbrev pub RefusesWords : List Text → Run → Type 0
-RefusesWords words run =
-    MeansNoLine words × (run.ending.status ≡ 2) × Writes run.ending [] × (failures_of run ≡ 0)
-
--- want of memory while the words were read: no read fails, and the line for want of memory is written
+-- want of memory before anything was done: the line for want of memory is written
 abbrev pub GivesUp : Run → Type 0
 GivesUp run = (run.failed_reads ≡ 0) × Finishes run.ending no_memory 3
-
--- the words mean a line that reads the input
-abbrev pub MayReadFor : List Text → Type 0
-MayReadFor words = (line : Line) × MeansLine words line × MayRead line
-
--- the words mean no line, or memory is wanting, or the run is one of the line that the words mean
-abbrev pub RunsWords : List Text → Run → Type 0
-RunsWords words run = RefusesWords words run ⊎ GivesUp run ⊎ ((line : Line) × MeansLine words line × RunsLine line run)

@@ -2,7 +2,7 @@
 ghost use Rattle.std.specs.Prelude.{None};
 
 use crate::device::Counted;
-use crate::run::run;
+use crate::tests::run_quietly;
 use std::io::{self, Read, Write};
 use std::test::Fail;
 
@@ -77,7 +77,7 @@ fn reads_nothing_after_a_failed_read(rt: HostRuntime) {
                 kind,
             });
             let mut writer = Counted::new(Vec::new(rt.alloc()));
-            let status = run(&rt, rt.alloc(), words.as_slice(), &mut reader, &mut writer);
+            let status = run_quietly(&rt, words.as_slice(), &mut reader, &mut writer);
             assert_eq!(rt; status, 4);
             assert_eq!(rt; reader.device.calls, fails_at);
             assert_eq!(rt; writer.device.as_slice(), b"".as_slice());
@@ -97,7 +97,7 @@ fn writes_nothing_after_a_failed_write(rt: HostRuntime) {
                 fails_at,
                 kind,
             });
-            let status = run(&rt, rt.alloc(), words.as_slice(), &mut reader, &mut writer);
+            let status = run_quietly(&rt, words.as_slice(), &mut reader, &mut writer);
             assert_eq!(rt; status, 4);
             assert_eq!(rt; writer.device.calls, fails_at);
             assert_eq!(rt; writer.device.taken.as_slice(), taken.as_bytes());
@@ -121,7 +121,7 @@ fn works_where_nothing_fails(rt: HostRuntime) {
         fails_at: 3,
         kind: io::ErrorKind::Interrupted,
     });
-    let status = run(&rt, rt.alloc(), words.as_slice(), &mut reader, &mut writer);
+    let status = run_quietly(&rt, words.as_slice(), &mut reader, &mut writer);
     assert_eq!(rt; status, 0);
     assert_eq!(rt; writer.device.taken.as_slice(), b"yes 3\n".as_slice());
 }

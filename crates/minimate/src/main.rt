@@ -1,9 +1,15 @@
 //! Forced mates in minichess: the program.
 #![tactic(auto)]
 
+mod advice;
+mod batch;
+mod board_text;
 mod device;
 #[cfg(test)]
 mod device_tests;
+mod drawing;
+mod ending;
+mod lines;
 mod program;
 #[cfg(test)]
 mod program_tests;

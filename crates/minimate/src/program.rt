@@ -1,11 +1,13 @@
 //! The program, over any words and streams.
 ghost use Rattle.std.specs.Prelude.{◌≡◌, ◌⊎◌, ◌<◌, OnOk, codes};
 ghost use Rattle.std.specs.Io.KnownBytes.{Appends};
-ghost use Rattle.minimate.specs.Run.{ending_of, run_of};
-ghost use Rattle.minimate.specs.Program.{RunsProgram, MayReadIn, no_text, no_goal};
+ghost use Rattle.minimate.specs.Run.{ending_of, run_of, MayTell};
+ghost use Rattle.minimate.specs.Program.{RunsProgram, MayReadIn, MeansBatchIn, no_text, no_goal};
 
+use crate::advice::advise_words;
 use crate::device::{Sink, Source};
-use crate::run::{REFUSED_WORDS, give_up_for_memory, run};
+use crate::ending::{REFUSED_WORDS, give_up_for_memory};
+use crate::run::run;
 use std::alloc::Global;
 use std::io::{self, Write};
 use std::sync::Wait;
@@ -30,12 +32,15 @@ fn say_no_goal<E: Write>(errors: &mut E) -> io::Result<()>
 fn explain<E: Write>(alloc: Global, words: &[String], errors: &mut E) -> io::Result<()> {
     match command_line::matches(alloc, words) {
         Ok(_) => say_no_goal(errors),
-        Err(error) => write!(errors, "{error}"),
+        Err(error) => {
+            write!(errors, "{error}")?;
+            advise_words(errors, words)
+        }
     }
 }
 
 /// Runs the words, or answers why there are none. What is to be said of words that are no line goes to
-/// `errors`, and to them goes nothing else; whether they take it changes nothing.
+/// `errors`, and why a line was refused; whether they take it changes nothing.
 pub fn run_program<R: Threads + Wait + Sync + AllocGlobal, S: Source, K: Sink, E: Write>(
     rt: &R,
     words: io::Result<Vec<String>>,
@@ -48,12 +53,12 @@ pub fn run_program<R: Threads + Wait + Sync + AllocGlobal, S: Source, K: Sink, E
     ensures runs { RunsProgram words (run_of S.remaining S.failures reader.old reader.new
         (ending_of K.contents K.failures writer.old writer.new result)) }
     ensures unread { MayReadIn words ⊎ (reader.new ≡ reader.old) }
-    ensures silent { (result ≡ 2) ⊎ (errors.new ≡ errors.old) }
+    ensures silent { (result ≡ 2) ⊎ MayTell result ⊎ MeansBatchIn words ⊎ (errors.new ≡ errors.old) }
 {
     let alloc = rt.alloc();
     match words {
         Ok(words) => {
-            let status = run(rt, alloc, words.as_slice(), reader, writer);
+            let status = run(rt, words.as_slice(), reader, writer, errors);
             if status == REFUSED_WORDS {
                 let _ = explain(alloc, words.as_slice(), errors);
             }

@@ -1,5 +1,6 @@
 //! The reply to a line: the text of its answer, or why there is none.
-ghost use Rattle.std.specs.Prelude.{◌≡◌, ◌⊎◌, ◌+◌, ◌<◌, ◌≤◌, IfOk, IfSome, min, string_bytes, vec_items};
+ghost use Rattle.std.specs.Prelude.{◌≡◌, ◌⊎◌, ◌+◌, ◌<◌, ◌≤◌, Err, IfErr, IfOk, IfSome, Ok, min, string_bytes, vec_items};
+ghost use Rattle.slots.specs.Promise.{IsSeatOf};
 ghost use Rattle.wintree.specs.Plan.{depth};
 ghost use Rattle.wintree.specs.Text.{text as tree_words};
 ghost use Rattle.minimate.specs.Outcome.{Solves, Gives, GivesIfRead, GivesReply, reads_failed};
@@ -7,27 +8,30 @@ ghost use Rattle.minimate.specs.Output.{answer_text, none_text, moves_text, chec
 ghost use Rattle.minimate.specs.Run.{MayRead};
 
 use crate::device::Source;
+use crate::drawing::board_drawn;
 use crate::refusal::Refusal;
 use crate::transfer::{read_all, without_line_feed};
 use crate::trouble::Trouble;
 use board::Position;
 use command_line::{Action, Limits, Line};
 use decision::Answer;
+use entry::MateLore;
 use moves::{Goal, Move, lawful, read_sound};
-use rounds::{NoGate, SolveFault, solve};
+use rounds::{NoGate, SolveFault, Task, make_table, solve, solve_over};
+use slots::{Seat, Slots};
 use std::alloc::{AllocError, Global};
 use std::fmt::Write;
 use std::sync::Wait;
 use std::thread::Threads;
-use trees::winning_tree;
+use trees::build_tree;
 use wintree::{NoMemory, Tree, check, read_tree, tree_text};
 
 /// With what `solve` searches.
 #[derive(Clone, Copy)]
-struct Search {
-    limit: u8,
-    workers: u8,
-    slots: usize,
+pub struct Search {
+    pub limit: u8,
+    pub workers: u8,
+    pub slots: usize,
 }
 
 /// The number as a byte. One that is too great is outside what is searched with, and stays so as 255.
@@ -38,7 +42,7 @@ fn byte_of(number: u32) -> u8
 }
 
 /// The values of the line, in the types that `solve` takes.
-fn search_of(limits: Limits) -> Search
+pub fn search_of(limits: Limits) -> Search
     ensures limit { result.limit ≡ min limits.limit 255 }
     ensures workers { result.workers ≡ min limits.workers 255 }
     ensures slots { result.slots ≡ limits.slots }
@@ -68,7 +72,35 @@ fn answer_within<R: Threads + Wait + Sync>(
     solve(rt, alloc, position, goal, limit, workers, slots, &NoGate)
 }
 
-fn answer_text(alloc: Global, goal: Goal, answer: Answer) -> Result<String, AllocError>
+/// The same, with the table that it was found over and a seat there.
+fn searched_within<R: Threads + Wait + Sync>(
+    rt: &R,
+    alloc: Global,
+    position: &Position,
+    goal: Goal,
+    limits: Limits,
+) -> Result<(Answer, Slots<MateLore>, Seat), SolveFault>
+    ensures answer { IfOk result (λ found. Solves goal position.now limits (Ok found.0)) }
+    ensures seat { IfOk result (λ found. IsSeatOf found.1 found.2) }
+    ensures fault { IfErr result (λ fault. Solves goal position.now limits (Err fault)) }
+{
+    let Search {
+        limit,
+        workers,
+        slots,
+    } = search_of(limits);
+    let (table, mut seats) = make_table(alloc, limit, workers, slots)?;
+    let task = Task {
+        position,
+        goal,
+        limit,
+        gate: &NoGate,
+    };
+    let answer = solve_over(rt, alloc, &task, &table, &mut seats)?;
+    Ok((answer, table, seats.take_last()))
+}
+
+pub fn answer_text(alloc: Global, goal: Goal, answer: Answer) -> Result<String, AllocError>
     ensures { IfOk result (λ text. string_bytes text ≡ answer_text goal answer) }
 {
     match answer {
@@ -129,9 +161,10 @@ fn plan_text<R: Threads + Wait + Sync>(
 ) -> Result<Vec<u8>, Refusal>
     ensures { Gives vec_items (ShowsPlanFound goal position.now limits) result }
 {
-    match answer_within(rt, alloc, position, goal, limits)? {
+    let (answer, table, mut seat) = searched_within(rt, alloc, position, goal, limits)?;
+    match answer {
         Answer::Mate { plies, .. } => {
-            let tree = winning_tree(alloc, position, goal, plies, search_of(limits).slots)?;
+            let tree = build_tree(alloc, &table, &mut seat, position, goal, plies)?;
             Ok(tree_line(alloc, &tree)?)
         }
         Answer::NoneWithin(limit) => Ok(none_text(alloc, limit)?.into_bytes()),
@@ -204,6 +237,7 @@ pub fn reply<R: Threads + Wait + Sync, S: Source>(
             let moves = lawful(&position);
             Ok(moves_text(alloc, moves.as_slice())?.into_bytes())
         }
+        Action::Show => Ok(board_drawn(alloc, &position)?.into_bytes()),
         Action::Tree(goal, limits) => Ok(plan_text(rt, alloc, &position, goal, limits)?),
         Action::Check(goal) => check_text(alloc, &position, goal, reader),
     }

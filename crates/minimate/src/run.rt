@@ -1,104 +1,119 @@
 //! A run of the program over any reader and writer.
-ghost use Rattle.std.specs.Prelude.{◌≡◌, ◌⊎◌, ◌<◌, IfOk, map, string_bytes};
-ghost use Rattle.minimate.specs.Output.{refused};
-ghost use Rattle.minimate.specs.Run.{ending_of, run_of, MayRead, MayReadFor, RunsLine, RunsWords, Finishes, Refuses, no_memory};
+ghost use Rattle.std.specs.Prelude.{◌≡◌, ◌⊎◌, ◌<◌, None, map};
+ghost use Rattle.minimate.specs.Batch.{RunsBatch};
+ghost use Rattle.minimate.specs.Order.{MayReadFor, MeansBatch, RunsWords};
+ghost use Rattle.minimate.specs.Output.{fault_of};
+ghost use Rattle.minimate.specs.Run.{ending_of, run_of, MayRead, MayTell, Refuses, RunsLine};
 
+use crate::advice::{Refused, advise};
+use crate::batch::{Batch, Desk, Stop, answer_lines};
 use crate::device::{Sink, Source};
+use crate::ending::{
+    ANSWERED, FAILED, REFUSED_WORDS, finish, give_up_for_memory, may_tell, refuse,
+};
 use crate::refusal::Refusal;
 use crate::reply::reply;
-use crate::transfer::write_all;
 use crate::trouble::Trouble;
-use command_line::{Line, LineFault, read_line};
-use std::alloc::{AllocError, Global};
+use command_line::{Line, LineFault, Order, read_order};
 use std::convert::AsStr;
+use std::io::Write;
 use std::sync::Wait;
 use std::thread::Threads;
 
-const ANSWERED: u8 = 0;
-
-/// The status of words that mean no line.
-pub const REFUSED_WORDS: u8 = 2;
-
-const OUT_OF_MEMORY: u8 = 3;
-
-const FAILED: u8 = 4;
-
-const NO_MEMORY: &[u8] = b"refused: NoMemory\n";
-
 /// Answers a line: writes its output, and gives its status. No line but a `check` at a sound
-/// position asks the reader for anything.
-pub fn run_line<R: Threads + Wait + Sync, S: Source, K: Sink>(
+/// position asks the reader for anything. `errors` is told why a line was refused; whether it takes
+/// that changes nothing.
+pub fn run_line<R: Threads + Wait + Sync + AllocGlobal, S: Source, K: Sink, E: Write>(
     rt: &R,
-    alloc: Global,
     line: &Line<'_>,
     reader: &mut S,
     writer: &mut K,
+    errors: &mut E,
 ) -> u8
     requires reads { S.failures reader.old < u64.MAX }
     requires writes { K.failures writer.old < u64.MAX }
     ensures unread { MayRead line.now ⊎ (reader.new ≡ reader.old) }
     ensures runs { RunsLine line.now (run_of S.remaining S.failures reader.old reader.new
         (ending_of K.contents K.failures writer.old writer.new result)) }
+    ensures silent { MayTell result ⊎ (errors.new ≡ errors.old) }
 {
+    let alloc = rt.alloc();
     match reply(rt, alloc, line, reader) {
         Ok(text) => finish(writer, text.as_slice(), ANSWERED),
-        Err(Trouble::Refused(refusal)) => refuse(alloc, writer, refusal),
+        Err(Trouble::Refused(refusal)) => refuse_and_tell(rt, writer, errors, line.fen, refusal),
         Err(Trouble::ReadFailed) => FAILED,
     }
 }
 
-/// Writes the text, and gives the status where all of it was taken.
-fn finish<K: Sink>(writer: &mut K, text: &[u8], status: u8) -> u8
-    requires { K.failures writer.old < u64.MAX }
-    ensures { Finishes (ending_of K.contents K.failures writer.old writer.new result) text.now status }
-{
-    match write_all(writer, text) {
-        Ok(()) => status,
-        Err(_) => FAILED,
-    }
-}
-
-/// Writes why there is no answer. The line for want of memory is written without taking memory.
-fn refuse<K: Sink>(alloc: Global, writer: &mut K, refusal: Refusal) -> u8
-    requires { K.failures writer.old < u64.MAX }
-    ensures { Refuses (ending_of K.contents K.failures writer.old writer.new result) refusal }
-{
-    match refused_text(alloc, refusal) {
-        Ok(text) => finish(writer, text.as_bytes(), refusal.status()),
-        Err(_) => give_up_for_memory(writer),
-    }
-}
-
-/// Writes the line for want of memory, without taking memory.
-pub fn give_up_for_memory<K: Sink>(writer: &mut K) -> u8
-    requires { K.failures writer.old < u64.MAX }
-    ensures { Finishes (ending_of K.contents K.failures writer.old writer.new result) no_memory 3 }
-{
-    finish(writer, NO_MEMORY, OUT_OF_MEMORY)
-}
-
-fn refused_text(alloc: Global, refusal: Refusal) -> Result<String, AllocError>
-    ensures { IfOk result (λ text. string_bytes text ≡ (refused refusal).text) }
-{
-    format!(in alloc; "refused: {refusal}\n")
-}
-
-/// Answers the line that the words mean. The first word is the program's name.
-pub fn run<R: Threads + Wait + Sync, W: AsStr, S: Source, K: Sink>(
+/// Writes why there is no answer, and tells it with a sentence.
+fn refuse_and_tell<R: AllocGlobal, K: Sink, E: Write>(
     rt: &R,
-    alloc: Global,
+    writer: &mut K,
+    errors: &mut E,
+    fen: &[u8],
+    refusal: Refusal,
+) -> u8
+    requires { K.failures writer.old < u64.MAX }
+    ensures refuses { Refuses (ending_of K.contents K.failures writer.old writer.new result) refusal }
+    ensures silent { MayTell result ⊎ (errors.new ≡ errors.old) }
+{
+    let status = refuse(rt.alloc(), writer, refusal);
+    if may_tell(status) {
+        let refused = Refused {
+            refusal,
+            fen,
+            line: None,
+        };
+        let _ = advise(errors, &refused);
+    }
+    status
+}
+
+/// Answers the lines of a batch, or refuses its limits.
+pub fn run_batch<R: Threads + Wait + Sync + AllocGlobal, S: Source, K: Sink, E: Write>(
+    rt: &R,
+    batch: Batch,
+    reader: &mut S,
+    writer: &mut K,
+    errors: &mut E,
+) -> u8
+    requires reads { S.failures reader.old < u64.MAX }
+    requires writes { K.failures writer.old < u64.MAX }
+    ensures unread { (fault_of batch.limits ≡ None) ⊎ (reader.new ≡ reader.old) }
+    ensures runs { RunsBatch batch.goal batch.limits (run_of S.remaining S.failures reader.old reader.new
+        (ending_of K.contents K.failures writer.old writer.new result)) }
+{
+    match Desk::open(rt.alloc(), batch.goal, batch.limits) {
+        Ok(mut desk) => match answer_lines(rt, &mut desk, reader, writer, errors) {
+            None => ANSWERED,
+            Some(Stop::NoMemory) => give_up_for_memory(writer),
+            Some(Stop::ReadFailed) => FAILED,
+            Some(Stop::WriteFailed) => FAILED,
+        },
+        Err(fault) => refuse_and_tell(rt, writer, errors, b"", Refusal::from(fault)),
+    }
+}
+
+/// Answers what the words ask for. The first word is the program's name.
+pub fn run<R: Threads + Wait + Sync + AllocGlobal, W: AsStr, S: Source, K: Sink, E: Write>(
+    rt: &R,
     words: &[W],
     reader: &mut S,
     writer: &mut K,
+    errors: &mut E,
 ) -> u8
     requires reads { S.failures reader.old < u64.MAX }
     requires writes { K.failures writer.old < u64.MAX }
     ensures unread { MayReadFor (map W.text words.now) ⊎ (reader.new ≡ reader.old) }
     ensures runs { RunsWords (map W.text words.now) (run_of S.remaining S.failures reader.old reader.new
         (ending_of K.contents K.failures writer.old writer.new result)) }
+    ensures silent { MayTell result ⊎ MeansBatch (map W.text words.now) ⊎ (errors.new ≡ errors.old) }
 {
-    match read_line(alloc, words) {
-        Ok(line) => run_line(rt, alloc, &line, reader, writer),
+    match read_order(rt.alloc(), words) {
+        Ok(Order::One(line)) => run_line(rt, &line, reader, writer, errors),
+        Ok(Order::Batch(goal, limits)) => {
+            run_batch(rt, Batch { goal, limits }, reader, writer, errors)
+        }
         Err(LineFault::Words) => REFUSED_WORDS,
         Err(LineFault::NoMemory) => give_up_for_memory(writer),
     }

@@ -1,5 +1,5 @@
 //! Whole runs over devices in memory: worked positions, refusals, and devices that fail.
-ghost use Rattle.std.specs.Prelude.{◌≡◌, None, Some, IfOk};
+ghost use Rattle.std.specs.Prelude.{◌≡◌, ◌<◌, None, Some, IfOk};
 
 use crate::device::{Counted, Failed, Sink, Source};
 use crate::run::run;
@@ -114,6 +114,19 @@ impl std::io::Write for Deaf {
     }
 }
 
+/// Runs the words, whatever standard error is told.
+pub fn run_quietly<R: Threads + Wait + AllocGlobal + Sync, S: Source, K: Sink>(
+    rt: &R,
+    words: &[&str],
+    reader: &mut S,
+    writer: &mut K,
+) -> u8
+    requires reads { S.failures reader.old < u64.MAX }
+    requires writes { K.failures writer.old < u64.MAX }
+{
+    run(rt, words, reader, writer, &mut Vec::new(rt.alloc()))
+}
+
 /// Runs the words over an input, and expects a status and an output.
 fn expect_with<R: Threads + Wait + Abort + AllocGlobal + Sync>(
     rt: &R,
@@ -124,7 +137,7 @@ fn expect_with<R: Threads + Wait + Abort + AllocGlobal + Sync>(
 ) {
     let mut reader = Counted::new(input);
     let mut writer = Counted::new(Vec::new(rt.alloc()));
-    let answered = run(rt, rt.alloc(), words, &mut reader, &mut writer);
+    let answered = run_quietly(rt, words, &mut reader, &mut writer);
     assert_eq!(rt; answered, status);
     assert_eq!(rt; writer.device.as_slice(), output.as_bytes());
 }
@@ -180,6 +193,7 @@ fn expect_moves<R: Threads + Wait + Abort + AllocGlobal + Sync>(rt: &R, fen: &st
 /// Expects each command to refuse the position, whatever the limit and the input.
 fn expect_refused<R: Threads + Wait + Abort + AllocGlobal + Sync>(rt: &R, fen: &str, output: &str) {
     expect(rt, &["minimate", "moves", fen], 1, output);
+    expect(rt, &["minimate", "show", fen], 1, output);
     expect(rt, &["minimate", "solve", "--limit", "0", fen], 1, output);
     expect(rt, &["minimate", "tree", "--limit", "0", fen], 1, output);
     expect(rt, &["minimate", "check", fen], 1, output);
@@ -303,11 +317,11 @@ fn checked_tree<R: Threads + Wait + Abort + AllocGlobal + Sync>(
     let check = ["minimate", "check", fen];
     let mut nothing = Counted::new(b"".as_slice());
     let mut written = Counted::new(Vec::new(rt.alloc()));
-    let status = run(rt, rt.alloc(), tree.as_slice(), &mut nothing, &mut written);
+    let status = run_quietly(rt, tree.as_slice(), &mut nothing, &mut written);
     assert_eq!(rt; status, 0);
     let mut reader = Counted::new(written.device.as_slice());
     let mut writer = Counted::new(Vec::new(rt.alloc()));
-    let status = run(rt, rt.alloc(), check.as_slice(), &mut reader, &mut writer);
+    let status = run_quietly(rt, check.as_slice(), &mut reader, &mut writer);
     assert_eq!(rt; status, 0);
     writer.device
 }
@@ -332,7 +346,7 @@ fn writes_a_node_of_forty_replies(rt: HostRuntime) {
     let words = ["minimate", "tree", "--limit", "3", FORTY_REPLIES];
     let mut reader = Counted::new(b"".as_slice());
     let mut writer = Counted::new(Vec::new(rt.alloc()));
-    let status = run(&rt, rt.alloc(), words.as_slice(), &mut reader, &mut writer);
+    let status = run_quietly(&rt, words.as_slice(), &mut reader, &mut writer);
     assert_eq!(rt; status, 0);
     // In a tree of three plies one node has replies, each of which is met by a mate.
     let text = writer.device.as_slice();
@@ -378,6 +392,105 @@ fn lists_moves_in_order(rt: HostRuntime) {
         "b3a2\nb3b2\nb3c2\nb3a3\nb3c3\nc4c5q\nc4c5r\nc4c5b\nc4c5n\n",
     );
     expect_moves(&rt, STALEMATED, "");
+}
+
+#[test]
+fn draws_the_board(rt: HostRuntime) {
+    let los_alamos = " 6  k . . . . .
+ 5  . . . . . .
+ 4  . K . . . .
+ 3  . . . . . .
+ 2  . . . . . .
+ 1  . . . . . R
+    a b c d e f      White to move
+";
+    expect(&rt, &["minimate", "show", ROOK_MATES], 0, los_alamos);
+    let gardner = " 5  r n b q k
+ 4  . . p . p
+ 3  P P . p .
+ 2  . . . P P
+ 1  K Q B N R
+    a b c d e      Black to move
+";
+    let fen = "rnbqk/2p1p/PP1p1/3PP/KQBNR b";
+    expect(&rt, &["minimate", "show", fen], 0, gardner);
+}
+
+/// Runs a batch within a limit over an input, and expects a status and an output.
+fn expect_batch<R: Threads + Wait + Abort + AllocGlobal + Sync>(
+    rt: &R,
+    limit: &str,
+    input: &str,
+    status: u8,
+    output: &str,
+) {
+    let words = ["minimate", "batch", "--limit", limit];
+    expect_with(rt, &words, input.as_bytes(), status, output);
+}
+
+#[test]
+fn answers_a_batch(rt: HostRuntime) {
+    let three = "k5/6/2K3/6/6/1R4 w\nk5/6/1K4/6/6/5R w\n5r/6/6/1k4/6/K5 b\n";
+    let answers = "mate 3 c4c5\nmate 1 f1f6\nmate 1 f6f1\n";
+    expect_batch(&rt, "3", three, 0, answers);
+    expect_batch(&rt, "3", "", 0, "");
+    expect_batch(&rt, "1", "k5/6/2K3/6/6/1R4 w", 0, "none within 1\n");
+    let remarks = "# two lines\n\nk5/6/1K4/6/6/5R w\r\n#\r\n";
+    expect_batch(&rt, "1", remarks, 0, "# two lines\n\nmate 1 f1f6\n#\n");
+    let refused = "k5 w\nk5/6/1K4/6/6/5R w\nk5/6/1K4/6/6/5R w\r";
+    let replies = "refused: Shape\nmate 1 f1f6\nrefused: Side\n";
+    expect_batch(&rt, "1", refused, 0, replies);
+    expect_batch(&rt, "0", three, 1, "refused: Limit\n");
+}
+
+#[test]
+fn refuses_long_lines_of_a_batch(rt: HostRuntime) -> Result<(), Fail> {
+    for (length, output) in [
+        (256, "refused: Fields\nmate 1 f1f6\n"),
+        (257, "refused: TooLong\nmate 1 f1f6\n"),
+        (9000, "refused: TooLong\nmate 1 f1f6\n"),
+    ] {
+        let mut input = String::new(rt.alloc());
+        for _ in 0..length {
+            input.push('x')?;
+        }
+        input.push_str("\nk5/6/1K4/6/6/5R w\n")?;
+        expect_batch(&rt, "1", input.as_str(), 0, output);
+    }
+    let mut comment = String::new(rt.alloc());
+    for _ in 0..257 {
+        comment.push('#')?;
+    }
+    expect_batch(&rt, "1", comment.as_str(), 0, "refused: TooLong\n");
+    Ok(())
+}
+
+#[test]
+fn keeps_the_replies_before_a_failed_read(rt: HostRuntime) {
+    let words = ["minimate", "batch", "--limit", "1"];
+    let mut reader = Breaking {
+        bytes: b"k5/6/1K4/6/6/5R w\nk5/6/1K4/6/6/5R w\n",
+        left: 30,
+        failures: 0,
+    };
+    let mut writer = Counted::new(Vec::new(rt.alloc()));
+    let status = run_quietly(&rt, words.as_slice(), &mut reader, &mut writer);
+    assert_eq!(rt; status, 4);
+    assert_eq!(rt; reader.failures, 1);
+    assert_eq!(rt; writer.device.as_slice(), b"mate 1 f1f6\n".as_slice());
+}
+
+#[test]
+fn ends_a_batch_at_a_failed_write(rt: HostRuntime) -> Result<(), Fail> {
+    let words = ["minimate", "batch", "--limit", "1"];
+    let input = b"k5/6/1K4/6/6/5R w\nk5/6/1K4/6/6/5R w\n";
+    let mut reader = Counted::new(input.as_slice());
+    let mut writer = Dripping::new(rt.alloc(), 100, 16)?;
+    let status = run_quietly(&rt, words.as_slice(), &mut reader, &mut writer);
+    assert_eq!(rt; status, 4);
+    assert_eq!(rt; writer.failures, 1);
+    assert_eq!(rt; writer.taken.as_slice(), b"mate 1 f1f6\nmate".as_slice());
+    Ok(())
 }
 
 #[test]
@@ -492,6 +605,7 @@ fn refuses_words(rt: HostRuntime) {
     expect_no_line(&rt, &["minimate", "solve", "--help"]);
     expect_no_line(&rt, &["minimate", "play", START]);
     expect_no_line(&rt, &["minimate", "moves"]);
+    expect_no_line(&rt, &["minimate", "show"]);
     expect_no_line(&rt, &["minimate", "moves", START, START]);
     expect_no_line(&rt, &["minimate", "check"]);
     expect_no_line(&rt, &["minimate", "check", "--limit", "1", START]);
@@ -515,7 +629,7 @@ fn writes_on_where_a_writer_takes_little(rt: HostRuntime) -> Result<(), Fail> {
     let words = ["minimate", "moves", START];
     let mut reader = Counted::new(b"".as_slice());
     let mut writer = Dripping::new(rt.alloc(), 3, 100)?;
-    let status = run(&rt, rt.alloc(), words.as_slice(), &mut reader, &mut writer);
+    let status = run_quietly(&rt, words.as_slice(), &mut reader, &mut writer);
     assert_eq!(rt; status, 0);
     assert_eq!(rt; writer.taken.as_slice(), START_MOVES.as_bytes());
     Ok(())
@@ -526,19 +640,14 @@ fn stops_at_a_failed_write(rt: HostRuntime) -> Result<(), Fail> {
     let words = ["minimate", "solve", "--limit", "1", ROOK_MATES];
     let mut reader = Counted::new(b"".as_slice());
     let mut after_four = Dripping::new(rt.alloc(), 100, 4)?;
-    let status = run(
-        &rt,
-        rt.alloc(),
-        words.as_slice(),
-        &mut reader,
-        &mut after_four,
-    );
+    let status = run_quietly(&rt, words.as_slice(), &mut reader, &mut after_four);
     assert_eq!(rt; status, 4);
     assert_eq!(rt; after_four.taken.as_slice(), b"mate".as_slice());
     assert_eq!(rt; after_four.failures, 1);
 
+    let mut another = Counted::new(b"".as_slice());
     let mut deaf = Counted::new(Deaf);
-    let status = run(&rt, rt.alloc(), words.as_slice(), &mut reader, &mut deaf);
+    let status = run_quietly(&rt, words.as_slice(), &mut another, &mut deaf);
     assert_eq!(rt; status, 4);
     assert_eq!(rt; deaf.failures, 1);
     Ok(())
@@ -615,7 +724,7 @@ fn stops_at_a_failed_read(rt: HostRuntime) {
             failures: 0,
         };
         let mut writer = Counted::new(Vec::new(rt.alloc()));
-        let status = run(&rt, rt.alloc(), words.as_slice(), &mut reader, &mut writer);
+        let status = run_quietly(&rt, words.as_slice(), &mut reader, &mut writer);
         assert_eq!(rt; status, 4);
         assert_eq!(rt; reader.failures, 1);
         assert_eq!(rt; writer.device.as_slice(), b"".as_slice());
@@ -635,7 +744,7 @@ fn expect_unread<R: Threads + Wait + Abort + AllocGlobal + Sync>(
         failures: 0,
     };
     let mut writer = Counted::new(Vec::new(rt.alloc()));
-    let answered = run(rt, rt.alloc(), words, &mut reader, &mut writer);
+    let answered = run_quietly(rt, words, &mut reader, &mut writer);
     assert_eq!(rt; answered, status);
     assert_eq!(rt; reader.failures, 0);
     assert_eq!(rt; writer.device.as_slice(), output.as_bytes());
@@ -648,6 +757,7 @@ fn asks_the_reader_for_nothing(rt: HostRuntime) {
     let tree = ["minimate", "tree", "--limit", "1", ROOK_MATES];
     expect_unread(&rt, &tree, 0, "f1f6#\n");
     expect_unread(&rt, &["minimate", "moves", START], 0, START_MOVES);
+    expect_unread(&rt, &["minimate", "show", "k5 w"], 1, "refused: Shape\n");
     let check = ["minimate", "check", OTHER_IN_CHECK];
     expect_unread(&rt, &check, 1, "refused: OtherInCheck\n");
     let no_goal = ["minimate", "check", "--goal", "x", ROOK_MATES];

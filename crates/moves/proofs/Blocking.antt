@@ -1,37 +1,34 @@
 -- A check stands but for a move of the king, a capture, or a unit put between.
-use Rattle.std.proofs.Common.{◌≡◌, ℕ, ◌-◌, ◌^◌, refl, sym, ap, subst, ◌∙◌, arith, ◌⊎◌, inl, inr, Bool, true, ◌&&◌, Some, None, All, Contains}
-use Rattle.std.proofs.lemmas.Bool.{and_parts}
+use Rattle.std.proofs.Common.{◌≡◌, ℕ, ◌-◌, ◌^◌, sym, ap, subst, ◌∙◌, arith, ◌⊎◌, inl, inr, Some, None}
 use Rattle.std.proofs.lemmas.Nat.Bits.{bit_at_ones}
 use Rattle.std.proofs.lemmas.Option.{same_Some}
-use Rattle.std.proofs.lemmas.List.Sums.{AllPass-from_list_all}
-use Rattle.std.proofs.lemmas.List.Elements.{All-contains}
 use Rattle.board.specs.declared.game.Side.{Side}
 use Rattle.board.specs.declared.game.Kind.{Kind}
-use Rattle.board.specs.declared.game.Kind.TheVariants.{King, Knight}
+use Rattle.board.specs.declared.game.Kind.TheVariants.{King}
 use Rattle.board.specs.declared.game.Unit.{Unit as Man}
-use Rattle.board.specs.declared.step.Mode.TheVariants.{Both}
 use Rattle.board.specs.declared.step.Step.{Step}
 use Rattle.board.specs.Games.{other_side}
 use Rattle.board.specs.Board.{PlainBoard, IsPosition}
 use Rattle.moves.specs.Squares.{Place, Ply, IsOnBoard, unit_at}
-use Rattle.moves.specs.Reach.{Leads, Allows, ReachesBy, IsInCheck, IsAttacked}
+use Rattle.moves.specs.Reach.{Leads, AttacksFrom, IsInCheck, IsAttacked}
 use Rattle.moves.specs.Reach.Leads.{once, again}
 use Rattle.moves.specs.Moves.{IsPseudoLegal, after}
-use Rattle.moves.specs.declared.lines.Line.{Line}
-use Rattle.moves.specs.declared.lines.TheConstants.{LINES}
-use Rattle.moves.specs.Mailbox.{cell_of}
-use Rattle.moves.specs.Targets.{Has, IsTarget, IsTargetBy}
-use Rattle.moves.specs.Looking.{foe_of, IsStruck, IsHitAlong}
+use Rattle.moves.specs.declared.tables.Way.{Way}
+use Rattle.moves.specs.Mailbox.{cell_of, place_in, IsCell}
+use Rattle.moves.specs.Ways.{Rides}
+use Rattle.moves.specs.Targets.{Has}
+use Rattle.moves.specs.Looking.{foe_of, IsStruck}
 use Rattle.moves.specs.Guard.{HasBlocks}
-use Rattle.moves.proofs.Cells.{IsCell-cell_of, place_in-cell_of, cell_small}
+use Rattle.moves.proofs.Cells.{IsCell-cell_of, place_in-cell_of, cell_of-place_in, cell_small}
+use Rattle.moves.proofs.Rides.{one_target}
+use Rattle.moves.proofs.Riding.{Rides-leads}
+use Rattle.moves.proofs.Seeing.{ways_of, single_step}
 use Rattle.moves.proofs.Laying.{unit_at-other}
 use Rattle.moves.proofs.Keeps.{to_on_board}
-use Rattle.moves.proofs.Kings.{king_of, check_from, check_at}
+use Rattle.moves.proofs.Kings.{king_of, check_from}
 use Rattle.moves.proofs.Guarding.{king_stays}
-use Rattle.moves.proofs.Looking.{IsAttacked-struck, none_struck}
-use Rattle.moves.proofs.Hits.{as_step, not_hit, struck_played}
+use Rattle.moves.proofs.Looking.{IsAttacked-struck, IsStruck-attacked, Aims-attacked, struck_played}
 use Rattle.moves.proofs.Pins.{place_cases, own_or_other, no_unit}
-use Rattle.moves.proofs.Checking.{allows_both, Denotes-turned, seen_by, is_both, both_from}
 
 Leads-end : (b : PlainBoard) (side : Side) (step : Step) (s t : Place) → Leads b side step s t → IsOnBoard b.game t
 Leads-end b side step s t (once on a) = on
@@ -73,49 +70,37 @@ module _ (b : PlainBoard) (m : Ply) (u : Man) (is : IsPosition b) (p : IsPseudoL
         side_of : (x y : Man) → Some x ≡ Some y → x.side ≡ y.side
         side_of x y e = ap (λ (v : Man). v.side) (same_Some x y e)
 
--- ---- the cells of a line
+-- ---- the cells of a way
 
-abbrev is_ride : Line → Bool
-is_ride l = l.step.rider && is_both l.step.mode
-
-line_rides : (l : Line) → Contains LINES l → (l.step.rider ≡ true) × (l.step.mode ≡ Both)
-line_rides l there =
-    let parts = and_parts l.step.rider (is_both l.step.mode) (All-contains (λ x. is_ride x ≡ true) LINES l (AllPass-from_list_all is_ride LINES refl) there) in
-    (parts.0, both_from l.step.mode parts.1)
-
--- a step that goes as a rider's leads nowhere else
-Leads-as : (b : PlainBoard) (side : Side) (by step : Step) (s t : Place) → by.dx ≡ step.dx → by.dy ≡ step.dy → step.rider ≡ true → Leads b side by s t → Leads b side step s t
-Leads-as b side by step s t e f r (once on a) = once on (as_step side step by s t (sym e) (sym f) a)
-Leads-as b side by step s t e f r (again {u = v} r' on a empty l) = again r on (as_step side step by s v (sym e) (sym f) a) empty (Leads-as b side by step v t e f r l)
-
-module _ (b : PlainBoard) (is : IsPosition b) (k : Place) (on : IsOnBoard b.game k) (king : unit_at b k ≡ king_of b.mover) where
-  -- what gives check along a line
-  pub HasBlocks-line : (l : Line) → Contains LINES l → IsHitAlong b b.mover l.step k true → (set : ℕ) → ((i : ℕ) → IsTargetBy b (record { side = b.mover; kind = King }) l.step k i → Has set i) → HasBlocks b set
-  HasBlocks-line l listed w set has = λ m u p piece safe.
-      let rides = line_rides l listed in
-      let g = w.along.goes in
-      let crosses = must_cross b m u is p piece k on king safe w.kind (record { step = w.along.by; denoted = w.along.denoted; strikes = record { captures = g.captures; strikes = w.strikes } }) in
-      let leads : Leads b b.mover l.step k m.to = Leads-as b b.mover w.along.by l.step k m.to g.files g.ranks rides.0 crosses in
+module _ (b : PlainBoard) (is : IsPosition b) (k i : ℕ) (on : IsCell b.game k) (at : IsCell b.game i) (king : unit_at b (place_in k) ≡ king_of b.mover) (check : AttacksFrom b (other_side b.mover) (place_in i) (place_in k)) where
+  -- the checker's cell, and those of the way that it comes
+  pub HasBlocks-way : (set : ℕ) → Has set i → ((way : Way) → Rides b way k i → (j : ℕ) → Rides b way k j → Has set j) → HasBlocks b set
+  HasBlocks-way set there between = λ m u p piece safe.
+      let a = Aims-attacked b (place_in k) b.mover on.on_board (place_in i) check in
+      let played = (IsStruck-attacked b (place_in k) b.mover on.on_board (place_in i) check).0 in
+      let man : check.unit ≡ foe_of (record { side = b.mover; kind = check.unit.kind }) = λ n. record { side = check.owner n; kind = check.unit.kind } in
+      let struck : IsStruck b (record { side = b.mover; kind = check.unit.kind }) (place_in k) = record {
+        step = a.step;
+        denoted = a.denoted;
+        strikes = record { captures = a.captures; strikes = record { to = place_in i; leads = a.leads; stands = check.stands ∙ ap Some man } };
+      } in
+      let crosses = must_cross b m u is p piece (place_in k) on.on_board king safe check.unit.kind struck in
       let to = to_on_board b m u p in
-      let allows = subst (λ s. Allows Both s (unit_at b m.to)) p.owner (allows_both p.reaches.step.mode u.side (unit_at b m.to) p.reaches.reaches.allows) in
-      has (cell_of m.to) (
-        IsCell-cell_of b.game m.to to,
-        subst (λ x. ReachesBy b (record { side = b.mover; kind = King }) l.step k x (unit_at b x)) (sym (place_in-cell_of b.game m.to to))
-            (record { allows = subst (λ y. Allows y b.mover (unit_at b m.to)) (sym rides.1) allows; leads = leads }),
-      )
-
-  -- and a knight that does, where nothing comes along a line
-  pub HasBlocks-knight : IsInCheck b b.mover → All (λ (l : Line). IsHitAlong b b.mover l.step k true → ⊥) LINES → (set : ℕ) → ((i : ℕ) → IsTarget b (record { side = b.mover; kind = Knight }) k i → Has set i) → HasBlocks b set
-  HasBlocks-knight check none set has = λ m u p piece safe.
-      let struck = none_struck b k b.mover on (λ kind other w. not_hit b b.mover k none kind other w) (check_at b is b.mover k on king check) in
-      let crosses = must_cross b m u is p piece k on king safe Knight struck in
-      let plain = (Denotes-turned Knight struck.step (λ e. cc) struck.denoted).1 in
-      let crosses' : Leads b u.side struck.step k m.to = subst (λ s. Leads b s struck.step k m.to) (sym p.owner) crosses in
-      has (cell_of m.to) (subst (λ s. IsTarget b (record { side = s; kind = Knight }) k (cell_of m.to)) p.owner
-      (seen_by b m u p k Knight struck.step (struck_played b is b.mover Knight k struck) struck.denoted plain crosses'))
+      let cell = IsCell-cell_of b.game m.to to in
+      let crosses' : Leads b b.mover a.step (place_in k) (place_in (cell_of m.to)) = subst (Leads b b.mover a.step (place_in k)) (sym (place_in-cell_of b.game m.to to)) crosses in
+      elim (ways_of b.mover check.unit.kind a.step a.denoted) [
+        | inl single ↦
+            let same : m.to ≡ place_in i = one_target b.mover a.step (place_in k) m.to (place_in i) (single_step b b.mover a.step (place_in k) m.to single crosses) (single_step b b.mover a.step (place_in k) (place_in i) single a.leads) in
+            subst (Has set) (sym (ap cell_of same ∙ cell_of-place_in b.game i at)) there
+        | inr way ↦ between way.0 (Rides-leads b b.mover way.0 a.step way.1 k i on at a.leads) (cell_of m.to) (Rides-leads b b.mover way.0 a.step way.1 k (cell_of m.to) on cell crosses')
+      ]
 
 -- with no check each cell will do
 pub HasBlocks-all : (b : PlainBoard) → HasBlocks b (2 ^ 64 - 1)
 HasBlocks-all b = λ m u p piece safe.
     let small = cell_small b.game (cell_of m.to) (IsCell-cell_of b.game m.to (to_on_board b m u p)) in
     bit_at_ones 64 (cell_of m.to) (omega (arith, small))
+
+-- where the unit in cell i comes that way to k, the set has the cells of the way
+abbrev pub HoldsBetween : PlainBoard → ℕ → ℕ → ℕ → Way → Type 0
+HoldsBetween b k i set way = Rides b way k i → (j : ℕ) → Rides b way k j → Has set j

@@ -8,11 +8,8 @@ use Rattle.board.specs.declared.game.Game.TheVariants.{LosAlamos, Gardner}
 use Rattle.board.specs.Games.{width_of}
 use Rattle.moves.specs.Squares.{Place, IsOnBoard}
 use Rattle.moves.specs.Reach.{IsShift}
-use Rattle.moves.specs.Mailbox.{cell_of, place_in, IsAway, IsCell, IsNear}
-use Rattle.board.specs.declared.game.Side.{Side}
-use Rattle.board.specs.declared.step.Step.{Step}
-use Rattle.moves.specs.Reach.{ahead_of}
-use Rattle.moves.proofs.Rides.{same_place, size-ahead}
+use Rattle.moves.specs.Mailbox.{cell_of, place_in, IsAway, IsCell}
+use Rattle.moves.proofs.Rides.{same_place}
 
 pub six : (g : Game) (n : ℕ) → n < width_of g → n < 6
 six LosAlamos n h = h
@@ -64,15 +61,6 @@ pub cell_of-shift : (g : Game) (dx dy : ℤ) (i j : ℕ) (t : Place) → IsCell 
 cell_of-shift g dx dy i j t from away on e =
     let a : i ≡ 17 + (8 * (place_in i).rank + (place_in i).file) = let h = from.above in omega arith in
     omega (arith, ints, a, away, e.file, e.rank)
-
--- a near step goes at most 17 cells
-seventeen : (dx dy : ℤ) → unsigned_abs dx + unsigned_abs dy ≤ 3 → unsigned_abs dx ≤ 2 → unsigned_abs dy ≤ 2 → unsigned_abs (dx +ℤ (pos 8 *ℤ dy)) ≤ 17
-seventeen dx dy h a b = omega (arith, ints, h, a, b)
-
-pub offset_near : (side : Side) (step : Step) → IsNear step → unsigned_abs (step.dx +ℤ (pos 8 *ℤ ahead_of side step.dy)) ≤ 17
-offset_near side step near =
-    let same = size-ahead side step.dy in
-    seventeen step.dx (ahead_of side step.dy) (omega (arith, near.both, same)) near.files (omega (arith, near.ranks, same))
 
 pub small_width : (g : Game) → width_of g ≤ 6
 small_width LosAlamos = omega arith

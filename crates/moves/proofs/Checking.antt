@@ -30,7 +30,7 @@ use Rattle.moves.specs.Moves.{IsPseudoLegal, placed, after}
 use Rattle.moves.specs.Mailbox.{cell_of}
 use Rattle.moves.specs.Targets.{IsTarget}
 use Rattle.moves.specs.Pinned.{IsPinned}
-use Rattle.moves.specs.Checking.{Aims}
+use Rattle.moves.specs.Looking.{Aims}
 use Rattle.moves.proofs.Cells.{IsCell-cell_of, place_in-cell_of}
 use Rattle.moves.proofs.Laying.{unit_at-to, unit_at-from, unit_at-other}
 use Rattle.moves.proofs.Keeps.{to_on_board}

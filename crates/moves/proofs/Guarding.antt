@@ -121,3 +121,11 @@ module _ (b : PlainBoard) (m : Ply) (u : Man) (stands : unit_at b m.from ≡ Som
 pub not_attacked_safe : (r : Bool) (q : PlainBoard) (side : Side) → (IsTrue r ↔ IsInCheck q side) → IsTrue (not r) ↔ (IsInCheck q side → ⊥)
 not_attacked_safe true q side h = (λ no. absurd (false≢true no), λ safe. absurd (safe (h.0 refl)))
 not_attacked_safe false q side h = (λ _ check. false≢true (h.1 check), λ _. refl)
+
+-- a side's king is its own
+pub own_king : (side : Side) → is_of_side side (king_of side) ≡ true
+own_king White = refl
+own_king Black = refl
+
+pub own_unit_side : (side : Side) (u : Man) → is_of_side side (Some u) ≡ true → u.side ≡ side
+own_unit_side side u e = own_side side u.side e

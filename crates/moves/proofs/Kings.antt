@@ -1,6 +1,6 @@
 -- A side's king stands on one square.
-use Rattle.std.proofs.Common.{◌≡◌, ℕ, zero, suc, nat_eq, ◌<◌, ◌≤◌, refl, sym, ap, subst, ◌∙◌, arith, inl, inr, Bool, true, cond, List, length, get_or, take, Option, Some, None, IsTrue, ◌↔◌, count_by, get_or-take, length-take}
-use Rattle.std.proofs.lemmas.Bool.{cases_order, eqb-true, eq-eqb}
+use Rattle.std.proofs.Common.{◌≡◌, ℕ, ◌<◌, ◌≤◌, refl, sym, ap, subst, ◌∙◌, arith, inl, inr, Bool, true, cond, List, length, get_or, take, Option, Some, None, count_by, get_or-take, length-take}
+use Rattle.std.proofs.lemmas.Bool.{cases_order}
 use Rattle.std.proofs.lemmas.List.Sums.{sum_by_more_le}
 use Rattle.board.specs.declared.game.Side.{Side}
 use Rattle.board.specs.declared.game.Side.TheVariants.{White, Black}
@@ -10,9 +10,8 @@ use Rattle.board.specs.Games.{other_side}
 use Rattle.board.specs.Board.{PlainBoard, is_king_of, IsPosition}
 use Rattle.moves.specs.Squares.{Place, IsOnBoard, square_number, unit_at}
 use Rattle.moves.specs.Reach.{IsAttacked, IsInCheck}
-use Rattle.moves.specs.Mailbox.{cell_of, place_in, code_in, IsCell, LaysOut}
-use Rattle.moves.specs.Words.{man_of}
-use Rattle.moves.proofs.Cells.{cell_cases, IsCell-cell_of, place_in-cell_of}
+use Rattle.moves.specs.Mailbox.{cell_of, place_in, IsCell}
+use Rattle.moves.proofs.Cells.{IsCell-cell_of, place_in-cell_of}
 use Rattle.moves.proofs.Listed.{same_number, number_within}
 use Rattle.moves.proofs.Room.{squares_36}
 
@@ -61,58 +60,3 @@ check_from b side s on e attacked = (s, record { on_board = on; king = e; attack
 pub no_check : (b : PlainBoard) (side : Side) → ((i : ℕ) → IsCell b.game i → unit_at b (place_in i) ≡ king_of side → ⊥) → IsInCheck b side → ⊥
 no_check b side none (s, check) =
     none (cell_of s) (IsCell-cell_of b.game s check.on_board) (ap (unit_at b) (place_in-cell_of b.game s check.on_board) ∙ check.king)
-
--- what is said of a board laid out and its mover is said of the board
-pub mover_check : (r : Bool) (b m : PlainBoard) (side : Side) → m ≡ b → side ≡ m.mover → (IsTrue r ↔ IsInCheck m side) → IsTrue r ↔ IsInCheck b b.mover
-mover_check r b m side e f h = subst (λ x. IsTrue r ↔ IsInCheck x x.mover) e (subst (λ s. IsTrue r ↔ IsInCheck m s) f h)
-
--- ---- the king's code
-
-white_king : (k : ℕ) → k < 13 → is_king_of White (man_of k) ≡ true → k ≡ 1
-white_king zero l e = cc
-white_king (suc zero) l e = refl
-white_king (suc (suc zero)) l e = cc
-white_king (suc (suc (suc zero))) l e = cc
-white_king (suc (suc (suc (suc zero)))) l e = cc
-white_king (suc (suc (suc (suc (suc zero))))) l e = cc
-white_king (suc (suc (suc (suc (suc (suc zero)))))) l e = cc
-white_king (suc (suc (suc (suc (suc (suc (suc zero))))))) l e = cc
-white_king (suc (suc (suc (suc (suc (suc (suc (suc zero)))))))) l e = cc
-white_king (suc (suc (suc (suc (suc (suc (suc (suc (suc zero))))))))) l e = cc
-white_king (suc (suc (suc (suc (suc (suc (suc (suc (suc (suc zero)))))))))) l e = cc
-white_king (suc (suc (suc (suc (suc (suc (suc (suc (suc (suc (suc zero))))))))))) l e = cc
-white_king (suc (suc (suc (suc (suc (suc (suc (suc (suc (suc (suc (suc zero)))))))))))) l e = cc
-white_king (suc (suc (suc (suc (suc (suc (suc (suc (suc (suc (suc (suc (suc k))))))))))))) l e = absurd (omega arith)
-
-black_king : (k : ℕ) → k < 13 → is_king_of Black (man_of k) ≡ true → k ≡ 7
-black_king zero l e = cc
-black_king (suc zero) l e = cc
-black_king (suc (suc zero)) l e = cc
-black_king (suc (suc (suc zero))) l e = cc
-black_king (suc (suc (suc (suc zero)))) l e = cc
-black_king (suc (suc (suc (suc (suc zero))))) l e = cc
-black_king (suc (suc (suc (suc (suc (suc zero)))))) l e = cc
-black_king (suc (suc (suc (suc (suc (suc (suc zero))))))) l e = refl
-black_king (suc (suc (suc (suc (suc (suc (suc (suc zero)))))))) l e = cc
-black_king (suc (suc (suc (suc (suc (suc (suc (suc (suc zero))))))))) l e = cc
-black_king (suc (suc (suc (suc (suc (suc (suc (suc (suc (suc zero)))))))))) l e = cc
-black_king (suc (suc (suc (suc (suc (suc (suc (suc (suc (suc (suc zero))))))))))) l e = cc
-black_king (suc (suc (suc (suc (suc (suc (suc (suc (suc (suc (suc (suc zero)))))))))))) l e = cc
-black_king (suc (suc (suc (suc (suc (suc (suc (suc (suc (suc (suc (suc (suc k))))))))))))) l e = absurd (omega arith)
-
--- a cell has the king's code exactly if the king stands there
-module _ (b : PlainBoard) (cells : List ℕ) (lays : LaysOut b cells) (i : ℕ) (low : i < 80) (code : ℕ) (at : code ≡ code_in cells i) where
-  king_in : (side : Side) (k : ℕ) → k < 13 → man_of k ≡ king_of side → ((n : ℕ) → n < 13 → is_king_of side (man_of n) ≡ true → n ≡ k) → IsTrue (nat_eq code k) ↔ (IsCell b.game i × (unit_at b (place_in i) ≡ king_of side))
-  king_in side k small man only = (
-    λ t. let e = eqb-true code k t in elim (cell_cases b.game i) [
-      | inl cell ↦ (cell, sym (lays.stands i cell) ∙ ap man_of (sym at ∙ e) ∙ man)
-      | inr off ↦ let border = lays.border i low off in absurd (omega (arith, at, e, border, small))
-    ],
-    λ (cell, stands). eq-eqb code k (at ∙ only (code_in cells i) (lays.code i cell) (ap (is_king_of side) (lays.stands i cell ∙ stands) ∙ is_king side)),
-  )
-
-  pub white_in : (side : Side) → side ≡ White → IsTrue (nat_eq code 1) ↔ (IsCell b.game i × (unit_at b (place_in i) ≡ king_of side))
-  white_in side e = subst (λ x. IsTrue (nat_eq code 1) ↔ (IsCell b.game i × (unit_at b (place_in i) ≡ king_of x))) (sym e) (king_in White 1 (omega arith) refl white_king)
-
-  pub black_in : (side : Side) → side ≡ Black → IsTrue (nat_eq code 7) ↔ (IsCell b.game i × (unit_at b (place_in i) ≡ king_of side))
-  black_in side e = subst (λ x. IsTrue (nat_eq code 7) ↔ (IsCell b.game i × (unit_at b (place_in i) ≡ king_of x))) (sym e) (king_in Black 7 (omega arith) refl black_king)

@@ -1,13 +1,12 @@
 -- A walk read backwards: what attacks a square is what a unit of the same kind would take from there.
-use Rattle.std.proofs.Common.{◌≡◌, ℕ, ◌<◌, ℤ, pos, negsuc, neg_ℤ, zero, suc, refl, sym, ap, subst, ◌∙◌, arith, ◌⊎◌, inl, inr, true, false, Some, None, unwrap_or, List, All, length, get_or}
+use Rattle.std.proofs.Common.{◌≡◌, ℕ, ℤ, pos, negsuc, neg_ℤ, zero, suc, refl, sym, ap, subst, ◌∙◌, arith, true, Some, None, unwrap_or, Option, IfSome, List}
 use Rattle.std.specs.Int.RustNames.{unsigned_abs}
 use Rattle.std.proofs.lemmas.Int.{ints}
-use Rattle.std.proofs.lemmas.Bool.{false≢true}
-use Rattle.std.proofs.lemmas.List.Elements.{All-contains, Contains-get_or}
+use Rattle.std.proofs.lemmas.Option.{same_Some}
 use Rattle.board.specs.declared.game.Side.{Side}
 use Rattle.board.specs.declared.game.Side.TheVariants.{White, Black}
 use Rattle.board.specs.declared.game.Kind.{Kind}
-use Rattle.board.specs.declared.game.Kind.TheVariants.{King, Queen, Rook, Bishop, Knight, Pawn}
+use Rattle.board.specs.declared.game.Kind.TheVariants.{King}
 use Rattle.board.specs.declared.game.Unit.{Unit as Man}
 use Rattle.board.specs.declared.step.Mode.{Mode}
 use Rattle.board.specs.declared.step.Mode.TheVariants.{Move, Capture, Both}
@@ -18,14 +17,12 @@ use Rattle.board.specs.declared.terms.Atom.TheVariants as atom
 use Rattle.board.specs.declared.terms.Term.{Term}
 use Rattle.board.specs.Denotation.{IsAtomLeap, Denotes, terms_of}
 use Rattle.board.specs.Games.{other_side, IsPlayed}
-use Rattle.board.specs.Board.{PlainBoard}
-use Rattle.moves.specs.Squares.{Place, IsOnBoard, unit_at}
+use Rattle.board.specs.declared.game.Game.{Game}
+use Rattle.board.specs.Board.{PlainBoard, IsPosition, MayStandOn}
+use Rattle.moves.specs.Squares.{Place, IsOnBoard, square_number, unit_at}
 use Rattle.moves.specs.Reach.{ahead_of, IsStep, Leads, Allows, AttacksFrom, IsAttacked}
 use Rattle.moves.specs.Reach.Leads.{once, again}
-use Rattle.moves.proofs.Rides.{Leads-nowhere, Leads-through}
-use Rattle.moves.specs.StepTables.{table_of}
-use Rattle.moves.proofs.TableTests.{table_of-exact}
-use Rattle.moves.specs.Looking.{foe_of, Strikes, StrikesBy, IsStruck}
+use Rattle.moves.specs.Looking.{foe_of, IsStruck, Aims}
 
 some_same : {X : Type 0} {x y : X} → Some x ≡ Some y → x ≡ y
 some_same {x = x} e = ap (λ o. unwrap_or o x) e
@@ -99,6 +96,19 @@ module _ (b : PlainBoard) (t : Place) (me : Side) (on : IsOnBoard b.game t) wher
   abbrev pub own : Kind → Man
   own k = record { side = me; kind = k }
 
+  -- from the attacked square its own kind would take an attacker
+  pub Aims-attacked : (s : Place) (a : AttacksFrom b (other_side me) s t) → Aims b (own a.unit.kind) t s
+  unfolding mirror
+  Aims-attacked s a =
+      let r = a.reaches in
+      let turned : other_side a.unit.side ≡ me = ap other_side a.owner ∙ other_twice me in
+      record {
+        step = mirror r.step;
+        denoted = Denotes-mirror (terms_of a.unit.kind) r.step r.denoted;
+        captures = captures_from r.step.mode a.unit.side _ r.reaches.allows;
+        leads = subst (λ x. Leads b x (mirror r.step) t s) turned (Leads-back b a.unit.side r.step s t a.on_board r.reaches.leads);
+      }
+
   -- an attacker is struck by its own kind from the attacked square
   pub IsStruck-attacked : (s : Place) (a : AttacksFrom b (other_side me) s t) → IsPlayed b.game a.unit.kind × IsStruck b (own a.unit.kind) t
   unfolding mirror
@@ -119,28 +129,29 @@ module _ (b : PlainBoard) (t : Place) (me : Side) (on : IsOnBoard b.game t) wher
       )
 
   -- and what is struck so attacks the square
-  pub IsAttacked-struck : (k : Kind) → IsPlayed b.game k → IsStruck b (own k) t → IsAttacked b t (other_side me)
+  pub AttacksFrom-struck : (k : Kind) → IsPlayed b.game k → (h : IsStruck b (own k) t) → AttacksFrom b (other_side me) h.strikes.strikes.to t
   unfolding mirror
-  IsAttacked-struck k played h =
+  AttacksFrom-struck k played h =
       let w = h.strikes.strikes in
-      let found : IsOnBoard b.game w.to = Leads-on b me h.step t w.to w.leads in (
-        w.to,
-        record {
-          unit = foe_of (own k);
-          on_board = found;
-          stands = w.stands;
-          owner = refl;
+      let found : IsOnBoard b.game w.to = Leads-on b me h.step t w.to w.leads in
+      record {
+        unit = foe_of (own k);
+        on_board = found;
+        stands = w.stands;
+        owner = refl;
+        reaches = record {
+          step = mirror h.step;
+          played = played;
+          denoted = Denotes-mirror (terms_of k) h.step h.denoted;
           reaches = record {
-            step = mirror h.step;
-            played = played;
-            denoted = Denotes-mirror (terms_of k) h.step h.denoted;
-            reaches = record {
-              allows = allows_capture h.step.mode (other_side me) h.strikes.captures;
-              leads = Leads-back b me h.step t w.to on w.leads;
-            };
+            allows = allows_capture h.step.mode (other_side me) h.strikes.captures;
+            leads = Leads-back b me h.step t w.to on w.leads;
           };
-        },
-      )
+        };
+      }
+
+  pub IsAttacked-struck : (k : Kind) → IsPlayed b.game k → IsStruck b (own k) t → IsAttacked b t (other_side me)
+  IsAttacked-struck k played h = (h.strikes.strikes.to, AttacksFrom-struck k played h)
 
 -- two walks of an enemy, one after the other, are two of the side's own, the other way
 pub both_back : (b : PlainBoard) (side : Side) (u : Man) (step : Step) (r s t : Place) → u.side ≡ other_side side → Denotes (terms_of u.kind) step → IsOnBoard b.game r → IsOnBoard b.game s → Leads b u.side step r s → Leads b u.side step s t
@@ -156,66 +167,13 @@ both_back b side u step r s t owner denoted on on' first then =
       subst (λ x. Leads b x (mirror step) t s) turned (Leads-back b u.side step s t on' then),
     )
 
--- what one turn of the walk decides, from the next square t
-module _ (b : PlainBoard) (u : Man) (step : Step) (s t : Place) (on : IsOnBoard b.game t) (a : IsStep u.side step s t) where
-  pub Strikes-here : unit_at b t ≡ Some (foe_of u) → Strikes b u step s
-  Strikes-here e = record { to = t; leads = once on a; stands = e }
+-- ---- a kind that stands on the board is played
 
-  pub Strikes-first : (v : Man) → unit_at b t ≡ Some v → Strikes b u step s → v ≡ foe_of u
-  Strikes-first v e w = elim (Leads-through b u.side step s t w.to on a w.leads) [
-    | inl same ↦ some_same (sym e ∙ ap (unit_at b) same ∙ w.stands)
-    | inr more ↦ absurd (no_Some (sym more.1 ∙ e))
-  ]
+stands_played : (g : Game) (n : ℕ) (o : Option Man) (u : Man) → IfSome o (MayStandOn g n) → o ≡ Some u → IsPlayed g u.kind
+stands_played g n None u m e = cc
+stands_played g n (Some v) u m e = subst (λ x. IsPlayed g x) (ap (λ (x : Man). x.kind) (same_Some v u e)) m.played
 
-  pub Strikes-blocked : (v : Man) → unit_at b t ≡ Some v → (v ≡ foe_of u → ⊥) → Strikes b u step s → ⊥
-  Strikes-blocked v e other w = elim (Leads-through b u.side step s t w.to on a w.leads) [
-    | inl same ↦ other (some_same (sym e ∙ ap (unit_at b) same ∙ w.stands))
-    | inr more ↦ no_Some (sym more.1 ∙ e)
-  ]
-
-  pub Strikes-single : unit_at b t ≡ None → step.rider ≡ false → Strikes b u step s → ⊥
-  Strikes-single e single w = elim (Leads-through b u.side step s t w.to on a w.leads) [
-    | inl same ↦ no_Some (sym e ∙ ap (unit_at b) same ∙ w.stands)
-    | inr more ↦ false≢true (sym single ∙ more.0)
-  ]
-
-  pub Strikes-more : step.rider ≡ true → unit_at b t ≡ None → Strikes b u step t → Strikes b u step s
-  Strikes-more r e w = record { to = w.to; leads = again r on a e w.leads; stands = w.stands }
-
-  pub Strikes-onward : unit_at b t ≡ None → Strikes b u step s → Strikes b u step t
-  Strikes-onward e w = elim (Leads-through b u.side step s t w.to on a w.leads) [
-    | inl same ↦ absurd (no_Some (sym e ∙ ap (unit_at b) same ∙ w.stands))
-    | inr more ↦ record { to = w.to; leads = more.2; stands = w.stands }
-  ]
-
-pub Strikes-nowhere : (b : PlainBoard) (u : Man) (step : Step) (s : Place) → ((t : Place) → IsOnBoard b.game t → IsStep u.side step s t → ⊥) → Strikes b u step s → ⊥
-Strikes-nowhere b u step s none w = Leads-nowhere b u.side step s w.to none w.leads
-
--- ---- the steps of a kind, and the kinds
-
-module _ (b : PlainBoard) (u : Man) (s : Place) where
-  pub struck_at : (i : ℕ) (d : Step) → i < length (table_of u.kind) → StrikesBy b u s (get_or (table_of u.kind) i d) → IsStruck b u s
-  struck_at i d h w = record { step = get_or (table_of u.kind) i d; denoted = (table_of-exact u.kind _).0 (Contains-get_or (table_of u.kind) i d h); strikes = w }
-
-  pub struck_by : (steps : List Step) → steps ≡ table_of u.kind → (i : ℕ) (d : Step) → i < length steps → StrikesBy b u s (get_or steps i d) → IsStruck b u s
-  struck_by steps e i d h w = struck_at i d (subst (λ l. i < length l) e h) (subst (λ l. StrikesBy b u s (get_or l i d)) e w)
-
-  pub not_struck : All (λ x. StrikesBy b u s x → ⊥) (table_of u.kind) → IsStruck b u s → ⊥
-  not_struck none w = All-contains (λ x. StrikesBy b u s x → ⊥) (table_of u.kind) w.step none ((table_of-exact u.kind w.step).1 w.denoted) w.strikes
-
-is_knight : (k : Kind) → (k ≡ Knight) ⊎ (k ≡ Knight → ⊥)
-is_knight King = inr (λ e. cc)
-is_knight Queen = inr (λ e. cc)
-is_knight Rook = inr (λ e. cc)
-is_knight Bishop = inr (λ e. cc)
-is_knight Knight = inl refl
-is_knight Pawn = inr (λ e. cc)
-
--- where no other kind attacks, a knight does
-pub none_struck : (b : PlainBoard) (t : Place) (me : Side) → IsOnBoard b.game t → ((k : Kind) → (k ≡ Knight → ⊥) → IsStruck b (record { side = me; kind = k }) t → ⊥) → IsAttacked b t (other_side me) → IsStruck b (record { side = me; kind = Knight }) t
-none_struck b t me on none (s, a) =
-    let struck = (IsStruck-attacked b t me on s a).1 in
-    elim (is_knight a.unit.kind) [
-      | inl e ↦ subst (λ k. IsStruck b (record { side = me; kind = k }) t) e struck
-      | inr other ↦ absurd (none a.unit.kind other struck)
-    ]
+pub struck_played : (b : PlainBoard) → IsPosition b → (side : Side) (k : Kind) (s : Place) → IsStruck b (record { side = side; kind = k }) s → IsPlayed b.game k
+struck_played b is side k s w =
+    let at = w.strikes.strikes.to in
+    stands_played b.game (square_number b.game at) (unit_at b at) (foe_of (record { side = side; kind = k })) (is.squares (square_number b.game at)) w.strikes.strikes.stands

@@ -1,13 +1,7 @@
--- Units that aren't pinned leave their king safe, and the pinned ones are seen from the king.
-use Rattle.std.proofs.Common.{◌≡◌, ℕ, refl, sym, ap, subst, ◌∙◌, ◌⊎◌, inl, inr, Bool, true, false, ◌||◌, not, Option, Some, None, unwrap_or, IfSome, Any}
-use Rattle.std.specs.Ordering.{int_eq}
-use Rattle.std.specs.List.{list_all, list_any}
-use Rattle.std.proofs.lemmas.Bool.{false≢true, and_parts, cases_eq}
-use Rattle.std.proofs.lemmas.Bool.Decides.{Decides-int_eq}
+-- Units that aren't pinned leave their king safe.
+use Rattle.std.proofs.Common.{◌≡◌, sym, ap, subst, ◌∙◌, ◌⊎◌, inl, inr, true, not, Option, Some, None, unwrap_or, IfSome}
+use Rattle.std.proofs.lemmas.Bool.{cases_eq}
 use Rattle.std.proofs.lemmas.Option.{same_Some}
-use Rattle.std.proofs.lemmas.List.Sums.{AllPass-from_list_all}
-use Rattle.std.proofs.lemmas.List.Folds.{Any-from_list_any}
-use Rattle.std.proofs.lemmas.List.Elements.{All-contains}
 use Rattle.board.specs.declared.game.Game.{Game}
 use Rattle.board.specs.declared.game.Side.{Side}
 use Rattle.board.specs.declared.game.Side.TheVariants.{White, Black}
@@ -18,103 +12,15 @@ use Rattle.board.specs.declared.step.Step.{Step}
 use Rattle.board.specs.Games.{other_side}
 use Rattle.board.specs.Board.{PlainBoard, IsPosition}
 use Rattle.moves.specs.Squares.{Place, Ply, IsOnBoard, square_number, unit_at}
-use Rattle.moves.specs.Reach.{IsStep, Leads, IsInCheck}
+use Rattle.moves.specs.Reach.{Leads, IsInCheck}
 use Rattle.moves.specs.Reach.Leads.{once, again}
 use Rattle.moves.specs.Moves.{IsPromotion, IsPseudoLegal, placed, after}
-use Rattle.moves.specs.declared.lines.Line.{Line}
-use Rattle.moves.specs.declared.lines.TheConstants.{LINES}
-use Rattle.moves.specs.StepTables.{table_of}
-use Rattle.moves.specs.Mailbox.{place_in, IsCell}
-use Rattle.moves.specs.Looking.{foe_of, IsHitAlong}
-use Rattle.moves.specs.Pinned.{IsPinned, IsPinnedAlong}
-use Rattle.moves.proofs.Rides.{Leads-nowhere, Leads-through}
-use Rattle.moves.proofs.Reached.{same_cell}
+use Rattle.moves.specs.Pinned.{IsPinned}
 use Rattle.moves.proofs.Listed.{same_number}
-use Rattle.moves.proofs.TableTests.{table_of-exact}
 use Rattle.moves.proofs.Laying.{unit_at-to, unit_at-from, unit_at-other}
 use Rattle.moves.proofs.Keeps.{to_on_board}
 use Rattle.moves.proofs.Kings.{king_of, check_from, one_king}
-use Rattle.moves.proofs.Looking.{captures_from, both_back}
-use Rattle.moves.proofs.Hits.{as_step, goes_along_one}
-
--- ---- what is pinned is seen from the king
-
--- a rider goes along a line
-abbrev is_far_on_line : Step → Bool
-is_far_on_line s = not s.rider || list_any (goes_along_one s) LINES
-
-far_on_lines : (k : Kind) → list_all is_far_on_line (table_of k) ≡ true
-far_on_lines King = refl
-far_on_lines Queen = refl
-far_on_lines Rook = refl
-far_on_lines Bishop = refl
-far_on_lines Knight = refl
-far_on_lines Pawn = refl
-
-rider_test : (r s : Bool) → (not r || s) ≡ true → r ≡ true → s ≡ true
-rider_test true s e h = e
-rider_test false s e h = absurd (false≢true h)
-
-pub pinned_along : (b : PlainBoard) (side : Side) (k : Place) (i : ℕ) → IsCell b.game i → IsPinned b side k (place_in i) → Any (λ (l : Line). IsPinnedAlong b side l.step k i) LINES
-pinned_along b side k i cell w =
-    let (x, rider, mode, denoted, to_rider, to_unit) = both_back b side w.rider w.step w.from (place_in i) k w.owner w.denoted w.on_board cell.on_board w.to_unit w.to_king in
-    let rides : x.rider ≡ true = rider ∙ w.rides in
-    let listed : is_far_on_line x ≡ true = All-contains (λ y. is_far_on_line y ≡ true) (table_of w.rider.kind) x (AllPass-from_list_all is_far_on_line (table_of w.rider.kind) (far_on_lines w.rider.kind)) ((table_of-exact w.rider.kind x).1 denoted) in
-    let (j, q, h, at, same) = Any-from_list_any (goes_along_one x) LINES (rider_test x.rider (list_any (goes_along_one x) LINES) listed rides) in
-    let parts = and_parts (int_eq x.dx q.step.dx) (int_eq x.dy q.step.dy) same in
-    let man : w.rider ≡ foe_of (record { side = side; kind = w.rider.kind }) = λ n. record { side = w.owner n; kind = w.rider.kind } in (
-      j,
-      q,
-      h,
-      at,
-      record {
-        cell = cell;
-        taken = w.taken;
-        hit = record {
-          kind = w.rider.kind;
-          along = record {
-            by = x;
-            denoted = denoted;
-            goes = record {
-              captures = λ e. w.captures (sym mode ∙ e);
-              files = (Decides-int_eq x.dx q.step.dx).0 parts.0;
-              ranks = (Decides-int_eq x.dy q.step.dy).0 parts.1;
-              far = λ _. rides;
-            };
-          };
-          strikes = record { to = w.from; leads = to_rider; stands = w.stands ∙ ap Some man };
-        };
-        leads = to_unit;
-      },
-    )
-
--- ---- a turn of the walk from the king
-
-module _ (b : PlainBoard) (side : Side) (step : Step) (s : Place) (i : ℕ) (w : IsPinnedAlong b side step s i) where
-  pub pinned_nowhere : ((t : Place) → IsOnBoard b.game t → IsStep side step s t → ⊥) → ⊥
-  pinned_nowhere none =
-      let g = w.hit.along.goes in
-      Leads-nowhere b side w.hit.along.by s (place_in i) (λ t on a. none t on (as_step side step w.hit.along.by s t (sym g.files) (sym g.ranks) a)) w.leads
-
-  module _ (v : ℕ) (on : IsCell b.game v) (a : IsStep side step s (place_in v)) where
-    through : (place_in v ≡ place_in i) ⊎ ((w.hit.along.by.rider ≡ true) × (unit_at b (place_in v) ≡ None) × Leads b side w.hit.along.by (place_in v) (place_in i))
-    through =
-        let g = w.hit.along.goes in
-        Leads-through b side w.hit.along.by s (place_in v) (place_in i) on.on_board (as_step side w.hit.along.by step s (place_in v) g.files g.ranks a) w.leads
-
-    -- the first unit is the one that is pinned
-    pub pinned_first : (unit_at b (place_in v) ≡ None → ⊥) → (v ≡ i) × IsHitAlong b side step (place_in v) false
-    pinned_first there = elim through [
-      | inl same ↦ (same_cell b.game v i on w.cell same, subst (λ x. IsHitAlong b side step x false) (sym same) w.hit)
-      | inr more ↦ absurd (there more.1)
-    ]
-
-    -- and no empty square is
-    pub pinned_onward : unit_at b (place_in v) ≡ None → IsPinnedAlong b side step (place_in v) i
-    pinned_onward empty = elim through [
-      | inl same ↦ absurd (w.taken (ap (unit_at b) (sym same) ∙ empty))
-      | inr more ↦ record { cell = w.cell; taken = w.taken; hit = w.hit; leads = more.2 }
-    ]
+use Rattle.moves.proofs.Looking.{captures_from}
 
 -- ---- a move of a unit that isn't pinned
 

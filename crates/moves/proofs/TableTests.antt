@@ -1,5 +1,5 @@
 -- A table of steps against the terms of a kind: a test that computes, and what it says.
-use Rattle.std.proofs.Common.{◌≡◌, ℕ, ◌+◌, ◌<◌, ◌≤◌, ℤ, pos, negsuc, zero, suc, refl, sym, subst, ◌∙◌, arith, ◌⊎◌, inl, inr, Bool, true, false, ◌&&◌, ◌||◌, not, eqb, List, get_or, Any, Contains, IsTrue, ◌↔◌}
+use Rattle.std.proofs.Common.{◌≡◌, ℕ, ◌≤◌, ℤ, pos, negsuc, zero, suc, refl, sym, subst, ◌∙◌, arith, ◌⊎◌, inl, inr, Bool, true, false, ◌&&◌, ◌||◌, not, eqb, List, get_or, Any, Contains, IsTrue, ◌↔◌}
 use Rattle.std.proofs.Common.{◌<ℤ◌}
 use Rattle.std.specs.Int.RustNames.{unsigned_abs}
 use Rattle.std.proofs.lemmas.Int.{ints}
@@ -20,8 +20,6 @@ use Rattle.board.specs.declared.terms.Term.{Term}
 use Rattle.board.specs.declared.game.Kind.{Kind}
 use Rattle.board.specs.declared.game.Kind.TheVariants as kind
 use Rattle.board.specs.Denotation.{IsLeap, IsAtomLeap, IsTermStep, Denotes, terms_of}
-use Rattle.board.proofs.Leaps.{goes_somewhere}
-use Rattle.moves.specs.Mailbox.{IsNear}
 use Rattle.moves.specs.StepTables.{table_of}
 
 -- ---- tests of each part
@@ -158,14 +156,6 @@ atom_near Ferz dx dy (inr h) = (omega (arith, h.0), omega (arith, h.1))
 atom_near Knight dx dy (inl h) = (omega (arith, h.0), omega (arith, h.1))
 atom_near Knight dx dy (inr h) = (omega (arith, h.0), omega (arith, h.1))
 
-both_near : (a : Atom) (dx dy : ℤ) → IsAtomLeap a dx dy → unsigned_abs dx + unsigned_abs dy ≤ 3
-both_near Wazir dx dy (inl h) = omega (arith, h.0, h.1)
-both_near Wazir dx dy (inr h) = omega (arith, h.0, h.1)
-both_near Ferz dx dy (inl h) = omega (arith, h.0, h.1)
-both_near Ferz dx dy (inr h) = omega (arith, h.0, h.1)
-both_near Knight dx dy (inl h) = omega (arith, h.0, h.1)
-both_near Knight dx dy (inr h) = omega (arith, h.0, h.1)
-
 -- ---- the table
 
 abbrev step_of : Term → ℤ → ℤ → Step
@@ -227,14 +217,3 @@ passes kind.Pawn = refl
 -- a kind's table has exactly the steps of its denotation
 pub table_of-exact : (k : Kind) (s : Step) → Contains (table_of k) s ↔ Denotes (terms_of k) s
 table_of-exact k s = table_exact (terms_of k) (table_of k) (passes k) s
-
--- and they are near
-pub table_of-near : (k : Kind) (s : Step) → Contains (table_of k) s → IsNear s
-table_of-near k s h =
-    let w = (table_of-exact k s).0 h in
-    let near = atom_near w.1.atom s.dx s.dy w.4.leap.atom in
-    record { files = near.0; ranks = near.1; both = both_near w.1.atom s.dx s.dy w.4.leap.atom }
-
--- and go somewhere
-pub table_of-goes : (k : Kind) (s : Step) → Contains (table_of k) s → 0 < unsigned_abs s.dx + unsigned_abs s.dy
-table_of-goes k s h = goes_somewhere (terms_of k) s ((table_of-exact k s).0 h)

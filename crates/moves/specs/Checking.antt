@@ -1,30 +1,19 @@
 -- Which moves may give check, and what a move brings about at once.
 use Rattle.std.specs.Prelude.{◌≡◌, ℕ, Some, IfSome}
 use Rattle.board.specs.declared.game.Kind.TheVariants.{King, Knight}
-use Rattle.board.specs.declared.game.Unit.{Unit as Man}
-use Rattle.board.specs.declared.step.Mode.TheVariants.{Move}
-use Rattle.board.specs.declared.step.Step.{Step}
-use Rattle.board.specs.Denotation.{terms_of, Denotes}
 use Rattle.board.specs.Games.{other_side}
 use Rattle.board.specs.Board.{PlainBoard}
 use Rattle.moves.specs.declared.at_once.Quest.{Quest}
 use Rattle.moves.specs.declared.checks.Watch.{Watch}
 use Rattle.moves.specs.declared.goal.Goal.{Goal}
 use Rattle.moves.specs.declared.goal.Goal.TheVariants.{Mate}
-use Rattle.moves.specs.Squares.{Place, Ply, unit_at}
-use Rattle.moves.specs.Reach.{Leads, IsInCheck}
+use Rattle.moves.specs.Squares.{Ply, unit_at}
+use Rattle.moves.specs.Reach.{IsInCheck}
 use Rattle.moves.specs.Moves.{IsMove}
 use Rattle.moves.specs.Forces.{IsReached}
 use Rattle.moves.specs.Mailbox.{place_in, IsCell}
 use Rattle.moves.specs.Pinned.{IsPinned}
 use Rattle.moves.specs.Targets.{Has, IsTarget}
-
--- a unit like u would take on k from s
-pub record Aims (b : PlainBoard) (u : Man) (s k : Place) : Type 0 where
-  pub step : Step
-  pub denoted : Denotes (terms_of u.kind) step
-  pub captures : step.mode ≡ Move → ⊥
-  pub leads : Leads b u.side step s k
 
 -- the watch tells the cell of the other king, which isn't attacked, which cells have units that alone keep a rider of the mover from it, and which cells a king and a knight of the mover would reach from there
 pub record Watches (b : PlainBoard) (watch : Watch) : Type 0 where

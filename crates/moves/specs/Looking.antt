@@ -1,7 +1,5 @@
 -- Check as the king sees it: what a unit of the king's side would take from the king's square.
-use Rattle.std.specs.Prelude.{◌≡◌, Bool, true, false, Some}
-use Rattle.board.specs.declared.game.Side.{Side}
-use Rattle.board.specs.declared.game.Kind.{Kind}
+use Rattle.std.specs.Prelude.{◌≡◌, Some}
 use Rattle.board.specs.declared.game.Unit.{Unit as Man}
 use Rattle.board.specs.declared.step.Mode.TheVariants.{Move}
 use Rattle.board.specs.declared.step.Step.{Step}
@@ -32,21 +30,9 @@ pub record IsStruck (b : PlainBoard) (u : Man) (s : Place) : Type 0 where
   pub denoted : Denotes (terms_of u.kind) step
   pub strikes : StrikesBy b u s step
 
--- a step that may capture goes the way of another, and where it has to go far it is a rider's
-pub record GoesAs (by step : Step) (near : Bool) : Type 0 where
-  pub captures : by.mode ≡ Move → ⊥
-  pub files : by.dx ≡ step.dx
-  pub ranks : by.dy ≡ step.dy
-  pub far : near ≡ false → by.rider ≡ true
-
--- some step of the kind does
-pub record GoesAlong (k : Kind) (step : Step) (near : Bool) : Type 0 where
-  pub by : Step
-  pub denoted : Denotes (terms_of k) by
-  pub goes : GoesAs by step near
-
--- from s some unit of the side would take a foe of its own kind that way
-pub record IsHitAlong (b : PlainBoard) (side : Side) (step : Step) (s : Place) (near : Bool) : Type 0 where
-  pub kind : Kind
-  pub along : GoesAlong kind step near
-  pub strikes : Strikes b (record { side = side; kind = kind }) along.by s
+-- a unit like u would take on k from s
+pub record Aims (b : PlainBoard) (u : Man) (s k : Place) : Type 0 where
+  pub step : Step
+  pub denoted : Denotes (terms_of u.kind) step
+  pub captures : step.mode ≡ Move → ⊥
+  pub leads : Leads b u.side step s k

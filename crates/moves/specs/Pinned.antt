@@ -1,5 +1,5 @@
 -- Units that alone keep an enemy rider from their king.
-use Rattle.std.specs.Prelude.{◌≡◌, ℕ, Some, None, true, false}
+use Rattle.std.specs.Prelude.{◌≡◌, Some, None, true}
 use Rattle.board.specs.declared.game.Side.{Side}
 use Rattle.board.specs.declared.game.Unit.{Unit as Man}
 use Rattle.board.specs.declared.step.Mode.TheVariants.{Move}
@@ -9,8 +9,6 @@ use Rattle.board.specs.Denotation.{terms_of, Denotes}
 use Rattle.board.specs.Board.{PlainBoard}
 use Rattle.moves.specs.Squares.{Place, IsOnBoard, unit_at}
 use Rattle.moves.specs.Reach.{Leads}
-use Rattle.moves.specs.Mailbox.{place_in, IsCell}
-use Rattle.moves.specs.Looking.{IsHitAlong}
 
 -- a rider of the other side comes to the unit on s, and would come on from there to the king's square k
 pub record IsPinned (b : PlainBoard) (side : Side) (k s : Place) : Type 0 where
@@ -26,10 +24,3 @@ pub record IsPinned (b : PlainBoard) (side : Side) (k s : Place) : Type 0 where
   pub taken : unit_at b s ≡ None → ⊥
   pub to_unit : Leads b rider.side step from s
   pub to_king : Leads b rider.side step s k
-
--- as the king sees it: that way from k the first unit stands in cell i, and the next is such a rider
-pub record IsPinnedAlong (b : PlainBoard) (side : Side) (step : Step) (k : Place) (i : ℕ) : Type 0 where
-  pub cell : IsCell b.game i
-  pub taken : unit_at b (place_in i) ≡ None → ⊥
-  pub hit : IsHitAlong b side step (place_in i) false
-  pub leads : Leads b side hit.along.by k (place_in i)

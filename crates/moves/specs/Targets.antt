@@ -2,19 +2,14 @@
 use Rattle.std.specs.Prelude.{◌≡◌, ℕ}
 use Rattle.std.specs.Int.{bit_at}
 use Rattle.board.specs.declared.game.Unit.{Unit as Man}
-use Rattle.board.specs.declared.step.Step.{Step}
 use Rattle.board.specs.Board.{PlainBoard}
 use Rattle.moves.specs.Squares.{Place, unit_at}
-use Rattle.moves.specs.Reach.{ReachesBy, Reaches}
+use Rattle.moves.specs.Reach.{Reaches}
 use Rattle.moves.specs.Mailbox.{place_in, IsCell}
 
 -- the cell is in the set
 abbrev pub Has : ℕ → ℕ → Type 0
 Has set i = bit_at set i ≡ 1
-
--- the cell holds a square that this step of the unit on s reaches
-abbrev pub IsTargetBy : PlainBoard → Man → Step → Place → ℕ → Type 0
-IsTargetBy b u step s i = IsCell b.game i × ReachesBy b u step s (place_in i) (unit_at b (place_in i))
 
 -- the cell holds a square that the unit on s reaches
 abbrev pub IsTarget : PlainBoard → Man → Place → ℕ → Type 0

@@ -10,7 +10,7 @@ ghost use Rattle.moves.specs.Guard.{Guards};
 
 use crate::board_list::{Guard, guard_of, is_lawful_to, own_unit, promotion_count};
 use crate::list::PROMOTIONS;
-use crate::mailbox::{Mailbox, cell_of, square_in};
+use crate::mailbox::{cell_of, square_in};
 use crate::packed::Board;
 use crate::plies::{Move, is_king};
 use crate::squares::Square;
@@ -18,25 +18,25 @@ use crate::targets::{common, lowest, targets, without};
 use board::{Kind, Unit};
 
 /// Whether a move of the unit to a square that it reaches is lawful.
-fn has_move_to(mail: &Mailbox, guard: Guard, unit: Unit, from: Square, to: Square) -> bool
-    requires position { IsPosition mail.now }
-    requires guards { Guards mail.now guard }
-    requires from_on_board { IsOnBoard mail.now.game from }
-    requires to_on_board { IsOnBoard mail.now.game to }
-    requires stands { unit_at mail.now from ≡ Some unit }
-    requires owner { unit.side ≡ mail.now.mover }
-    requires reaches { Reaches mail.now unit from to (unit_at mail.now to) }
-    ensures found { IsTrue result → (m : Ply) × IsLawful mail.now m }
-    ensures none { result ≡ false → (m : Ply) → m.from ≡ from → m.to ≡ to → IsLawful mail.now m → ⊥ }
+fn has_move_to(board: &Board, guard: Guard, unit: Unit, from: Square, to: Square) -> bool
+    requires position { IsPosition board.now }
+    requires guards { Guards board.now guard }
+    requires from_on_board { IsOnBoard board.now.game from }
+    requires to_on_board { IsOnBoard board.now.game to }
+    requires stands { unit_at board.now from ≡ Some unit }
+    requires owner { unit.side ≡ board.now.mover }
+    requires reaches { Reaches board.now unit from to (unit_at board.now to) }
+    ensures found { IsTrue result → (m : Ply) × IsLawful board.now m }
+    ensures none { result ≡ false → (m : Ply) → m.from ≡ from → m.to ≡ to → IsLawful board.now m → ⊥ }
 {
-    let target = mail.unit_in(cell_of(to));
-    for i in 0..promotion_count(mail.game(), unit, to) {
+    let target = board.unit_in(cell_of(to));
+    for i in 0..promotion_count(board.game(), unit, to) {
         let m = Move {
             from,
             to,
             promotion: PROMOTIONS[i],
         };
-        if is_lawful_to(mail, guard, m, unit, target) {
+        if is_lawful_to(board, guard, m, unit, target) {
             return true;
         }
     }
@@ -44,15 +44,15 @@ fn has_move_to(mail: &Mailbox, guard: Guard, unit: Unit, from: Square, to: Squar
 }
 
 /// The cells that the unit reaches, without some to which no move of it is lawful.
-fn tried(mail: &Mailbox, guard: Guard, unit: Unit, from: Square) -> u64
-    requires position { IsPosition mail.now }
-    requires guards { Guards mail.now guard }
-    requires on_board { IsOnBoard mail.now.game from }
-    requires stands { unit_at mail.now from ≡ Some unit }
-    ensures reached { (i : ℕ) → Has result i → IsTarget mail.now unit from i }
-    ensures all { (m : Ply) → m.from ≡ from → IsLawful mail.now m → Has result (cell_of m.to) }
+fn tried(board: &Board, guard: Guard, unit: Unit, from: Square) -> u64
+    requires position { IsPosition board.now }
+    requires guards { Guards board.now guard }
+    requires on_board { IsOnBoard board.now.game from }
+    requires stands { unit_at board.now from ≡ Some unit }
+    ensures reached { (i : ℕ) → Has result i → IsTarget board.now unit from i }
+    ensures all { (m : Ply) → m.from ≡ from → IsLawful board.now m → Has result (cell_of m.to) }
 {
-    let reached = targets(mail, unit, cell_of(from));
+    let reached = targets(board, unit, cell_of(from));
     if is_king(Some(unit)) {
         return reached;
     }
@@ -60,20 +60,20 @@ fn tried(mail: &Mailbox, guard: Guard, unit: Unit, from: Square) -> u64
 }
 
 /// Whether the unit on the square has a lawful move.
-fn has_move_from(mail: &Mailbox, guard: Guard, unit: Unit, from: Square) -> bool
-    requires position { IsPosition mail.now }
-    requires guards { Guards mail.now guard }
-    requires on_board { IsOnBoard mail.now.game from }
-    requires stands { unit_at mail.now from ≡ Some unit }
-    requires owner { unit.side ≡ mail.now.mover }
-    ensures found { IsTrue result → (m : Ply) × IsLawful mail.now m }
-    ensures none { result ≡ false → (m : Ply) → m.from ≡ from → IsLawful mail.now m → ⊥ }
+fn has_move_from(board: &Board, guard: Guard, unit: Unit, from: Square) -> bool
+    requires position { IsPosition board.now }
+    requires guards { Guards board.now guard }
+    requires on_board { IsOnBoard board.now.game from }
+    requires stands { unit_at board.now from ≡ Some unit }
+    requires owner { unit.side ≡ board.now.mover }
+    ensures found { IsTrue result → (m : Ply) × IsLawful board.now m }
+    ensures none { result ≡ false → (m : Ply) → m.from ≡ from → IsLawful board.now m → ⊥ }
 {
-    let mut left = tried(mail, guard, unit, from);
+    let mut left = tried(board, guard, unit, from);
     'cells: while left != 0 {
         let cell = lowest(left);
         left = without(left, cell);
-        if has_move_to(mail, guard, unit, from, square_in(cell)) {
+        if has_move_to(board, guard, unit, from, square_in(cell)) {
             return true;
         }
     }
@@ -81,32 +81,32 @@ fn has_move_from(mail: &Mailbox, guard: Guard, unit: Unit, from: Square) -> bool
 }
 
 /// Whether the mover's king, which most often can, has a lawful move.
-fn has_king_move(mail: &Mailbox, guard: Guard) -> bool
-    requires position { IsPosition mail.now }
-    requires guards { Guards mail.now guard }
-    ensures found { IsTrue result → (m : Ply) × IsLawful mail.now m }
+fn has_king_move(board: &Board, guard: Guard) -> bool
+    requires position { IsPosition board.now }
+    requires guards { Guards board.now guard }
+    ensures found { IsTrue result → (m : Ply) × IsLawful board.now m }
 {
     let king = Unit {
-        side: mail.mover(),
+        side: board.mover(),
         kind: Kind::King,
     };
-    has_move_from(mail, guard, king, square_in(guard.king))
+    has_move_from(board, guard, king, square_in(guard.king))
 }
 
 /// Whether there is a lawful move, on a board laid out: where the king is in check, its own moves are tried first.
-pub(crate) fn has_move(mail: &Mailbox, guard: Guard) -> bool
-    requires position { IsPosition mail.now }
-    requires guards { Guards mail.now guard }
-    ensures { IsTrue result ↔ ((m : Ply) × IsLawful mail.now m) }
+pub(crate) fn has_move(board: &Board, guard: Guard) -> bool
+    requires position { IsPosition board.now }
+    requires guards { Guards board.now guard }
+    ensures { IsTrue result ↔ ((m : Ply) × IsLawful board.now m) }
 {
-    if guard.checked && has_king_move(mail, guard) {
+    if guard.checked && has_king_move(board, guard) {
         return true;
     }
-    let game = mail.game();
+    let game = board.game();
     for number in 0..game.squares() {
         let from = Square::of_number(game, number);
-        if let Some(unit) = own_unit(mail, from) {
-            if has_move_from(mail, guard, unit, from) {
+        if let Some(unit) = own_unit(board, from) {
+            if has_move_from(board, guard, unit, from) {
                 return true;
             }
         }
@@ -118,6 +118,5 @@ pub(crate) fn has_move(mail: &Mailbox, guard: Guard) -> bool
 pub fn has_lawful_move(board: &Board) -> bool
     ensures { IsTrue result ↔ ((m : Ply) × IsLawful board.now m) }
 {
-    let mail = Mailbox::of(board);
-    has_move(&mail, guard_of(&mail))
+    has_move(board, guard_of(board))
 }

@@ -1,40 +1,42 @@
 //! Moves that end a check, other than the king's.
-ghost use Rattle.std.specs.Prelude.{◌≡◌, Some};
+ghost use Rattle.std.specs.Prelude.{◌≡◌, ◌<◌, ℕ, Some};
 ghost use Rattle.board.specs.declared.game.Kind.TheVariants.{King};
 ghost use Rattle.board.specs.Board.{IsPosition};
+ghost use Rattle.board.specs.Games.{other_side};
 ghost use Rattle.moves.specs.Squares.{unit_at};
-ghost use Rattle.moves.specs.Reach.{IsInCheck};
+ghost use Rattle.moves.specs.Reach.{AttacksFrom};
 ghost use Rattle.moves.specs.Mailbox.{place_in, IsCell};
+ghost use Rattle.moves.specs.Targets.{Has};
+ghost use Rattle.moves.specs.Ways.{Rides};
 ghost use Rattle.moves.specs.Guard.{HasBlocks};
 
-use crate::lines::lines;
-use crate::look::is_hit_along;
-use crate::mailbox::Mailbox;
-use crate::targets::{add_targets, targets};
-use board::{Kind, Unit};
+use crate::packed::Board;
+use crate::seen::along;
+use crate::tables::{WAYS, Way};
+use crate::targets::{has, single};
 
-/// Where the mover's king stands in the cell and is in check: the cells from it to one unit that gives check, or to which a
-/// knight would leap.
-pub(crate) fn blocks(mail: &Mailbox, king: u8) -> u64
-    requires position { IsPosition mail.now }
-    requires cell { IsCell mail.now.game king }
-    requires king { unit_at mail.now (place_in king) ≡ Some (record { side = mail.now.mover; kind = King }) }
-    requires check { IsInCheck mail.now mail.now.mover }
-    ensures { HasBlocks mail.now result }
+/// The cells that way from the king to the first unit, if that is the checker.
+fn between(board: &Board, way: Way, king: u8, checker: u8) -> u64
+    requires cell { IsCell board.now.game king }
+    requires checker { IsCell board.now.game checker }
+    ensures { Rides board.now way king checker → (j : ℕ) → Rides board.now way king j → Has result j }
 {
-    let side = mail.mover();
-    for line in lines() {
-        if is_hit_along(mail, side, line, king, true) {
-            let unit = Unit {
-                side,
-                kind: Kind::King,
-            };
-            return add_targets(mail, unit, &line.step, king, 0);
-        }
+    let line = along(board, way, king);
+    if has(line, checker) { line } else { 0 }
+}
+
+/// Where the mover's king stands in the cell and the unit in the other gives check: the other cell, and the cells between.
+pub(crate) fn blocks(board: &Board, king: u8, checker: u8) -> u64
+    requires position { IsPosition board.now }
+    requires cell { IsCell board.now.game king }
+    requires king { unit_at board.now (place_in king) ≡ Some (record { side = board.now.mover; kind = King }) }
+    requires from { IsCell board.now.game checker }
+    requires check { AttacksFrom board.now (other_side board.now.mover) (place_in checker) (place_in king) }
+    ensures { HasBlocks board.now result }
+{
+    let mut set = single(checker);
+    for way in &WAYS {
+        set |= between(board, *way, king, checker);
     }
-    let unit = Unit {
-        side,
-        kind: Kind::Knight,
-    };
-    targets(mail, unit, king)
+    set
 }

@@ -14,8 +14,8 @@ ghost use Rattle.moves.specs.Guard.{Guards};
 
 use crate::blocks::blocks;
 use crate::list::PROMOTIONS;
-use crate::look::{is_attacked, king_attacked, king_cell};
-use crate::mailbox::{Mailbox, cell_of, square_in};
+use crate::look::{attackers, is_attacked, king_attacked, king_cell};
+use crate::mailbox::{cell_of, square_in};
 use crate::packed::Board;
 use crate::pinned::pinned;
 use crate::plies::{Move, is_king, is_promoted_well, promotes};
@@ -36,12 +36,12 @@ pub(crate) struct Guard {
 }
 
 /// The cell of the mover's king after the move.
-fn king_after(mail: &Mailbox, guard: Guard, m: Move, unit: Unit) -> u8
-    requires position { IsPosition mail.now }
-    requires guards { Guards mail.now guard }
-    requires pseudo { IsPseudoLegal mail.now m unit }
-    ensures cell { IsCell mail.now.game result }
-    ensures king { unit_at (after mail.now m unit) (place_in result) ≡ Some (record { side = unit.side; kind = King }) }
+fn king_after(board: &Board, guard: Guard, m: Move, unit: Unit) -> u8
+    requires position { IsPosition board.now }
+    requires guards { Guards board.now guard }
+    requires pseudo { IsPseudoLegal board.now m unit }
+    ensures cell { IsCell board.now.game result }
+    ensures king { unit_at (after board.now m unit) (place_in result) ≡ Some (record { side = unit.side; kind = King }) }
 {
     if is_king(Some(unit)) {
         return cell_of(m.to);
@@ -50,22 +50,22 @@ fn king_after(mail: &Mailbox, guard: Guard, m: Move, unit: Unit) -> u8
 }
 
 /// Whether the step of the king, which isn't in check, leaves it out of check: what attacks the square after it does so before.
-fn is_safe_step(mail: &Mailbox, m: Move, king: Unit) -> bool
-    requires position { IsPosition mail.now }
-    requires pseudo { IsPseudoLegal mail.now m king }
+fn is_safe_step(board: &Board, m: Move, king: Unit) -> bool
+    requires position { IsPosition board.now }
+    requires pseudo { IsPseudoLegal board.now m king }
     requires king { king.kind ≡ King }
-    requires unchecked { IsInCheck mail.now mail.now.mover → ⊥ }
-    ensures { IsTrue result ↔ (IsInCheck (after mail.now m king) mail.now.mover → ⊥) }
+    requires unchecked { IsInCheck board.now board.now.mover → ⊥ }
+    ensures { IsTrue result ↔ (IsInCheck (after board.now m king) board.now.mover → ⊥) }
 {
-    !is_attacked(mail, cell_of(m.to), king.side)
+    !is_attacked(board, cell_of(m.to), king.side)
 }
 
 /// Whether the move leaves the mover's king out of check.
-fn is_safe(mail: &Mailbox, guard: Guard, m: Move, unit: Unit) -> bool
-    requires position { IsPosition mail.now }
-    requires guards { Guards mail.now guard }
-    requires pseudo { IsPseudoLegal mail.now m unit }
-    ensures { IsTrue result ↔ (IsInCheck (after mail.now m unit) mail.now.mover → ⊥) }
+fn is_safe(board: &Board, guard: Guard, m: Move, unit: Unit) -> bool
+    requires position { IsPosition board.now }
+    requires guards { Guards board.now guard }
+    requires pseudo { IsPseudoLegal board.now m unit }
+    ensures { IsTrue result ↔ (IsInCheck (after board.now m unit) board.now.mover → ⊥) }
 {
     let is_piece = !is_king(Some(unit));
     if is_piece && !has(guard.blocks, cell_of(m.to)) {
@@ -75,36 +75,36 @@ fn is_safe(mail: &Mailbox, guard: Guard, m: Move, unit: Unit) -> bool
         return true;
     }
     if !is_piece && !guard.checked {
-        return is_safe_step(mail, m, unit);
+        return is_safe_step(board, m, unit);
     }
-    let king = king_after(mail, guard, m, unit);
-    !king_attacked(&mail.moved(m, unit), king, unit.side)
+    let king = king_after(board, guard, m, unit);
+    !king_attacked(&board.moved(m, unit), king, unit.side)
 }
 
 /// Whether a move to a square that the unit reaches is lawful.
 pub(crate) fn is_lawful_to(
-    mail: &Mailbox,
+    board: &Board,
     guard: Guard,
     m: Move,
     unit: Unit,
     target: Option<Unit>,
 ) -> bool
-    requires position { IsPosition mail.now }
-    requires guards { Guards mail.now guard }
-    requires on_board { IsOnBoard mail.now.game m.from }
-    requires stands { unit_at mail.now m.from ≡ Some unit }
-    requires owner { unit.side ≡ mail.now.mover }
-    requires target { target ≡ unit_at mail.now m.to }
-    requires reaches { Reaches mail.now unit m.from m.to (unit_at mail.now m.to) }
-    ensures { IsTrue result ↔ IsLawful mail.now m }
+    requires position { IsPosition board.now }
+    requires guards { Guards board.now guard }
+    requires on_board { IsOnBoard board.now.game m.from }
+    requires stands { unit_at board.now m.from ≡ Some unit }
+    requires owner { unit.side ≡ board.now.mover }
+    requires target { target ≡ unit_at board.now m.to }
+    requires reaches { Reaches board.now unit m.from m.to (unit_at board.now m.to) }
+    ensures { IsTrue result ↔ IsLawful board.now m }
 {
     if is_king(target) {
         return false;
     }
-    if !is_promoted_well(mail.game(), unit, m) {
+    if !is_promoted_well(board.game(), unit, m) {
         return false;
     }
-    is_safe(mail, guard, m, unit)
+    is_safe(board, guard, m, unit)
 }
 
 /// How many of the promotions, from none on, a move of the unit to the square may name.
@@ -118,7 +118,7 @@ pub(crate) fn promotion_count(game: Game, unit: Unit, to: Square) -> usize
 
 /// Adds the lawful moves of the unit to a square that it reaches, on which `target` stands.
 fn push_to(
-    mail: &Mailbox,
+    board: &Board,
     guard: Guard,
     unit: Unit,
     from: Square,
@@ -126,68 +126,62 @@ fn push_to(
     target: Option<Unit>,
     moves: &mut ArrayVec<Move, 512>,
 )
-    requires position { IsPosition mail.now }
-    requires guards { Guards mail.now guard }
-    requires from_on_board { IsOnBoard mail.now.game from }
-    requires to_on_board { IsOnBoard mail.now.game to }
-    requires stands { unit_at mail.now from ≡ Some unit }
-    requires owner { unit.side ≡ mail.now.mover }
-    requires target { target ≡ unit_at mail.now to }
-    requires reaches { Reaches mail.now unit from to (unit_at mail.now to) }
+    requires position { IsPosition board.now }
+    requires guards { Guards board.now guard }
+    requires from_on_board { IsOnBoard board.now.game from }
+    requires to_on_board { IsOnBoard board.now.game to }
+    requires stands { unit_at board.now from ≡ Some unit }
+    requires owner { unit.side ≡ board.now.mover }
+    requires target { target ≡ unit_at board.now to }
+    requires reaches { Reaches board.now unit from to (unit_at board.now to) }
     requires room { array_vec_len moves.old + 5 ≤ 512 }
-    requires before { ListsBelow mail.now ((square_number mail.now.game from * 36 + square_number mail.now.game to) * 5) moves.old.items }
-    ensures after { ListsBelow mail.now ((square_number mail.now.game from * 36 + square_number mail.now.game to + 1) * 5) moves.new.items }
+    requires before { ListsBelow board.now ((square_number board.now.game from * 36 + square_number board.now.game to) * 5) moves.old.items }
+    ensures after { ListsBelow board.now ((square_number board.now.game from * 36 + square_number board.now.game to + 1) * 5) moves.new.items }
     ensures few { array_vec_len moves.new ≤ array_vec_len moves.old + 5 }
     ensures one { (unit.kind ≡ Pawn → ⊥) → array_vec_len moves.new ≤ array_vec_len moves.old + 1 }
 {
-    for i in 0..promotion_count(mail.game(), unit, to) {
+    for i in 0..promotion_count(board.game(), unit, to) {
         let m = Move {
             from,
             to,
             promotion: PROMOTIONS[i],
         };
-        if is_lawful_to(mail, guard, m, unit, target) {
+        if is_lawful_to(board, guard, m, unit, target) {
             moves.push(m);
         }
     }
 }
 
 /// Adds the lawful moves of the unit on the square.
-fn push_from(
-    mail: &Mailbox,
-    guard: Guard,
-    unit: Unit,
-    from: Square,
-    moves: &mut ArrayVec<Move, 512>,
-)
-    requires position { IsPosition mail.now }
-    requires guards { Guards mail.now guard }
-    requires on_board { IsOnBoard mail.now.game from }
-    requires stands { unit_at mail.now from ≡ Some unit }
-    requires owner { unit.side ≡ mail.now.mover }
+fn push_from(board: &Board, guard: Guard, unit: Unit, from: Square, moves: &mut ArrayVec<Move, 512>)
+    requires position { IsPosition board.now }
+    requires guards { Guards board.now guard }
+    requires on_board { IsOnBoard board.now.game from }
+    requires stands { unit_at board.now from ≡ Some unit }
+    requires owner { unit.side ≡ board.now.mover }
     requires room { array_vec_len moves.old + 41 ≤ 512 }
-    requires before { ListsBelow mail.now (square_number mail.now.game from * 36 * 5) moves.old.items }
-    ensures after { ListsBelow mail.now ((square_number mail.now.game from + 1) * 36 * 5) moves.new.items }
+    requires before { ListsBelow board.now (square_number board.now.game from * 36 * 5) moves.old.items }
+    ensures after { ListsBelow board.now ((square_number board.now.game from + 1) * 36 * 5) moves.new.items }
     ensures few { array_vec_len moves.new ≤ array_vec_len moves.old + 36 }
 {
-    let mut left = targets(mail, unit, cell_of(from));
+    let mut left = targets(board, unit, cell_of(from));
     'cells: while left != 0 {
         let cell = lowest(left);
         left = without(left, cell);
-        let target = mail.unit_in(cell);
-        push_to(mail, guard, unit, from, square_in(cell), target, moves);
+        let target = board.unit_in(cell);
+        push_to(board, guard, unit, from, square_in(cell), target, moves);
     }
 }
 
 /// The unit on a square, if it is the mover's.
-pub(crate) fn own_unit(mail: &Mailbox, square: Square) -> Option<Unit>
-    requires { IsOnBoard mail.now.game square }
+pub(crate) fn own_unit(board: &Board, square: Square) -> Option<Unit>
+    requires { IsOnBoard board.now.game square }
     ensures { MatchOption result
-        (is_of_side mail.now.mover (unit_at mail.now square) ≡ false)
-        (λ u. (unit_at mail.now square ≡ Some u) × (u.side ≡ mail.now.mover) × (is_of_side mail.now.mover (unit_at mail.now square) ≡ true)) }
+        (is_of_side board.now.mover (unit_at board.now square) ≡ false)
+        (λ u. (unit_at board.now square ≡ Some u) × (u.side ≡ board.now.mover) × (is_of_side board.now.mover (unit_at board.now square) ≡ true)) }
 {
-    let code = mail.code(cell_of(square));
-    if is_of_side(code, mail.mover()) {
+    let code = board.code_at(square);
+    if is_of_side(code, board.mover()) {
         unit_of(code)
     } else {
         None
@@ -195,16 +189,16 @@ pub(crate) fn own_unit(mail: &Mailbox, square: Square) -> Option<Unit>
 }
 
 /// Adds the lawful moves of the mover's units on the rank.
-fn push_rank(mail: &Mailbox, guard: Guard, rank: u8, moves: &mut ArrayVec<Move, 512>)
-    requires guards { Guards mail.now guard }
-    requires rank { rank < width_of mail.now.game }
-    requires before { ListsFrom mail.now (width_of mail.now.game * rank) moves.old.items }
-    ensures { ListsFrom mail.now (width_of mail.now.game * (rank + 1)) moves.new.items }
+fn push_rank(board: &Board, guard: Guard, rank: u8, moves: &mut ArrayVec<Move, 512>)
+    requires guards { Guards board.now guard }
+    requires rank { rank < width_of board.now.game }
+    requires before { ListsFrom board.now (width_of board.now.game * rank) moves.old.items }
+    ensures { ListsFrom board.now (width_of board.now.game * (rank + 1)) moves.new.items }
 {
-    for file in 0..mail.game().width() {
+    for file in 0..board.game().width() {
         let from = Square { file, rank };
-        if let Some(unit) = own_unit(mail, from) {
-            push_from(mail, guard, unit, from, moves);
+        if let Some(unit) = own_unit(board, from) {
+            push_from(board, guard, unit, from, moves);
         }
     }
 }
@@ -213,11 +207,10 @@ fn push_rank(mail: &Mailbox, guard: Guard, rank: u8, moves: &mut ArrayVec<Move, 
 pub fn list_lawful(board: &Board, moves: &mut ArrayVec<Move, 512>)
     ensures { ListsLawful board.now moves.new.items }
 {
-    let mail = Mailbox::of(board);
-    let guard = guard_of(&mail);
+    let guard = guard_of(board);
     moves.clear();
-    for rank in 0..mail.game().width() {
-        push_rank(&mail, guard, rank, moves);
+    for rank in 0..board.game().width() {
+        push_rank(board, guard, rank, moves);
     }
 }
 
@@ -231,27 +224,27 @@ pub fn lawful_on(board: &Board) -> ArrayVec<Move, 512>
 }
 
 /// Where the mover's king stands, whether it is in check, and what is pinned to it.
-pub(crate) fn guard_of(mail: &Mailbox) -> Guard
-    requires { IsPosition mail.now }
-    ensures { Guards mail.now result }
+pub(crate) fn guard_of(board: &Board) -> Guard
+    ensures guards { Guards board.now result }
+    ensures position { IsPosition board.now }
 {
-    let side = mail.mover();
-    let Some(king) = king_cell(mail, side) else {
+    let side = board.mover();
+    let Some(king) = king_cell(board, side) else {
         unreachable!()
     };
-    let checked = king_attacked(mail, king, side);
-    if checked {
+    let checkers = attackers(board, king, side);
+    if checkers != 0 {
         return Guard {
             king,
-            checked,
+            checked: true,
             pins: 0,
-            blocks: blocks(mail, king),
+            blocks: blocks(board, king, lowest(checkers)),
         };
     }
     Guard {
         king,
-        checked,
-        pins: pinned(mail, side, king),
+        checked: false,
+        pins: pinned(board, side, king),
         blocks: u64::MAX,
     }
 }

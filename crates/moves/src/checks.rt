@@ -7,10 +7,12 @@ ghost use Rattle.moves.specs.Reach.{IsInCheck};
 ghost use Rattle.moves.specs.Moves.{IsPseudoLegal, after};
 ghost use Rattle.moves.specs.Mailbox.{cell_of, place_in, IsCell};
 ghost use Rattle.moves.specs.Targets.{Has, IsTarget};
-ghost use Rattle.moves.specs.Checking.{Aims, Watches};
+ghost use Rattle.moves.specs.Looking.{Aims};
+ghost use Rattle.moves.specs.Checking.{Watches};
 
 use crate::look::{king_attacked, king_cell};
-use crate::mailbox::{Mailbox, cell_of};
+use crate::mailbox::cell_of;
+use crate::packed::Board;
 use crate::pinned::pinned;
 use crate::squares::Square;
 use crate::targets::{common, has, targets};
@@ -27,81 +29,80 @@ pub(crate) struct Watch {
 }
 
 /// A watch on the king that isn't the mover's, if it isn't attacked already.
-pub(crate) fn watch_of(mail: &Mailbox) -> Option<Watch>
-    requires { IsPosition mail.now }
-    ensures { IfSome result (λ watch. Watches mail.now watch) }
+pub(crate) fn watch_of(board: &Board) -> Option<Watch>
+    ensures { IfSome result (λ watch. Watches board.now watch) }
 {
-    let foe = mail.mover().other();
-    let king = king_cell(mail, foe)?;
-    if king_attacked(mail, king, foe) {
+    let foe = board.mover().other();
+    let king = king_cell(board, foe)?;
+    if king_attacked(board, king, foe) {
         return None;
     }
     Some(Watch {
         king,
-        uncovers: pinned(mail, foe, king),
-        near: seen(mail, king, Kind::King),
-        leaps: seen(mail, king, Kind::Knight),
+        uncovers: pinned(board, foe, king),
+        near: seen(board, king, Kind::King),
+        leaps: seen(board, king, Kind::Knight),
     })
 }
 
 /// The cells that a unit of the mover of this kind would reach from the king's.
-fn seen(mail: &Mailbox, king: u8, kind: Kind) -> u64
-    requires cell { IsCell mail.now.game king }
-    requires played { IsPlayed mail.now.game kind }
-    ensures { (i : ℕ) → IsTarget mail.now (record { side = mail.now.mover; kind = kind }) (place_in king) i → Has result i }
+fn seen(board: &Board, king: u8, kind: Kind) -> u64
+    requires cell { IsCell board.now.game king }
+    requires played { IsPlayed board.now.game kind }
+    ensures { (i : ℕ) → IsTarget board.now (record { side = board.now.mover; kind = kind }) (place_in king) i → Has result i }
 {
     let unit = Unit {
-        side: mail.mover(),
+        side: board.mover(),
         kind,
     };
-    targets(mail, unit, king)
+    targets(board, unit, king)
 }
 
 /// Cells among which are all from which the unit would take on the king's, and to which it may move. Of a pawn these are all
 /// next to the king.
-fn aiming(mail: &Mailbox, watch: Watch, unit: Unit) -> u64
-    requires watches { Watches mail.now watch }
-    requires played { IsPlayed mail.now.game unit.kind }
-    ensures { (m : Ply) → IsPseudoLegal mail.now m unit → Aims mail.now unit m.to (place_in watch.king) → Has result (cell_of m.to) }
+fn aiming(board: &Board, watch: Watch, unit: Unit) -> u64
+    requires watches { Watches board.now watch }
+    requires played { IsPlayed board.now.game unit.kind }
+    ensures { (m : Ply) → IsPseudoLegal board.now m unit → Aims board.now unit m.to (place_in watch.king) → Has result (cell_of m.to) }
 {
     match unit.kind {
         Kind::Pawn => watch.near,
         Kind::King => watch.near,
         Kind::Knight => watch.leaps,
-        Kind::Queen => seen(mail, watch.king, Kind::Queen),
-        Kind::Rook => seen(mail, watch.king, Kind::Rook),
-        Kind::Bishop => seen(mail, watch.king, Kind::Bishop),
+        Kind::Queen => seen(board, watch.king, Kind::Queen),
+        Kind::Rook => seen(board, watch.king, Kind::Rook),
+        Kind::Bishop => seen(board, watch.king, Kind::Bishop),
     }
 }
 
 /// Whether the unit's next move is its last as a pawn.
-fn may_promote(mail: &Mailbox, unit: Unit, from: Square) -> bool
-    ensures { (m : Ply) → m.from ≡ from → IsPseudoLegal mail.now m unit → IsSome m.promotion → IsTrue result }
+fn may_promote(board: &Board, unit: Unit, from: Square) -> bool
+    ensures { (m : Ply) → m.from ≡ from → IsPseudoLegal board.now m unit → IsSome m.promotion → IsTrue result }
 {
     if unit.kind != Kind::Pawn {
         return false;
     }
     match unit.side {
-        Side::White => from.rank + 2 == mail.game().width(),
+        Side::White => from.rank + 2 == board.game().width(),
         Side::Black => from.rank == 1,
     }
 }
 
 /// The cells that the unit reaches, without some to which no move of it gives check.
-pub(crate) fn checking(mail: &Mailbox, watch: Watch, unit: Unit, from: Square) -> u64
-    requires position { IsPosition mail.now }
-    requires watches { Watches mail.now watch }
-    requires on_board { IsOnBoard mail.now.game from }
-    requires stands { unit_at mail.now from ≡ Some unit }
-    requires owner { unit.side ≡ mail.now.mover }
-    ensures reached { (i : ℕ) → Has result i → IsTarget mail.now unit from i }
-    ensures all { (m : Ply) → IsPseudoLegal mail.now m unit → m.from ≡ from
-        → IsInCheck (after mail.now m unit) (other_side mail.now.mover) → Has result (cell_of m.to) }
+pub(crate) fn checking(board: &Board, watch: Watch, unit: Unit, from: Square) -> u64
+    requires position { IsPosition board.now }
+    requires watches { Watches board.now watch }
+    requires on_board { IsOnBoard board.now.game from }
+    requires stands { unit_at board.now from ≡ Some unit }
+    requires owner { unit.side ≡ board.now.mover }
+    ensures reached { (i : ℕ) → Has result i → IsTarget board.now unit from i }
+    ensures all { (m : Ply) → IsPseudoLegal board.now m unit → m.from ≡ from
+        → IsInCheck (after board.now m unit) (other_side board.now.mover) → Has result (cell_of m.to) }
 {
     let cell = cell_of(from);
-    let reached = targets(mail, unit, cell);
-    if reached == 0 || has(watch.uncovers, cell) || may_promote(mail, unit, from) {
+    let reached = targets(board, unit, cell);
+    if reached == 0 || has(watch.uncovers, cell) || may_promote(board, unit, from) {
         return reached;
     }
-    common(reached, aiming(mail, watch, unit))
+    common(reached, aiming(board, watch, unit))
 }

@@ -2,7 +2,6 @@
 ghost use Rattle.moves.specs.Counting.{CountsLawful};
 
 use crate::board_list::guard_of;
-use crate::mailbox::Mailbox;
 use crate::packed::Board;
 use crate::walk::{begin, next_move};
 
@@ -10,11 +9,10 @@ use crate::walk::{begin, next_move};
 pub fn count_lawful(board: &Board) -> u16
     ensures { CountsLawful board.now result }
 {
-    let mail = Mailbox::of(board);
-    let guard = guard_of(&mail);
-    let mut walk = begin(&mail);
+    let guard = guard_of(board);
+    let mut walk = begin(board);
     let mut count = 0;
-    while let Some(given) = next_move(&mail, guard, walk) {
+    while let Some(given) = next_move(board, guard, walk) {
         walk = given.walk;
         count += 1;
     }

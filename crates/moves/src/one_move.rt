@@ -5,7 +5,7 @@ ghost use Rattle.moves.specs.Squares.{IsOnBoard};
 ghost use Rattle.moves.specs.Moves.{IsLawful};
 
 use crate::board_list::{guard_of, is_lawful_to, own_unit};
-use crate::mailbox::{Mailbox, cell_of};
+use crate::mailbox::cell_of;
 use crate::packed::Board;
 use crate::plies::Move;
 use crate::targets::{has, targets};
@@ -19,24 +19,24 @@ fn has_squares(game: Game, m: Move) -> bool
 }
 
 /// Whether the move is lawful, on a board laid out that has both squares.
-fn is_lawful_in(mail: &Mailbox, m: Move) -> bool
-    requires position { IsPosition mail.now }
-    requires squares { IsOnBoard mail.now.game m.from × IsOnBoard mail.now.game m.to }
-    ensures { IsTrue result ↔ IsLawful mail.now m }
+fn is_lawful_in(board: &Board, m: Move) -> bool
+    requires position { IsPosition board.now }
+    requires squares { IsOnBoard board.now.game m.from × IsOnBoard board.now.game m.to }
+    ensures { IsTrue result ↔ IsLawful board.now m }
 {
-    let Some(unit) = own_unit(mail, m.from) else {
+    let Some(unit) = own_unit(board, m.from) else {
         return false;
     };
     let to = cell_of(m.to);
-    if !has(targets(mail, unit, cell_of(m.from)), to) {
+    if !has(targets(board, unit, cell_of(m.from)), to) {
         return false;
     }
-    is_lawful_to(mail, guard_of(mail), m, unit, mail.unit_in(to))
+    is_lawful_to(board, guard_of(board), m, unit, board.unit_in(to))
 }
 
 /// Whether the move is lawful. No list is made.
 pub fn is_lawful_on(board: &Board, m: Move) -> bool
     ensures { IsTrue result ↔ IsLawful board.now m }
 {
-    has_squares(board.game(), m) && is_lawful_in(&Mailbox::of(board), m)
+    has_squares(board.game(), m) && is_lawful_in(board, m)
 }

@@ -1,32 +1,39 @@
 //! A position in three words.
-ghost use Rattle.std.specs.Prelude.{◌≡◌, ◌<◌, ◌+◌, ◌*◌, ℕ, Some};
-ghost use Rattle.board.specs.Board.{unit_on, IsPosition};
+ghost use Rattle.std.specs.Prelude.{◌≡◌, ◌<◌, ◌+◌, ◌*◌, ◌↔◌, ℕ, Some, None, true};
+ghost use Rattle.board.specs.Board.{unit_on, is_of_side, IsPosition};
 ghost use Rattle.board.specs.Games.{width_of, squares_of};
 ghost use Rattle.moves.specs.Words.{digit, man_of, game_of_flags, mover_of_flags, IsFlags, unpacked, IsPacked};
 ghost use Rattle.moves.specs.Squares.{IsOnBoard, unit_at};
+ghost use Rattle.moves.specs.Mailbox.{place_in, IsCell};
+ghost use Rattle.moves.specs.Targets.{Has};
+ghost use Rattle.moves.specs.Sets.{Holds};
 ghost use Rattle.moves.specs.Moves.{IsPseudoLegal, IsMove, IsLawful, after};
 
+use crate::mailbox::{cell_of, cells, square_in};
 use crate::plies::Move;
+use crate::sets::{Class, Sets};
 use crate::squares::Square;
 use crate::words::{code_of, code_on, put, turned, unit_of, with_digit};
 use board::{Game, Position, Side, Unit};
 use std::marker::Model;
 
-/// A position: four bits a square, two ranks a word, and the side to move and the game in word 0.
+/// A position: four bits a square, two ranks a word, and the side to move and the game in word 0; and its units as sets.
 #[derive(Drop)]
 pub struct Board {
     words: [u64; 3],
+    sets: Sets,
 }
 
 impl Model for Board {
     ghost use Rattle.board.specs.Board.{PlainBoard};
-    ghost use Rattle.moves.specs.Words.{unpacked, IsPacked};
+    ghost use Rattle.moves.specs.Words.{unpacked};
+    ghost use Rattle.moves.specs.Sets.{IsKept};
 
     ghost Value = { PlainBoard };
 
     ghost view = { λ b. unpacked b.words };
 
-    ghost invariant = { λ b. IsPacked b.words };
+    ghost invariant = { λ b. IsKept b.words b.sets };
 }
 
 /// The code of what stands on a square.
@@ -69,7 +76,8 @@ impl Board {
             let at = Square::of_number(game, square);
             put(&mut words, game, at, code_in(position, square));
         }
-        Board { words }
+        let sets = Sets::of(position);
+        Board { words, sets }
     }
 
     /// The position that the words stand for.
@@ -98,7 +106,8 @@ impl Board {
 
     /// The side to move.
     pub fn mover(&self) -> Side
-        ensures { result ≡ self.now.mover }
+        ensures value { result ≡ self.now.mover }
+        ensures position { IsPosition self.now }
     {
         if (self.words[0] >> 48) % 16 % 2 == 0 {
             Side::White
@@ -125,7 +134,7 @@ impl Board {
     }
 
     /// The code of what stands on a square.
-    fn code_at(&self, square: Square) -> u8
+    pub(crate) fn code_at(&self, square: Square) -> u8
         requires { IsOnBoard self.now.game square }
         ensures value { man_of result ≡ unit_at self.now square }
         ensures small { result < 13 }
@@ -149,22 +158,51 @@ impl Board {
         self.words
     }
 
-    /// The codes of a rank's squares, four bits each from the lowest on. What stands above them is not theirs.
-    pub(crate) fn rank(&self, rank: u8) -> u64
-        requires { rank < width_of self.now.game }
-        ensures stands { (file : ℕ) → file < width_of self.now.game
-            → man_of (digit result file) ≡ unit_on self.now (width_of self.now.game * rank + file) }
-        ensures code { (file : ℕ) → file < width_of self.now.game → digit result file < 13 }
+    /// The unit in a cell of the board.
+    pub(crate) fn unit_in(&self, cell: u8) -> Option<Unit>
+        requires { IsCell self.now.game cell }
+        ensures { result ≡ unit_at self.now (place_in cell) }
     {
-        let word = self.words[(rank / 2) as usize];
-        word >> (4 * self.game().width() * (rank % 2))
+        self.unit_at(square_in(cell))
     }
 
-    /// The same board again.
-    pub(crate) fn again(&self) -> Board
-        ensures { result ≡ self.now }
+    /// The cells of the units of a class.
+    pub(crate) fn set(&self, class: Class) -> u64
+        ensures { Holds self.now class result }
     {
-        Board { words: self.words }
+        match class {
+            Class::White => self.sets.white,
+            Class::Black => self.sets.black,
+            Class::Crowned => self.sets.kings,
+            Class::Straight => self.sets.straight,
+            Class::Slanted => self.sets.slanted,
+            Class::Horsed => self.sets.knights,
+            Class::Foot => self.sets.pawns,
+        }
+    }
+
+    /// The cells of a side's units.
+    pub(crate) fn of_side(&self, side: Side) -> u64
+        ensures { (i : ℕ) → Has result i ↔ (IsCell self.now.game i × (is_of_side side (unit_at self.now (place_in i)) ≡ true)) }
+    {
+        match side {
+            Side::White => self.set(Class::White),
+            Side::Black => self.set(Class::Black),
+        }
+    }
+
+    /// The cells of all units.
+    pub(crate) fn taken(&self) -> u64
+        ensures { (i : ℕ) → Has result i ↔ (IsCell self.now.game i × (unit_at self.now (place_in i) ≡ None → ⊥)) }
+    {
+        self.sets.white | self.sets.black
+    }
+
+    /// The empty cells of the board.
+    pub(crate) fn empty(&self) -> u64
+        ensures { (i : ℕ) → Has result i ↔ (IsCell self.now.game i × (unit_at self.now (place_in i) ≡ None)) }
+    {
+        cells(self.game()) & !self.taken()
     }
 
     /// The board after the unit's move.
@@ -181,7 +219,8 @@ impl Board {
         };
         put(&mut words, game, m.to, code_of(placed));
         words[0] = turned(words[0]);
-        Board { words }
+        let sets = self.sets.moved(cell_of(m.from), cell_of(m.to), placed);
+        Board { words, sets }
     }
 }
 

@@ -1,40 +1,44 @@
 //! The units that alone keep an enemy rider from their king.
-ghost use Rattle.std.specs.Prelude.{ℕ, Contains};
-ghost use Rattle.moves.specs.declared.lines.TheConstants.{LINES};
+ghost use Rattle.std.specs.Prelude.{◌≡◌, ℕ, None};
+ghost use Rattle.moves.specs.Squares.{unit_at};
 ghost use Rattle.moves.specs.Mailbox.{place_in, IsCell};
-ghost use Rattle.moves.specs.Pinned.{IsPinned, IsPinnedAlong};
+ghost use Rattle.moves.specs.Pinned.{IsPinned};
 ghost use Rattle.moves.specs.Targets.{Has};
+ghost use Rattle.moves.specs.Ways.{Rides};
 
-use crate::lines::{Line, lines};
-use crate::look::is_hit_along;
-use crate::mailbox::{EMPTY, Mailbox};
-use crate::targets::with_cell;
+use crate::packed::Board;
+use crate::seen::along;
+use crate::sets::Class;
+use crate::tables::{WAYS, Way};
+use crate::targets::lowest;
 use board::Side;
 
-/// Adds the cell of the first unit that way from the king, if what stands behind it would come through to the king.
-fn add_pinned(mail: &Mailbox, side: Side, line: &Line, cell: u8, set: u64) -> u64
-    requires cell { IsCell mail.now.game cell }
-    requires line { Contains LINES line.now }
-    ensures kept { (i : ℕ) → Has set i → Has result i }
-    ensures found { (i : ℕ) → IsPinnedAlong mail.now side line.now.step (place_in cell) i → Has result i }
+/// The cell of the first unit that way from the king, if one of the riders stands next behind it.
+fn pinned_along(board: &Board, way: Way, cell: u8, riders: u64) -> u64
+    requires { IsCell board.now.game cell }
+    ensures { (i r : ℕ) → (unit_at board.now (place_in i) ≡ None → ⊥) → Has riders r
+        → Rides board.now way cell i → Rides board.now way i r → Has result i }
 {
-    let Some(to) = mail.next(side, &line.step, cell) else {
-        return set;
-    };
-    if mail.code(to) != EMPTY {
-        return with_cell(set, to, is_hit_along(mail, side, line, to, false));
+    let first = along(board, way, cell) & board.taken();
+    if first == 0 || along(board, way, lowest(first)) & riders == 0 {
+        return 0;
     }
-    add_pinned(mail, side, line, to, set)
+    first
 }
 
 /// The cells of the units that are pinned to the side's king, which stands in the cell; of enemies too, which are no matter.
-pub(crate) fn pinned(mail: &Mailbox, side: Side, cell: u8) -> u64
-    requires { IsCell mail.now.game cell }
-    ensures { (i : ℕ) → IsCell mail.now.game i → IsPinned mail.now side (place_in cell) (place_in i) → Has result i }
+pub(crate) fn pinned(board: &Board, side: Side, cell: u8) -> u64
+    requires { IsCell board.now.game cell }
+    ensures { (i : ℕ) → IsCell board.now.game i → IsPinned board.now side (place_in cell) (place_in i) → Has result i }
 {
+    let riders = board.of_side(side.other())
+        & (board.set(Class::Straight) | board.set(Class::Slanted));
+    if riders == 0 {
+        return 0;
+    }
     let mut set = 0;
-    for line in lines() {
-        set = add_pinned(mail, side, line, cell, set);
+    for way in &WAYS {
+        set |= pinned_along(board, *way, cell, riders);
     }
     set
 }

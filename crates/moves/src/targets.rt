@@ -1,15 +1,15 @@
 //! The set of cells that a unit reaches, one bit a cell.
-ghost use Rattle.std.specs.Prelude.{◌≡◌, ◌≢◌, ◌<◌, ◌+◌, ℕ, ◌↔◌, ◌⊎◌, IsTrue};
+ghost use Rattle.std.specs.Prelude.{◌≡◌, ◌≢◌, ◌<◌, ◌≤◌, ℕ, None, ◌↔◌, ◌⊎◌, IsTrue};
 ghost use Rattle.std.specs.Int.{bit_at};
-ghost use Rattle.std.specs.Int.RustNames.{unsigned_abs};
 ghost use Rattle.board.specs.Games.{IsPlayed};
-ghost use Rattle.moves.specs.Mailbox.{place_in, IsCell, IsNear};
-ghost use Rattle.moves.specs.Targets.{Has, IsTarget, IsTargetBy};
+ghost use Rattle.moves.specs.Squares.{unit_at};
+ghost use Rattle.moves.specs.Mailbox.{place_in, IsCell};
+ghost use Rattle.moves.specs.Targets.{Has, IsTarget};
+ghost use Rattle.moves.specs.Ways.{IsNext, ahead_way};
 
-use crate::mailbox::Mailbox;
-use crate::reach::allows;
-use crate::steps::steps;
-use board::{Step, Unit};
+use crate::packed::Board;
+use crate::seen::seen;
+use board::{Kind, Side, Unit};
 
 /// Whether the cell is in the set.
 pub(crate) fn has(set: u64, cell: u8) -> bool
@@ -17,6 +17,14 @@ pub(crate) fn has(set: u64, cell: u8) -> bool
     ensures { IsTrue result ↔ Has set cell }
 {
     (set >> cell) % 2 == 1
+}
+
+/// The set of one cell.
+pub(crate) fn single(cell: u8) -> u64
+    requires { cell < 64 }
+    ensures { (i : ℕ) → Has result i ↔ (cell ≡ i) }
+{
+    1 << cell
 }
 
 /// The set with the cell, if it is to be added.
@@ -27,35 +35,42 @@ pub(crate) fn with_cell(set: u64, cell: u8, is_added: bool) -> u64
     if is_added { set | 1 << cell } else { set }
 }
 
-/// Adds the cells that the step of the unit reaches.
-pub(crate) fn add_targets(mail: &Mailbox, unit: Unit, step: &Step, cell: u8, set: u64) -> u64
-    requires cell { IsCell mail.now.game cell }
-    requires near { IsNear step.now }
-    requires goes { 0 < unsigned_abs step.now.dx + unsigned_abs step.now.dy }
-    ensures { (i : ℕ) → Has result i ↔ (Has set i ⊎ IsTargetBy mail.now unit step.now (place_in cell) i) }
+/// The cell ahead of a pawn.
+fn ahead(side: Side, cell: u8) -> u8
+    requires above { 17 ≤ cell }
+    requires within { cell < 63 }
+    ensures { IsNext (ahead_way side) cell result }
 {
-    let Some(to) = mail.next(unit.side, step, cell) else {
-        return set;
-    };
-    let target = mail.unit_in(to);
-    let more = with_cell(set, to, allows(step.mode, unit.side, target));
-    if !step.rider || target.is_some() {
-        return more;
+    match side {
+        Side::White => cell + 8,
+        Side::Black => cell - 8,
     }
-    add_targets(mail, unit, step, to, more)
+}
+
+/// The cell ahead of a pawn, if it is empty.
+fn pushed(board: &Board, side: Side, cell: u8) -> u64
+    requires { IsCell board.now.game cell }
+    ensures { (j : ℕ) → Has result j ↔ (IsNext (ahead_way side) cell j × IsCell board.now.game j × (unit_at board.now (place_in j) ≡ None)) }
+{
+    let next = ahead(side, cell);
+    if next < 63 {
+        single(next) & board.empty()
+    } else {
+        0
+    }
 }
 
 /// The cells that a unit reaches.
-pub(crate) fn targets(mail: &Mailbox, unit: Unit, cell: u8) -> u64
-    requires cell { IsCell mail.now.game cell }
-    requires played { IsPlayed mail.now.game unit.kind }
-    ensures { (i : ℕ) → Has result i ↔ IsTarget mail.now unit (place_in cell) i }
+pub(crate) fn targets(board: &Board, unit: Unit, cell: u8) -> u64
+    requires cell { IsCell board.now.game cell }
+    requires played { IsPlayed board.now.game unit.kind }
+    ensures { (i : ℕ) → Has result i ↔ IsTarget board.now unit (place_in cell) i }
 {
-    let mut set = 0;
-    for step in steps(unit.kind) {
-        set = add_targets(mail, unit, step, cell, set);
+    let seen = seen(board, unit.side, unit.kind, cell);
+    match unit.kind {
+        Kind::Pawn => (seen & board.of_side(unit.side.other())) | pushed(board, unit.side, cell),
+        _ => seen & !board.of_side(unit.side),
     }
-    set
 }
 
 /// The lowest cell of a set that has one.

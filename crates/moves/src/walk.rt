@@ -12,7 +12,8 @@ ghost use Rattle.moves.specs.Guard.{Guards};
 
 use crate::board_list::{Guard, is_lawful_to, own_unit, promotion_count};
 use crate::list::PROMOTIONS;
-use crate::mailbox::{Mailbox, cell_of, square_in};
+use crate::mailbox::{cell_of, square_in};
+use crate::packed::Board;
 use crate::plies::Move;
 use crate::squares::Square;
 use crate::targets::{lowest, targets, without};
@@ -30,22 +31,22 @@ pub(crate) struct Walk {
 }
 
 /// On to the next square, once no cell is left.
-fn next_square(mail: &Mailbox, walk: Walk) -> Walk
+fn next_square(board: &Board, walk: Walk) -> Walk
     requires none { walk.left ≡ 0 }
-    requires square { walk.number < squares_of mail.now.game }
-    ensures given { (moves : List Ply) → IsAt mail.now walk moves → IsAt mail.now result moves }
+    requires square { walk.number < squares_of board.now.game }
+    ensures given { (moves : List Ply) → IsAt board.now walk moves → IsAt board.now result moves }
     ensures less { steps_left result < steps_left walk }
 {
-    let square = Square::of_number(mail.game(), walk.number);
+    let square = Square::of_number(board.game(), walk.number);
     let number = walk.number + 1;
-    match own_unit(mail, square) {
+    match own_unit(board, square) {
         Some(unit) => {
             let from = cell_of(square);
             Walk {
                 number,
                 from,
                 unit,
-                left: targets(mail, unit, from),
+                left: targets(board, unit, from),
                 promotion: 0,
             }
         }
@@ -54,15 +55,15 @@ fn next_square(mail: &Mailbox, walk: Walk) -> Walk
 }
 
 /// On to the next unit that has a cell left.
-fn next_unit(mail: &Mailbox, walk: Walk) -> Walk
-    ensures given { (moves : List Ply) → IsAt mail.now walk moves → IsAt mail.now result moves }
-    ensures end { result.left ≡ 0 → squares_of mail.now.game ≤ result.number }
+fn next_unit(board: &Board, walk: Walk) -> Walk
+    ensures given { (moves : List Ply) → IsAt board.now walk moves → IsAt board.now result moves }
+    ensures end { result.left ≡ 0 → squares_of board.now.game ≤ result.number }
     ensures less { steps_left result ≤ steps_left walk }
 {
     let mut walk = walk;
-    let squares = mail.game().squares();
+    let squares = board.game().squares();
     while walk.left == 0 && walk.number < squares {
-        walk = next_square(mail, walk);
+        walk = next_square(board, walk);
     }
     walk
 }
@@ -82,16 +83,16 @@ fn move_at(walk: Walk, cell: u8) -> Move
 }
 
 /// Behind a move to the lowest cell that is left.
-fn behind(mail: &Mailbox, walk: Walk, cell: u8, m: Move) -> Walk
+fn behind(board: &Board, walk: Walk, cell: u8, m: Move) -> Walk
     requires within { cell < 64 }
     requires there { Has walk.left cell }
     requires least { (i : ℕ) → i < cell → bit_at walk.left i ≡ 0 }
     requires promotion { walk.promotion < 5 }
     requires named { IsMoveAt walk cell m }
-    ensures passes { Passes mail.now walk m result }
+    ensures passes { Passes board.now walk m result }
     ensures less { steps_left result < steps_left walk }
 {
-    if walk.promotion + 1 < promotion_count(mail.game(), walk.unit, m.to) {
+    if walk.promotion + 1 < promotion_count(board.game(), walk.unit, m.to) {
         Walk {
             promotion: walk.promotion + 1,
             ..walk
@@ -106,8 +107,8 @@ fn behind(mail: &Mailbox, walk: Walk, cell: u8, m: Move) -> Walk
 }
 
 /// A walk over the lawful moves, before the first.
-pub(crate) fn begin(mail: &Mailbox) -> Walk
-    ensures { HasGiven mail.now result [] }
+pub(crate) fn begin(board: &Board) -> Walk
+    ensures { HasGiven board.now result [] }
 {
     let start = Walk {
         number: 0,
@@ -119,7 +120,7 @@ pub(crate) fn begin(mail: &Mailbox) -> Walk
         left: 0,
         promotion: 0,
     };
-    next_unit(mail, start)
+    next_unit(board, start)
 }
 
 /// A lawful move, and the walk behind it.
@@ -130,11 +131,11 @@ pub(crate) struct Given {
 }
 
 /// The next lawful move.
-pub(crate) fn next_move(mail: &Mailbox, guard: Guard, walk: Walk) -> Option<Given>
-    requires position { IsPosition mail.now }
-    requires guards { Guards mail.now guard }
-    requires given { (moves : List Ply) × HasGiven mail.now walk moves }
-    ensures next { (moves : List Ply) → HasGiven mail.now walk moves → GivesNext mail.now moves result }
+pub(crate) fn next_move(board: &Board, guard: Guard, walk: Walk) -> Option<Given>
+    requires position { IsPosition board.now }
+    requires guards { Guards board.now guard }
+    requires given { (moves : List Ply) × HasGiven board.now walk moves }
+    ensures next { (moves : List Ply) → HasGiven board.now walk moves → GivesNext board.now moves result }
     ensures less { IfSome result (λ given. steps_left given.walk < steps_left walk) }
 {
     let mut walk = walk;
@@ -142,8 +143,8 @@ pub(crate) fn next_move(mail: &Mailbox, guard: Guard, walk: Walk) -> Option<Give
         let cell = lowest(walk.left);
         let m = move_at(walk, cell);
         let unit = walk.unit;
-        walk = next_unit(mail, behind(mail, walk, cell, m));
-        if is_lawful_to(mail, guard, m, unit, mail.unit_in(cell)) {
+        walk = next_unit(board, behind(board, walk, cell, m));
+        if is_lawful_to(board, guard, m, unit, board.unit_in(cell)) {
             return Some(Given { m, walk });
         }
     }

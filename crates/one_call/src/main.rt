@@ -26,6 +26,7 @@ fn said<R: Threads + Wait + Sync>(rt: &R, alloc: Global, call: &str) -> &'static
         "job_board_alone" => job_board::make(alloc),
         "job_board" => job_board::answer(alloc),
         "solve" => solving::answer(rt, alloc),
+        "solve_over" => solving::answer_over(rt, alloc),
         "build_tree" => building::answer(rt, alloc),
         "entries_alone" => deciding::answer(alloc, false),
         "decide" => deciding::answer(alloc, true),

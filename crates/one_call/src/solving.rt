@@ -1,8 +1,14 @@
-//! A solve by two workers. One whose start is refused is left out.
-use board::{Position, read_fen};
-use decision::Answer;
+//! A solve by two workers, over a table of its own or one that is lent. A worker whose start is refused is
+//! left out. After want of memory the table that was lent and its seats serve the next decision.
+ghost use Rattle.std.specs.Prelude.{All};
+ghost use Rattle.slots.specs.Promise.{IsSeatOf};
+
+use board::{Position, Side, read_fen};
+use decision::{Answer, decide};
+use entry::MateLore;
 use moves::{Goal, Move, Square};
-use rounds::{NoGate, SolveFault, solve};
+use rounds::{NoGate, SolveFault, Task, make_table, solve, solve_over};
+use slots::{Seat, Slots};
 use std::alloc::Global;
 use std::sync::Wait;
 use std::thread::Threads;
@@ -27,6 +33,10 @@ pub(crate) fn answer<R: Threads + Wait + Sync>(rt: &R, alloc: Global) -> &'stati
         Err(SolveFault::NoMemory) => return "no memory",
         Err(_) => return "refused",
     };
+    said_of(answer)
+}
+
+fn said_of(answer: Answer) -> &'static str {
     let expected = Answer::Mate {
         plies: 3,
         first: C4C5,
@@ -35,5 +45,36 @@ pub(crate) fn answer<R: Threads + Wait + Sync>(rt: &R, alloc: Global) -> &'stati
         "solved"
     } else {
         "wrong"
+    }
+}
+
+/// Whether the three seats are there, and one decides.
+fn serve(slots: &Slots<MateLore>, seats: &mut Vec<Seat>, root: &Position) -> bool
+    requires { All (IsSeatOf slots.now) seats.old.items }
+{
+    if seats.len() != 3 {
+        return false;
+    }
+    let mut seat = seats.take_last();
+    decide(slots, &mut seat, root, Side::White, Goal::Mate, 3).yes
+}
+
+pub(crate) fn answer_over<R: Threads + Wait + Sync>(rt: &R, alloc: Global) -> &'static str {
+    let Some(root) = root() else {
+        return "no position";
+    };
+    let Ok((table, mut seats)) = make_table(alloc, 3, 2, 64) else {
+        return "no memory";
+    };
+    let task = Task {
+        position: &root,
+        goal: Goal::Mate,
+        limit: 3,
+        gate: &NoGate,
+    };
+    match solve_over(rt, alloc, &task, &table, &mut seats) {
+        Ok(answer) => said_of(answer),
+        Err(SolveFault::NoMemory) if serve(&table, &mut seats, &root) => "no memory",
+        Err(_) => "no more decisions",
     }
 }

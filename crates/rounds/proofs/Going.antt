@@ -1,6 +1,6 @@
 -- A seat that goes on, step by step.
-use Rattle.std.proofs.Common.{◌≡◌, ℕ, suc, ◌<◌, List, [], ◌∷◌, length, get_or, take, ◌++◌, subst, arith}
-use Rattle.std.specs.List.{AllZip}
+use Rattle.std.proofs.Common.{◌≡◌, ℕ, List, [], ◌∷◌, length, take, ◌++◌, All, sym, subst}
+use Rattle.std.proofs.lemmas.List.Elements.{AllZip-push}
 use lib.Seq.{take-append_seam}
 use Rattle.atomic_table.specs.Seated.{TableId}
 use Rattle.atomic_table.specs.declared.shared.Seat.{Seat}
@@ -8,7 +8,10 @@ use Rattle.slots.specs.declared.views.View.{View}
 use Rattle.slots.specs.Promise.{IsSeatOf}
 use Rattle.decision.specs.Calls.{Continues}
 use Rattle.decision.proofs.Calls.{continues_none, continues_more}
-use Rattle.rounds.specs.Going.{GoesOn}
+use Rattle.rounds.specs.declared.share.Share.{Share}
+use Rattle.rounds.specs.Shares.{seats_back}
+use Rattle.rounds.specs.Going.{GoesOn, EachGoesOn, SeatsGoOn}
+use Rattle.rounds.proofs.Zips.{zip_same, zip_then, zip_back}
 
 module _ (keeps : TableId → Seat ℕ View → Seat ℕ View → Type 0) (t : TableId) where
   pub goes_none : (a : Seat ℕ View) → IsSeatOf t a → GoesOn keeps t a a
@@ -21,12 +24,32 @@ module _ (keeps : TableId → Seat ℕ View → Seat ℕ View → Type 0) (t : T
   pub goes_decided : (a b c : Seat ℕ View) → IsSeatOf t a → keeps t a b → Continues t b c → GoesOn keeps t a c
   goes_decided a b c seat kept calls keep = continues_more t a b c (keep a b seat kept) calls
 
--- place by place, by number
-pub all_zip_each : {X : Type 0} (R : X → X → Type 0) (xs ys : List X) → length ys ≡ length xs → ((i : ℕ) (d : X) → i < length xs → R (get_or xs i d) (get_or ys i d)) → AllZip R xs ys
-all_zip_each R [] [] e h = tt
-all_zip_each R [] (y ∷ ys) e h = absurd (omega (arith, e))
-all_zip_each R (x ∷ xs) [] e h = absurd (omega (arith, e))
-all_zip_each R (x ∷ xs) (y ∷ ys) e h = (h 0 x (omega arith), all_zip_each R xs ys (omega (arith, e)) (λ i d lt. h (suc i) d (omega (arith, lt))))
+module _ (keeps : TableId → Seat ℕ View → Seat ℕ View → Type 0) (t : TableId) where
+  -- no seat was used
+  pub seats_none : (xs : List (Seat ℕ View)) → All (IsSeatOf t) xs → SeatsGoOn keeps t xs xs
+  seats_none xs seats = zip_same (GoesOn keeps t) (IsSeatOf t) (goes_none keeps t) xs seats
+
+  pub seats_more : (xs ys zs : List (Seat ℕ View)) → SeatsGoOn keeps t xs ys → SeatsGoOn keeps t ys zs → SeatsGoOn keeps t xs zs
+  seats_more xs ys zs p q = zip_then (GoesOn keeps t) (goes_more keeps t) xs ys zs p q
+
+  -- the last one alone was used
+  pub seats_last : (xs xs' ys : List (Seat ℕ View)) (s s' : Seat ℕ View) → xs ≡ ys ++ s ∷ [] → xs' ≡ ys ++ s' ∷ [] → All (IsSeatOf t) ys → GoesOn keeps t s s' → SeatsGoOn keeps t xs xs'
+  seats_last xs xs' ys s s' e e' seats on =
+      subst (λ (l : List (Seat ℕ View) × List (Seat ℕ View)). SeatsGoOn keeps t l.0 l.1) (λ i. (sym e i, sym e' i))
+      (AllZip-push (GoesOn keeps t) ys ys s s' (seats_none ys seats) on)
+
+  module _ {J : Type 0} where
+    -- the last share alone was used
+    pub each_last : (xs xs' ys : List (Share J)) (s s' : Share J) → xs ≡ ys ++ s ∷ [] → xs' ≡ ys ++ s' ∷ [] → All (λ u. IsSeatOf t u.seat) ys → GoesOn keeps t s.seat s'.seat → EachGoesOn keeps t xs xs'
+    each_last xs xs' ys s s' e e' seats on =
+        subst (λ (l : List (Share J) × List (Share J)). EachGoesOn keeps t l.0 l.1) (λ i. (sym e i, sym e' i))
+        (AllZip-push (λ a b. GoesOn keeps t a.seat b.seat) ys ys s s' (zip_same (λ a b. GoesOn keeps t a.seat b.seat) (λ u. IsSeatOf t u.seat) (λ u h. goes_none keeps t u.seat h) ys seats) on)
+
+    pub each_more : (xs ys zs : List (Share J)) → EachGoesOn keeps t xs ys → EachGoesOn keeps t ys zs → EachGoesOn keeps t xs zs
+    each_more xs ys zs p q = zip_then (λ a b. GoesOn keeps t a.seat b.seat) (λ a b c. goes_more keeps t a.seat b.seat c.seat) xs ys zs p q
+
+    pub back_goes_on : (xs ys : List (Share J)) → EachGoesOn keeps t xs ys → SeatsGoOn keeps t (seats_back xs) (seats_back ys)
+    back_goes_on xs ys p = zip_back (GoesOn keeps t) (λ u. u.seat) xs ys p
 
 -- as many as there are, of those and others
 pub take_whole : {X : Type 0} (n : ℕ) (xs ys : List X) → length xs ≡ n → take n (xs ++ ys) ≡ xs

@@ -4,3 +4,6 @@ pub mod Jobs
 pub mod Lists
 pub mod Rows
 pub mod Shares
+pub mod Zips
+pub mod Taking
+pub mod Picking

@@ -1,12 +1,21 @@
 -- What a share's finds say of the round.
-use Rattle.std.proofs.Common.{◌≡◌, ℕ, ◌<◌, List, [], ◌∷◌, ◌++◌, length, sym, subst, arith}
+use Rattle.std.proofs.Common.{◌≡◌, ℕ, ◌<◌, List, [], ◌∷◌, ◌++◌, length, map, reverse, All, sym, ap, subst, ◌∙◌, arith, append_assoc}
+use Rattle.std.proofs.lemmas.List.{reverse-append, map-append, length-reverse, length-map}
+use Rattle.std.proofs.lemmas.List.Elements.{All-nil, All-same, All-push, All-head, All-tail}
+use Rattle.std.proofs.lemmas.Grind.{reverse_onto}
+use Rattle.atomic_table.specs.Seated.{TableId}
+use Rattle.atomic_table.specs.declared.shared.Seat.{Seat}
+use Rattle.slots.specs.declared.views.View.{View}
+use Rattle.slots.specs.Promise.{IsSeatOf}
 use Rattle.crossbeam_deque.specs.Handles.{worker_view}
 use Rattle.rounds.specs.declared.bench.Bench.{Bench}
 use Rattle.rounds.specs.declared.bench.RootJobs.{RootJobs}
+use Rattle.rounds.specs.declared.share.Part.{Part}
 use Rattle.rounds.specs.declared.share.Share.{Share}
 use Rattle.rounds.specs.Jobs.{RootJobWins}
 use Rattle.rounds.specs.Deals.{Deals}
-use Rattle.rounds.specs.Shares.{IsBench, WinsHere, AreDealt}
+use Rattle.rounds.specs.Seats.{AreSeats}
+use Rattle.rounds.specs.Shares.{IsBench, WinsHere, AreDealt, seats_back}
 use Rattle.rounds.proofs.Lists.{Each-snoc}
 
 -- a job that wins in the round is one that the round's word may tell of
@@ -18,8 +27,35 @@ may_lower b n job is below win = (
 )
 
 -- one thread more is dealt its part
-pub dealt_more : {J : Type 0} (n threads step count from : ℕ) (xs ys : List (Share J)) (s : Share J) (put : List ℕ) → ys ≡ xs ++ s ∷ [] → step ≡ threads → count ≡ n → length xs ≡ from
+pub dealt_more : {J : Type 0} (n threads step count from : ℕ) (xs ys : List (Part J)) (s : Part J) (put : List ℕ) → ys ≡ xs ++ s ∷ [] → step ≡ threads → count ≡ n → length xs ≡ from
     → worker_view s.local ≡ put → Deals step count from put → AreDealt n threads xs → AreDealt n threads ys
 dealt_more n threads step count from xs ys s put e same_step same_count here same_put dealt so_far =
     Each-snoc (λ k u. Deals threads n k (worker_view u.local)) xs ys s e so_far
     (subst (λ (p : ℕ × ℕ × ℕ × List ℕ). Deals p.0 p.1 p.2 p.3) (λ i. (same_step i, same_count i, sym here i, sym same_put i)) dealt)
+
+-- one share more: its seat is the first
+pub back_more : {J : Type 0} (xs ys : List (Share J)) (s : Share J) → ys ≡ xs ++ s ∷ [] → seats_back ys ≡ s.seat ∷ seats_back xs
+back_more xs ys s e = ap seats_back e ∙ ap reverse (map-append (λ u. u.seat) xs (s ∷ [])) ∙ reverse-append (map (λ u. u.seat) xs) (s.seat ∷ [])
+
+-- a seat is taken from the end, and stands in one share more
+pub seat_taken : {J : Type 0} (seats seats' all : List (Seat ℕ View)) (seat : Seat ℕ View) (xs ys : List (Share J)) (s : Share J) → seats ≡ seats' ++ seat ∷ [] → ys ≡ xs ++ s ∷ [] → s.seat ≡ seat
+    → seats ++ seats_back xs ≡ all → seats' ++ seats_back ys ≡ all
+seat_taken seats seats' all seat xs ys s taken put same so_far =
+    ap (λ l. seats' ++ l) (back_more xs ys s put ∙ ap (λ x. x ∷ seats_back xs) same) ∙ sym (append_assoc seats' (seat ∷ []) (seats_back xs)) ∙ sym (ap (λ l. l ++ seats_back xs) taken) ∙ so_far
+
+-- and goes back from there
+pub seat_given : {J : Type 0} (seats seats' all : List (Seat ℕ View)) (xs ys : List (Share J)) (s : Share J) → xs ≡ ys ++ s ∷ [] → seats' ≡ seats ++ s.seat ∷ []
+    → all ≡ seats ++ seats_back xs → all ≡ seats' ++ seats_back ys
+seat_given seats seats' all xs ys s taken put so_far =
+    so_far ∙ ap (λ l. seats ++ l) (back_more ys xs s taken) ∙ sym (append_assoc seats (s.seat ∷ []) (seats_back ys)) ∙ sym (ap (λ l. l ++ seats_back ys) put)
+
+-- they are seats of the table, one a share
+module _ {J : Type 0} (t : TableId) where
+  each_back : (xs : List (Share J)) → All (λ s. IsSeatOf t s.seat) xs → All (IsSeatOf t) (seats_back xs)
+  each_back [] a = All-nil (IsSeatOf t)
+  each_back (x ∷ xs) a =
+      All-same (IsSeatOf t) (seats_back (x ∷ xs)) (seats_back xs ++ x.seat ∷ []) (reverse_onto (map (λ s. s.seat) xs) x.seat [])
+      (All-push (IsSeatOf t) (seats_back xs) x.seat (each_back xs (All-tail (λ s. IsSeatOf t s.seat) x xs a)) (All-head (λ s. IsSeatOf t s.seat) x xs a))
+
+  pub back_seats : (xs : List (Share J)) → All (λ s. IsSeatOf t s.seat) xs → AreSeats t (length xs) (seats_back xs)
+  back_seats xs seats = (length-reverse (map (λ s. s.seat) xs) ∙ length-map xs (λ (s : Share J). s.seat), each_back xs seats)

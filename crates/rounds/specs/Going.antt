@@ -16,6 +16,10 @@ KeepsOn keeps table = (before after : Seat ℕ View) → IsSeatOf table before �
 abbrev pub GoesOn : (TableId → Seat ℕ View → Seat ℕ View → Type 0) → TableId → Seat ℕ View → Seat ℕ View → Type 0
 GoesOn keeps table before after = KeepsOn keeps table → Continues table before after
 
+-- so do all of these seats, each from the one with its number
+abbrev pub SeatsGoOn : (TableId → Seat ℕ View → Seat ℕ View → Type 0) → TableId → List (Seat ℕ View) → List (Seat ℕ View) → Type 0
+SeatsGoOn keeps table before after = AllZip (GoesOn keeps table) before after
+
 -- so does the seat of each share
 abbrev pub EachGoesOn : {J : Type 0} → (TableId → Seat ℕ View → Seat ℕ View → Type 0) → TableId → List (Share J) → List (Share J) → Type 0
 EachGoesOn keeps table before after = AllZip (λ a b. GoesOn keeps table a.seat b.seat) before after

@@ -6,3 +6,4 @@ pub mod Verdicts
 pub mod Seats
 pub mod Shares
 pub mod Going
+pub mod Keys

@@ -16,6 +16,18 @@ IsRefusal limit workers slots fault =
     ((fault ≡ NoMemory) × (limits_fault limit workers slots ≡ None))
     ⊎ (limits_fault limit workers slots ≡ Some fault)
 
+-- the first fault of a limit and a number of seats, over a table that is lent: a limit outside 1 to 63 plies, seats outside 1 to 17
+abbrev pub task_fault : ℕ → ℕ → Option SolveFault
+task_fault limit seats =
+    if nat_lt limit 1 || nat_lt 63 limit then Some Limit
+    else (if nat_lt seats 1 || nat_lt 17 seats then Some Workers else None)
+
+-- why a task is refused: memory, where none of them is refused, or else their first fault
+abbrev pub IsTaskRefusal : ℕ → ℕ → SolveFault → Type 0
+IsTaskRefusal limit seats fault =
+    ((fault ≡ NoMemory) × (task_fault limit seats ≡ None))
+    ⊎ (task_fault limit seats ≡ Some fault)
+
 -- so many plies are searched: 1 to 63
 abbrev pub IsLimit : ℕ → Type 0
 IsLimit plies = (0 < plies) × (plies ≤ 63)

@@ -28,6 +28,12 @@ LeadsTo r job q =
 abbrev pub WinsIn : Root → ℕ → ℕ → Type 0
 WinsIn r n job = JobWins r.goal r.board n r.moves.items job
 
+-- the job takes n plies: it wins within them, and within no fewer
+pub record TakesIn (r : Root) (n job : ℕ) : Type 0 where
+  pub some : 0 < n
+  pub wins : WinsIn r n job
+  pub fewer : (k : ℕ) → 0 < k → k < n → WinsIn r k job → ⊥
+
 -- the jobs that win within n plies, as a set
 abbrev pub root_jobs : Root → ℕ → RootJobs
 root_jobs r n = record { position = r.board; goal = r.goal; plies = n }

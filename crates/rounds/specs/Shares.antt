@@ -1,9 +1,12 @@
 -- What the threads have in a round.
-use Rattle.std.specs.Prelude.{◌≡◌, ℕ, ◌≤◌, List, length, slice_get, slice_index_or, Some}
+use Rattle.std.specs.Prelude.{◌≡◌, ℕ, ◌≤◌, List, length, map, reverse, slice_get, slice_index_or, Some}
 use Rattle.crossbeam_deque.specs.Handles.{worker_view}
+use Rattle.atomic_table.specs.declared.shared.Seat.{Seat}
+use Rattle.slots.specs.declared.views.View.{View}
 use Rattle.slots.specs.Promise.{IsSeatOf}
 use Rattle.least.specs.Promise.{least_known}
 use Rattle.rounds.specs.declared.bench.Bench.{Bench}
+use Rattle.rounds.specs.declared.share.Part.{Part}
 use Rattle.rounds.specs.declared.share.Share.{Share}
 use Rattle.rounds.specs.declared.share.Verdict.{Verdict}
 use Rattle.rounds.specs.declared.share.Verdict.TheVariants.{Open, Wins}
@@ -28,6 +31,14 @@ WinsHere b job = WinsIn b.root.now b.plies job
 abbrev pub KnowsWins : List Verdict → ℕ → Type 0
 KnowsWins row known = (job : ℕ) → slice_index_or row job Open ≡ Wins → known ≤ job
 
+-- A share of a round of so many jobs, before it has its seat
+pub record IsPart {T J : Type 0} (n : ℕ) (b : Bench T) (s : Part J) : Type 0 where
+  pub bench : IsBench n b
+  pub stop : s.scout.stop.least.now ≡ b.least.now
+  pub row : length s.row.items ≡ n
+  pub right : AreRight (WinsHere b) s.row.items
+  pub knows : KnowsWins s.row.items (least_known s.scout.stop.seat)
+
 -- A thread's share of a round of so many jobs: its seat is one of the table, the round's word stops its searches, it has a
 -- right verdict for each job, and its seat of the word knows of each win that it found
 pub record IsShare {T J : Type 0} (n : ℕ) (b : Bench T) (s : Share J) : Type 0 where
@@ -39,6 +50,10 @@ pub record IsShare {T J : Type 0} (n : ℕ) (b : Bench T) (s : Share J) : Type 0
   pub knows : KnowsWins s.row.items (least_known s.scout.stop.seat)
 
 -- of so many threads each is dealt its part of the jobs, by its number
-abbrev pub AreDealt : {J : Type 0} → ℕ → ℕ → List (Share J) → Type 0
-AreDealt count threads shares =
-    (k : ℕ) (s : Share _) → slice_get shares k ≡ Some s → Deals threads count k (worker_view s.local)
+abbrev pub AreDealt : {J : Type 0} → ℕ → ℕ → List (Part J) → Type 0
+AreDealt count threads parts =
+    (k : ℕ) (s : Part _) → slice_get parts k ≡ Some s → Deals threads count k (worker_view s.local)
+
+-- the seats of the shares, from the last one's on
+abbrev pub seats_back : {J : Type 0} → List (Share J) → List (Seat ℕ View)
+seats_back shares = reverse (map (λ s. s.seat) shares)

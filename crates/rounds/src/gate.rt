@@ -1,5 +1,7 @@
 //! What a caller may do as jobs are begun.
+ghost use Rattle.atomic_table.specs.Seated.{TableId};
 ghost use Rattle.slots.specs.Promise.{IsSeatOf};
+ghost use Rattle.rounds.specs.Going.{KeepsOn};
 
 use entry::MateLore;
 use slots::{Seat, Slots};
@@ -32,3 +34,8 @@ impl Gate for NoGate {
 
     fn begin(&self, _round: u8, _job: u16, _slots: &Slots<MateLore>, _seat: &mut Seat) {}
 }
+
+/// In the calls of the gate that does nothing each seat goes on. The function does nothing: its contract is the law.
+pub fn no_gate_keeps_on()
+    ensures { (table : TableId) → KeepsOn ⟦<NoGate as Gate>⟧.keeps table }
+{}

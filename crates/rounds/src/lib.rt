@@ -7,14 +7,22 @@ mod bench;
 mod deal;
 mod fault;
 mod gate;
+#[cfg(test)]
+mod key_tests;
+mod keys;
+#[cfg(test)]
+mod lent_tests;
 mod round;
 mod share;
 mod solving;
 #[cfg(test)]
 mod table_tests;
+mod task;
 #[cfg(test)]
 mod tests;
 
 pub use fault::SolveFault;
-pub use gate::{Gate, NoGate};
-pub use solving::{MOST_WORKERS, solve};
+pub use gate::{Gate, NoGate, no_gate_keeps_on};
+pub use keys::{Key, keys_over};
+pub use solving::{MOST_WORKERS, make_table, solve, solve_over};
+pub use task::Task;

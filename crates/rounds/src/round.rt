@@ -1,64 +1,98 @@
 //! A round: its jobs are dealt out, worked on by all threads, and settled by the caller.
-ghost use Rattle.std.specs.Prelude.{◌≡◌, ◌+◌, ◌<◌, ◌≤◌, ◌↔◌, All, IfOk, IsTrue, length};
-ghost use Rattle.slots.specs.Promise.{IsSeatOf};
+ghost use Rattle.std.specs.Prelude.{◌≡◌, ◌<◌, ◌≤◌, ◌↔◌, [], All, IfOk, IsTrue, length, vec_capacity};
 ghost use Rattle.rounds.specs.Verdicts.{IsRight};
 ghost use Rattle.rounds.specs.Roots.{IsRoot, EndsRound};
 ghost use Rattle.rounds.specs.Seats.{AreSeats, AreCallers, AreJobSeats};
 ghost use Rattle.rounds.specs.Limits.{IsLimit};
-ghost use Rattle.rounds.specs.Shares.{IsBench, WinsHere, IsShare, AreDealt};
-ghost use Rattle.rounds.specs.Going.{GoesOn, EachGoesOn};
+ghost use Rattle.rounds.specs.Shares.{IsBench, WinsHere, IsPart, IsShare, AreDealt, seats_back};
+ghost use Rattle.rounds.specs.Going.{GoesOn, EachGoesOn, SeatsGoOn};
 
 use crate::bench::{Bench, RootJobs, Search};
 use crate::deal::{Count, Thief, deal};
 use crate::gate::Gate;
-use crate::share::{Share, Verdict};
-use entry::MateLore;
+use crate::share::{Part, Share, Verdict};
 use least::{JobSeat, Least, MakeFault};
-use slots::{Seat, Slots};
+use slots::Seat;
 use std::alloc::{AllocError, Global};
 use std::sync::Wait;
 use std::thread;
 use std::thread::Threads;
 
-/// A share for each seat, with its part of the jobs.
-fn share_out<'a, J: Count, T: Gate>(
+/// A part of the jobs for each seat of the word.
+fn deal_out<'a, J: Count, T: Gate>(
     alloc: Global,
     bench: &Bench<'a, T>,
-    mut seats: Vec<Seat>,
     mut job_seats: Vec<JobSeat<RootJobs>>,
-) -> Result<Vec<Share<'a, J>>, AllocError>
+) -> Result<Vec<Part<'a, J>>, AllocError>
     requires bench { IsBench J.jobs bench.now }
-    requires seats { AreCallers bench.now.slots.now seats.items }
-    requires job_seats { AreJobSeats bench.now.least.now (length seats.items) job_seats.items }
-    ensures count { IfOk result (λ shares. length shares.items ≡ length seats.items) }
-    ensures shares { IfOk result (λ shares. All (IsShare J.jobs bench.now) shares.items) }
-    ensures dealt { IfOk result (λ shares. AreDealt J.jobs (length seats.items) shares.items) }
+    requires job_seats { AreJobSeats bench.now.least.now (length job_seats.items) job_seats.items }
+    requires threads { (0 < length job_seats.items) × (length job_seats.items ≤ 17) }
+    ensures count { IfOk result (λ parts. length parts.items ≡ length job_seats.items) }
+    ensures parts { IfOk result (λ parts. All (IsPart J.jobs bench.now) parts.items) }
+    ensures dealt { IfOk result (λ parts. AreDealt J.jobs (length job_seats.items) parts.items) }
 {
-    let step = seats.len() as u16;
-    let mut shares = Vec::with_capacity(alloc, seats.len())?;
+    let step = job_seats.len() as u16;
+    let mut parts = Vec::with_capacity(alloc, job_seats.len())?;
     for from in 0..step {
-        let (Some(seat), Some(jobs)) = (seats.pop(), job_seats.pop()) else {
+        let Some(jobs) = job_seats.pop() else {
             unreachable!()
         };
         let local = deal(alloc, from, step, bench.root.jobs())?;
-        shares.push(Share::new(alloc, bench, seat, jobs, local)?)?;
+        parts.push(Part::new(alloc, bench, jobs, local)?)?;
     }
-    Ok(shares)
+    Ok(parts)
 }
 
 /// The stealers of all deques.
 fn all_thieves<J: Count>(
     alloc: Global,
-    shares: &Vec<Share<'_, J>>,
+    parts: &Vec<Part<'_, J>>,
 ) -> Result<Vec<Thief<J>>, AllocError>
-    ensures { IfOk result (λ thieves. length thieves.items ≡ length shares.now.items) }
+    ensures { IfOk result (λ thieves. length thieves.items ≡ length parts.now.items) }
 {
-    let mut thieves = Vec::with_capacity(alloc, shares.len())?;
-    for share in shares {
-        let thief = share.local.stealer()?;
+    let mut thieves = Vec::with_capacity(alloc, parts.len())?;
+    for part in parts {
+        let thief = part.local.stealer()?;
         thieves.push(thief)?;
     }
     Ok(thieves)
+}
+
+/// A share for each part, with a seat: the last one has the first seat. Nothing here takes memory.
+fn seat_all<'a, J: Count, T: Gate>(
+    bench: &Bench<'_, T>,
+    mut parts: Vec<Part<'a, J>>,
+    seats: &mut Vec<Seat>,
+    mut shares: Vec<Share<'a, J>>,
+) -> Vec<Share<'a, J>>
+    requires parts { All (IsPart J.jobs bench.now) parts.items }
+    requires seats { AreSeats bench.now.slots.now (length parts.items) seats.old.items }
+    requires none { shares.items ≡ [] }
+    requires room { length parts.items ≤ vec_capacity shares }
+    ensures taken { (seats.new.items ≡ []) × (vec_capacity seats.new ≡ vec_capacity seats.old) }
+    ensures shares { All (IsShare J.jobs bench.now) result.items }
+    ensures count { length result.items ≡ length parts.entry.items }
+    ensures same { seats_back result.items ≡ seats.old.items }
+    ensures capacity { vec_capacity result ≡ vec_capacity shares.entry }
+{
+    while let Some(part) = parts.pop() {
+        let Some(seat) = seats.pop() else {
+            unreachable!()
+        };
+        shares.push_reserved(part.seated(bench, seat));
+    }
+    shares
+}
+
+/// The seats go back to where they came from, each to its place.
+fn give_back<J: Count>(mut shares: Vec<Share<'_, J>>, seats: &mut Vec<Seat>)
+    requires none { seats.old.items ≡ [] }
+    requires room { length shares.items ≤ vec_capacity seats.old }
+    ensures { seats.new.items ≡ seats_back shares.entry.items }
+{
+    while let Some(share) = shares.pop() {
+        seats.push_reserved(share.seat);
+    }
 }
 
 /// Each share is worked on by a thread of its own, where one can be made, and the last share by the
@@ -156,64 +190,64 @@ fn settle<J: Count, T: Gate>(
     None
 }
 
-/// The seats, out of the shares.
-fn seats_of<J: Count>(
-    alloc: Global,
-    slots: &Slots<MateLore>,
-    mut shares: Vec<Share<'_, J>>,
-    own: Share<'_, J>,
-) -> Result<Vec<Seat>, AllocError>
-    requires shares { All (λ share. IsSeatOf slots.now share.seat) shares.items }
-    requires own { IsSeatOf slots.now own.seat }
-    ensures { IfOk result (λ seats. AreSeats slots.now (length shares.entry.items + 1) seats.items) }
+/// The same, of all shares: the last is the caller's own.
+fn settle_all<J: Count, T: Gate>(
+    bench: &Bench<'_, T>,
+    shares: &mut Vec<Share<'_, J>>,
+) -> Option<u16>
+    requires some { 0 < length shares.old.items }
+    requires shares { All (IsShare J.jobs bench.now) shares.old.items }
+    ensures count { length shares.new.items ≡ length shares.old.items }
+    ensures shares { All (IsShare J.jobs bench.now) shares.new.items }
+    ensures go_on { EachGoesOn T.keeps bench.now.slots.now shares.old.items shares.new.items }
+    ensures end { EndsRound bench.now.root.now bench.now.plies result }
 {
-    let mut seats = Vec::with_capacity(alloc, shares.len() + 1)?;
-    seats.push(own.seat)?;
-    while let Some(share) = shares.pop() {
-        seats.push(share.seat)?;
-    }
-    Ok(seats)
+    let mut own = shares.take_last();
+    let first = settle(bench, shares, &mut own);
+    shares.push_reserved(own);
+    first
 }
 
-/// The least job that wins in the round, and the seats.
+/// The least job that wins in the round. The seats are lent: all memory is asked for before one is taken.
 fn play<J: Count + Send + Sync, T: Gate, R: Threads + Wait + Sync>(
     rt: &R,
     alloc: Global,
     bench: &Bench<'_, T>,
-    seats: Vec<Seat>,
+    seats: &mut Vec<Seat>,
     job_seats: Vec<JobSeat<RootJobs>>,
-) -> Result<(Option<u16>, Vec<Seat>), AllocError>
+) -> Result<Option<u16>, AllocError>
     requires bench { IsBench J.jobs bench.now }
-    requires seats { AreCallers bench.now.slots.now seats.items }
-    requires job_seats { AreJobSeats bench.now.least.now (length seats.items) job_seats.items }
-    ensures end { IfOk result (λ r. EndsRound bench.now.root.now bench.now.plies r.0) }
-    ensures seats { IfOk result (λ r. AreSeats bench.now.slots.now (length seats.items) r.1.items) }
+    requires seats { AreCallers bench.now.slots.now seats.old.items }
+    requires job_seats { AreJobSeats bench.now.least.now (length seats.old.items) job_seats.items }
+    ensures end { IfOk result (EndsRound bench.now.root.now bench.now.plies) }
+    ensures seats { AreSeats bench.now.slots.now (length seats.old.items) seats.new.items }
+    ensures go_on { SeatsGoOn T.keeps bench.now.slots.now seats.old.items seats.new.items }
 {
-    let mut shares = share_out::<J, T>(alloc, bench, seats, job_seats)?;
-    let thieves = all_thieves(alloc, &shares)?;
+    let parts = deal_out::<J, T>(alloc, bench, job_seats)?;
+    let thieves = all_thieves(alloc, &parts)?;
+    let room = Vec::with_capacity(alloc, seats.len())?;
+    let mut shares = seat_all(bench, parts, seats, room);
     work_all(rt, bench, &thieves, &mut shares);
-    let Some(mut own) = shares.pop() else {
-        unreachable!()
-    };
-    let first = settle(bench, &shares, &mut own);
-    let seats = seats_of(alloc, bench.slots, shares, own)?;
-    Ok((first, seats))
+    let first = settle_all(bench, &mut shares);
+    give_back(shares, seats);
+    Ok(first)
 }
 
-/// The least job that wins in the round of so many plies, and the seats. J has the number of jobs.
+/// The least job that wins in the round of so many plies. J has the number of jobs.
 pub(crate) fn round<J: Count + Send + Sync, T: Gate, R: Threads + Wait + Sync>(
     rt: &R,
     alloc: Global,
     search: &Search<'_, T>,
     plies: u8,
-    seats: Vec<Seat>,
-) -> Result<(Option<u16>, Vec<Seat>), AllocError>
+    seats: &mut Vec<Seat>,
+) -> Result<Option<u16>, AllocError>
     requires jobs { length search.now.root.moves.items ≡ J.jobs }
     requires root { IsRoot search.now.root }
     requires plies { IsLimit plies }
-    requires seats { AreCallers search.now.slots.now seats.items }
-    ensures end { IfOk result (λ r. EndsRound search.now.root plies r.0) }
-    ensures seats { IfOk result (λ r. AreSeats search.now.slots.now (length seats.items) r.1.items) }
+    requires seats { AreCallers search.now.slots.now seats.old.items }
+    ensures end { IfOk result (EndsRound search.now.root plies) }
+    ensures seats { AreSeats search.now.slots.now (length seats.old.items) seats.new.items }
+    ensures go_on { SeatsGoOn T.keeps search.now.slots.now seats.old.items seats.new.items }
 {
     let root = &search.root;
     let callers = seats.len() as u8;

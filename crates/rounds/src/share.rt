@@ -19,36 +19,31 @@ pub(crate) enum Verdict {
     Loses,
 }
 
-/// The thread's deque, its seat, what leads its searches, and what it found of each job.
+/// A share that has no seat yet: all of it that takes memory.
 #[derive(Drop)]
-pub(crate) struct Share<'a, J: Count> {
+pub(crate) struct Part<'a, J: Count> {
     pub local: Owner<J>,
-    pub seat: Seat,
     pub scout: Scout<JobStop<'a>>,
     pub row: Vec<Verdict>,
 }
 
-impl<'a, J: Count> Share<'a, J> {
-    ghost use Rattle.std.specs.Prelude.{◌<◌, ◌↔◌, IfOk, IsTrue};
+impl<'a, J: Count> Part<'a, J> {
+    ghost use Rattle.std.specs.Prelude.{IfOk};
     ghost use Rattle.slots.specs.Promise.{IsSeatOf};
     ghost use Rattle.least.specs.Promise.{IsJobSeatOf};
-    ghost use Rattle.rounds.specs.Verdicts.{IsRight};
-    ghost use Rattle.rounds.specs.Shares.{IsBench, WinsHere, IsShare};
-    ghost use Rattle.rounds.specs.Going.{GoesOn};
+    ghost use Rattle.rounds.specs.Shares.{IsBench, IsPart, IsShare};
 
-    /// A share that has found nothing yet.
+    /// A part that has found nothing yet.
     pub(crate) fn new<T: Gate>(
         alloc: Global,
         bench: &Bench<'a, T>,
-        seat: Seat,
         jobs: JobSeat<RootJobs>,
         local: Owner<J>,
-    ) -> Result<Share<'a, J>, AllocError>
+    ) -> Result<Part<'a, J>, AllocError>
         requires bench { IsBench J.jobs bench.now }
-        requires seat { IsSeatOf bench.now.slots.now seat }
         requires jobs { IsJobSeatOf bench.now.least.now jobs }
-        ensures share { IfOk result (IsShare J.jobs bench.now) }
-        ensures local { IfOk result (λ share. share.local ≡ local) }
+        ensures part { IfOk result (IsPart J.jobs bench.now) }
+        ensures local { IfOk result (λ part. part.local ≡ local) }
     {
         let count = bench.root.jobs();
         let row = Vec::from_elem(alloc, Verdict::Open, usize::from(count))?;
@@ -62,13 +57,41 @@ impl<'a, J: Count> Share<'a, J> {
             stop,
             memory: Memory::new(),
         };
-        Ok(Share {
+        Ok(Part { local, scout, row })
+    }
+
+    /// The share, with its seat.
+    pub(crate) fn seated<T: Gate>(self, bench: &Bench<'_, T>, seat: Seat) -> Share<'a, J>
+        requires part { IsPart J.jobs bench.now self }
+        requires seat { IsSeatOf bench.now.slots.now seat }
+        ensures share { IsShare J.jobs bench.now result }
+        ensures seat { result.seat ≡ seat }
+    {
+        let _ = bench;
+        let Part { local, scout, row } = self;
+        Share {
             local,
             seat,
             scout,
             row,
-        })
+        }
     }
+}
+
+/// The thread's deque, its seat, what leads its searches, and what it found of each job.
+#[derive(Drop)]
+pub(crate) struct Share<'a, J: Count> {
+    pub local: Owner<J>,
+    pub seat: Seat,
+    pub scout: Scout<JobStop<'a>>,
+    pub row: Vec<Verdict>,
+}
+
+impl<'a, J: Count> Share<'a, J> {
+    ghost use Rattle.std.specs.Prelude.{◌<◌, ◌↔◌, IsTrue};
+    ghost use Rattle.rounds.specs.Verdicts.{IsRight};
+    ghost use Rattle.rounds.specs.Shares.{WinsHere, IsShare};
+    ghost use Rattle.rounds.specs.Going.{GoesOn};
 
     /// What the share says of a job.
     pub(crate) fn says<T: Gate>(&self, bench: &Bench<'_, T>, job: u16) -> Verdict

@@ -1,15 +1,17 @@
 //! A solve: rounds of more and more plies, each by all workers, over one table.
-ghost use Rattle.std.specs.Prelude.{◌≡◌, ◌+◌, IfOk, IfErr, None, Some};
-ghost use Rattle.slots.specs.Promise.{slots_of};
+ghost use Rattle.std.specs.Prelude.{◌≡◌, ◌+◌, All, IfOk, IfErr, None, Some, length};
+ghost use Rattle.slots.specs.Promise.{slots_of, IsSeatOf, AllNew};
 ghost use Rattle.decision.specs.Answer.{IsAnswer};
-ghost use Rattle.rounds.specs.Limits.{limits_fault, IsRefusal, IsLimit};
+ghost use Rattle.rounds.specs.Limits.{limits_fault, IsRefusal, task_fault, IsTaskRefusal, IsLimit};
 ghost use Rattle.rounds.specs.Roots.{IsRoot};
 ghost use Rattle.rounds.specs.Seats.{AreSeats, AreCallers};
+ghost use Rattle.rounds.specs.Going.{SeatsGoOn};
 
 use crate::bench::{Root, Search};
 use crate::fault::SolveFault;
 use crate::gate::Gate;
 use crate::round::round;
+use crate::task::Task;
 use board::Position;
 use decision::{Answer, MOST_LIMIT};
 use entry::MateLore;
@@ -53,15 +55,38 @@ fn limits_of(plies: u8, workers: u8, slots: usize) -> Result<Limits, SolveFault>
     })
 }
 
-/// A table of so many slots, with a seat for each worker and one for the caller's own thread.
-fn table_for(alloc: Global, limits: Limits) -> Result<(Slots<MateLore>, Vec<Seat>), AllocError>
-    requires { limits_fault limits.plies limits.workers limits.slots ≡ None }
-    ensures slots { IfOk result (λ r. slots_of r.0 ≡ limits.slots) }
-    ensures seats { IfOk result (λ r. AreSeats r.0 (limits.workers + 1) r.1.items) }
+/// The limit, and that there is a seat for each of 1 to 17 threads, or the first of them that isn't so.
+pub(crate) fn look_at(limit: u8, threads: usize) -> Result<(), SolveFault>
+    ensures accepted { IfOk result (λ _. task_fault limit threads ≡ None) }
+    ensures refused { IfErr result (λ fault. task_fault limit threads ≡ Some fault) }
 {
+    if limit < 1 || MOST_LIMIT < limit {
+        return Err(SolveFault::Limit);
+    }
+    if threads < 1 || usize::from(MOST_WORKERS) + 1 < threads {
+        return Err(SolveFault::Workers);
+    }
+    Ok(())
+}
+
+/// A table of so many slots, with a seat for each worker and one for the caller's own thread: what a solve
+/// with these values is played over.
+pub fn make_table(
+    alloc: Global,
+    limit: u8,
+    workers: u8,
+    slots: usize,
+) -> Result<(Slots<MateLore>, Vec<Seat>), SolveFault>
+    ensures accepted { IfOk result (λ _. limits_fault limit workers slots ≡ None) }
+    ensures slots { IfOk result (λ r. slots_of r.0 ≡ slots) }
+    ensures seats { IfOk result (λ r. AreSeats r.0 (workers + 1) r.1.items) }
+    ensures new { IfOk result (λ r. AllNew r.0 r.1.items) }
+    ensures refused { IfErr result (IsRefusal limit workers slots) }
+{
+    let limits = limits_of(limit, workers, slots)?;
     match Slots::make(alloc, limits.slots, usize::from(limits.workers) + 1) {
         Ok(made) => Ok(made),
-        Err(_) => Err(AllocError),
+        Err(_) => Err(SolveFault::NoMemory),
     }
 }
 
@@ -72,32 +97,61 @@ fn play_rounds<T: Gate, R: Threads + Wait + Sync>(
     alloc: Global,
     search: &Search<'_, T>,
     limit: u8,
-    mut seats: Vec<Seat>,
+    seats: &mut Vec<Seat>,
 ) -> Result<Answer, AllocError>
     requires root { IsRoot search.now.root }
     requires limit { IsLimit limit }
-    requires seats { AreCallers search.now.slots.now seats.items }
+    requires seats { AreCallers search.now.slots.now seats.old.items }
     ensures answer { IfOk result (IsAnswer search.now.root.goal search.now.root.board limit) }
+    ensures seats { AreSeats search.now.slots.now (length seats.old.items) seats.new.items }
+    ensures go_on { SeatsGoOn T.keeps search.now.slots.now seats.old.items seats.new.items }
 {
     for number in 0..(limit + 1) / 2 {
         let plies = 2 * number + 1;
-        let (first, back) = round::<Brand, T, R>(rt, alloc, search, plies, seats)?;
-        match first {
+        match round::<Brand, T, R>(rt, alloc, search, plies, seats)? {
             Some(job) => {
                 return Ok(Answer::Mate {
                     plies,
                     first: search.root.moves[usize::from(job)],
                 });
             }
-            None => seats = back,
+            None => {}
         }
     }
     Ok(Answer::NoneWithin(limit))
 }
 
 /// The fewest plies in which the side to move forces the goal, with the least first move, or that there are
-/// none up to the limit: searched by so many workers and the caller's own thread, over a table of so many
-/// slots. A worker that can't be started is left out.
+/// none up to the limit: searched by a thread for each seat, over a table that is lent. The first seat is
+/// that of the caller's own thread. After a fault the table and the seats serve the next call.
+pub fn solve_over<T: Gate, R: Threads + Wait + Sync>(
+    rt: &R,
+    alloc: Global,
+    task: &Task<'_, T>,
+    slots: &Slots<MateLore>,
+    seats: &mut Vec<Seat>,
+) -> Result<Answer, SolveFault>
+    requires { All (IsSeatOf slots.now) seats.old.items }
+    ensures answer { IfOk result (IsAnswer task.now.goal task.now.position.now task.now.limit) }
+    ensures accepted { IfOk result (λ _. task_fault task.now.limit (length seats.old.items) ≡ None) }
+    ensures refused { IfErr result (IsTaskRefusal task.now.limit (length seats.old.items)) }
+    ensures seats { AreSeats slots.now (length seats.old.items) seats.new.items }
+    ensures go_on { SeatsGoOn T.keeps slots.now seats.old.items seats.new.items }
+{
+    look_at(task.limit, seats.len())?;
+    let search = Search {
+        root: Root::of(task.position, task.goal),
+        slots,
+        gate: task.gate,
+    };
+    let Ok(answer) = play_rounds(rt, alloc, &search, task.limit, seats) else {
+        return Err(SolveFault::NoMemory);
+    };
+    Ok(answer)
+}
+
+/// The same, searched by so many workers and the caller's own thread, over a table of so many slots. A
+/// worker that can't be started is left out.
 pub fn solve<T: Gate, R: Threads + Wait + Sync>(
     rt: &R,
     alloc: Global,
@@ -112,17 +166,12 @@ pub fn solve<T: Gate, R: Threads + Wait + Sync>(
     ensures accepted { IfOk result (λ _. limits_fault limit workers slots ≡ None) }
     ensures refused { IfErr result (IsRefusal limit workers slots) }
 {
-    let limits = limits_of(limit, workers, slots)?;
-    let Ok((table, seats)) = table_for(alloc, limits) else {
-        return Err(SolveFault::NoMemory);
-    };
-    let search = Search {
-        root: Root::of(position, goal),
-        slots: &table,
+    let (table, mut seats) = make_table(alloc, limit, workers, slots)?;
+    let task = Task {
+        position,
+        goal,
+        limit,
         gate,
     };
-    let Ok(answer) = play_rounds(rt, alloc, &search, limits.plies, seats) else {
-        return Err(SolveFault::NoMemory);
-    };
-    Ok(answer)
+    solve_over(rt, alloc, &task, &table, &mut seats)
 }

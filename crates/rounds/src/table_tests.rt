@@ -135,3 +135,55 @@ fn all_rounds_use_one_table(rt: HostRuntime) {
     assert!(rt; gate.probed.load(Ordering::SeqCst) >= 16);
     assert!(rt; !gate.vacant.load(Ordering::SeqCst));
 }
+
+// Whether nothing stands in any slot.
+fn are_all_vacant(slots: &Slots<MateLore>, seat: &mut Seat, entry: &Entry) -> bool
+    requires { IsSeatOf slots.now seat.old }
+    ensures { IsSeatOf slots.now seat.new }
+{
+    let mut vacant = true;
+    for slot in 0..slots.len() {
+        let found = slots.probe(seat, slot, key_of(pack(entry)));
+        vacant = vacant && found == Probe::Vacant;
+    }
+    vacant
+}
+
+// The first job begun looks into each slot. All others are held until it has looked.
+#[derive(Drop)]
+struct Looks {
+    position: Position,
+    begun: AtomicU64,
+    looked: AtomicU64,
+    gave_up: AtomicBool,
+    vacant: AtomicBool,
+}
+
+impl Gate for Looks {
+    fn begin(&self, _round: u8, _job: u16, slots: &Slots<MateLore>, seat: &mut Seat) {
+        if self.begun.fetch_add(1, Ordering::SeqCst) == 0 {
+            let vacant = are_all_vacant(slots, seat, &entry_of(self.position));
+            self.vacant.store(vacant, Ordering::SeqCst);
+            self.looked.store(1, Ordering::SeqCst);
+        } else if !comes_above(&self.looked, 0) {
+            self.gave_up.store(true, Ordering::SeqCst);
+        }
+    }
+}
+
+// A decision stores, so a gate that is told of a job after it would find something there.
+#[test]
+fn a_job_is_begun_before_it_is_decided(rt: HostRuntime) {
+    for workers in [1, 4] {
+        let gate = Looks {
+            position: two_kings(&rt),
+            begun: AtomicU64::new(0),
+            looked: AtomicU64::new(0),
+            gave_up: AtomicBool::new(false),
+            vacant: AtomicBool::new(false),
+        };
+        assert!(rt; solved(&rt, rt.alloc(), workers, 64, &gate) == expected());
+        assert!(rt; !gate.gave_up.load(Ordering::SeqCst));
+        assert!(rt; gate.vacant.load(Ordering::SeqCst));
+    }
+}

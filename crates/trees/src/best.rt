@@ -3,7 +3,7 @@ ghost use Rattle.std.specs.Prelude.{◌<◌, ◌≤◌, MatchOption};
 ghost use Rattle.moves.specs.Squares.{Ply};
 ghost use Rattle.moves.specs.Forces.{Forces};
 ghost use Rattle.slots.specs.Promise.{IsSeatOf};
-ghost use Rattle.decision.specs.Answer.{Wins, IsLeastWin};
+ghost use Rattle.decision.specs.Answer.{Wins, IsFewest, IsLeastWin};
 ghost use Rattle.decision.specs.Calls.{Continues};
 ghost use Rattle.trees.specs.Best.{IsBestMove};
 
@@ -40,6 +40,36 @@ fn least_win(
     None
 }
 
+/// The fewest plies in which the side to move forces the goal, where it does so within the limit. The table
+/// mostly knows them.
+fn fewest_plies(
+    slots: &Slots<MateLore>,
+    seat: &mut Seat,
+    board: &Board,
+    goal: Goal,
+    limit: u8,
+) -> u8
+    requires seat { IsSeatOf slots.now seat.old }
+    requires limit { limit ≤ 63 }
+    requires forced { Forces goal board.now.mover board.now limit }
+    ensures continues { Continues slots.now seat.old seat.new }
+    ensures plies { (0 < result) × (result ≤ 63) }
+    ensures fewest { IsFewest goal board.now result }
+{
+    let q = Question {
+        position: Board::of(&board.position()),
+        attacker: board.mover(),
+        goal,
+    };
+    for round in 0..(limit + 1) / 2 {
+        let plies = 2 * round + 1;
+        if decide_on(slots, seat, &q, plies).yes {
+            return plies;
+        }
+    }
+    unreachable!()
+}
+
 /// The best move, where the side to move forces the goal within the limit.
 pub(crate) fn best_move(
     slots: &Slots<MateLore>,
@@ -54,10 +84,9 @@ pub(crate) fn best_move(
     ensures continues { Continues slots.now seat.old seat.new }
     ensures best { IsBestMove goal board.now result }
 {
-    for round in 0..(limit + 1) / 2 {
-        if let Some(first) = least_win(slots, seat, board, goal, 2 * round + 1) {
-            return first;
-        }
+    let plies = fewest_plies(slots, seat, board, goal, limit);
+    match least_win(slots, seat, board, goal, plies) {
+        Some(first) => first,
+        None => unreachable!(),
     }
-    unreachable!()
 }

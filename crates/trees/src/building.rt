@@ -105,28 +105,3 @@ pub fn build_tree(
 {
     best_tree(alloc, slots, seat, &Board::of(position), goal, plies)
 }
-
-/// The same tree, built over a table of its own with so many slots.
-pub fn winning_tree(
-    alloc: Global,
-    position: &Position,
-    goal: Goal,
-    plies: u8,
-    slots: usize,
-) -> Result<Tree, NoMemory>
-    requires plies { plies ≤ 63 }
-    requires fewest { IsFewest goal position.now plies }
-    requires slots { (0 < slots) × (slots ≤ 1048576) }
-    ensures best { IfOk result (IsBest goal position.now) }
-    ensures wins { IfOk result (Wins goal position.now) }
-    ensures height { IfOk result (λ tree. height tree ≡ plies) }
-{
-    let Ok(made) = Slots::<MateLore>::make(alloc, slots, 1) else {
-        return Err(NoMemory);
-    };
-    let (table, mut seats) = made;
-    let Some(mut seat) = seats.pop() else {
-        return Err(NoMemory);
-    };
-    build_tree(alloc, &table, &mut seat, position, goal, plies)
-}

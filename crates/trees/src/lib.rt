@@ -5,5 +5,5 @@ mod best;
 mod building;
 mod laws;
 
-pub use building::{build_tree, winning_tree};
+pub use building::build_tree;
 pub use laws::one_best_tree;

@@ -7,12 +7,14 @@ use Rattle.command_line.proofs.reading.command.Goals as goal
 
 pub returns : goal.returns
 returns c =
-    let versioned = ap app_of_fields c.version.ensures ∙ ap (on_top (λ (s : Shape). record s { has_version = true })) c.new.ensures.app in
-    let told = ap app_of_fields c.after_help.ensures ∙ ap app_of_fields c.about.ensures ∙ versioned in
+    let top = λ (a : App). a.top in
+    let versioned = ap app_of_fields c.version.ensures ∙ ap (on_top (λ (s : Shape). record s { has_version = true })) c.named.ensures.app in
     let bare : app_of c.subcommand_required.result ≡ bare_app =
-    ap app_of_fields c.subcommand_required.ensures ∙ ap (on_top (λ (s : Shape). record s { subcommand_required = true })) told in
-    let one = c.in_ok-subcommand.ensures.shape c.in_ok-solve_command.ensures.local ∙ ap₂ with_subcommand bare (ap (λ (a : App). a.top) c.in_ok-solve_command.ensures.app) in
-    let two = c.in_ok-subcommand-2.ensures.shape c.in_ok-moves_command.ensures.local ∙ ap₂ with_subcommand one (ap (λ (a : App). a.top) c.in_ok-moves_command.ensures.app) in
-    let three = c.in_ok-subcommand-3.ensures.shape c.in_ok-tree_command.ensures.local ∙ ap₂ with_subcommand two (ap (λ (a : App). a.top) c.in_ok-tree_command.ensures.app) in
-    IfOk-weaker c.subcommand-4.result _ _
-    (λ command added. added.shape c.in_ok-check_command.ensures.local ∙ ap₂ with_subcommand three (ap (λ (a : App). a.top) c.in_ok-check_command.ensures.app)) c.subcommand-4.ensures
+    ap app_of_fields c.subcommand_required.ensures ∙ ap (on_top (λ (s : Shape). record s { subcommand_required = true })) versioned in
+    let one = c.in_ok-subcommand.ensures.shape c.in_ok-solve_command.ensures.local ∙ ap₂ with_subcommand bare (ap top c.in_ok-solve_command.ensures.app) in
+    let two = c.in_ok-subcommand-2.ensures.shape c.in_ok-tree_command.ensures.local ∙ ap₂ with_subcommand one (ap top c.in_ok-tree_command.ensures.app) in
+    let three = c.in_ok-subcommand-3.ensures.shape c.in_ok-check_command.ensures.local ∙ ap₂ with_subcommand two (ap top c.in_ok-check_command.ensures.app) in
+    let four = c.in_ok-subcommand-4.ensures.shape c.in_ok-moves_command.ensures.local ∙ ap₂ with_subcommand three (ap top c.in_ok-moves_command.ensures.app) in
+    let five = c.in_ok-subcommand-5.ensures.shape c.in_ok-show_command.ensures.local ∙ ap₂ with_subcommand four (ap top c.in_ok-show_command.ensures.app) in
+    IfOk-weaker c.subcommand-6.result _ _
+    (λ command added. added.shape c.in_ok-batch_command.ensures.local ∙ ap₂ with_subcommand five (ap top c.in_ok-batch_command.ensures.app)) c.subcommand-6.ensures

@@ -1,6 +1,6 @@
-use Rattle.std.proofs.Common.{rules, Ok, vec_items}
-use Rattle.minimate.specs.Output.{IsSoundText, ShowsAnswer, ShowsPlanFound}
-use Rattle.command_line.specs.declared.line.Action.TheVariants.{Solve, Tree, Check}
+use Rattle.std.proofs.Common.{◌∙◌, ap, rules, Ok, vec_items}
+use Rattle.minimate.specs.Output.{IsSoundText, ShowsAnswer, ShowsPlanFound, answered}
+use Rattle.command_line.specs.declared.line.Action.TheVariants.{Solve, Show, Tree, Check}
 use Rattle.minimate.proofs.ReplyLemmas.{fault_gives, gives_reply, refusal_gives}
 use Rattle.minimate.proofs.reply.reply.Goals as goal
 
@@ -41,3 +41,9 @@ pub returns-in-Check-clause-given : goal.returns-in-Check-clause-given
 returns-in-Check-clause-given g c =
     let sound : IsSoundText c.args.line.now.fen.now c.in_ok-position.position = search rules in
     gives_reply _ c.args.line.now _ c.in_ok-position.position (Check c.in-Check.goal) _ sound c.in-Check.is c.check_text.ensures.shown
+
+pub returns-in_ok-board_drawn-in-Show-clause-given : goal.returns-in_ok-board_drawn-in-Show-clause-given
+returns-in_ok-board_drawn-in-Show-clause-given g c =
+    let sound : IsSoundText c.args.line.now.fen.now c.in_ok-position.position = search rules in
+    gives_reply vec_items c.args.line.now (g.S.Source.remaining c.args.reader.now) c.in_ok-position.position Show (Ok c.into_bytes-in-Show.result) sound c.in-Show.is
+    (ap answered (ap vec_items c.into_bytes-in-Show.ensures.value ∙ c.in_ok-board_drawn-in-Show.ensures))

@@ -13,7 +13,7 @@ returns-then-has_move_from c = (λ _. c.has_move_from.ensures.found c.if-has_mov
 
 pub loop-number-preserved : goal.loop-number-preserved
 loop-number-preserved c = λ m low w.
-    let b = c.args.mail.now in
+    let b = c.args.board.now in
     let n = c.loop-number.number in
     let at : square_number b.game c.of_number-from.result ≡ n = rw c.game-game.ensures.value at c.of_number-from.ensures.number in
     elim (cases_lt (square_number b.game m.from) n) [
@@ -28,7 +28,7 @@ loop-number-preserved c = λ m low w.
 
 pub returns : goal.returns
 returns c =
-    let b = c.args.mail.now in
+    let b = c.args.board.now in
     let end : c.squares-number-end.result ≡ squares_of b.game = c.squares-number-end.ensures ∙ ap squares_of c.game-game.ensures.value in (
       λ never. absurd (false≢true never),
       λ (m, w). let parts = HasParts-lawful b m w in absurd (c.loop-number.invariant m (omega (arith, parts.on_from, end)) w),

@@ -5,4 +5,4 @@ use Rattle.moves.proofs.any_move.has_move.Given as given
 
 -- no move from a square so far is lawful
 abbrev pub invariant-loop-number : given.invariant-loop-number
-invariant-loop-number l = (m : Ply) → square_number l.mail.game m.from < l.number → IsLawful l.mail m → ⊥
+invariant-loop-number l = (m : Ply) → square_number l.board.game m.from < l.number → IsLawful l.board m → ⊥

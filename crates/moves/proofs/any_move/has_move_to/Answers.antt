@@ -11,7 +11,7 @@ use Rattle.moves.proofs.any_move.has_move_to.Goals as goal
 
 pub is_lawful_to-requires-clause-target : goal.is_lawful_to-requires-clause-target
 is_lawful_to-requires-clause-target c =
-    let b = c.args.mail.now in
+    let b = c.args.board.now in
     c.unit_in-target.ensures ∙ ap (λ i. unit_at b (place_in i)) c.cell_of.ensures.value ∙ ap (unit_at b) (place_in-cell_of b.game c.args.to c.requires.to_on_board)
 
 pub loop-i-preserved : goal.loop-i-preserved
@@ -19,12 +19,12 @@ loop-i-preserved c = λ j low w. elim (cases_lt j c.loop-i.i) [
   | inl less ↦ c.loop-i.invariant j less w
   | inr more ↦
       let same : j ≡ c.loop-i.i = omega (arith, low, more) in
-      false≢true (sym c.if-is_lawful_to.false ∙ c.is_lawful_to.ensures.1 (subst (λ k. IsLawful c.args.mail.now (record { from = c.args.from; to = c.args.to; promotion = get_or PROMOTIONS k None })) same w))
+      false≢true (sym c.if-is_lawful_to.false ∙ c.is_lawful_to.ensures.1 (subst (λ k. IsLawful c.args.board.now (record { from = c.args.from; to = c.args.to; promotion = get_or PROMOTIONS k None })) same w))
 ]
 
 pub returns-clause-none : goal.returns-clause-none
 returns-clause-none c = λ _ m from to w.
-    let b = c.args.mail.now in
+    let b = c.args.board.now in
     let u = c.args.unit in
     let i = c.loop-i.i in
     let end : i ≡ c.promotion_count-i-end.result = omega arith in

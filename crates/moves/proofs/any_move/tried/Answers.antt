@@ -11,7 +11,7 @@ use Rattle.moves.proofs.any_move.tried.Goals as goal
 
 pub returns-then-is_king-clause-all : goal.returns-then-is_king-clause-all
 returns-then-is_king-clause-all c = λ m at l.
-    let b = c.args.mail.now in
+    let b = c.args.board.now in
     let u = c.args.unit in
     let stands : unit_at b m.from ≡ Some u = ap (unit_at b) at ∙ c.requires.stands in
     let from : place_in c.cell_of.result ≡ c.args.from = ap place_in c.cell_of.ensures.value ∙ place_in-cell_of b.game c.args.from c.requires.on_board in
@@ -19,7 +19,7 @@ returns-then-is_king-clause-all c = λ m at l.
 
 pub returns-clause-all : goal.returns-clause-all
 returns-clause-all c = λ m at l.
-    let b = c.args.mail.now in
+    let b = c.args.board.now in
     let u = c.args.unit in
     let stands : unit_at b m.from ≡ Some u = ap (unit_at b) at ∙ c.requires.stands in
     let from : place_in c.cell_of.result ≡ c.args.from = ap place_in c.cell_of.ensures.value ∙ place_in-cell_of b.game c.args.from c.requires.on_board in

@@ -15,7 +15,7 @@ pub returns-then-is_king : goal.returns-then-is_king
 returns-then-is_king c = (
   λ never. absurd (false≢true never),
   λ w.
-      let b = c.args.mail.now in
+      let b = c.args.board.now in
       let cell : c.cell_of.result ≡ cell_of c.args.m.to = c.cell_of.ensures.value ∙ ap (λ (x : Ply). cell_of x.to) c.m.view_is in
       let target : c.unit_in.result ≡ unit_at b c.args.m.to = c.unit_in.ensures ∙ ap (λ i. unit_at b (place_in i)) cell ∙ ap (unit_at b) (place_in-cell_of b.game c.args.m.to c.requires.to_on_board) in
       elim c.then-is_king.branch [
@@ -28,7 +28,7 @@ returns-then-is_king c = (
 
 pub returns-then-not-is_checked : goal.returns-then-not-is_checked
 returns-then-not-is_checked c =
-    let b = c.args.mail.now in
+    let b = c.args.board.now in
     let m = c.args.m in
     let u = c.args.unit in
     let cell : c.cell_of.result ≡ cell_of m.to = c.cell_of.ensures.value ∙ ap (λ (x : Ply). cell_of x.to) c.m.view_is in

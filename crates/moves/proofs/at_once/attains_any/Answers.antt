@@ -11,13 +11,13 @@ use Rattle.moves.proofs.at_once.attains_any.Goals.{in-Some+else-attains_from, in
 
 pub returns-then-attains_from : goal.returns-then-attains_from
 returns-then-attains_from c = (
-  λ _. let w = c.attains_from.ensures.found c.if-attains_from.true in forced_by c.args.quest.goal c.args.mail.now w.0 w.1,
+  λ _. let w = c.attains_from.ensures.found c.if-attains_from.true in forced_by c.args.quest.goal c.args.board.now w.0 w.1,
   λ _. refl,
 )
 
 pub loop-number-preserved : goal.loop-number-preserved
 loop-number-preserved c = λ m low w.
-    let b = c.args.mail.now in
+    let b = c.args.board.now in
     let n = c.loop-number.number in
     let at : square_number b.game c.of_number-from.result ≡ n = rw c.game-game.ensures.value at c.of_number-from.ensures.number in
     elim (cases_lt (square_number b.game m.from) n) [
@@ -32,7 +32,7 @@ loop-number-preserved c = λ m low w.
 
 pub returns : goal.returns
 returns c =
-    let b = c.args.mail.now in
+    let b = c.args.board.now in
     let end : c.squares-number-end.result ≡ squares_of b.game = c.squares-number-end.ensures ∙ ap squares_of c.game-game.ensures.value in (
       λ never. absurd (false≢true never),
       λ f. absurd (not_forced c.args.quest.goal b (λ m w. let parts = HasParts-lawful b m (w.next, w.move) in c.loop-number.invariant m (omega (arith, parts.on_from, end)) w) f),

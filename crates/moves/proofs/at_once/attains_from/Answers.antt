@@ -16,25 +16,25 @@ square_in-requires-clause-above c = (c.cells.invariant.cells c.lowest-cell.resul
 pub square_in-requires-clause-file : goal.square_in-requires-clause-file
 square_in-requires-clause-file c =
     let cell = (c.cells.invariant.cells c.lowest-cell.result c.lowest-cell.ensures.there).0 in
-    omega (arith, cell.on_board.file, small_width c.args.mail.now.game)
+    omega (arith, cell.on_board.file, small_width c.args.board.now.game)
 
 pub square_in-requires-clause-rank : goal.square_in-requires-clause-rank
 square_in-requires-clause-rank c =
     let cell = (c.cells.invariant.cells c.lowest-cell.result c.lowest-cell.ensures.there).0 in
-    omega (arith, cell.on_board.rank, small_width c.args.mail.now.game)
+    omega (arith, cell.on_board.rank, small_width c.args.board.now.game)
 
 pub attains_to-requires-clause-to_on_board : goal.attains_to-requires-clause-to_on_board
 attains_to-requires-clause-to_on_board c =
-    subst (IsOnBoard c.args.mail.now.game) (sym c.square_in.ensures) (c.cells.invariant.cells c.lowest-cell.result c.lowest-cell.ensures.there).0.on_board
+    subst (IsOnBoard c.args.board.now.game) (sym c.square_in.ensures) (c.cells.invariant.cells c.lowest-cell.result c.lowest-cell.ensures.there).0.on_board
 
 pub attains_to-requires-clause-reaches : goal.attains_to-requires-clause-reaches
 attains_to-requires-clause-reaches c =
-    let b = c.args.mail.now in
+    let b = c.args.board.now in
     subst (λ s. Reaches b c.args.unit c.args.from s (unit_at b s)) (sym c.square_in.ensures) (c.cells.invariant.cells c.lowest-cell.result c.lowest-cell.ensures.there).1
 
 pub cells-preserved : goal.cells-preserved
 cells-preserved c =
-    let b = c.args.mail.now in
+    let b = c.args.board.now in
     let u = c.args.unit in
     let inv = c.cells.invariant in
     let cell = c.lowest-cell.result in

@@ -9,8 +9,8 @@ use Rattle.moves.proofs.at_once.attains_from.Given as given
 abbrev pub invariant-cells : given.invariant-cells
 invariant-cells l = record {
   fits : l.left < 2 ^ 64;
-  cells : (i : ℕ) → Has l.left i → IsTarget l.mail l.unit l.from i;
-  all : (m : Ply) → m.from ≡ l.from → Attains l.quest.goal l.mail m → Has l.left (cell_of m.to);
+  cells : (i : ℕ) → Has l.left i → IsTarget l.board l.unit l.from i;
+  all : (m : Ply) → m.from ≡ l.from → Attains l.quest.goal l.board m → Has l.left (cell_of m.to);
 }
 
 -- each turn takes the lowest cell away

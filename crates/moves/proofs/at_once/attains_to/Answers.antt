@@ -13,12 +13,12 @@ loop-i-preserved c = λ j low w. elim (cases_lt j c.loop-i.i) [
   | inl less ↦ c.loop-i.invariant j less w
   | inr more ↦
       let same : j ≡ c.loop-i.i = omega (arith, low, more) in
-      false≢true (sym c.if-attains.false ∙ c.attains.ensures.1 (subst (λ k. Attains c.args.goal c.args.mail.now (record { from = c.args.from; to = c.args.to; promotion = get_or PROMOTIONS k None })) same w))
+      false≢true (sym c.if-attains.false ∙ c.attains.ensures.1 (subst (λ k. Attains c.args.goal c.args.board.now (record { from = c.args.from; to = c.args.to; promotion = get_or PROMOTIONS k None })) same w))
 ]
 
 pub returns-clause-none : goal.returns-clause-none
 returns-clause-none c = λ _ m from to w.
-    let b = c.args.mail.now in
+    let b = c.args.board.now in
     let u = c.args.unit in
     let i = c.loop-i.i in
     let end : i ≡ c.promotion_count-i-end.result = omega arith in

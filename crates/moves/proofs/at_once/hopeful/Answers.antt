@@ -16,7 +16,7 @@ use Rattle.moves.proofs.at_once.hopeful.Goals as goal
 
 pub returns-in-Some-clause-all : goal.returns-in-Some-clause-all
 returns-in-Some-clause-all c = λ m at w.
-    let b = c.args.mail.now in
+    let b = c.args.board.now in
     let u = c.args.unit in
     let stands : unit_at b m.from ≡ Some u = ap (unit_at b) at ∙ c.requires.stands in
     let mate : c.args.quest.goal ≡ Mate = subst (λ o. IfSome o (λ (_ : Watch). c.args.quest.goal ≡ Mate)) c.in-Some.is c.requires.seeks.mate in
@@ -26,7 +26,7 @@ returns-in-Some-clause-all c = λ m at w.
 
 pub returns-in-None-clause-all : goal.returns-in-None-clause-all
 returns-in-None-clause-all c = λ m at w.
-    let b = c.args.mail.now in
+    let b = c.args.board.now in
     let u = c.args.unit in
     let stands : unit_at b m.from ≡ Some u = ap (unit_at b) at ∙ c.requires.stands in
     let from : place_in c.cell_of.result ≡ c.args.from = ap place_in c.cell_of.ensures.value ∙ place_in-cell_of b.game c.args.from c.requires.on_board in

@@ -1,9 +1,9 @@
-use Rattle.std.proofs.Common.{All, take, true}
-use Rattle.moves.specs.declared.lines.Line.{Line}
-use Rattle.moves.specs.Mailbox.{place_in}
-use Rattle.moves.specs.Looking.{IsHitAlong}
+use Rattle.std.proofs.Common.{All, take}
+use Rattle.moves.specs.declared.tables.Way.{Way}
+use Rattle.moves.specs.Targets.{Has}
+use Rattle.moves.proofs.Blocking.{HoldsBetween}
 use Rattle.moves.proofs.blocks.blocks.Given as given
 
--- nothing comes along a line so far
-abbrev pub invariant-loop-line : given.invariant-loop-line
-invariant-loop-line l = All (λ (line : Line). IsHitAlong l.mail l.side line.step (place_in l.king) true → ⊥) (take l.line-index l.line-items)
+-- the set has the checker's cell, and the cells of the ways so far along which it comes
+abbrev pub invariant-loop-way : given.invariant-loop-way
+invariant-loop-way l = Has l.set l.checker × All (λ (way : Way). HoldsBetween l.board l.king l.checker l.set way) (take l.way-index l.way-items)

@@ -9,13 +9,13 @@ returns-then-not-is_promoted_well c = (
   λ never. absurd (false≢true never),
   λ lawful. absurd (false≢true (sym c.if-not-is_promoted_well.true ∙ c.is_promoted_well.ensures.1
       (subst (λ g. (IsSome c.args.m.promotion ↔ Promotes g c.args.unit c.args.m.to) × IfSome c.args.m.promotion (IsPromotion g)) (sym c.game.ensures.value)
-      (promotes_well c.args.mail.now c.args.m c.args.unit c.requires.stands lawful)))),
+      (promotes_well c.args.board.now c.args.m c.args.unit c.requires.stands lawful)))),
 )
 
 pub returns : goal.returns
 returns c =
     let well = subst (λ g. (IsSome c.args.m.promotion ↔ Promotes g c.args.unit c.args.m.to) × IfSome c.args.m.promotion (IsPromotion g)) c.game.ensures.value (c.is_promoted_well.ensures.0 c.if-not-is_promoted_well.false) in
-    let pseudo : IsPseudoLegal c.args.mail.now c.args.m c.args.unit = record {
+    let pseudo : IsPseudoLegal c.args.board.now c.args.m c.args.unit = record {
       on_board = c.requires.on_board;
       stands = c.requires.stands;
       owner = c.requires.owner;
@@ -24,4 +24,4 @@ returns c =
       named = well.0;
       allowed = well.1;
     } in
-    lawful_if_safe c.args.mail.now c.args.m c.args.unit c.requires.stands c.is_safe.result pseudo c.is_safe.ensures
+    lawful_if_safe c.args.board.now c.args.m c.args.unit c.requires.stands c.is_safe.result pseudo c.is_safe.ensures

@@ -15,7 +15,7 @@ use Rattle.moves.proofs.board_list.is_safe.Goals as goal
 
 pub returns-then-not-has : goal.returns-then-not-has
 returns-then-not-has c =
-    let b = c.args.mail.now in
+    let b = c.args.board.now in
     let to : c.cell_of.result ≡ cell_of c.args.m.to = c.cell_of.ensures.value ∙ ap (λ (x : Ply). cell_of x.to) c.m.view_is in
     let piece : c.args.unit.kind ≡ King → ⊥ = λ e. false≢true (sym c.if-is_piece.true ∙ c.is_king-is_piece.ensures.1 e) in (
       λ never. absurd (false≢true never),
@@ -24,7 +24,7 @@ returns-then-not-has c =
 
 pub returns-then-not-has-2 : goal.returns-then-not-has-2
 returns-then-not-has-2 c =
-    let b = c.args.mail.now in
+    let b = c.args.board.now in
     let from : c.cell_of-then-not-guard.result ≡ cell_of c.args.m.from = c.cell_of-then-not-guard.ensures.value ∙ ap (λ (x : Ply). cell_of x.from) c.m-then-not-guard.view_is in
     let cell : IsCell b.game c.cell_of-then-not-guard.result = subst (IsCell b.game) (sym from) (IsCell-cell_of b.game c.args.m.from c.requires.pseudo.on_board) in
     let at : place_in c.cell_of-then-not-guard.result ≡ c.args.m.from = ap place_in from ∙ place_in-cell_of b.game c.args.m.from c.requires.pseudo.on_board in
@@ -44,6 +44,6 @@ king_attacked-requires-clause-king c = ap (λ x. unit_at x (place_in c.king_afte
 
 pub returns : goal.returns
 returns c =
-    let next = after c.args.mail.now c.args.m c.args.unit in
-    not_attacked_safe c.king_attacked.result next c.args.mail.now.mover
+    let next = after c.args.board.now c.args.m c.args.unit in
+    not_attacked_safe c.king_attacked.result next c.args.board.now.mover
     (subst (λ s. IsTrue c.king_attacked.result ↔ IsInCheck next s) c.requires.pseudo.owner (subst (λ x. IsTrue c.king_attacked.result ↔ IsInCheck x c.args.unit.side) c.moved.ensures c.king_attacked.ensures))

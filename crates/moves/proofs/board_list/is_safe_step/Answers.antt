@@ -10,13 +10,13 @@ use Rattle.moves.proofs.board_list.is_safe_step.Goals as goal
 
 pub is_attacked-requires-clause-cell : goal.is_attacked-requires-clause-cell
 is_attacked-requires-clause-cell c =
-    let b = c.args.mail.now in
+    let b = c.args.board.now in
     let to : c.cell_of.result ≡ cell_of c.args.m.to = c.cell_of.ensures.value ∙ ap (λ (x : Ply). cell_of x.to) c.m.view_is in
     subst (IsCell b.game) (sym to) (IsCell-cell_of b.game c.args.m.to (to_on_board b c.args.m c.args.king c.requires.pseudo))
 
 pub returns : goal.returns
 returns c =
-    let b = c.args.mail.now in
+    let b = c.args.board.now in
     let m = c.args.m in
     let u = c.args.king in
     let p = c.requires.pseudo in

@@ -10,7 +10,7 @@ use Rattle.moves.proofs.board_list.king_after.Goals as goal
 
 pub returns-then-is_king : goal.returns-then-is_king
 returns-then-is_king c =
-    let b = c.args.mail.now in
+    let b = c.args.board.now in
     let on = to_on_board b c.args.m c.args.unit c.requires.pseudo in
     let to : c.cell_of.result ≡ cell_of c.args.m.to = c.cell_of.ensures.value ∙ ap (λ (x : Ply). cell_of x.to) c.m.view_is in
     record {
@@ -22,6 +22,6 @@ returns-then-is_king c =
 pub returns : goal.returns
 returns c = record {
   cell = c.requires.guards.cell;
-  king = king_stays c.args.mail.now c.args.m c.args.unit c.requires.position c.requires.pseudo (place_in c.args.guard.king) c.requires.guards.cell.on_board c.requires.guards.king
+  king = king_stays c.args.board.now c.args.m c.args.unit c.requires.position c.requires.pseudo (place_in c.args.guard.king) c.requires.guards.cell.on_board c.requires.guards.king
       (λ e. false≢true (sym c.if-is_king.false ∙ c.is_king.ensures.1 e));
 }

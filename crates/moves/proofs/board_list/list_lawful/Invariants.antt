@@ -5,4 +5,4 @@ use Rattle.moves.proofs.board_list.list_lawful.Given as given
 
 -- the moves from the ranks so far are listed
 abbrev pub invariant-loop-rank : given.invariant-loop-rank
-invariant-loop-rank l = ListsFrom l.mail (width_of l.mail.game * l.rank) l.moves.items
+invariant-loop-rank l = ListsFrom l.board (width_of l.board.game * l.rank) l.moves.items

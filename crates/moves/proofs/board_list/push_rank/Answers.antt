@@ -10,7 +10,7 @@ use Rattle.moves.proofs.board_list.push_rank.Goals.{in-Some, in_default}
 
 pub push_from-requires-clause-room : goal.push_from-requires-clause-room
 push_from-requires-clause-room c =
-    let b = c.args.mail.now in
+    let b = c.args.board.now in
     let end : c.width-file-end.result ≡ width_of b.game = c.width-file-end.ensures ∙ ap width_of c.game.ensures.value in
     let from : Place = record { file = c.loop-file.file; rank = c.args.rank } in
     let on : IsOnBoard b.game from = record { file = omega arith; rank = c.requires.rank } in
@@ -19,7 +19,7 @@ push_from-requires-clause-room c =
 
 pub loop-file-preserved : goal.loop-file-preserved
 loop-file-preserved c =
-    let b = c.args.mail.now in
+    let b = c.args.board.now in
     let end : c.width-file-end.result ≡ width_of b.game = c.width-file-end.ensures ∙ ap width_of c.game.ensures.value in
     let from : Place = record { file = c.loop-file.file; rank = c.args.rank } in
     let on : IsOnBoard b.game from = record { file = omega arith; rank = c.requires.rank } in

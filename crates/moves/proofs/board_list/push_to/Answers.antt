@@ -11,7 +11,7 @@ use Rattle.moves.proofs.board_list.push_to.Goals.{then-is_lawful_to, else-is_law
 
 pub loop-i-preserved : goal.loop-i-preserved
 loop-i-preserved c =
-    let b = c.args.mail.now in
+    let b = c.args.board.now in
     let i = c.loop-i.i in
     let n : ℕ = (square_number b.game c.args.from * 36 + square_number b.game c.args.to) * 5 in
     let m : Ply = record { from = c.args.from; to = c.args.to; promotion = get_or PROMOTIONS i None } in
@@ -43,7 +43,7 @@ push-requires c = omega (arith, c.loop-i.invariant.few, c.promotion_count-i-end.
 
 pub returns-clause-after : goal.returns-clause-after
 returns-clause-after c =
-    let b = c.args.mail.now in
+    let b = c.args.board.now in
     let i = c.loop-i.i in
     let end : i ≡ c.promotion_count-i-end.result = omega arith in
     let five : Promotes b.game c.args.unit c.args.to → i ≡ 5 = λ p. end ∙ c.promotion_count-i-end.ensures.five (subst (λ g. Promotes g c.args.unit c.args.to) (sym c.game.ensures.value) p) in

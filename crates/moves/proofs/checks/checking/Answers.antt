@@ -10,13 +10,13 @@ use Rattle.moves.proofs.checks.checking.Goals as goal
 
 pub returns-then-reached-eq0-clause-all : goal.returns-then-reached-eq0-clause-all
 returns-then-reached-eq0-clause-all c = λ m p at check.
-    let b = c.args.mail.now in
+    let b = c.args.board.now in
     let from : place_in c.cell_of-cell.result ≡ c.args.from = ap place_in c.cell_of-cell.ensures.value ∙ place_in-cell_of b.game c.args.from c.requires.on_board in
     (c.targets-reached.ensures (cell_of m.to)).1 (subst (λ s. IsTarget b c.args.unit s (cell_of m.to)) (at ∙ sym from) (IsTarget-move b m c.args.unit p))
 
 pub returns-clause-all : goal.returns-clause-all
 returns-clause-all c = λ m p at check.
-    let b = c.args.mail.now in
+    let b = c.args.board.now in
     let u = c.args.unit in
     let k = place_in c.args.watch.king in
     let w = c.requires.watches in

@@ -11,9 +11,9 @@ use Rattle.moves.proofs.checks.watch_of.Goals as goal
 
 pub returns : goal.returns
 returns c =
-    let b = c.args.mail.now in
+    let b = c.args.board.now in
     let k = c.in_ok-king.king in
-    let foe : c.other-foe.result ≡ other_side b.mover = c.other-foe.ensures ∙ ap other_side c.mover.ensures in
+    let foe : c.other-foe.result ≡ other_side b.mover = c.other-foe.ensures ∙ ap other_side c.mover.ensures.value in
     record {
       cell = c.in_ok-king.ensures.0;
       king = subst (λ s. unit_at b (place_in k) ≡ Some (record { side = s; kind = King })) foe c.in_ok-king.ensures.1;

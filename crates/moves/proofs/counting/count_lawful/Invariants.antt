@@ -5,7 +5,7 @@ use Rattle.moves.proofs.counting.count_lawful.Given as given
 
 -- so many moves are given
 abbrev pub invariant-loop-given : given.invariant-loop-given
-invariant-loop-given l = (moves : List Ply) × HasGiven l.mail l.walk moves × (l.count ≡ length moves)
+invariant-loop-given l = (moves : List Ply) × HasGiven l.board l.walk moves × (l.count ≡ length moves)
 
 -- each turn passes a move
 abbrev pub decreases-loop-given : given.decreases-loop-given

@@ -12,13 +12,13 @@ use Rattle.moves.proofs.Checking.{IsTarget-move}
 use Rattle.moves.proofs.one_move.is_lawful_in.Goals as goal
 
 pub returns-in_default : goal.returns-in_default
-returns-in_default c = (λ never. absurd (false≢true never), λ l. absurd (false≢true (sym c.in_default.ensures ∙ ap (λ (x : Ply). is_of_side c.args.mail.now.mover (unit_at c.args.mail.now x.from)) c.m.view_is ∙ own_from c.args.mail.now c.args.m l)))
+returns-in_default c = (λ never. absurd (false≢true never), λ l. absurd (false≢true (sym c.in_default.ensures ∙ ap (λ (x : Ply). is_of_side c.args.board.now.mover (unit_at c.args.board.now x.from)) c.m.view_is ∙ own_from c.args.board.now c.args.m l)))
 
 pub returns-then-not-has : goal.returns-then-not-has
 returns-then-not-has c = (
   λ never. absurd (false≢true never),
   λ l.
-      let b = c.args.mail.now in
+      let b = c.args.board.now in
       let m = c.args.m in
       let u = c.in-Some.unit in
       let from : place_in c.cell_of.result ≡ m.from = ap place_in (c.cell_of.ensures.value ∙ ap (λ (x : Ply). cell_of x.from) c.m.view_is) ∙ place_in-cell_of b.game m.from c.requires.squares.0 in
@@ -30,12 +30,12 @@ returns-then-not-has c = (
 
 pub is_lawful_to-requires-clause-target : goal.is_lawful_to-requires-clause-target
 is_lawful_to-requires-clause-target c =
-    let b = c.args.mail.now in
+    let b = c.args.board.now in
     c.unit_in.ensures ∙ ap (λ i. unit_at b (place_in i)) (c.cell_of-to.ensures.value ∙ ap (λ (x : Ply). cell_of x.to) c.m.view_is) ∙ ap (unit_at b) (place_in-cell_of b.game c.args.m.to c.requires.squares.1)
 
 pub is_lawful_to-requires-clause-reaches : goal.is_lawful_to-requires-clause-reaches
 is_lawful_to-requires-clause-reaches c =
-    let b = c.args.mail.now in
+    let b = c.args.board.now in
     let m = c.args.m in
     let u = c.in-Some.unit in
     let from : place_in c.cell_of.result ≡ m.from = ap place_in (c.cell_of.ensures.value ∙ ap (λ (x : Ply). cell_of x.from) c.m.view_is) ∙ place_in-cell_of b.game m.from c.requires.squares.0 in

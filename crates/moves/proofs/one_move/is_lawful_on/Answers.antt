@@ -1,12 +1,7 @@
-use Rattle.std.proofs.Common.{IsTrue, ◌↔◌, sym, subst, ◌∙◌}
+use Rattle.std.proofs.Common.{sym, ◌∙◌}
 use Rattle.std.proofs.lemmas.Bool.{false≢true}
-use Rattle.board.specs.Board.{PlainBoard}
-use Rattle.moves.specs.Moves.{IsLawful}
 use Rattle.moves.proofs.Keeps.{to_on_board}
 use Rattle.moves.proofs.one_move.is_lawful_on.Goals as goal
-
-pub returns-then-has_squares : goal.returns-then-has_squares
-returns-then-has_squares c = subst (λ (b : PlainBoard). IsTrue c.is_lawful_in.result ↔ IsLawful b c.args.m) c.of.ensures c.is_lawful_in.ensures
 
 pub returns-else-has_squares : goal.returns-else-has_squares
 returns-else-has_squares c = (

@@ -1,30 +1,38 @@
-use Rattle.std.proofs.Common.{◌≡◌, ℕ, All, take, arith}
+use Rattle.std.proofs.Common.{◌≡◌, ℕ, ◌↔◌, All, take, true, inl, inr, subst, arith}
+use Rattle.std.specs.Int.RustNames.{bit_and, bit_or}
 use Rattle.std.proofs.lemmas.List.{take_all}
 use Rattle.std.proofs.lemmas.List.Elements.{All-more, All-contains}
-use Rattle.moves.specs.declared.lines.Line.{Line}
-use Rattle.moves.specs.declared.lines.TheConstants.{LINES}
-use Rattle.moves.specs.Mailbox.{place_in}
-use Rattle.moves.specs.Pinned.{IsPinnedAlong}
+use Rattle.board.specs.Games.{other_side}
+use Rattle.board.specs.Board.{is_of_side}
+use Rattle.moves.specs.declared.tables.Way.{Way}
+use Rattle.moves.specs.declared.tables.TheConstants.{WAYS}
+use Rattle.moves.specs.Squares.{unit_at}
+use Rattle.moves.specs.Mailbox.{place_in, IsCell}
 use Rattle.moves.specs.Targets.{Has}
-use Rattle.moves.proofs.Pins.{pinned_along}
-use Rattle.moves.proofs.Hits.{listed_at}
+use Rattle.moves.proofs.Masks.{Has-or, Has-zero}
+use Rattle.moves.proofs.Pinning.{HoldsPins, pins-along, ways-all}
 use Rattle.moves.proofs.pinned.pinned.Goals as goal
 
-pub add_pinned-set-requires-clause-line : goal.add_pinned-set-requires-clause-line
-add_pinned-set-requires-clause-line c = listed_at c.lines-line-items.result.now c.lines-line-items.ensures c.loop-line.line-index _ (omega arith)
+pub returns-then-riders-eq0 : goal.returns-then-riders-eq0
+returns-then-riders-eq0 c = λ i cell w.
+    let b = c.args.board.now in
+    let owns : (j : ℕ) → Has c.of_side.result j ↔ (IsCell b.game j × (is_of_side (other_side c.args.side) (unit_at b (place_in j)) ≡ true)) =
+    subst (λ s. (j : ℕ) → Has c.of_side.result j ↔ (IsCell b.game j × (is_of_side s (unit_at b (place_in j)) ≡ true))) c.other.ensures c.of_side.ensures in
+    let p = pins-along b c.args.side c.of_side.result c.set.result c.set-2.result owns c.set.ensures c.set-2.ensures c.args.cell i c.requires cell w in
+    absurd (Has-zero p.rider (subst (λ n. Has n p.rider) c.if-riders-eq0.true p.has))
 
-pub loop-line-preserved : goal.loop-line-preserved
-loop-line-preserved c =
-    All-more (λ (line : Line). (i : ℕ) → IsPinnedAlong c.args.mail.now c.args.side line.step (place_in c.args.cell) i → Has c.add_pinned-set.result i) _ _ _ (omega arith)
-    (λ k d h i w. c.add_pinned-set.ensures.kept i (c.loop-line.invariant k d h i w))
-    c.add_pinned-set.ensures.found
+pub loop-way-preserved : goal.loop-way-preserved
+loop-way-preserved c =
+    All-more (λ (way : Way). HoldsPins c.args.board.now (bit_and c.of_side.result (bit_or c.set.result c.set-2.result)) c.args.cell (bit_or c.loop-way.set c.pinned_along-set.result) way) _ _ _ (omega arith)
+    (λ k d h i r taken has to_unit to_rider. (Has-or c.loop-way.set c.pinned_along-set.result i).1 (inl (c.loop-way.invariant k d h i r taken has to_unit to_rider)))
+    (λ i r taken has to_unit to_rider. (Has-or c.loop-way.set c.pinned_along-set.result i).1 (inr (c.pinned_along-set.ensures i r taken has to_unit to_rider)))
 
 pub returns : goal.returns
 returns c = λ i cell w.
-    let b = c.args.mail.now in
-    let lines = c.lines-line-items.result.now in
-    let all : take c.loop-line.line-index lines ≡ lines = take_all _ lines (omega arith) in
-    let table : lines ≡ LINES = c.lines-line-items.ensures in
-    let found : All (λ (line : Line). (i : ℕ) → IsPinnedAlong b c.args.side line.step (place_in c.args.cell) i → Has c.loop-line.set i) LINES = rw (all, table) at c.loop-line.invariant in
-    let (j, q, h, at, along) = pinned_along b c.args.side (place_in c.args.cell) i cell w in
-    All-contains (λ (line : Line). (i : ℕ) → IsPinnedAlong b c.args.side line.step (place_in c.args.cell) i → Has c.loop-line.set i) LINES q found (j, h, at) i along
+    let b = c.args.board.now in
+    let owns : (j : ℕ) → Has c.of_side.result j ↔ (IsCell b.game j × (is_of_side (other_side c.args.side) (unit_at b (place_in j)) ≡ true)) =
+    subst (λ s. (j : ℕ) → Has c.of_side.result j ↔ (IsCell b.game j × (is_of_side s (unit_at b (place_in j)) ≡ true))) c.other.ensures c.of_side.ensures in
+    let p = pins-along b c.args.side c.of_side.result c.set.result c.set-2.result owns c.set.ensures c.set-2.ensures c.args.cell i c.requires cell w in
+    let all : take c.loop-way.way-index WAYS ≡ WAYS = take_all _ WAYS (omega arith) in
+    let held : All (λ (way : Way). HoldsPins b (bit_and c.of_side.result (bit_or c.set.result c.set-2.result)) c.args.cell c.loop-way.set way) WAYS = subst (All (λ (way : Way). HoldsPins b (bit_and c.of_side.result (bit_or c.set.result c.set-2.result)) c.args.cell c.loop-way.set way)) all c.loop-way.invariant in
+    All-contains (λ (way : Way). HoldsPins b (bit_and c.of_side.result (bit_or c.set.result c.set-2.result)) c.args.cell c.loop-way.set way) WAYS p.way held (ways-all p.way) i p.rider w.taken p.has p.to_unit p.to_rider

@@ -1,17 +1,18 @@
-use Rattle.std.proofs.Common.{◌≡◌, take, arith}
-use Rattle.std.proofs.lemmas.List.{take_all}
-use Rattle.moves.specs.StepTables.{table_of}
-use Rattle.moves.specs.Mailbox.{place_in}
-use Rattle.moves.proofs.Reached.{same_within, Has-more, Has-all}
+use Rattle.std.proofs.Common.{◌≡◌, ℕ, ◌↔◌, true, subst}
+use Rattle.board.specs.Games.{other_side}
+use Rattle.board.specs.Board.{is_of_side}
+use Rattle.moves.specs.Squares.{unit_at}
+use Rattle.moves.specs.Mailbox.{place_in, IsCell}
+use Rattle.moves.specs.Targets.{Has}
+use Rattle.moves.proofs.Reaching.{IsTarget-seen, IsTarget-pawn}
 use Rattle.moves.proofs.targets.targets.Goals as goal
 
-pub loop-step-preserved : goal.loop-step-preserved
-loop-step-preserved c =
-    Has-more c.args.mail.now c.args.unit (place_in c.args.cell) c.steps-step-items.result.now c.loop-step.step-index _ c.loop-step.set c.add_targets-set.result (omega arith) (same_within c.steps-step-items.result.now c.loop-step.step-index _ _ (omega arith)) c.loop-step.invariant c.add_targets-set.ensures
+pub returns-in-Pawn : goal.returns-in-Pawn
+returns-in-Pawn c =
+    let b = c.args.board.now in
+    let foes : (j : ℕ) → Has c.of_side.result j ↔ (IsCell b.game j × (is_of_side (other_side c.args.unit.side) (unit_at b (place_in j)) ≡ true)) =
+    subst (λ s. (j : ℕ) → Has c.of_side.result j ↔ (IsCell b.game j × (is_of_side s (unit_at b (place_in j)) ≡ true))) c.other.ensures c.of_side.ensures in
+    IsTarget-pawn b c.args.unit c.args.cell c.requires.cell c.in-Pawn.is c.requires.played c.seen-seen.result c.of_side.result c.pushed.result c.seen-seen.ensures foes c.pushed.ensures
 
-pub returns : goal.returns
-returns c =
-    let steps = c.steps-step-items.result.now in
-    let all : take c.loop-step.step-index steps ≡ steps = take_all c.loop-step.step-index steps (omega arith) in
-    let table : steps ≡ table_of c.args.unit.kind = c.steps-step-items.ensures in
-    Has-all c.args.mail.now c.args.unit (place_in c.args.cell) c.loop-step.set c.requires.played (rw (all, table) at c.loop-step.invariant)
+pub returns-in_default : goal.returns-in_default
+returns-in_default c = IsTarget-seen c.args.board.now c.args.unit c.args.cell c.requires.played c.in_default.not-Pawn c.seen-seen.result c.of_side-in_default.result c.seen-seen.type_inv c.of_side-in_default.type_inv c.seen-seen.ensures c.of_side-in_default.ensures

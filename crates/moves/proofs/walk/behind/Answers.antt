@@ -8,7 +8,7 @@ use Rattle.moves.proofs.walk.behind.Goals as goal
 
 pub returns-then-walk-promotion_count-clause-passes : goal.returns-then-walk-promotion_count-clause-passes
 returns-then-walk-promotion_count-clause-passes c =
-    let b = c.args.mail.now in
+    let b = c.args.board.now in
     let q = c.requires in
     let some = some_left b c.args.walk c.args.cell c.args.m q.there q.least q.named q.promotion in
     let few : c.args.walk.promotion + 1 < 5 = omega (arith, c.promotion_count.ensures.within.1) in
@@ -21,7 +21,7 @@ returns-then-walk-promotion_count-clause-passes c =
 
 pub returns-else-walk-promotion_count-clause-passes : goal.returns-else-walk-promotion_count-clause-passes
 returns-else-walk-promotion_count-clause-passes c =
-    let b = c.args.mail.now in
+    let b = c.args.board.now in
     let q = c.requires in
     let some = some_left b c.args.walk c.args.cell c.args.m q.there q.least q.named q.promotion in
     let to : c.m.inside.to ≡ place_in c.args.cell = ap (λ (x : Ply). x.to) c.m.view_is ∙ q.named.to in

@@ -6,7 +6,7 @@ use Rattle.moves.proofs.walk.next_move.Given as given
 -- what was given before is given, and no move since is lawful
 abbrev pub invariant-loop-walk : given.invariant-loop-walk
 invariant-loop-walk l = record {
-  given : (moves : List Ply) → HasGiven l.mail l.initial.walk moves → HasGiven l.mail l.walk moves;
+  given : (moves : List Ply) → HasGiven l.board l.initial.walk moves → HasGiven l.board l.walk moves;
   less : steps_left l.walk ≤ steps_left l.initial.walk;
 }
 

@@ -9,7 +9,7 @@ use Rattle.moves.proofs.walk.next_square.Goals as goal
 
 pub returns-in-Some-clause-given : goal.returns-in-Some-clause-given
 returns-in-Some-clause-given c = λ moves at.
-    let b = c.args.mail.now in
+    let b = c.args.board.now in
     let square = c.of_number-square.result in
     let cell = c.cell_of-from.result in
     let u = c.in-Some.unit in
@@ -24,7 +24,7 @@ returns-in-Some-clause-given c = λ moves at.
 
 pub returns-in-None-clause-given : goal.returns-in-None-clause-given
 returns-in-None-clause-given c = λ moves at.
-    let b = c.args.mail.now in
+    let b = c.args.board.now in
     let number : square_number b.game c.of_number-square.result ≡ c.args.walk.number = rw c.game.ensures.value at c.of_number-square.ensures.number in
     IsAt-other b c.args.walk (record { number = c.args.walk.number + 1; from = c.args.walk.from; unit = c.args.walk.unit; left = c.args.walk.left; promotion = c.args.walk.promotion }) moves refl refl c.requires.none c.requires.square
     (subst (λ n. is_of_side b.mover (unit_on b n) ≡ false) number c.in-None.ensures) at

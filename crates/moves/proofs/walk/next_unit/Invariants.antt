@@ -5,7 +5,7 @@ use Rattle.moves.proofs.walk.next_unit.Given as given
 
 abbrev pub invariant-loop-walk : given.invariant-loop-walk
 invariant-loop-walk l = record {
-  given : (moves : List Ply) → IsAt l.mail l.initial.walk moves → IsAt l.mail l.walk moves;
+  given : (moves : List Ply) → IsAt l.board l.initial.walk moves → IsAt l.board l.walk moves;
   less : steps_left l.walk ≤ steps_left l.initial.walk;
 }
 

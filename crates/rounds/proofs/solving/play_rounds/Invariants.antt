@@ -1,15 +1,17 @@
 use Rattle.std.proofs.Common.{◌*◌, length}
 use Rattle.decision.specs.Answer.{ForcesNothing}
 use Rattle.rounds.specs.Seats.{AreSeats}
+use Rattle.rounds.specs.Going.{SeatsGoOn}
 use Rattle.rounds.proofs.solving.play_rounds.Given as goal
 
 abbrev pub ghosts-round : goal.ghosts-round
 ghosts-round g a = record { jobs = length a.search.now.root.moves.items }
 
--- the rounds so far were in vain, and the seats have come back
+-- the rounds so far were in vain, and the seats went on
 abbrev pub invariant-loop-number : goal.invariant-loop-number
 invariant-loop-number g l =
     record {
       seats : AreSeats l.search.slots.now (length l.fn.seats.items) l.seats.items;
+      go_on : SeatsGoOn g.T.Gate.keeps l.search.slots.now l.fn.seats.items l.seats.items;
       nothing : ForcesNothing l.search.root.goal l.search.root.board (2 * l.number);
     }

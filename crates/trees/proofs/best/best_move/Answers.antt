@@ -1,12 +1,9 @@
 use Rattle.decision.proofs.Calls.{continues_more}
-use Rattle.decision.proofs.Winning.{next_round}
+use Rattle.decision.proofs.Winning.{none_forced}
 use Rattle.trees.proofs.best.best_move.Goals as goal
 
-pub returns-in-Some-clause-continues : goal.returns-in-Some-clause-continues
-returns-in-Some-clause-continues c = continues_more _ _ _ _ c.loop-round.invariant.continues c.least_win.ensures.continues
+pub unreachable-requires : goal.unreachable-requires
+unreachable-requires c = none_forced c.args.goal c.args.board.now c.fewest_plies-plies.result c.fewest_plies-plies.ensures.plies.0 c.in-None.ensures.least c.fewest_plies-plies.ensures.fewest.forced
 
-pub loop-round-preserved : goal.loop-round-preserved
-loop-round-preserved c = record {
-  continues = continues_more _ _ _ _ c.loop-round.invariant.continues c.least_win.ensures.continues;
-  nothing = next_round c.args.goal c.args.board.now c.loop-round.round c.loop-round.invariant.nothing c.in_default.ensures.least;
-}
+pub returns-clause-continues : goal.returns-clause-continues
+returns-clause-continues c = continues_more _ _ _ _ c.fewest_plies-plies.ensures.continues c.least_win.ensures.continues

@@ -16,14 +16,14 @@ after-requires c =
 pub returns-then-decide_on-clause-least : goal.returns-then-decide_on-clause-least
 returns-then-decide_on-clause-least c =
     let decided = wins_by c.args.goal c.args.board.now c.args.n c.m-item.result c.after.result c.decide_on.result.yes c.after.ensures
-    (subst (λ (side : Side). IsTrue c.decide_on.result.yes ↔ Forces c.args.goal side c.after.result (c.args.n - 1)) c.mover-attacker.ensures c.decide_on.ensures.decided.answer) in
+    (subst (λ (side : Side). IsTrue c.decide_on.result.yes ↔ Forces c.args.goal side c.after.result (c.args.n - 1)) c.mover-attacker.ensures.value c.decide_on.ensures.decided.answer) in
     answer_at c.args.goal c.args.board.now c.args.n c.as_slice-m-items.result.now (subst (ListsLawful c.args.board.now) (sym c.as_slice-m-items.ensures.value) c.lawful_on-moves.ensures)
     c.loop-m.m-index c.m-item.result c.loop-m-test.true c.m-item.is c.loop-m.invariant.none (decided.0 c.if-decide_on.true)
 
 pub loop-m-preserved : goal.loop-m-preserved
 loop-m-preserved c =
     let decided = wins_by c.args.goal c.args.board.now c.args.n c.m-item.result c.after.result c.decide_on.result.yes c.after.ensures
-    (subst (λ (side : Side). IsTrue c.decide_on.result.yes ↔ Forces c.args.goal side c.after.result (c.args.n - 1)) c.mover-attacker.ensures c.decide_on.ensures.decided.answer) in
+    (subst (λ (side : Side). IsTrue c.decide_on.result.yes ↔ Forces c.args.goal side c.after.result (c.args.n - 1)) c.mover-attacker.ensures.value c.decide_on.ensures.decided.answer) in
     record {
       continues = continues_more _ _ _ _ c.loop-m.invariant.continues c.decide_on.ensures.continues;
       none = none_next c.args.goal c.args.board.now c.args.n c.as_slice-m-items.result.now (subst (ListsLawful c.args.board.now) (sym c.as_slice-m-items.ensures.value) c.lawful_on-moves.ensures)

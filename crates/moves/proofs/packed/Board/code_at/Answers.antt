@@ -19,7 +19,7 @@ pub returns-clause-small : goal.returns-clause-small
 returns-clause-small c =
     let same : game_of c.self.inside.words ≡ c.args.self.now.game = ap (λ (x : PlainBoard). x.game) c.self.view_is in
     let n = square_number c.args.self.now.game c.args.square in
-    let codes = c.self.invariant.codes n (subst (λ g. n < squares_of g) (sym same) (number_within c.args.self.now.game c.args.square c.requires)) in
+    let codes = c.self.invariant.packed.codes n (subst (λ g. n < squares_of g) (sym same) (number_within c.args.self.now.game c.args.square c.requires)) in
     let at : c.code_on.result ≡ code_on (game_of c.self.inside.words) c.self.inside.words n =
     c.code_on.ensures.value ∙ ap (λ g. code_on g c.self.inside.words (square_number g c.args.square)) c.game.ensures.value ∙ ap (λ g. code_on g c.self.inside.words n) (sym same) in
     subst (λ x. x < 13) (sym at) codes

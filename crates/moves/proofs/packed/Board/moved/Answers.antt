@@ -1,7 +1,11 @@
 use Rattle.std.proofs.Common.{◌≡◌, ◌≢◌, ◌<◌, ℕ, set, Some, unwrap_or, sym, ap, subst, ◌∙◌}
 use Rattle.board.specs.Board.{PlainBoard, IsPosition}
 use Rattle.board.specs.Games.{squares_of}
+use Rattle.board.specs.declared.game.Unit.{Unit as Man}
 use Rattle.moves.specs.Squares.{Ply, square_number}
+use Rattle.moves.specs.Mailbox.{cell_of}
+use Rattle.moves.specs.Sets.{Shows, AreMoved}
+use Rattle.moves.proofs.Shown.{Shows-after}
 use Rattle.moves.proofs.Listed.{number_within}
 use Rattle.moves.specs.Moves.{placed, after}
 use Rattle.moves.proofs.Keeps.{to_on_board, other_square, IsPosition-after}
@@ -14,7 +18,7 @@ put-requires-2-clause-square c =
     let to : c.m.inside.to ≡ c.args.m.to = ap (λ (x : Ply). x.to) c.m.view_is in
     rw (c.game-game.ensures.value, to) (to_on_board c.args.self.now c.args.m c.args.unit c.requires)
 
-module _ (c : goal.After-turned) where
+module _ (c : goal.After-moved-sets) where
   n_from : ℕ
   n_from = square_number c.game-game.result c.m.inside.from
 
@@ -61,17 +65,35 @@ module _ (c : goal.After-turned) where
   pub view_after : unpacked (set c.put-2.new.words 0 c.turned.result) ≡ after c.args.self.now c.args.m c.args.unit
   view_after =
       unpacked_end c.game-game.result c.self.inside.words c.put.new.words c.put-2.new.words c.turned.result n_from n_to c.code_of.result
-      first second apart c.put-2.array_long c.turned.ensures.flags c.turned.ensures.elsewhere same c.self.invariant from_within to_within (placed c.args.unit c.args.m) placed_is
+      first second apart c.put-2.array_long c.turned.ensures.flags c.turned.ensures.elsewhere same c.self.invariant.packed from_within to_within (placed c.args.unit c.args.m) placed_is
       ∙ made_is
 
   pub packed_after : IsPacked (set c.put-2.new.words 0 c.turned.result)
   packed_after =
       IsPacked-end c.game-game.result c.self.inside.words c.put.new.words c.put-2.new.words c.turned.result n_from n_to c.code_of.result
-      first second apart c.put-2.array_long c.turned.ensures.flags c.turned.ensures.elsewhere same c.self.invariant from_within to_within (placed c.args.unit c.args.m) placed_is
+      first second apart c.put-2.array_long c.turned.ensures.flags c.turned.ensures.elsewhere same c.self.invariant.packed from_within to_within (placed c.args.unit c.args.m) placed_is
       c.code_of.ensures.code (subst IsPosition (sym made_is) (IsPosition-after c.args.self.now c.args.m c.args.unit c.game-game.ensures.position c.requires))
 
+shows_before : (c : goal.After-moved-sets) → Shows c.args.self.now c.self.inside.sets
+shows_before c = subst (λ b. Shows b c.self.inside.sets) c.self.view_is c.self.invariant.shows
+
+sets_after : (c : goal.After-moved-sets) → AreMoved c.self.inside.sets c.moved-sets.result (cell_of c.args.m.from) (cell_of c.args.m.to) (placed c.args.unit c.args.m)
+sets_after c =
+    let s = c.self.inside.sets in
+    let t = c.moved-sets.result in
+    let from : c.cell_of.result ≡ cell_of c.args.m.from = c.cell_of.ensures.value ∙ ap (λ (x : Ply). cell_of x.from) c.m.view_is in
+    let to : c.cell_of-2.result ≡ cell_of c.args.m.to = c.cell_of-2.ensures.value ∙ ap (λ (x : Ply). cell_of x.to) c.m.view_is in
+    let kind : c.unwrap_or.result ≡ unwrap_or c.args.m.promotion c.args.unit.kind = c.unwrap_or.ensures ∙ λ i. unwrap_or ((c.m.view_is i).promotion) c.args.unit.kind in
+    let man : Man = record { side = c.args.unit.side; kind = c.unwrap_or.result } in
+    let same : man ≡ placed c.args.unit c.args.m = λ i. record { side = c.args.unit.side; kind = kind i } in
+    subst (AreMoved s t (cell_of c.args.m.from) (cell_of c.args.m.to)) same
+    (subst (λ x. AreMoved s t (cell_of c.args.m.from) x man) to (subst (λ x. AreMoved s t x c.cell_of-2.result man) from c.moved-sets.ensures))
+
 pub invariant_of-result : goal.invariant_of-result
-invariant_of-result c = packed_after c
+invariant_of-result c = record {
+  packed = packed_after c;
+  shows = subst (λ b. Shows b c.moved-sets.result) (sym (view_after c)) (Shows-after c.args.self.now c.args.m c.args.unit c.game-game.ensures.position c.requires c.self.inside.sets c.moved-sets.result (shows_before c) (sets_after c));
+}
 
 pub returns : goal.returns
 returns c = view_after c

@@ -16,11 +16,11 @@ loop-square-preserved c =
 pub unwrap-requires : goal.unwrap-requires
 unwrap-requires c =
     let end : c.squares-square-end.result ≡ squares_of c.args.self.now.game = c.squares-square-end.ensures ∙ ap squares_of c.game-game.ensures.value in
-    let whole = IsCopied-whole c.args.self.now c.game-game.ensures.position c.game-game.result c.mover.result c.loop-square.units c.loop-square.square c.game-game.ensures.value c.mover.ensures (omega arith) c.loop-square.invariant in
+    let whole = IsCopied-whole c.args.self.now c.game-game.ensures.position c.game-game.result c.mover.result c.loop-square.units c.loop-square.square c.game-game.ensures.value c.mover.ensures.value (omega arith) c.loop-square.invariant in
     made_from c.of.result _ c.of.ensures.refused (subst IsPosition (sym whole) c.game-game.ensures.position)
 
 pub returns : goal.returns
 returns c =
     let end : c.squares-square-end.result ≡ squares_of c.args.self.now.game = c.squares-square-end.ensures ∙ ap squares_of c.game-game.ensures.value in
     rw c.unwrap.ensures at c.of.ensures.made
-    ∙ IsCopied-whole c.args.self.now c.game-game.ensures.position c.game-game.result c.mover.result c.loop-square.units c.loop-square.square c.game-game.ensures.value c.mover.ensures (omega arith) c.loop-square.invariant
+    ∙ IsCopied-whole c.args.self.now c.game-game.ensures.position c.game-game.result c.mover.result c.loop-square.units c.loop-square.square c.game-game.ensures.value c.mover.ensures.value (omega arith) c.loop-square.invariant

@@ -13,5 +13,5 @@ returns c = (
   got_at c.args.self.now.moves.items c.args.job c.index-deref-from.result c.requires.1
       (move_at c.args.self.now.moves.items c.deref.result.now c.from.result c.args.job c.index-deref-from.result c.deref.ensures.0 c.from.ensures c.index-deref-from.is),
   c.after.ensures,
-  (λ i. question c.after.result (c.mover.ensures i) c.args.self.now.goal),
+  (λ i. question c.after.result (c.mover.ensures.value i) c.args.self.now.goal),
 )

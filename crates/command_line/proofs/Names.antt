@@ -1,0 +1,87 @@
+-- Commands are told apart by their names.
+use Rattle.std.proofs.Common.{◌≡◌, ◌≢◌, ◌∙◌, List, ℕ, ap, arith, codes, refl, slice_index, sym}
+use Rattle.clap.specs.Words.{Row, Text}
+use Rattle.command_line.specs.Words.{HasGoal, HasLimits, MeansAction, MeansFound}
+use Rattle.moves.specs.declared.goal.Goal.{Goal}
+use Rattle.command_line.specs.declared.line.Limits.{Limits}
+use Rattle.command_line.specs.declared.line.Action.{Action}
+use Rattle.command_line.specs.declared.line.Action.TheVariants.{Solve, Tree, Check, Moves, Show}
+use Rattle.command_line.specs.declared.line.Order.{Order}
+use Rattle.command_line.specs.declared.line.Order.TheVariants.{One, Batch}
+
+-- two texts with different bytes at one place are two names
+two_names : (k : ℕ) (a b : Text) (m n : ℕ) → slice_index a k ≡ m → slice_index b k ≡ n → (m ≡ n → ⊥) → (name : Text) → name ≡ a → name ≢ b
+two_names k a b m n first second apart name p q = apart (sym first ∙ ap (λ (t : Text). slice_index t k) (sym p ∙ q) ∙ second)
+
+-- a name that isn't one of the commands without a goal
+pub record Aims (name : Text) : Type 0 where
+  pub moves : name ≢ codes "moves"
+  pub show : name ≢ codes "show"
+
+-- such a name means no command where there is no goal
+pub no_goal : (name : Text) (rows : List Row) (action : Action) → Aims name → ((goal : Goal) → HasGoal rows goal → ⊥) → MeansAction name rows action → ⊥
+no_goal name rows (Solve goal limits) aims none means = none goal means.1
+no_goal name rows (Tree goal limits) aims none means = none goal means.1
+no_goal name rows (Check goal) aims none means = none goal means.1
+no_goal name rows Moves aims none means = aims.moves means
+no_goal name rows Show aims none means = aims.show means
+
+-- a name that isn't one of the commands without limits
+pub record Searches (name : Text) : Type 0 where
+  pub aims : Aims name
+  pub check : name ≢ codes "check"
+
+-- such a name means no command where there are no limits
+pub no_limits : (name : Text) (rows : List Row) (action : Action) → Searches name → ((limits : Limits) → HasLimits rows limits → ⊥)
+    → MeansAction name rows action → ⊥
+no_limits name rows (Solve goal limits) searches none means = none limits means.2
+no_limits name rows (Tree goal limits) searches none means = none limits means.2
+no_limits name rows (Check goal) searches none means = searches.check means.0
+no_limits name rows Moves searches none means = searches.aims.moves means
+no_limits name rows Show searches none means = searches.aims.show means
+
+pub solve_searches : (name : Text) → name ≡ codes "solve" → Searches name
+solve_searches name is = record {
+  aims = record {
+    moves = two_names 0 (codes "solve") (codes "moves") 115 109 refl refl (λ e. omega arith) name is;
+    show = two_names 1 (codes "solve") (codes "show") 111 104 refl refl (λ e. omega arith) name is;
+  };
+  check = two_names 0 (codes "solve") (codes "check") 115 99 refl refl (λ e. omega arith) name is;
+}
+
+pub tree_searches : (name : Text) → name ≡ codes "tree" → Searches name
+tree_searches name is = record {
+  aims = record {
+    moves = two_names 0 (codes "tree") (codes "moves") 116 109 refl refl (λ e. omega arith) name is;
+    show = two_names 0 (codes "tree") (codes "show") 116 115 refl refl (λ e. omega arith) name is;
+  };
+  check = two_names 0 (codes "tree") (codes "check") 116 99 refl refl (λ e. omega arith) name is;
+}
+
+pub batch_searches : (name : Text) → name ≡ codes "batch" → Searches name
+batch_searches name is = record {
+  aims = record {
+    moves = two_names 0 (codes "batch") (codes "moves") 98 109 refl refl (λ e. omega arith) name is;
+    show = two_names 0 (codes "batch") (codes "show") 98 115 refl refl (λ e. omega arith) name is;
+  };
+  check = two_names 0 (codes "batch") (codes "check") 98 99 refl refl (λ e. omega arith) name is;
+}
+
+pub check_aims : (name : Text) → name ≡ codes "check" → Aims name
+check_aims name is = record {
+  moves = two_names 0 (codes "check") (codes "moves") 99 109 refl refl (λ e. omega arith) name is;
+  show = two_names 0 (codes "check") (codes "show") 99 115 refl refl (λ e. omega arith) name is;
+}
+
+-- ---- orders
+
+-- `batch` means none where there is no goal
+pub no_batch_goal : (name : Text) (rows : List Row) (order : Order) → name ≡ codes "batch" → ((goal : Goal) → HasGoal rows goal → ⊥) → MeansFound name rows order → ⊥
+no_batch_goal name rows (One line) is none means = no_goal name rows line.action (batch_searches name is).aims none means.1
+no_batch_goal name rows (Batch goal limits) is none means = none goal means.1
+
+-- nor where there are no limits
+pub no_batch_limits : (name : Text) (rows : List Row) (order : Order) → name ≡ codes "batch" → ((limits : Limits) → HasLimits rows limits → ⊥)
+    → MeansFound name rows order → ⊥
+no_batch_limits name rows (One line) is none means = no_limits name rows line.action (batch_searches name is) none means.1
+no_batch_limits name rows (Batch goal limits) is none means = none limits means.2

@@ -1,0 +1,181 @@
+//! What stands where in a text that is no position's.
+ghost use Rattle.std.specs.Prelude.{◌≤◌, length};
+
+/// The board part of a text, as it stands there.
+#[derive(Clone, Copy)]
+pub struct Board<'a> {
+    pub text: &'a [u8],
+    /// One more than the slashes.
+    pub ranks: usize,
+}
+
+/// How often the byte occurs.
+pub fn count_of(text: &[u8], byte: u8) -> usize {
+    let mut count: usize = 0;
+    for c in text {
+        if *c == byte {
+            count = count.saturating_add(1);
+        }
+    }
+    count
+}
+
+/// The place of the first space, or the end.
+fn board_end(text: &[u8]) -> usize
+    ensures { result ≤ length text.now }
+{
+    for (i, c) in text.iter().enumerate() {
+        if *c == b' ' {
+            return i;
+        }
+    }
+    text.len()
+}
+
+/// What stands behind the first space.
+pub fn after_board(text: &[u8]) -> &[u8] {
+    let end = board_end(text);
+    if end == text.len() {
+        return b"";
+    }
+    &text[end + 1..]
+}
+
+/// What stands behind the second field, with the space before it.
+pub fn after_two_fields(text: &[u8]) -> Option<&[u8]> {
+    let side = after_board(text);
+    let end = board_end(side);
+    if end == side.len() {
+        return None;
+    }
+    Some(&side[end..])
+}
+
+/// Whether a space stands at an end of the text, or beside another.
+pub fn has_idle_space(text: &[u8]) -> bool {
+    let mut before = b' ';
+    for c in text {
+        if *c == b' ' && before == b' ' {
+            return true;
+        }
+        before = *c;
+    }
+    before == b' ' && !text.is_empty()
+}
+
+/// Whether two words are the parts of a position that was not quoted.
+pub fn is_cut(board: &[u8], side: &[u8]) -> bool {
+    board.contains(&b'/') && !board.contains(&b' ') && matches!(side, b"w" | b"b")
+}
+
+fn is_digit(c: u8) -> bool {
+    b'0' <= c && c <= b'9'
+}
+
+/// How many squares a byte of a rank stands for.
+fn squares_of(c: u8) -> usize {
+    if is_digit(c) {
+        c.saturating_sub(b'0') as usize
+    } else {
+        1
+    }
+}
+
+fn is_slash(c: u8) -> bool {
+    c == b'/'
+}
+
+impl<'a> Board<'a> {
+    /// The board of a position's text: what stands before its first space.
+    pub fn of(fen: &'a [u8]) -> Board<'a> {
+        let text = &fen[..board_end(fen)];
+        let ranks = count_of(text, b'/').saturating_add(1);
+        Board { text, ranks }
+    }
+
+    /// The first rank that hasn't as many squares as there are ranks, and its squares.
+    pub fn uneven_rank(&self) -> Option<(usize, usize)> {
+        let (mut rank, mut squares) = (self.ranks, 0usize);
+        for c in self.text {
+            if !is_slash(*c) {
+                squares = squares.saturating_add(squares_of(*c));
+                continue;
+            }
+            if squares != self.ranks {
+                return Some((rank, squares));
+            }
+            rank = rank.saturating_sub(1);
+            squares = 0;
+        }
+        if squares == self.ranks {
+            None
+        } else {
+            Some((rank, squares))
+        }
+    }
+
+    fn has_letter(&self, c: u8) -> bool {
+        match c {
+            b'K' | b'Q' | b'R' | b'N' | b'P' | b'k' | b'q' | b'r' | b'n' | b'p' => true,
+            b'B' | b'b' => self.ranks != 6,
+            _ => is_slash(c) || is_digit(c),
+        }
+    }
+
+    /// The first byte that is no unit's, and its rank.
+    pub fn foreign_letter(&self) -> Option<(usize, u8)> {
+        let mut rank = self.ranks;
+        for c in self.text {
+            if !self.has_letter(*c) {
+                return Some((rank, *c));
+            }
+            if is_slash(*c) {
+                rank = rank.saturating_sub(1);
+            }
+        }
+        None
+    }
+
+    /// The first run of empty squares that isn't one digit above 0, and its rank.
+    pub fn split_run(&self) -> Option<(usize, &'a [u8])> {
+        let mut rank = self.ranks;
+        for i in 0..self.text.len() {
+            let c = self.text[i];
+            if c == b'0' {
+                return Some((rank, &self.text[i..i + 1]));
+            }
+            if i > 0 && is_digit(c) && is_digit(self.text[i - 1]) {
+                return Some((rank, &self.text[i - 1..i + 1]));
+            }
+            if is_slash(c) {
+                rank = rank.saturating_sub(1);
+            }
+        }
+        None
+    }
+
+    /// How many letters there are in upper case, or in lower case.
+    pub fn units(&self, upper: bool) -> usize {
+        let first = if upper { b'A' } else { b'a' };
+        let mut count: usize = 0;
+        for c in self.text {
+            if first <= *c && *c <= first + 25 {
+                count = count.saturating_add(1);
+            }
+        }
+        count
+    }
+
+    /// Whether a pawn stands behind the last slash.
+    pub fn first_rank_has_pawn(&self) -> bool {
+        let mut has = false;
+        for c in self.text {
+            match *c {
+                b'/' => has = false,
+                b'P' | b'p' => has = true,
+                _ => {}
+            }
+        }
+        has
+    }
+}

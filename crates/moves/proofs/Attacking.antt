@@ -1,0 +1,158 @@
+-- The units that attack a cell, by the sets.
+use Rattle.std.proofs.Common.{◌≡◌, ℕ, ◌<◌, ◌^◌, sym, ap, subst, ◌∙◌, ◌↔◌, ◌⊎◌, inl, inr, true, Option, Some, None}
+use Rattle.std.specs.Int.RustNames.{bit_and, bit_or}
+use Rattle.std.proofs.lemmas.Option.{same_Some}
+use Rattle.board.specs.declared.game.Side.{Side}
+use Rattle.board.specs.declared.game.Kind.{Kind}
+use Rattle.board.specs.declared.game.Kind.TheVariants.{King, Queen, Rook, Bishop, Knight, Pawn}
+use Rattle.board.specs.declared.game.Unit.{Unit as Man}
+use Rattle.board.specs.declared.step.Step.{Step}
+use Rattle.board.specs.Denotation.{terms_of, Denotes}
+use Rattle.board.specs.Games.{other_side}
+use Rattle.board.specs.Board.{PlainBoard, is_of_side, IsPosition}
+use Rattle.moves.specs.declared.sets.Class.{Class}
+use Rattle.moves.specs.declared.sets.Class.TheVariants.{Crowned, Straight, Slanted, Horsed, Foot}
+use Rattle.moves.specs.Squares.{unit_at}
+use Rattle.moves.specs.Reach.{AttacksFrom, IsAttacked, IsInCheck}
+use Rattle.moves.specs.Mailbox.{cell_of, place_in, IsCell}
+use Rattle.moves.specs.Looking.{Aims, IsStruck}
+use Rattle.moves.specs.Targets.{Has}
+use Rattle.moves.specs.Sets.{IsOf, Holds}
+use Rattle.moves.proofs.Cells.{IsCell-cell_of, place_in-cell_of}
+use Rattle.moves.proofs.Masks.{Has-and, Has-or, Has-zero, lowest-has}
+use Rattle.moves.proofs.Reaching.{foe-side, side-foe}
+use Rattle.moves.proofs.Kings.{king_of, check_from, check_at}
+use Rattle.moves.proofs.Looking.{Aims-attacked, AttacksFrom-struck, struck_played}
+use Rattle.moves.proofs.Seeing.{rook_step, bishop_step, queen_step}
+
+own_foe : (side : Side) (o : Option Man) (u : Man) → is_of_side (other_side side) o ≡ true → o ≡ Some u → u.side ≡ other_side side
+own_foe side None u e s = cc
+own_foe side (Some v) u e s = ap (λ (x : Man). x.side) (sym (same_Some v u s)) ∙ foe side v.side v.kind e
+  where
+    foe : (s t : Side) (k : Kind) → is_of_side (other_side s) (Some (record { side = t; kind = k })) ≡ true → t ≡ other_side s
+    foe s t k h = foe-side s t k h
+
+foe_own : (side : Side) (u : Man) → u.side ≡ other_side side → is_of_side (other_side side) (Some u) ≡ true
+foe_own side u e = side-foe side u.side u.kind e
+
+module _ (b : PlainBoard) (is : IsPosition b) (side : Side) (i : ℕ) (c : IsCell b.game i) where
+  -- the unit's cell, from which it attacks
+  abbrev pub Attacks : ℕ → Type 0
+  Attacks j = IsCell b.game j × AttacksFrom b (other_side side) (place_in j) (place_in i)
+
+  -- among the foes of a class those that are seen as a kind
+  abbrev Struck : Kind → ℕ → ℕ → Type 0
+  Struck kind among j = Has among j × IsCell b.game j × Aims b (record { side = side; kind = kind }) (place_in i) (place_in j)
+
+  attack : (u : Man) (j : ℕ) → IsCell b.game j → unit_at b (place_in j) ≡ Some u → u.side ≡ other_side side → Aims b (record { side = side; kind = u.kind }) (place_in i) (place_in j) → Attacks j
+  attack u j d stands owner a =
+      let man : u ≡ record { side = other_side side; kind = u.kind } = λ n. record { side = owner n; kind = u.kind } in
+      let struck : IsStruck b (record { side = side; kind = u.kind }) (place_in i) = record {
+        step = a.step;
+        denoted = a.denoted;
+        strikes = record { captures = a.captures; strikes = record { to = place_in j; leads = a.leads; stands = stands ∙ ap Some man } };
+      } in
+      (d, AttacksFrom-struck b (place_in i) side c.on_board u.kind (struck_played b is side u.kind (place_in i) struck) struck)
+
+  aims : (j : ℕ) (a : AttacksFrom b (other_side side) (place_in j) (place_in i)) → Aims b (record { side = side; kind = a.unit.kind }) (place_in i) (place_in j)
+  aims j a = Aims-attacked b (place_in i) side c.on_board (place_in j) a
+
+  -- the same by another kind that has the step
+  as_kind : (k q : Kind) (j : ℕ) → ((step : Step) → Denotes (terms_of k) step → Denotes (terms_of q) step) → Aims b (record { side = side; kind = k }) (place_in i) (place_in j) → Aims b (record { side = side; kind = q }) (place_in i) (place_in j)
+  as_kind k q j more a = record { step = a.step; denoted = more a.step a.denoted; captures = a.captures; leads = a.leads }
+
+  module _ (foes : ℕ) (owns : (j : ℕ) → Has foes j ↔ (IsCell b.game j × (is_of_side (other_side side) (unit_at b (place_in j)) ≡ true))) where
+    -- a foe of a class on the cell
+    foe_at : (class : Class) (set : ℕ) → Holds b class set → (j : ℕ) → Has (bit_and foes set) j → (u : Man) × (unit_at b (place_in j) ≡ Some u) × (u.side ≡ other_side side) × IsOf class u
+    foe_at class set holds j h =
+        let (f, s) = (Has-and foes set j).0 h in
+        let at = ((holds j).0 s).1 in
+        (at.unit, at.stands, own_foe side (unit_at b (place_in j)) at.unit ((owns j).0 f).1 at.stands, at.is)
+
+    at_foe : (class : Class) (set : ℕ) → Holds b class set → (u : Man) (j : ℕ) → IsCell b.game j → unit_at b (place_in j) ≡ Some u → u.side ≡ other_side side → IsOf class u → Has (bit_and foes set) j
+    at_foe class set holds u j d stands owner of =
+        (Has-and foes set j).1 ((owns j).1 (d, ap (is_of_side (other_side side)) stands ∙ foe_own side u owner), (holds j).1 (d, record { unit = u; stands = stands; is = of }))
+
+    module _ (straight slanted knights kings pawns : ℕ) (hs : Holds b Straight straight) (hl : Holds b Slanted slanted) (hn : Holds b Horsed knights) (hk : Holds b Crowned kings) (hp : Holds b Foot pawns)
+        (r s n k p : ℕ)
+        (er : (j : ℕ) → Has r j ↔ Struck Rook (bit_and foes straight) j) (es : (j : ℕ) → Has s j ↔ Struck Bishop (bit_and foes slanted) j) (en : (j : ℕ) → Has n j ↔ Struck Knight (bit_and foes knights) j)
+        (ek : (j : ℕ) → Has k j ↔ Struck King (bit_and foes kings) j) (ep : (j : ℕ) → Has p j ↔ Struck Pawn (bit_and foes pawns) j) where
+      plain : (class : Class) (q : Kind) (set : ℕ) → Holds b class set → ((u : Man) → IsOf class u → u.kind ≡ q) → (j : ℕ) → Struck q (bit_and foes set) j → Attacks j
+      plain class q set holds only j (h, d, a) =
+          let (u, stands, owner, of) = foe_at class set holds j h in
+          attack u j d stands owner (subst (λ x. Aims b (record { side = side; kind = x }) (place_in i) (place_in j)) (sym (only u of)) a)
+
+      by_line : (j : ℕ) → Struck Rook (bit_and foes straight) j → Attacks j
+      by_line j (h, d, a) =
+          let (u, stands, owner, of) = foe_at Straight straight hs j h in
+          attack u j d stands owner (elim of [
+            | inl queen ↦ subst (λ q. Aims b (record { side = side; kind = q }) (place_in i) (place_in j)) (sym queen) (as_kind Rook Queen j (λ step e. (queen_step b side i j c step).1 (inl ((rook_step b side i j c step).0 e))) a)
+            | inr rook ↦ subst (λ q. Aims b (record { side = side; kind = q }) (place_in i) (place_in j)) (sym rook) a
+          ])
+
+      by_slant : (j : ℕ) → Struck Bishop (bit_and foes slanted) j → Attacks j
+      by_slant j (h, d, a) =
+          let (u, stands, owner, of) = foe_at Slanted slanted hl j h in
+          attack u j d stands owner (elim of [
+            | inl queen ↦ subst (λ q. Aims b (record { side = side; kind = q }) (place_in i) (place_in j)) (sym queen) (as_kind Bishop Queen j (λ step e. (queen_step b side i j c step).1 (inr ((bishop_step b side i j c step).0 e))) a)
+            | inr bishop ↦ subst (λ q. Aims b (record { side = side; kind = q }) (place_in i) (place_in j)) (sym bishop) a
+          ])
+
+      seen_as : (j : ℕ) → (a : AttacksFrom b (other_side side) (place_in j) (place_in i)) → IsCell b.game j → (q : Kind) → a.unit.kind ≡ q → Has r j ⊎ (Has s j ⊎ (Has n j ⊎ (Has k j ⊎ Has p j)))
+      seen_as j a d King e = inr (inr (inr (inl ((ek j).1 (at_foe Crowned kings hk a.unit j d a.stands a.owner e, d, subst (λ q. Aims b (record { side = side; kind = q }) (place_in i) (place_in j)) e (aims j a))))))
+      seen_as j a d Queen e =
+          let w = subst (λ q. Aims b (record { side = side; kind = q }) (place_in i) (place_in j)) e (aims j a) in
+          elim ((queen_step b side i j c w.step).0 w.denoted) [
+            | inl x ↦ inl ((er j).1 (at_foe Straight straight hs a.unit j d a.stands a.owner (inl e), d, record { step = w.step; denoted = (rook_step b side i j c w.step).1 x; captures = w.captures; leads = w.leads }))
+            | inr x ↦ inr (inl ((es j).1 (at_foe Slanted slanted hl a.unit j d a.stands a.owner (inl e), d, record { step = w.step; denoted = (bishop_step b side i j c w.step).1 x; captures = w.captures; leads = w.leads })))
+          ]
+      seen_as j a d Rook e = inl ((er j).1 (at_foe Straight straight hs a.unit j d a.stands a.owner (inr e), d, subst (λ q. Aims b (record { side = side; kind = q }) (place_in i) (place_in j)) e (aims j a)))
+      seen_as j a d Bishop e = inr (inl ((es j).1 (at_foe Slanted slanted hl a.unit j d a.stands a.owner (inr e), d, subst (λ q. Aims b (record { side = side; kind = q }) (place_in i) (place_in j)) e (aims j a))))
+      seen_as j a d Knight e = inr (inr (inl ((en j).1 (at_foe Horsed knights hn a.unit j d a.stands a.owner e, d, subst (λ q. Aims b (record { side = side; kind = q }) (place_in i) (place_in j)) e (aims j a)))))
+      seen_as j a d Pawn e = inr (inr (inr (inr ((ep j).1 (at_foe Foot pawns hp a.unit j d a.stands a.owner e, d, subst (λ q. Aims b (record { side = side; kind = q }) (place_in i) (place_in j)) e (aims j a))))))
+
+      pub attackers-are : (j : ℕ) → Has (bit_or (bit_or (bit_or (bit_or r s) n) k) p) j ↔ Attacks j
+      attackers-are j = (
+        λ h. elim ((Has-or (bit_or (bit_or (bit_or r s) n) k) p j).0 h) [
+          | inl x ↦ elim ((Has-or (bit_or (bit_or r s) n) k j).0 x) [
+            | inl y ↦ elim ((Has-or (bit_or r s) n j).0 y) [
+              | inl z ↦ elim ((Has-or r s j).0 z) [ inl w ↦ by_line j ((er j).0 w) | inr w ↦ by_slant j ((es j).0 w) ]
+              | inr z ↦ plain Horsed Knight knights hn (λ u e. e) j ((en j).0 z)
+            ]
+            | inr y ↦ plain Crowned King kings hk (λ u e. e) j ((ek j).0 y)
+          ]
+          | inr x ↦ plain Foot Pawn pawns hp (λ u e. e) j ((ep j).0 x)
+        ],
+        λ (d, a).
+            let or4 = Has-or (bit_or (bit_or (bit_or r s) n) k) p j in
+            let or3 = Has-or (bit_or (bit_or r s) n) k j in
+            let or2 = Has-or (bit_or r s) n j in
+            let or1 = Has-or r s j in
+            elim (seen_as j a d a.unit.kind (λ _. a.unit.kind)) [
+              | inl x ↦ or4.1 (inl (or3.1 (inl (or2.1 (inl (or1.1 (inl x)))))))
+              | inr (inl x) ↦ or4.1 (inl (or3.1 (inl (or2.1 (inl (or1.1 (inr x)))))))
+              | inr (inr (inl x)) ↦ or4.1 (inl (or3.1 (inl (or2.1 (inr x)))))
+              | inr (inr (inr (inl x))) ↦ or4.1 (inl (or3.1 (inr x)))
+              | inr (inr (inr (inr x))) ↦ or4.1 (inr x)
+            ],
+      )
+
+  -- some unit attacks the cell where the set isn't empty
+  pub none-attacks : (set : ℕ) → ((j : ℕ) → Has set j ↔ Attacks j) → set ≡ 0 → IsAttacked b (place_in i) (other_side side) → ⊥
+  none-attacks set are zero (s, a) =
+      let e = place_in-cell_of b.game s a.on_board in
+      let h = (are (cell_of s)).1 (IsCell-cell_of b.game s a.on_board, subst (λ x. AttacksFrom b (other_side side) x (place_in i)) (sym e) a) in
+      Has-zero (cell_of s) (subst (λ n. Has n (cell_of s)) zero h)
+
+  pub some-attacks : (set : ℕ) → set < 2 ^ 64 → ((j : ℕ) → Has set j ↔ Attacks j) → (set ≡ 0 → ⊥) → IsAttacked b (place_in i) (other_side side)
+  some-attacks set fits are some =
+      let l = lowest-has set fits some in
+      (place_in l.0, ((are l.0).0 l.1).1)
+
+-- the side whose king stands in the cell is in check where the set isn't empty
+module _ (b : PlainBoard) (is : IsPosition b) (side : Side) (i set : ℕ) (c : IsCell b.game i) (king : unit_at b (place_in i) ≡ king_of side) (are : (j : ℕ) → Has set j ↔ (IsCell b.game j × AttacksFrom b (other_side side) (place_in j) (place_in i))) where
+  pub check-some : set < 2 ^ 64 → (set ≡ 0 → ⊥) → IsInCheck b side
+  check-some fits some = check_from b side (place_in i) c.on_board king (some-attacks b is side i c set fits are some)
+
+  pub no-check-none : set ≡ 0 → IsInCheck b side → ⊥
+  no-check-none zero check = none-attacks b is side i c set are zero (check_at b is side (place_in i) c.on_board king check)

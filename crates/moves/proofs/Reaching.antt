@@ -1,0 +1,240 @@
+-- What a unit reaches is what it sees, but for its own units, and a pawn's step.
+use Rattle.std.proofs.Common.{◌≡◌, ℕ, ◌^◌, ◌<◌, ◌≤◌, w64, zero, suc, refl, sym, ap, subst, ◌∙◌, arith, ◌↔◌, ◌⊎◌, inl, inr, Bool, true, false, ℤ, pos, ◌<ℤ◌, Option, Some, None}
+use Rattle.std.specs.List.{list_all}
+use Rattle.std.specs.Int.{bit_not}
+use Rattle.std.specs.Int.RustNames.{unsigned_abs, bit_and, bit_or}
+use Rattle.std.proofs.lemmas.Int.{ints}
+use Rattle.std.proofs.lemmas.Bool.{false≢true}
+use Rattle.std.proofs.lemmas.List.Sums.{AllPass-from_list_all}
+use Rattle.std.proofs.lemmas.List.Elements.{All-contains}
+use Rattle.board.specs.declared.game.Side.{Side}
+use Rattle.board.specs.declared.game.Side.TheVariants.{White, Black}
+use Rattle.board.specs.declared.game.Kind.{Kind}
+use Rattle.board.specs.declared.game.Kind.TheVariants.{King, Queen, Rook, Bishop, Knight, Pawn}
+use Rattle.board.specs.declared.game.Unit.{Unit as Man}
+use Rattle.board.specs.declared.step.Mode.{Mode}
+use Rattle.board.specs.declared.step.Mode.TheVariants.{Move, Capture, Both}
+use Rattle.board.specs.declared.step.Step.{Step}
+use Rattle.board.specs.declared.terms.Atom.TheVariants.{Wazir}
+use Rattle.board.specs.declared.terms.Term.{Term}
+use Rattle.board.specs.Denotation.{IsAtomLeap, terms_of, Denotes}
+use Rattle.board.specs.Games.{other_side, IsPlayed}
+use Rattle.board.specs.Board.{PlainBoard, is_of_side}
+use Rattle.moves.specs.Squares.{Place, unit_at}
+use Rattle.moves.specs.Reach.{ahead_of, IsShift, IsStep, Leads, Allows, Reaches}
+use Rattle.moves.specs.Reach.Leads.{once, again}
+use Rattle.moves.specs.StepTables.{table_of}
+use Rattle.moves.specs.Mailbox.{place_in, IsAway, IsCell}
+use Rattle.moves.specs.Looking.{Aims}
+use Rattle.moves.specs.Targets.{Has, IsTarget}
+use Rattle.moves.specs.Ways.{IsNext, ahead_way}
+use Rattle.moves.proofs.Cells.{shift_in, cell_small}
+use Rattle.moves.proofs.TableTests.{table_of-exact}
+use Rattle.moves.proofs.Masks.{Has-and, Has-or, Has-minus, Has-zero}
+use Rattle.moves.proofs.OnRays.{next_of, next-is, is-next}
+
+-- ---- where a step may end
+
+not_own : (side : Side) → is_of_side side (Some (record { side = other_side side; kind = King })) ≡ false
+not_own White = refl
+not_own Black = refl
+
+own-foe : (s t : Side) (k : Kind) → t ≡ other_side s → is_of_side s (Some (record { side = t; kind = k })) ≡ true → ⊥
+own-foe White White k e h = cc
+own-foe White Black k e h = false≢true h
+own-foe Black White k e h = false≢true h
+own-foe Black Black k e h = cc
+
+foe-own : (s t : Side) (k : Kind) → (is_of_side s (Some (record { side = t; kind = k })) ≡ true → ⊥) → t ≡ other_side s
+foe-own White White k h = absurd (h refl)
+foe-own White Black k h = refl
+foe-own Black White k h = refl
+foe-own Black Black k h = absurd (h refl)
+
+pub foe-side : (s t : Side) (k : Kind) → is_of_side (other_side s) (Some (record { side = t; kind = k })) ≡ true → t ≡ other_side s
+foe-side White White k h = absurd (false≢true h)
+foe-side White Black k h = refl
+foe-side Black White k h = refl
+foe-side Black Black k h = absurd (false≢true h)
+
+pub side-foe : (s t : Side) (k : Kind) → t ≡ other_side s → is_of_side (other_side s) (Some (record { side = t; kind = k })) ≡ true
+side-foe White White k h = cc
+side-foe White Black k h = refl
+side-foe Black White k h = refl
+side-foe Black Black k h = cc
+
+pub Allows-both : (side : Side) (o : Option Man) → Allows Both side o ↔ (is_of_side side o ≡ true → ⊥)
+Allows-both side None = (λ _ h. false≢true h, λ _. tt)
+Allows-both side (Some u) = (λ e. own-foe side u.side u.kind e, λ h. foe-own side u.side u.kind h)
+
+pub Allows-capture : (side : Side) (o : Option Man) → Allows Capture side o ↔ (is_of_side (other_side side) o ≡ true)
+Allows-capture side None = (λ h. absurd h, λ h. absurd (false≢true h))
+Allows-capture side (Some u) = (λ e. side-foe side u.side u.kind e, λ h. foe-side side u.side u.kind h)
+
+pub Allows-move : (side : Side) (o : Option Man) → Allows Move side o ↔ (o ≡ None)
+Allows-move side None = (λ _. refl, λ _. tt)
+Allows-move side (Some u) = (λ h. absurd h, λ e. cc)
+
+-- ---- kinds but the pawn move and capture alike
+
+abbrev pub is_both : Mode → Bool
+is_both Move = false
+is_both Capture = false
+is_both Both = true
+
+both_is : (m : Mode) → is_both m ≡ true → m ≡ Both
+both_is Move e = absurd (false≢true e)
+both_is Capture e = absurd (false≢true e)
+both_is Both e = refl
+
+abbrev all_both : Step → Bool
+all_both s = is_both s.mode
+
+both_modes : (k : Kind) → (k ≡ Pawn → ⊥) → list_all all_both (table_of k) ≡ true
+both_modes King h = refl
+both_modes Queen h = refl
+both_modes Rook h = refl
+both_modes Bishop h = refl
+both_modes Knight h = refl
+both_modes Pawn h = absurd (h refl)
+
+mode_both : (k : Kind) → (k ≡ Pawn → ⊥) → (step : Step) → Denotes (terms_of k) step → step.mode ≡ Both
+mode_both k other step denoted = both_is step.mode (All-contains (λ x. all_both x ≡ true) (table_of k) step (AllPass-from_list_all all_both (table_of k) (both_modes k other)) ((table_of-exact k step).1 denoted))
+
+module _ (b : PlainBoard) (u : Man) (i : ℕ) (played : IsPlayed b.game u.kind) where
+  -- what it sees and doesn't hold is what it reaches
+  pub IsTarget-seen : (u.kind ≡ Pawn → ⊥) → (set own : ℕ) → set < 2 ^ 64 → own < 2 ^ 64
+      → ((j : ℕ) → Has set j ↔ (IsCell b.game j × Aims b u (place_in i) (place_in j))) → ((j : ℕ) → Has own j ↔ (IsCell b.game j × (is_of_side u.side (unit_at b (place_in j)) ≡ true)))
+      → (j : ℕ) → Has (bit_and set (bit_not w64 own)) j ↔ IsTarget b u (place_in i) j
+  IsTarget-seen other set own fs fo seen owns j =
+      let w = Has-minus set own j fs fo in (
+        λ h.
+            let (s, free) = w.0 h in
+            let (c, a) = (seen j).0 s in
+            let allows = (Allows-both u.side (unit_at b (place_in j))).1 (λ e. free ((owns j).1 (c, e))) in
+            (c, record { step = a.step; played = played; denoted = a.denoted; reaches = record { allows = subst (λ m. Allows m u.side (unit_at b (place_in j))) (sym (mode_both u.kind other a.step a.denoted)) allows; leads = a.leads } }),
+        λ (c, r).
+            let mode = mode_both u.kind other r.step r.denoted in
+            let allows = subst (λ m. Allows m u.side (unit_at b (place_in j))) mode r.reaches.allows in
+            w.1 ((seen j).1 (c, record { step = r.step; denoted = r.denoted; captures = λ e. cc (sym mode ∙ e); leads = r.reaches.leads }), λ o. (Allows-both u.side (unit_at b (place_in j))).0 allows ((owns j).0 o).1),
+      )
+
+-- ---- pawns
+
+-- a pawn's step that only moves goes straight ahead
+move_step : (step : Step) → Denotes (terms_of Pawn) step → step.mode ≡ Move → (step.rider ≡ false) × (step.dx ≡ pos 0) × (step.dy ≡ pos 1)
+move_step step (zero, t, h, e, ts) m =
+    let r : t.rider ≡ false = sym (ap (λ (x : Term). x.rider) e) in
+    let f : t.forward ≡ true = sym (ap (λ (x : Term). x.forward) e) in
+    let a : t.atom ≡ Wazir = sym (ap (λ (x : Term). x.atom) e) in
+    let leap : IsAtomLeap Wazir step.dx step.dy = subst (λ x. IsAtomLeap x step.dx step.dy) a ts.leap.atom in
+    let up = ts.leap.ahead f in
+    let ahead : (step.dx ≡ pos 0) × (step.dy ≡ pos 1) = elim leap [
+      | inl w ↦ let p = w.1 in absurd (omega (arith, ints, p, up))
+      | inr w ↦ (zero_of step.dx w.0, one_of step.dy w.1 up)
+    ] in
+    (ts.rider ∙ r, ahead.0, ahead.1)
+  where
+    zero_of : (z : ℤ) → unsigned_abs z ≡ 0 → z ≡ pos 0
+    zero_of z e = omega (arith, ints, e)
+
+    one_of : (z : ℤ) → unsigned_abs z ≡ 1 → pos 0 <ℤ z → z ≡ pos 1
+    one_of z e p = omega (arith, ints, e, p)
+move_step step (suc zero, t, h, e, ts) m = cc (sym m ∙ ts.mode ∙ sym (ap (λ (x : Term). x.mode) e))
+move_step step (suc (suc k), t, h, e, ts) m = absurd (omega (arith, h))
+
+-- no pawn's step does both
+no_both : (step : Step) → Denotes (terms_of Pawn) step → step.mode ≡ Both → ⊥
+no_both step (zero, t, h, e, ts) m = cc (sym m ∙ ts.mode ∙ sym (ap (λ (x : Term). x.mode) e))
+no_both step (suc zero, t, h, e, ts) m = cc (sym m ∙ ts.mode ∙ sym (ap (λ (x : Term). x.mode) e))
+no_both step (suc (suc k), t, h, e, ts) m = absurd (omega (arith, h))
+
+ahead_step : Step
+ahead_step = record { dx = pos 0; dy = pos 1; rider = false; mode = Move }
+
+ahead_denoted : Denotes (terms_of Pawn) ahead_step
+unfolding ahead_step
+ahead_denoted = (0, record { mode = Move; forward = true; atom = Wazir; rider = false }, omega arith, refl, record { leap = record { atom = inr (refl, refl); ahead = λ _. omega (arith, ints) }; rider = refl; mode = refl })
+
+pub next-ahead : (side : Side) (i j : ℕ) → IsNext (ahead_way side) i j ↔ IsAway (pos 0) (ahead_of side (pos 1)) i j
+next-ahead White i j = (λ e. e, λ e. e)
+next-ahead Black i j = (λ e. e, λ e. e)
+
+step-away : (side : Side) (step : Step) (i j : ℕ) → 17 ≤ i → 17 ≤ j → step.dx ≡ pos 0 → step.dy ≡ pos 1 → IsStep side step (place_in i) (place_in j) → IsAway (pos 0) (ahead_of side (pos 1)) i j
+step-away side step i j h k e f s =
+    let s' : IsShift (pos 0) (ahead_of side (pos 1)) (place_in i) (place_in j) = subst (λ x. IsShift x (ahead_of side (pos 1)) (place_in i) (place_in j)) e (subst (λ y. IsShift step.dx (ahead_of side y) (place_in i) (place_in j)) f s) in
+    let a = s'.file in
+    let b = s'.rank in
+    omega (arith, ints, a, b, h, k)
+
+single : (b : PlainBoard) (side : Side) (step : Step) (s t : Place) → step.rider ≡ false → Leads b side step s t → IsStep side step s t
+single b side step s t e (once on a) = a
+single b side step s t e (again r on a empty l) = cc
+
+pub IsTarget-pawn : (b : PlainBoard) (u : Man) (i : ℕ) → IsCell b.game i → u.kind ≡ Pawn → IsPlayed b.game u.kind → (set foes push : ℕ)
+    → ((j : ℕ) → Has set j ↔ (IsCell b.game j × Aims b u (place_in i) (place_in j))) → ((j : ℕ) → Has foes j ↔ (IsCell b.game j × (is_of_side (other_side u.side) (unit_at b (place_in j)) ≡ true)))
+    → ((j : ℕ) → Has push j ↔ (IsNext (ahead_way u.side) i j × IsCell b.game j × (unit_at b (place_in j) ≡ None)))
+    → (j : ℕ) → Has (bit_or (bit_and set foes) push) j ↔ IsTarget b u (place_in i) j
+unfolding ahead_step
+IsTarget-pawn b u i ci pawn played set foes push seen others pushes j =
+    let w = Has-or (bit_and set foes) push j in
+    let v = Has-and set foes j in (
+      λ h. elim (w.0 h) [
+        | inl x ↦
+            let (s, f) = v.0 x in
+            let (c, a) = (seen j).0 s in
+            let foe = ((others j).0 f).1 in
+            (c, record { step = a.step; played = played; denoted = a.denoted; reaches = record { allows = captured a.step.mode a.captures (λ e. no_both a.step (subst (λ k. Denotes (terms_of k) a.step) pawn a.denoted) e) foe; leads = a.leads } })
+        | inr x ↦
+            let (e, c, none) = (pushes j).0 x in
+            let away = (next-ahead u.side i j).0 e in (
+              c,
+              record {
+                step = ahead_step;
+                played = played;
+                denoted = subst (λ k. Denotes (terms_of k) ahead_step) (sym pawn) ahead_denoted;
+                reaches = record {
+                  allows = (Allows-move u.side (unit_at b (place_in j))).1 none;
+                  leads = once c.on_board (shift_in b.game (pos 0) (ahead_of u.side (pos 1)) i j ci (omega arith) away c);
+                };
+              },
+            )
+      ],
+      λ (c, r). w.1 (by_mode c r r.step.mode refl),
+    )
+  where
+    captured : (m : Mode) → (m ≡ Move → ⊥) → (m ≡ Both → ⊥) → is_of_side (other_side u.side) (unit_at b (place_in j)) ≡ true → Allows m u.side (unit_at b (place_in j))
+    captured Move x y foe = absurd (x refl)
+    captured Capture x y foe = (Allows-capture u.side (unit_at b (place_in j))).1 foe
+    captured Both x y foe = absurd (y refl)
+
+    by_mode : IsCell b.game j → (r : Reaches b u (place_in i) (place_in j) (unit_at b (place_in j))) → (m : Mode) → r.step.mode ≡ m → Has (bit_and set foes) j ⊎ Has push j
+    by_mode c r Move e =
+        let s = move_step r.step (subst (λ k. Denotes (terms_of k) r.step) pawn r.denoted) e in
+        let away = step-away u.side r.step i j ci.above c.above s.1 s.2 (single b u.side r.step (place_in i) (place_in j) s.0 r.reaches.leads) in
+        inr ((pushes j).1 ((next-ahead u.side i j).1 away, c, (Allows-move u.side (unit_at b (place_in j))).0 (subst (λ m. Allows m u.side (unit_at b (place_in j))) e r.reaches.allows)))
+    by_mode c r Capture e =
+        inl ((Has-and set foes j).1 (
+          (seen j).1 (c, record { step = r.step; denoted = r.denoted; captures = λ f. cc (sym e ∙ f); leads = r.reaches.leads }),
+          (others j).1 (c, (Allows-capture u.side (unit_at b (place_in j))).0 (subst (λ m. Allows m u.side (unit_at b (place_in j))) e r.reaches.allows)),
+        ))
+    by_mode c r Both e = absurd (no_both r.step (subst (λ k. Denotes (terms_of k) r.step) pawn r.denoted) e)
+
+-- ---- the cell ahead
+
+pub next_number : Side → ℕ → ℕ
+next_number side i = next_of (ahead_way side) i
+
+pub pushed-next : (b : PlainBoard) (side : Side) (i n one empty : ℕ) → 17 ≤ i → n ≡ next_of (ahead_way side) i → ((j : ℕ) → Has one j ↔ (n ≡ j)) → ((j : ℕ) → Has empty j ↔ (IsCell b.game j × (unit_at b (place_in j) ≡ None)))
+    → (j : ℕ) → Has (bit_and one empty) j ↔ (IsNext (ahead_way side) i j × IsCell b.game j × (unit_at b (place_in j) ≡ None))
+pushed-next b side i n one empty h e ones bare j =
+    let w = Has-and one empty j in (
+      λ x. let (o, m) = w.0 x in let (c, none) = (bare j).0 m in (subst (IsNext (ahead_way side) i) (sym e ∙ (ones j).0 o) (is-next (ahead_way side) i h), c, none),
+      λ (a, c, none). w.1 ((ones j).1 (e ∙ next-is (ahead_way side) i j h a), (bare j).1 (c, none)),
+    )
+
+pub pushed-off : (b : PlainBoard) (side : Side) (i n : ℕ) → 17 ≤ i → n ≡ next_of (ahead_way side) i → (n < 63 → ⊥) → (j : ℕ) → Has 0 j ↔ (IsNext (ahead_way side) i j × IsCell b.game j × (unit_at b (place_in j) ≡ None))
+pushed-off b side i n h e far j = (
+  λ x. absurd (Has-zero j x),
+  λ (a, c, none). let s = cell_small b.game j c in let f = next-is (ahead_way side) i j h a in absurd (far (omega (arith, e, f, s))),
+)

@@ -1,0 +1,17 @@
+use Rattle.std.proofs.Common.{◌≡◌, ◌↔◌, true, sym, subst}
+use Rattle.board.specs.Board.{is_of_side}
+use Rattle.moves.specs.Squares.{unit_at}
+use Rattle.moves.specs.Mailbox.{place_in, IsCell}
+use Rattle.moves.specs.Targets.{Has}
+use Rattle.moves.proofs.Shown.{white-shown, black-shown}
+use Rattle.moves.proofs.packed.Board.of_side.Goals as goal
+
+pub returns-in-White : goal.returns-in-White
+returns-in-White c = λ i.
+    let b = c.args.self.now in
+    subst (λ s. Has c.set.result i ↔ (IsCell b.game i × (is_of_side s (unit_at b (place_in i)) ≡ true))) (sym c.in-White.is) (white-shown b c.set.result c.set.ensures i)
+
+pub returns-in-Black : goal.returns-in-Black
+returns-in-Black c = λ i.
+    let b = c.args.self.now in
+    subst (λ s. Has c.set-in-Black.result i ↔ (IsCell b.game i × (is_of_side s (unit_at b (place_in i)) ≡ true))) (sym c.in-Black.is) (black-shown b c.set-in-Black.result c.set-in-Black.ensures i)

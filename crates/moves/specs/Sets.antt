@@ -1,0 +1,87 @@
+-- The units of a board as sets of cells, and what a unit sees.
+use Rattle.std.specs.Prelude.{◌≡◌, ◌≢◌, ℕ, ◌↔◌, ◌⊎◌, List, Some}
+use Rattle.board.specs.declared.game.Game.{Game}
+use Rattle.board.specs.declared.game.Side.{Side}
+use Rattle.board.specs.declared.game.Side.TheVariants as side
+use Rattle.board.specs.declared.game.Kind.{Kind}
+use Rattle.board.specs.declared.game.Kind.TheVariants.{King, Queen, Rook, Bishop, Knight, Pawn}
+use Rattle.board.specs.declared.game.Unit.{Unit as Man}
+use Rattle.board.specs.declared.step.Mode.TheVariants.{Move}
+use Rattle.board.specs.declared.step.Step.{Step}
+use Rattle.board.specs.Denotation.{terms_of, Denotes}
+use Rattle.board.specs.Board.{PlainBoard}
+use Rattle.moves.specs.declared.sets.Class.{Class}
+use Rattle.moves.specs.declared.sets.Class.TheVariants.{White, Black, Crowned, Straight, Slanted, Horsed, Foot}
+use Rattle.moves.specs.declared.sets.Sets.{Sets}
+use Rattle.moves.specs.Squares.{Place, unit_at}
+use Rattle.moves.specs.Reach.{ahead_of}
+use Rattle.moves.specs.Mailbox.{place_in, IsAway, IsCell}
+use Rattle.moves.specs.Ways.{Rides}
+use Rattle.moves.specs.declared.tables.Way.TheVariants.{North, South, East, West, NorthEast, SouthWest, NorthWest, SouthEast}
+use Rattle.moves.specs.Targets.{Has}
+use Rattle.moves.specs.Words.{unpacked, IsPacked}
+
+-- the unit is of the class: of a side, of a kind, or a rider along ranks and files, or along diagonals
+abbrev pub IsOf : Class → Man → Type 0
+IsOf White u = u.side ≡ side.White
+IsOf Black u = u.side ≡ side.Black
+IsOf Crowned u = u.kind ≡ King
+IsOf Straight u = (u.kind ≡ Queen) ⊎ (u.kind ≡ Rook)
+IsOf Slanted u = (u.kind ≡ Queen) ⊎ (u.kind ≡ Bishop)
+IsOf Horsed u = u.kind ≡ Knight
+IsOf Foot u = u.kind ≡ Pawn
+
+-- a unit of the class stands on the square
+pub record StandsAs (b : PlainBoard) (class : Class) (s : Place) : Type 0 where
+  pub unit : Man
+  pub stands : unit_at b s ≡ Some unit
+  pub is : IsOf class unit
+
+-- the set has the cells of the units of the class
+abbrev pub Holds : PlainBoard → Class → ℕ → Type 0
+Holds b class set = (i : ℕ) → Has set i ↔ (IsCell b.game i × StandsAs b class (place_in i))
+
+-- each set has the cells of its class
+pub record Shows (b : PlainBoard) (s : Sets) : Type 0 where
+  pub white : Holds b White s.white
+  pub black : Holds b Black s.black
+  pub kings : Holds b Crowned s.kings
+  pub straight : Holds b Straight s.straight
+  pub slanted : Holds b Slanted s.slanted
+  pub knights : Holds b Horsed s.knights
+  pub pawns : Holds b Foot s.pawns
+
+-- a cell of the class after a unit went from one cell to another, where it is `placed`
+abbrev pub HasMoved : ℕ → Class → ℕ → ℕ → Man → ℕ → Type 0
+HasMoved set class from to placed i = (Has set i × (i ≢ from) × (i ≢ to)) ⊎ ((i ≡ to) × IsOf class placed)
+
+-- each set after it
+pub record AreMoved (s t : Sets) (from to : ℕ) (placed : Man) : Type 0 where
+  pub white : (i : ℕ) → Has t.white i ↔ HasMoved s.white White from to placed i
+  pub black : (i : ℕ) → Has t.black i ↔ HasMoved s.black Black from to placed i
+  pub kings : (i : ℕ) → Has t.kings i ↔ HasMoved s.kings Crowned from to placed i
+  pub straight : (i : ℕ) → Has t.straight i ↔ HasMoved s.straight Straight from to placed i
+  pub slanted : (i : ℕ) → Has t.slanted i ↔ HasMoved s.slanted Slanted from to placed i
+  pub knights : (i : ℕ) → Has t.knights i ↔ HasMoved s.knights Horsed from to placed i
+  pub pawns : (i : ℕ) → Has t.pawns i ↔ HasMoved s.pawns Foot from to placed i
+
+-- a rider comes to the cell along a rank or a file
+abbrev pub RidesStraight : PlainBoard → ℕ → ℕ → Type 0
+RidesStraight b i j = Rides b North i j ⊎ (Rides b South i j ⊎ (Rides b East i j ⊎ Rides b West i j))
+
+-- or along a diagonal
+abbrev pub RidesSlanted : PlainBoard → ℕ → ℕ → Type 0
+RidesSlanted b i j = Rides b NorthEast i j ⊎ (Rides b SouthWest i j ⊎ (Rides b NorthWest i j ⊎ Rides b SouthEast i j))
+
+-- a step of the kind that may capture leads from cell i to cell j at once
+pub record IsLeapt (g : Game) (side : Side) (kind : Kind) (i j : ℕ) : Type 0 where
+  pub cell : IsCell g j
+  pub step : Step
+  pub denoted : Denotes (terms_of kind) step
+  pub captures : step.mode ≡ Move → ⊥
+  pub away : IsAway step.dx (ahead_of side step.dy) i j
+
+-- what a board keeps: words of a position, and sets that show the same
+pub record IsKept (words : List ℕ) (sets : Sets) : Type 0 where
+  pub packed : IsPacked words
+  pub shows : Shows (unpacked words) sets

@@ -1,0 +1,95 @@
+//! What a unit sees from a cell: where it would take.
+ghost use Rattle.std.specs.Prelude.{◌≡◌, ◌<◌, ◌↔◌, ℕ, true, false};
+ghost use Rattle.std.specs.Int.{bit_at};
+ghost use Rattle.moves.specs.Mailbox.{place_in, IsCell};
+ghost use Rattle.moves.specs.Targets.{Has};
+ghost use Rattle.moves.specs.Looking.{Aims};
+ghost use Rattle.moves.specs.Ways.{Rides, rises};
+ghost use Rattle.moves.specs.Sets.{RidesStraight, RidesSlanted};
+
+use crate::packed::Board;
+use crate::tables::{Way, king_leaps, knight_leaps, pawn_captures, ray};
+use board::{Kind, Side};
+
+/// The cells up to the lowest of the set, which may be empty.
+fn up_to_lowest(stops: u64) -> u64
+    ensures { (j : ℕ) → j < 63 → Has result j ↔ ((i : ℕ) → i < j → Has stops i → ⊥) }
+{
+    u64::MAX >> (63 - (stops | 1 << 63).trailing_zeros())
+}
+
+/// The cells down to the highest of the set, which may be empty.
+fn down_to_highest(stops: u64) -> u64
+    ensures { (j : ℕ) → 0 < j → j < 64 → Has result j ↔ ((i : ℕ) → j < i → Has stops i → ⊥) }
+{
+    u64::MAX << (63 - (stops | 1).leading_zeros())
+}
+
+/// The cells to which a rider comes from the cell, north, east or between them.
+fn upward(board: &Board, way: Way, cell: u8) -> u64
+    requires cell { IsCell board.now.game cell }
+    requires way { rises way ≡ true }
+    ensures { (j : ℕ) → Has result j ↔ Rides board.now way cell j }
+{
+    let line = ray(board.game(), way, cell);
+    line & up_to_lowest(line & board.taken())
+}
+
+/// The cells to which a rider comes from the cell, south, west or between them.
+fn downward(board: &Board, way: Way, cell: u8) -> u64
+    requires cell { IsCell board.now.game cell }
+    requires way { rises way ≡ false }
+    ensures { (j : ℕ) → Has result j ↔ Rides board.now way cell j }
+{
+    let line = ray(board.game(), way, cell);
+    line & down_to_highest(line & board.taken())
+}
+
+/// The cells to which a rider comes that way from the cell.
+pub(crate) fn along(board: &Board, way: Way, cell: u8) -> u64
+    requires { IsCell board.now.game cell }
+    ensures { (j : ℕ) → Has result j ↔ Rides board.now way cell j }
+{
+    match way {
+        Way::North | Way::East | Way::NorthEast | Way::NorthWest => upward(board, way, cell),
+        Way::South | Way::West | Way::SouthEast | Way::SouthWest => downward(board, way, cell),
+    }
+}
+
+/// The cells to which a rider comes from the cell along its rank and its file.
+fn straight(board: &Board, cell: u8) -> u64
+    requires { IsCell board.now.game cell }
+    ensures { (j : ℕ) → Has result j ↔ RidesStraight board.now cell j }
+{
+    along(board, Way::North, cell)
+        | along(board, Way::South, cell)
+        | along(board, Way::East, cell)
+        | along(board, Way::West, cell)
+}
+
+/// The cells to which a rider comes from the cell along its diagonals.
+fn slanted(board: &Board, cell: u8) -> u64
+    requires { IsCell board.now.game cell }
+    ensures { (j : ℕ) → Has result j ↔ RidesSlanted board.now cell j }
+{
+    along(board, Way::NorthEast, cell)
+        | along(board, Way::SouthWest, cell)
+        | along(board, Way::NorthWest, cell)
+        | along(board, Way::SouthEast, cell)
+}
+
+/// The cells where a unit of the kind would take from this one.
+pub(crate) fn seen(board: &Board, side: Side, kind: Kind, cell: u8) -> u64
+    requires { IsCell board.now.game cell }
+    ensures { (j : ℕ) → Has result j
+        ↔ (IsCell board.now.game j × Aims board.now (record { side = side; kind = kind }) (place_in cell) (place_in j)) }
+{
+    match kind {
+        Kind::King => king_leaps(board.game(), cell),
+        Kind::Queen => straight(board, cell) | slanted(board, cell),
+        Kind::Rook => straight(board, cell),
+        Kind::Bishop => slanted(board, cell),
+        Kind::Knight => knight_leaps(board.game(), cell),
+        Kind::Pawn => pawn_captures(board.game(), side, cell),
+    }
+}

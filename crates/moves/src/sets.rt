@@ -1,0 +1,111 @@
+//! The units of a board as sets of cells, one bit a cell.
+ghost use Rattle.std.specs.Prelude.{◌≡◌, ◌<◌, ◌↔◌, ℕ, IsTrue, Some, None};
+ghost use Rattle.board.specs.Board.{PlainBoard, IsPosition, unit_on};
+ghost use Rattle.moves.specs.Squares.{unit_at};
+ghost use Rattle.moves.specs.Moves.{IsPseudoLegal, placed, after};
+ghost use Rattle.moves.specs.Mailbox.{cell_of, place_in, IsCell};
+ghost use Rattle.moves.specs.Targets.{Has};
+ghost use Rattle.moves.specs.Sets.{IsOf, Holds, Shows, HasMoved, AreMoved};
+
+use crate::mailbox::cell_of;
+use crate::squares::Square;
+use crate::targets::with_cell;
+use board::{Kind, Position, Side, Unit};
+
+/// What the units of a set have in common. A queen goes both straight and slanted.
+#[derive(Clone, Copy)]
+pub(crate) enum Class {
+    White,
+    Black,
+    Crowned,
+    Straight,
+    Slanted,
+    Horsed,
+    Foot,
+}
+
+/// The cells of the units of each class.
+#[derive(Clone, Copy)]
+pub(crate) struct Sets {
+    pub(crate) white: u64,
+    pub(crate) black: u64,
+    pub(crate) kings: u64,
+    pub(crate) straight: u64,
+    pub(crate) slanted: u64,
+    pub(crate) knights: u64,
+    pub(crate) pawns: u64,
+}
+
+/// Whether the unit is of the class.
+fn is_of(class: Class, unit: Unit) -> bool
+    ensures { IsTrue result ↔ IsOf class unit }
+{
+    match class {
+        Class::White => unit.side == Side::White,
+        Class::Black => unit.side == Side::Black,
+        Class::Crowned => unit.kind == Kind::King,
+        Class::Straight => unit.kind == Kind::Queen || unit.kind == Kind::Rook,
+        Class::Slanted => unit.kind == Kind::Queen || unit.kind == Kind::Bishop,
+        Class::Horsed => unit.kind == Kind::Knight,
+        Class::Foot => unit.kind == Kind::Pawn,
+    }
+}
+
+/// The cells of a position's units of the class.
+fn cells_of(position: &Position, class: Class) -> u64
+    ensures { Holds position.now class result }
+{
+    let game = position.game();
+    let mut set = 0;
+    for number in 0..game.squares() {
+        if let Some(unit) = position.unit(number) {
+            let cell = cell_of(Square::of_number(game, number));
+            set = with_cell(set, cell, is_of(class, unit));
+        }
+    }
+    set
+}
+
+/// The cells of the class after a unit has moved from one cell to another, where it is `placed`.
+fn moved_cells(set: u64, class: Class, from: u8, to: u8, placed: Unit) -> u64
+    requires from { from < 63 }
+    requires to { to < 63 }
+    ensures { (i : ℕ) → Has result i ↔ HasMoved set class from to placed i }
+{
+    let rest = set & !(1 << from) & !(1 << to);
+    with_cell(rest, to, is_of(class, placed))
+}
+
+impl Sets {
+    /// The sets of a position's units.
+    pub(crate) fn of(position: &Position) -> Sets
+        ensures { Shows position.now result }
+    {
+        Sets {
+            white: cells_of(position, Class::White),
+            black: cells_of(position, Class::Black),
+            kings: cells_of(position, Class::Crowned),
+            straight: cells_of(position, Class::Straight),
+            slanted: cells_of(position, Class::Slanted),
+            knights: cells_of(position, Class::Horsed),
+            pawns: cells_of(position, Class::Foot),
+        }
+    }
+
+    /// The sets after a unit has moved from one cell to another, where it is `placed`.
+    pub(crate) fn moved(&self, from: u8, to: u8, placed: Unit) -> Sets
+        requires from { from < 63 }
+        requires to { to < 63 }
+        ensures { AreMoved self.now result from to placed }
+    {
+        Sets {
+            white: moved_cells(self.white, Class::White, from, to, placed),
+            black: moved_cells(self.black, Class::Black, from, to, placed),
+            kings: moved_cells(self.kings, Class::Crowned, from, to, placed),
+            straight: moved_cells(self.straight, Class::Straight, from, to, placed),
+            slanted: moved_cells(self.slanted, Class::Slanted, from, to, placed),
+            knights: moved_cells(self.knights, Class::Horsed, from, to, placed),
+            pawns: moved_cells(self.pawns, Class::Foot, from, to, placed),
+        }
+    }
+}

@@ -1,0 +1,214 @@
+"""One position, dealt out as (first move, reply) and by rounds, as `minimate solve` plays them."""
+
+import os
+import sys
+
+sys.dont_write_bytecode = True
+
+import check_tree  # noqa: E402 (no compiled copy of it is to be left in tools/)
+import dealing  # noqa: E402
+import dealt  # noqa: E402
+import joblog  # noqa: E402
+import positions  # noqa: E402
+import tree_parts  # noqa: E402
+
+
+class Reply:
+    """The position after a move and a reply, in which the attacker is to move again."""
+
+    def __init__(self, text, position):
+        self.text, self.position, self.fen = text, position, positions.fen_text(position)
+        self.moves = None
+        # The fewest plies, if it is known to be forced, and within how many it isn't.
+        self.forced, self.escapes = None, 0
+
+    def learn(self, known):
+        if known.is_forced:
+            self.forced = known.plies
+        else:
+            self.escapes = max(self.escapes, known.plies)
+
+    def decided(self, plies):
+        """Whether the goal is forced within so many plies, or None where that isn't known."""
+        if self.forced is not None:
+            return self.forced <= plies
+        return False if self.escapes >= plies else None
+
+
+class First:
+    """A first move, with the replies to it."""
+
+    def __init__(self, text, replies):
+        self.text, self.replies = text, replies
+
+    def wins(self, plies):
+        """Whether each reply is met within so many plies, or None where that isn't known."""
+        told = [reply.decided(plies) for reply in self.replies]
+        if not self.replies or False in told:
+            return False
+        return None if None in told else True
+
+    def open_replies(self, plies):
+        """The replies to ask of, the one that escaped last first."""
+        if self.wins(plies) is not None:
+            return []
+        return sorted((it for it in self.replies if it.decided(plies) is None), key=lambda reply: -reply.escapes)
+
+
+class Solve(dealt.Dealt):
+    """The answer to one position."""
+
+    def __init__(self, options):
+        super().__init__(options)
+        self.fen = options.fen
+
+    def answer(self):
+        """What is printed. The first round is one call here, which also answers the refusals."""
+        limit = self.limit("solve", "--", self.fen)
+        at_once = self.ask_here("solve", 1, "--", self.fen)
+        self.open_log()
+        if self.options.tasks:
+            return self.tasks(limit)
+        if not at_once.startswith("none"):
+            return self.whole(self.ask_here("tree", 1, "--", self.fen), 1) if self.options.tree else at_once
+        firsts = self.firsts() if limit >= 3 else []
+        for plies in range(3, limit + 1, 2):
+            won = self.round(firsts, plies)
+            if won:
+                return self.tree(won, plies) if self.options.tree else f"{joblog.word_of(self.goal)} {plies} {won.text}\n"
+        return f"none within {limit}\n"
+
+    def is_listing(self):
+        return self.options.tasks
+
+    def tasks(self, limit):
+        """The last round's tasks, as the joblog's lines begin."""
+        within = limit - 2 if limit % 2 else limit - 3
+        keys = dict.fromkeys(self.key("solve", within, reply.fen) for reply in all_replies(self.firsts())) if within > 0 else []
+        return "".join("\t".join(key) + "\n" for key in keys)
+
+    def firsts(self):
+        root, found = check_tree.read_position(os.fsencode(self.fen)), []
+        for move in positions.listed_moves(self.program, root):
+            then = check_tree.after(root, move)
+            moves = positions.listed_moves(self.program, then)
+            replies = [Reply(check_tree.move_text(reply), check_tree.after(then, reply)) for reply in moves]
+            found.append(First(check_tree.move_text(move), replies))
+        return found
+
+    # Rounds
+
+    def round(self, firsts, plies):
+        """The least move that wins within so many plies, or None."""
+        within = plies - 2
+        for reply in all_replies(firsts):
+            self.recall(reply, within)
+        if not is_decided(firsts, within):
+            self.deal_round(firsts, asked_of(firsts, within), within)
+        return next((first for first in firsts if first.wins(within)), None)
+
+    def recall(self, reply, within):
+        """Takes what the joblog has of it."""
+        for limit, text in self.log.of(self.goal, reply.fen):
+            if reply.decided(within) is None:
+                known = joblog.read_answer(text, self.goal, limit, self.moves(reply))
+                if known:
+                    reply.learn(known)
+
+    def moves(self, reply):
+        """The moves at the position after the reply; the program lists the same."""
+        if reply.moves is None:
+            reply.moves = [check_tree.move_text(move) for move in positions.listed_moves(self.program, reply.position)]
+        return reply.moves
+
+    def deal_round(self, firsts, asked, within):
+        for replies in asked:
+            self.moves(replies[0])
+        lines = [self.line("solve", within, replies[0].fen) for replies in asked]
+        with dealing.Dealing(lines, self.machines()) as tasks:
+            for number, ended in tasks:
+                self.learn(asked[number], within, lines[number], ended)
+                if is_decided(firsts, within):
+                    return
+                unwanted = not_wanted(firsts, asked, within)
+                for other in unwanted:
+                    tasks.drop(other)
+        raise dealing.Fault("tasks are left undone")
+
+    def learn(self, replies, within, line, ended):
+        """Takes a task's answer for all that it is the answer of."""
+        known = ended.is_done() and joblog.read_answer(ended.output, self.goal, within, self.moves(replies[0]))
+        if not known:
+            raise self.unanswered(line, ended)
+        self.note(self.key("solve", within, replies[0].fen), ended)
+        for reply in replies:
+            reply.learn(known)
+
+    def note(self, key, ended):
+        self.runs[ended.where()] += 1
+        self.log.add(key, ended.output, ended)
+
+    # The tree
+
+    def tree(self, first, plies):
+        """The move, and each reply with its tree. Each of those is one task."""
+        kept = {reply.fen: self.log.answers.get(self.key("tree", reply.forced, reply.fen)) for reply in first.replies}
+        texts = {fen: text for fen, text in kept.items() if text}
+        asked = list({reply.fen: reply for reply in first.replies if reply.fen not in texts}.values())
+        if asked:
+            self.deal_trees(asked, texts)
+        below = ",".join(f"{reply.text}:{texts[reply.fen].rstrip()}" for reply in first.replies)
+        return self.whole(f"{first.text}{{{below}}}\n", plies)
+
+    def deal_trees(self, asked, texts):
+        lines = [self.line("tree", reply.forced, reply.fen) for reply in asked]
+        with dealing.Dealing(lines, self.machines()) as tasks:
+            for number, ended in tasks:
+                if not ended.is_done():
+                    raise self.unanswered(lines[number], ended)
+                reply = asked[number]
+                self.note(self.key("tree", reply.forced, reply.fen), ended)
+                texts[reply.fen] = ended.output
+
+    def whole(self, text, plies):
+        """The tree, once the program here has checked it."""
+        root = check_tree.read_position(os.fsencode(self.fen))
+        told = tree_parts.checked(self.program, self.goal, root, text.removesuffix("\n"))
+        if told != plies:
+            raise dealing.Fault(f"the tree that came back doesn't win within {plies} plies, so some machine answered wrongly")
+        return text
+
+
+def all_replies(firsts):
+    return (reply for first in firsts for reply in first.replies)
+
+
+def is_decided(firsts, within):
+    """Whether the least move that wins is known, or that none does."""
+    for first in firsts:
+        told = first.wins(within)
+        if told is not False:
+            return bool(told)
+    return True
+
+
+def asked_of(firsts, within):
+    """The positions to ask of, each once with all its replies: one reply of each first move, then the next of each, and so on."""
+    lists, found = [first.open_replies(within) for first in firsts], {}
+    for rank in range(max(map(len, lists), default=0)):
+        for replies in lists:
+            if rank < len(replies):
+                found.setdefault(replies[rank].fen, []).append(replies[rank])
+    return list(found.values())
+
+
+def not_wanted(firsts, asked, within):
+    """The numbers of those of no more use: a reply to their move escapes, or a lesser move wins."""
+    wanted = set()
+    for first in firsts:
+        told = first.wins(within)
+        if told:
+            break
+        if told is None:
+            wanted.update(reply.fen for reply in first.replies)
+    return [number for number, replies in enumerate(asked) if replies[0].fen not in wanted]

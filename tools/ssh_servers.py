@@ -1,0 +1,103 @@
+"""Servers of ssh on the loopback address, for tests."""
+
+import contextlib
+import getpass
+import os
+import shutil
+import signal
+import socket
+import subprocess
+import sys
+import time
+
+sys.dont_write_bytecode = True
+
+import checking  # noqa: E402 (no compiled copy of it is to be left in tools/)
+
+
+def free_port():
+    with socket.socket() as taken:
+        taken.bind(("127.0.0.1", 0))
+        return taken.getsockname()[1]
+
+
+class Servers:
+    """Servers of ssh on the loopback address, which take this user's new key alone."""
+
+    def __init__(self, folder, names):
+        self.folder, self.names, self.ports, self.processes = folder, names, {}, {}
+
+    def __enter__(self):
+        os.mkdir(self.folder, 0o700)
+        for key in ("host", "user"):
+            subprocess.run(["ssh-keygen", "-q", "-t", "ed25519", "-N", "", "-f", self.path(key)], check=True)
+        if os.getuid() == 0:
+            os.makedirs("/run/sshd", 0o755, exist_ok=True)
+        for name in self.names:
+            self.start(name)
+        with open(self.path("config"), "w", encoding="utf-8") as file:
+            for name in self.names:
+                file.write(f"Host {name}\n  HostName 127.0.0.1\n  Port {self.ports[name]}\n")
+            file.write(f"Host *\n  User {getpass.getuser()}\n  IdentityFile {self.path('user')}\n  IdentitiesOnly yes\n")
+            file.write("  BatchMode yes\n  StrictHostKeyChecking no\n  UserKnownHostsFile /dev/null\n")
+            file.write("  LogLevel ERROR\n  ConnectTimeout 10\n")
+        return self
+
+    def path(self, name):
+        return os.path.join(self.folder, name)
+
+    def start(self, name):
+        self.ports[name] = free_port()
+        settings = {
+            "ListenAddress": "127.0.0.1",
+            "Port": self.ports[name],
+            "HostKey": self.path("host"),
+            "AuthorizedKeysFile": self.path("user.pub"),
+            "StrictModes": "no",
+            "UsePAM": "no",
+            "PidFile": "none",
+            "PasswordAuthentication": "no",
+            "PermitRootLogin": "prohibit-password",
+            "MaxStartups": "100",
+        }
+        with open(self.path(name), "w", encoding="utf-8") as file:
+            file.writelines(f"{key} {value}\n" for key, value in settings.items())
+        with open(self.path(name + ".log"), "wb") as log:
+            words = [find_sshd(), "-D", "-e", "-f", self.path(name)]
+            self.processes[name] = subprocess.Popen(words, stdin=subprocess.DEVNULL, stdout=log, stderr=log)
+        end = time.monotonic() + 10
+        while time.monotonic() < end:
+            with contextlib.suppress(OSError), socket.create_connection(("127.0.0.1", self.ports[name]), 1):
+                return
+            time.sleep(0.05)
+        with open(self.path(name + ".log"), encoding="utf-8", errors="replace") as log:
+            checking.stop(f"sshd doesn't start: {log.read()}")
+
+    def environment(self):
+        return {**os.environ, "PARALLEL_SSH": f"ssh -F {self.path('config')}"}
+
+    def end(self, name):
+        """Ends a server and all that it started."""
+        process = self.processes.pop(name)
+        for below in [process.pid, *below_process(process.pid)]:
+            with contextlib.suppress(ProcessLookupError):
+                os.kill(below, signal.SIGKILL)
+        process.wait()
+
+    def __exit__(self, *_):
+        for name in list(self.processes):
+            self.end(name)
+
+
+def below_process(process):
+    """All processes that it started, and that those started."""
+    try:
+        with open(f"/proc/{process}/task/{process}/children", encoding="ascii") as file:
+            children = [int(child) for child in file.read().split()]
+    except OSError:
+        return []
+    return children + [below for child in children for below in below_process(child)]
+
+
+def find_sshd():
+    return shutil.which("sshd", path=os.environ.get("PATH", "") + ":/usr/sbin:/usr/local/sbin")

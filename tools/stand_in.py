@@ -1,0 +1,39 @@
+"""Programs that stand in for minimate in tests: each notes its calls, does what it is told, and answers as the program does."""
+
+import os
+from typing import NamedTuple
+
+
+class Hold(NamedTuple):
+    """What a stand-in for the program does before it answers as the program does: a shell's lines."""
+
+    lines: str
+
+
+NOTHING = Hold("")
+# The first task of each round is killed once it has begun.
+KILLED = Hold('if [ "$1" = solve ] && [ -n "$PARALLEL_SEQ" ] && mkdir "$room/killed$2" 2> /dev/null; then kill -9 $$; fi')
+KILLED_PART = Hold('if [ "$1" = batch ] && [ -n "$PARALLEL_SEQ" ] && mkdir "$room/killed" 2> /dev/null; then kill -9 $$; fi')
+# The first task of the second round waits.
+IS_SECOND_ROUND = '[ "$2" = --limit=3 ] && [ -n "$PARALLEL_SEQ" ] && mkdir "$room/held" 2> /dev/null'
+WAITS = Hold(f'if {IS_SECOND_ROUND}; then echo $$ > "$room/holder"; sleep 300; fi')
+# The task on one position waits.
+WAITS_AT = Hold('if [ "$1$2" = solve--limit=1 ] && [ "$6" = "AT" ]; then echo $$ > "$room/holder"; sleep 300; fi')
+# All tasks of one machine wait.
+WAITS_THERE = Hold('if [ "${SSH_CONNECTION##* }" = PORT ]; then echo $$ > "$room/holder"; sleep 300; fi')
+# One machine's disk is full.
+FULL_THERE = Hold('if [ "${SSH_CONNECTION##* }" = PORT ]; then exec "$program" "$@" > /dev/full; fi')
+# A machine says mate where there is none.
+WRONG = Hold('if [ "$1" = solve ] && [ -n "$PARALLEL_SEQ" ]; then echo "mate 1 $("$program" moves "$6" | head -n 1)"; exit; fi')
+
+
+def make(program, room, hold, port="", at=""):
+    """A new folder with such a program, whose path is given back. `calls` beside it has a line for each call."""
+    os.mkdir(room)
+    path = os.path.join(room, "minimate")
+    note = 'echo "${SSH_CONNECTION##* } $*" >> "$room/calls"'
+    lines = ["#!/bin/sh", f"room='{room}'", f"program='{program}'", note, hold.lines.replace("PORT", str(port)).replace("AT", at)]
+    with open(path, "w", encoding="utf-8") as file:
+        file.write("\n".join([*lines, 'exec "$program" "$@"', ""]))
+    os.chmod(path, 0o755)
+    return path
