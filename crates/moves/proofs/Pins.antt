@@ -30,7 +30,7 @@ place_cases g s t a b = elim (cases_eq (square_number g s) (square_number g t)) 
   | inr other ↦ inr (λ e. other (ap (square_number g) e))
 ]
 
-promotes_no_king : (g : Game) (o : Option Kind) (k : Kind) → IfSome o (IsPromotion g) → (k ≡ King → ⊥) → unwrap_or o k ≡ King → ⊥
+pub promotes_no_king : (g : Game) (o : Option Kind) (k : Kind) → IfSome o (IsPromotion g) → (k ≡ King → ⊥) → unwrap_or o k ≡ King → ⊥
 promotes_no_king g None k a not e = not e
 promotes_no_king g (Some King) k a not e = a
 promotes_no_king g (Some Queen) k a not e = cc

@@ -22,13 +22,50 @@ use Rattle.moves.proofs.Lists.{ListsBelow-jump, ListsBelow-all_to, IsNumbered-la
 use Rattle.moves.proofs.Room.{share, share-more, share-most, share-step, squares_36}
 
 -- cells are ordered as their squares' numbers are
-cell_order : (g : Game) (i j : ℕ) → IsCell g i → IsCell g j → square_number g (place_in i) < square_number g (place_in j) → i < j
+pub cell_order : (g : Game) (i j : ℕ) → IsCell g i → IsCell g j → square_number g (place_in i) < square_number g (place_in j) → i < j
 cell_order LosAlamos i j a b h = let x = a.on_board.file in let y = b.on_board.file in let p = a.above in let q = b.above in omega arith
 cell_order Gardner i j a b h = let x = a.on_board.file in let y = b.on_board.file in let p = a.above in let q = b.above in omega arith
 
-number_order : (g : Game) (i j : ℕ) → IsCell g i → IsCell g j → i < j → square_number g (place_in i) < square_number g (place_in j)
+pub number_order : (g : Game) (i j : ℕ) → IsCell g i → IsCell g j → i < j → square_number g (place_in i) < square_number g (place_in j)
 number_order LosAlamos i j a b h = let x = a.on_board.file in let y = b.on_board.file in let p = a.above in let q = b.above in omega arith
 number_order Gardner i j a b h = let x = a.on_board.file in let y = b.on_board.file in let p = a.above in let q = b.above in omega arith
+
+-- once the lowest of some cells is taken, those behind it are left
+module _ (g : Game) (P : ℕ → Type 0) (cell : (i : ℕ) → P i → IsCell g i) (set upto : ℕ) (left : (i : ℕ) → Has set i ↔ (P i × (upto ≤ square_number g (place_in i)))) (to : ℕ) (has : Has set to) (low : (i : ℕ) → i < to → bit_at set i ≡ 0) where
+  pub left_after : (rest : ℕ) → set < 2 ^ 64 → rest < set → bit_at rest to ≡ 0 → ((i : ℕ) → i < 64 → i ≢ to → bit_at rest i ≡ bit_at set i)
+      → (i : ℕ) → Has rest i ↔ (P i × (square_number g (place_in to) + 1 ≤ square_number g (place_in i)))
+  left_after rest fits less gone others i = (λ h. kept i (narrow i h) h, λ t. again i t.0 t.1)
+    where
+      target : P to
+      target = ((left to).0 has).0
+
+      narrow : (i : ℕ) → Has rest i → i < 64
+      narrow i h = elim (cases_lt i 64) [
+        | inl less' ↦ less'
+        | inr more' ↦ let zeroed = bit_at_above rest 64 i (omega (arith, less, fits)) more' in absurd (omega (arith, h, zeroed))
+      ]
+
+      not_lowest : (i : ℕ) → Has rest i → i ≢ to
+      not_lowest i h e = let here : bit_at rest to ≡ 1 = subst (λ x. bit_at rest x ≡ 1) e h in omega (arith, gone, here)
+
+      kept : (i : ℕ) → i < 64 → Has rest i → P i × (square_number g (place_in to) + 1 ≤ square_number g (place_in i))
+      kept i small h =
+          let there : bit_at set i ≡ 1 = sym (others i small (not_lowest i h)) ∙ h in
+          let reached = (left i).0 there in
+          let above : to < i = elim (cases_order i to) [
+            | inl same ↦ absurd (not_lowest i h same)
+            | inr (inl below) ↦ let at = low i below in absurd (omega (arith, at, there))
+            | inr (inr more') ↦ more'
+          ] in
+          let later = number_order g to i (cell to target) (cell i reached.0) above in
+          (reached.0, omega (arith, later))
+
+      again : (i : ℕ) → P i → square_number g (place_in to) + 1 ≤ square_number g (place_in i) → Has rest i
+      again i t later =
+          let upto_number = ((left to).0 has).1 in
+          let small = cell_small g i (cell i t) in
+          let other : i ≢ to = λ e. let same : square_number g (place_in i) ≡ square_number g (place_in to) = ap (λ x. square_number g (place_in x)) e in omega (arith, later, same) in
+          others i (omega (arith, small)) other ∙ (left i).1 (t, omega (arith, upto_number, later))
 
 -- the squares numbered below `upto` are done, and the set has the targets from there on
 pub record IsScanned (b : PlainBoard) (u : Man) (from : Place) (set : ℕ) (moves : List Ply) (before now : ℕ) : Type 0 where
@@ -53,7 +90,7 @@ module _ (b : PlainBoard) (u : Man) (from : Place) (on : IsOnBoard b.game from) 
       }
 
   -- up to the next target no move of the unit is lawful
-  pub skip_to : (set upto to : ℕ) (moves : List Ply) → ((i : ℕ) → Has set i ↔ (IsTarget b u from i × (upto ≤ square_number b.game (place_in i)))) → ListsBelow b ((square_number b.game from * 36 + upto) * 5) moves
+  skip_to : (set upto to : ℕ) (moves : List Ply) → ((i : ℕ) → Has set i ↔ (IsTarget b u from i × (upto ≤ square_number b.game (place_in i)))) → ListsBelow b ((square_number b.game from * 36 + upto) * 5) moves
       → upto ≤ to → to ≤ squares_of b.game → ((i : ℕ) → IsCell b.game i → square_number b.game (place_in i) < to → Has set i → ⊥)
       → ListsBelow b ((square_number b.game from * 36 + to) * 5) moves
   skip_to set upto to moves left lists more within none =
@@ -84,55 +121,6 @@ module _ (b : PlainBoard) (u : Man) (from : Place) (on : IsOnBoard b.game from) 
 
   share-up : (n k : ℕ) → n ≤ k → share b.game u from n ≤ share b.game u from k
   share-up n k h = let same : n + (k - n) ≡ k = omega arith in subst (λ x. share b.game u from n ≤ share b.game u from x) same (share-jump n (k - n))
-
-  -- once the lowest cell is taken from the targets, those behind it are left
-  module _ (set upto : ℕ) (left : (i : ℕ) → Has set i ↔ (IsTarget b u from i × (upto ≤ square_number b.game (place_in i)))) (to : ℕ) (has : Has set to) (low : (i : ℕ) → i < to → bit_at set i ≡ 0) where
-    pub left_from : (i : ℕ) → Has set i ↔ (IsTarget b u from i × (square_number b.game (place_in to) ≤ square_number b.game (place_in i)))
-    left_from i = (
-      λ h. (
-        ((left i).0 h).0,
-        elim (cases_lt (square_number b.game (place_in i)) (square_number b.game (place_in to))) [
-          | inl less ↦ let at = low i (cell_order b.game i to ((left i).0 h).0.0 ((left to).0 has).0.0 less) in absurd (omega (arith, h, at))
-          | inr more ↦ more
-        ],
-      ),
-      λ t. let behind = t.1 in let first = ((left to).0 has).1 in (left i).1 (t.0, omega (arith, behind, first)),
-    )
-
-    pub left_after : (rest : ℕ) → set < 2 ^ 64 → rest < set → bit_at rest to ≡ 0 → ((i : ℕ) → i < 64 → i ≢ to → bit_at rest i ≡ bit_at set i)
-        → (i : ℕ) → Has rest i ↔ (IsTarget b u from i × (square_number b.game (place_in to) + 1 ≤ square_number b.game (place_in i)))
-    left_after rest fits less gone others i = (λ h. kept i (narrow i h) h, λ t. again i t.0 t.1)
-      where
-        target : IsTarget b u from to
-        target = ((left to).0 has).0
-
-        narrow : (i : ℕ) → Has rest i → i < 64
-        narrow i h = elim (cases_lt i 64) [
-          | inl less' ↦ less'
-          | inr more' ↦ let zeroed = bit_at_above rest 64 i (omega (arith, less, fits)) more' in absurd (omega (arith, h, zeroed))
-        ]
-
-        not_lowest : (i : ℕ) → Has rest i → i ≢ to
-        not_lowest i h e = let here : bit_at rest to ≡ 1 = subst (λ x. bit_at rest x ≡ 1) e h in omega (arith, gone, here)
-
-        kept : (i : ℕ) → i < 64 → Has rest i → IsTarget b u from i × (square_number b.game (place_in to) + 1 ≤ square_number b.game (place_in i))
-        kept i small h =
-            let there : bit_at set i ≡ 1 = sym (others i small (not_lowest i h)) ∙ h in
-            let reached = (left i).0 there in
-            let above : to < i = elim (cases_order i to) [
-              | inl same ↦ absurd (not_lowest i h same)
-              | inr (inl below) ↦ let at = low i below in absurd (omega (arith, at, there))
-              | inr (inr more') ↦ more'
-            ] in
-            let later = number_order b.game to i target.0 reached.0.0 above in
-            (reached.0, omega (arith, later))
-
-        again : (i : ℕ) → IsTarget b u from i → square_number b.game (place_in to) + 1 ≤ square_number b.game (place_in i) → Has rest i
-        again i t later =
-            let upto_number = ((left to).0 has).1 in
-            let small = cell_small b.game i t.0 in
-            let other : i ≢ to = λ e. let same : square_number b.game (place_in i) ≡ square_number b.game (place_in to) = ap (λ x. square_number b.game (place_in x)) e in omega (arith, later, same) in
-            others i (omega (arith, small)) other ∙ (left i).1 (t, omega (arith, upto_number, later))
 
   -- the lowest cell of the set is the next target
   module _ (set : ℕ) (moves : List Ply) (n k : ℕ) (s : IsScanned b u from set moves n k) (to : ℕ) (has : Has set to) (low : (i : ℕ) → i < to → bit_at set i ≡ 0) where
@@ -166,7 +154,7 @@ module _ (b : PlainBoard) (u : Man) (from : Place) (on : IsOnBoard b.game from) 
           fits = omega (arith, less, s.fits);
           upto = number + 1;
           within = omega (arith, in_game);
-          left = left_after set s.upto s.left to has low rest s.fits less gone others;
+          left = left_after b.game (IsTarget b u from) (λ i t. t.0) set s.upto s.left to has low rest s.fits less gone others;
           lists = subst (λ x. ListsBelow b x more) same lists;
           few = omega (arith, s.few, step, up);
         }

@@ -13,8 +13,9 @@ use crate::list::PROMOTIONS;
 use crate::mailbox::{cell_of, square_in};
 use crate::packed::Board;
 use crate::plies::{Move, is_king};
+use crate::safe::tried;
 use crate::squares::Square;
-use crate::targets::{common, lowest, targets, without};
+use crate::targets::{lowest, without};
 use board::{Kind, Unit};
 
 /// Whether a move of the unit to a square that it reaches is lawful.
@@ -41,22 +42,6 @@ fn has_move_to(board: &Board, guard: Guard, unit: Unit, from: Square, to: Square
         }
     }
     false
-}
-
-/// The cells that the unit reaches, without some to which no move of it is lawful.
-fn tried(board: &Board, guard: Guard, unit: Unit, from: Square) -> u64
-    requires position { IsPosition board.now }
-    requires guards { Guards board.now guard }
-    requires on_board { IsOnBoard board.now.game from }
-    requires stands { unit_at board.now from ≡ Some unit }
-    ensures reached { (i : ℕ) → Has result i → IsTarget board.now unit from i }
-    ensures all { (m : Ply) → m.from ≡ from → IsLawful board.now m → Has result (cell_of m.to) }
-{
-    let reached = targets(board, unit, cell_of(from));
-    if is_king(Some(unit)) {
-        return reached;
-    }
-    common(reached, guard.blocks)
 }
 
 /// Whether the unit on the square has a lawful move.

@@ -31,7 +31,7 @@ use board::{Game, Kind, Unit};
 pub(crate) struct Guard {
     pub(crate) king: u8,
     pub(crate) checked: bool,
-    pins: u64,
+    pub(crate) pins: u64,
     pub(crate) blocks: u64,
 }
 

@@ -1,10 +1,10 @@
 //! Moves that may give check.
-ghost use Rattle.std.specs.Prelude.{◌≡◌, ℕ, IsTrue, IsSome, IfSome, Some};
+ghost use Rattle.std.specs.Prelude.{◌≡◌, ◌↔◌, ℕ, IsTrue, IfSome, Some};
 ghost use Rattle.board.specs.Board.{IsPosition};
 ghost use Rattle.board.specs.Games.{IsPlayed, other_side};
 ghost use Rattle.moves.specs.Squares.{Place, Ply, IsOnBoard, unit_at};
-ghost use Rattle.moves.specs.Reach.{IsInCheck};
-ghost use Rattle.moves.specs.Moves.{IsPseudoLegal, after};
+ghost use Rattle.moves.specs.Reach.{Reaches, IsInCheck};
+ghost use Rattle.moves.specs.Moves.{Promotes, IsPseudoLegal, after};
 ghost use Rattle.moves.specs.Mailbox.{cell_of, place_in, IsCell};
 ghost use Rattle.moves.specs.Targets.{Has, IsTarget};
 ghost use Rattle.moves.specs.Looking.{Aims};
@@ -76,8 +76,8 @@ fn aiming(board: &Board, watch: Watch, unit: Unit) -> u64
 }
 
 /// Whether the unit's next move is its last as a pawn.
-fn may_promote(board: &Board, unit: Unit, from: Square) -> bool
-    ensures { (m : Ply) → m.from ≡ from → IsPseudoLegal board.now m unit → IsSome m.promotion → IsTrue result }
+pub(crate) fn may_promote(board: &Board, unit: Unit, from: Square) -> bool
+    ensures { (to : Place) → Reaches board.now unit from to (unit_at board.now to) → IsTrue result ↔ Promotes board.now.game unit to }
 {
     if unit.kind != Kind::Pawn {
         return false;

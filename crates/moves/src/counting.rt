@@ -1,20 +1,63 @@
 //! How many lawful moves there are.
+ghost use Rattle.std.specs.Prelude.{◌≡◌, ◌≤◌, true};
+ghost use Rattle.board.specs.Board.{IsPosition, is_of_side};
+ghost use Rattle.moves.specs.Squares.{Place, square_number, unit_at};
+ghost use Rattle.moves.specs.Reach.{Reaches};
+ghost use Rattle.moves.specs.Mailbox.{place_in, IsCell};
 ghost use Rattle.moves.specs.Counting.{CountsLawful};
+ghost use Rattle.moves.specs.Guard.{Guards};
+ghost use Rattle.moves.specs.Safe.{IsEach, CountsFrom};
 
-use crate::board_list::guard_of;
+use crate::board_list::{Guard, guard_of};
+use crate::checks::may_promote;
+use crate::mailbox::square_in;
 use crate::packed::Board;
-use crate::walk::{begin, next_move};
+use crate::safe::safe_cells;
+use crate::squares::Square;
+use crate::targets::{lowest, without};
+use board::{Game, Unit};
+
+/// How many moves the unit has to each square that it reaches.
+fn moves_to_each(board: &Board, unit: Unit, from: Square) -> u16
+    ensures each { (to : Place) → Reaches board.now unit from to (unit_at board.now to) → IsEach board.now.game unit to result }
+    ensures few { result ≤ 4 }
+{
+    if !may_promote(board, unit, from) {
+        return 1;
+    }
+    match board.game() {
+        Game::LosAlamos => 3,
+        Game::Gardner => 4,
+    }
+}
+
+/// How many lawful moves the mover's unit in the cell has.
+fn count_from(board: &Board, guard: Guard, cell: u8) -> u16
+    requires position { IsPosition board.now }
+    requires guards { Guards board.now guard }
+    requires cell { IsCell board.now.game cell }
+    requires own { is_of_side board.now.mover (unit_at board.now (place_in cell)) ≡ true }
+    ensures { CountsFrom board.now (square_number board.now.game (place_in cell)) result }
+{
+    let Some(unit) = board.unit_in(cell) else {
+        unreachable!()
+    };
+    let from = square_in(cell);
+    let safe = safe_cells(board, guard, unit, from);
+    safe.count_ones() as u16 * moves_to_each(board, unit, from)
+}
 
 /// How many lawful moves there are. Makes no list.
 pub fn count_lawful(board: &Board) -> u16
     ensures { CountsLawful board.now result }
 {
     let guard = guard_of(board);
-    let mut walk = begin(board);
+    let mut left = board.of_side(board.mover());
     let mut count = 0;
-    while let Some(given) = next_move(board, guard, walk) {
-        walk = given.walk;
-        count += 1;
+    'units: while left != 0 {
+        let cell = lowest(left);
+        left = without(left, cell);
+        count += count_from(board, guard, cell);
     }
     count
 }

@@ -94,6 +94,13 @@ pub(crate) fn without(set: u64, cell: u8) -> u64
     set & !(1 << cell)
 }
 
+/// The cells of the set that aren't in the other.
+pub(crate) fn except(set: u64, other: u64) -> u64
+    ensures { (i : ℕ) → Has result i ↔ (Has set i × (Has other i → ⊥)) }
+{
+    set & !other
+}
+
 /// The cells that are in both sets.
 pub(crate) fn common(set: u64, other: u64) -> u64
     ensures { (i : ℕ) → Has result i ↔ (Has set i × Has other i) }

@@ -1,6 +1,8 @@
 use Rattle.std.proofs.Common.{◌≡◌, inl, inr, sym, ap, subst, ◌∙◌}
 use Rattle.std.proofs.lemmas.Bool.{false≢true}
 use Rattle.board.specs.Games.{other_side}
+use Rattle.moves.specs.Squares.{unit_at}
+use Rattle.moves.specs.Reach.{Reaches}
 use Rattle.moves.specs.Mailbox.{cell_of, place_in, IsCell}
 use Rattle.moves.specs.Pinned.{IsPinned}
 use Rattle.moves.specs.Targets.{IsTarget}
@@ -23,7 +25,7 @@ returns-clause-all c = λ m p at check.
     let from : place_in c.cell_of-cell.result ≡ c.args.from = ap place_in c.cell_of-cell.ensures.value ∙ place_in-cell_of b.game c.args.from c.requires.on_board in
     let cell : IsCell b.game c.cell_of-cell.result = subst (IsCell b.game) (sym c.cell_of-cell.ensures.value) (IsCell-cell_of b.game c.args.from c.requires.on_board) in
     elim (who_checks b m u c.requires.position p k w.cell.on_board w.king w.safe check) [
-      | inl named ↦ absurd (false≢true (sym c.if-may_promote.false ∙ c.may_promote.ensures m at p named))
+      | inl named ↦ absurd (false≢true (sym c.if-may_promote.false ∙ (c.may_promote.ensures m.to (subst (λ s. Reaches b u s m.to (unit_at b m.to)) at p.reaches)).1 (p.named.0 named)))
       | inr (inl aims) ↦ (c.common.ensures (cell_of m.to)).1 (
         (c.targets-reached.ensures (cell_of m.to)).1 (subst (λ s. IsTarget b u s (cell_of m.to)) (at ∙ sym from) (IsTarget-move b m u p)),
         c.aiming.ensures m p aims,

@@ -1,19 +1,34 @@
-use Rattle.std.proofs.Common.{[], ◌∷◌, ◌++◌, arith, length-append}
-use Rattle.moves.proofs.Counts.{few_more}
+use Rattle.std.proofs.Common.{◌≡◌, ℕ, ◌↔◌, true, subst, arith}
+use Rattle.board.specs.Board.{is_of_side}
+use Rattle.moves.specs.Squares.{unit_at}
+use Rattle.moves.specs.Mailbox.{place_in, IsCell}
+use Rattle.moves.specs.Targets.{Has}
+use Rattle.moves.proofs.Tallies.{tallied_start, tallied_end, next_own, tallied_few, tallied_more}
 use Rattle.moves.proofs.counting.count_lawful.Goals as goal
+
+pub units-init : goal.units-init
+units-init c =
+    let b = c.args.board.now in
+    let own : (i : ℕ) → Has c.of_side-left.result i ↔ (IsCell b.game i × (is_of_side b.mover (unit_at b (place_in i)) ≡ true)) =
+    subst (λ s. (i : ℕ) → Has c.of_side-left.result i ↔ (IsCell b.game i × (is_of_side s (unit_at b (place_in i)) ≡ true))) c.mover.ensures.value c.of_side-left.ensures in
+    tallied_start b c.of_side-left.result c.of_side-left.type_inv own
+
+pub count_from-count-requires-clause-cell : goal.count_from-count-requires-clause-cell
+count_from-count-requires-clause-cell c = (next_own c.args.board.now c.units.left c.units.count c.units.invariant c.lowest-cell.result c.lowest-cell.ensures.there c.lowest-cell.ensures.least).0
+
+pub count_from-count-requires-clause-own : goal.count_from-count-requires-clause-own
+count_from-count-requires-clause-own c = (next_own c.args.board.now c.units.left c.units.count c.units.invariant c.lowest-cell.result c.lowest-cell.ensures.there c.lowest-cell.ensures.least).1
 
 pub overflow_add-count : goal.overflow_add-count
 overflow_add-count c =
-    let inv = c.loop-given.invariant in
-    let few = few_more c.args.board.now c.in-Some.given.walk inv.0 c.in-Some.given.m (c.in-Some.ensures.next inv.0 inv.1).1 in
-    omega (arith, few, inv.2)
+    let few = tallied_few c.args.board.now c.units.left c.units.count c.units.invariant c.lowest-cell.result c.lowest-cell.ensures.there c.lowest-cell.ensures.least c.count_from-count.result c.count_from-count.ensures in
+    omega (arith, few)
 
-pub loop-given-preserved : goal.loop-given-preserved
-loop-given-preserved c =
-    let inv = c.loop-given.invariant in
-    (inv.0 ++ c.in-Some.given.m ∷ [], (c.in-Some.ensures.next inv.0 inv.1).1, omega (arith, inv.2, length-append inv.0 (c.in-Some.given.m ∷ [])))
+pub units-preserved : goal.units-preserved
+units-preserved c =
+    let e = c.without-left.ensures in
+    tallied_more c.args.board.now c.units.left c.units.count c.units.invariant c.lowest-cell.result c.lowest-cell.ensures.there c.lowest-cell.ensures.least c.count_from-count.result c.count_from-count.ensures
+    c.without-left.result e.less e.gone e.others
 
 pub returns : goal.returns
-returns c =
-    let inv = c.loop-given.invariant in
-    record { moves = inv.0; lists = c.in_default.ensures.next inv.0 inv.1; count = inv.2 }
+returns c = tallied_end c.args.board.now c.units.left c.units.count c.units-test.false c.units.invariant

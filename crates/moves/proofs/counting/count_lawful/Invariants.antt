@@ -1,12 +1,10 @@
-use Rattle.std.proofs.Common.{◌≡◌, List, length}
-use Rattle.moves.specs.Squares.{Ply}
-use Rattle.moves.specs.Walking.{HasGiven, steps_left}
+use Rattle.moves.proofs.Tallies.{IsTallied}
 use Rattle.moves.proofs.counting.count_lawful.Given as given
 
--- so many moves are given
-abbrev pub invariant-loop-given : given.invariant-loop-given
-invariant-loop-given l = (moves : List Ply) × HasGiven l.board l.walk moves × (l.count ≡ length moves)
+-- the moves of the units so far are counted
+abbrev pub invariant-units : given.invariant-units
+invariant-units l = IsTallied l.board l.left l.count
 
--- each turn passes a move
-abbrev pub decreases-loop-given : given.decreases-loop-given
-decreases-loop-given l = steps_left l.walk
+-- each turn takes the lowest cell away
+abbrev pub decreases-units : given.decreases-units
+decreases-units l = l.left

@@ -7,7 +7,7 @@ use Rattle.moves.specs.Targets.{IsTarget}
 use Rattle.moves.proofs.Cells.{place_in-cell_of}
 use Rattle.moves.proofs.AtOnce.{pseudo_by, move_by}
 use Rattle.moves.proofs.Checking.{IsTarget-move}
-use Rattle.moves.proofs.any_move.tried.Goals as goal
+use Rattle.moves.proofs.safe.tried.Goals as goal
 
 pub returns-then-is_king-clause-all : goal.returns-then-is_king-clause-all
 returns-then-is_king-clause-all c = λ m at l.

@@ -1,0 +1,172 @@
+-- Whether a move is lawful doesn't depend on what a pawn becomes.
+use Rattle.std.proofs.Common.{◌≡◌, ℕ, ◌+◌, arith, refl, sym, ap, subst, ◌∙◌, ◌⊎◌, ◌↔◌, inl, inr, Option, Some, None, IsSome}
+use Rattle.std.proofs.lemmas.Option.{same_Some}
+use Rattle.board.specs.declared.game.Game.{Game}
+use Rattle.board.specs.declared.game.Side.{Side}
+use Rattle.board.specs.declared.game.Side.TheVariants.{White, Black}
+use Rattle.board.specs.declared.game.Kind.{Kind}
+use Rattle.board.specs.declared.game.Kind.TheVariants.{King, Queen, Rook, Bishop, Knight, Pawn}
+use Rattle.board.specs.declared.game.Unit.{Unit as Man}
+use Rattle.board.specs.declared.step.Step.{Step}
+use Rattle.board.specs.Games.{width_of}
+use Rattle.board.specs.Board.{PlainBoard, IsPosition}
+use Rattle.moves.specs.Squares.{Place, Ply, IsOnBoard, unit_at}
+use Rattle.moves.specs.Reach.{Leads, Reaches, IsInCheck}
+use Rattle.moves.specs.Reach.Leads.{once, again}
+use Rattle.moves.specs.Moves.{IsLastRank, Promotes, IsSomeKing, IsPseudoLegal, IsLawful, placed, after}
+use Rattle.moves.specs.Mailbox.{cell_of, place_in}
+use Rattle.moves.specs.Targets.{Has, IsTarget}
+use Rattle.moves.specs.Pinned.{IsPinned}
+use Rattle.moves.specs.Sets.{StandsAs}
+use Rattle.moves.specs.declared.sets.Class.TheVariants.{Crowned}
+use Rattle.moves.specs.Safe.{IsNamed, HasSafe}
+use Rattle.moves.proofs.Cells.{place_in-cell_of}
+use Rattle.moves.proofs.Laying.{unit_at-to, unit_at-from, unit_at-other}
+use Rattle.moves.proofs.Keeps.{IsRankAhead, to_on_board}
+use Rattle.moves.proofs.Kings.{king_of}
+use Rattle.moves.proofs.Pins.{place_cases, promotes_no_king, own_or_other, no_unit, stays_safe}
+use Rattle.moves.proofs.AtOnce.{pseudo_by, move_by}
+use Rattle.moves.proofs.Checking.{IsTarget-move}
+
+-- the rank before a side's last
+abbrev pub IsBeforeLast : Game → Side → ℕ → Type 0
+IsBeforeLast g White rank = rank + 2 ≡ width_of g
+IsBeforeLast g Black rank = rank ≡ 1
+
+-- the move with another promotion
+abbrev pub becoming : Ply → Option Kind → Ply
+becoming m o = record { from = m.from; to = m.to; promotion = o }
+
+king_cases : (k : Kind) → (k ≡ King) ⊎ (k ≡ King → ⊥)
+king_cases King = inl refl
+king_cases Queen = inr (λ e. cc)
+king_cases Rook = inr (λ e. cc)
+king_cases Bishop = inr (λ e. cc)
+king_cases Knight = inr (λ e. cc)
+king_cases Pawn = inr (λ e. cc)
+
+not_named : (o : Option Kind) → (IsSome o → ⊥) → o ≡ None
+not_named None never = refl
+not_named (Some k) never = absurd (never refl)
+
+-- a king names no promotion
+king_unnamed : (b : PlainBoard) (m : Ply) (u : Man) → IsPseudoLegal b m u → u.kind ≡ King → m.promotion ≡ None
+king_unnamed b m u p king = not_named m.promotion (λ s. not_pawn u.kind king (p.named.0 s).0)
+  where
+    not_pawn : (k : Kind) → k ≡ King → k ≡ Pawn → ⊥
+    not_pawn k e f = cc
+
+module _ (b : PlainBoard) (m : Ply) (o : Option Kind) (u : Man) (is : IsPosition b) (p : IsPseudoLegal b m u) (q : IsPseudoLegal b (becoming m o) u) where
+  -- but for the to-square both boards have the same units
+  same_at : (s : Place) → IsOnBoard b.game s → (s ≡ m.to → ⊥) → unit_at (after b (becoming m o) u) s ≡ unit_at (after b m u) s
+  same_at s on far = elim (place_cases b.game s m.from on p.on_board) [
+    | inl same ↦ ap (unit_at (after b (becoming m o) u)) same ∙ unit_at-from b (becoming m o) u is q ∙ sym (ap (unit_at (after b m u)) same ∙ unit_at-from b m u is p)
+    | inr apart ↦ unit_at-other b (becoming m o) u is q s on apart far ∙ sym (unit_at-other b m u is p s on apart far)
+  ]
+
+  -- so the same squares are free to walk over
+  same_walk : (side : Side) (step : Step) (s t : Place) → Leads (after b (becoming m o) u) side step s t → Leads (after b m u) side step s t
+  same_walk side step s t (once on a) = once on a
+  same_walk side step s t (again {u = v} r on a empty l) =
+      let far : v ≡ m.to → ⊥ = λ e. no_unit (sym empty ∙ ap (unit_at (after b (becoming m o) u)) e ∙ unit_at-to b (becoming m o) u is q) in
+      again r on a (sym (same_at v on far) ∙ empty) (same_walk side step v t l)
+
+  piece_checked : (u.kind ≡ King → ⊥) → IsInCheck (after b (becoming m o) u) b.mover → IsInCheck (after b m u) b.mover
+  piece_checked piece (t, check) =
+      let next = after b (becoming m o) u in
+      let far : t ≡ m.to → ⊥ = λ e.
+      promotes_no_king b.game o u.kind q.allowed piece (ap (λ (x : Man). x.kind) (same_Some (placed u (becoming m o)) _ (sym (unit_at-to b (becoming m o) u is q) ∙ sym (ap (unit_at next) e) ∙ check.king))) in
+      let s = check.attacked.0 in
+      let a = check.attacked.1 in
+      let away : s ≡ m.to → ⊥ = λ e.
+      let man : a.unit ≡ placed u (becoming m o) = same_Some a.unit _ (sym a.stands ∙ ap (unit_at next) e ∙ unit_at-to b (becoming m o) u is q) in
+      own_or_other b.mover (sym q.owner ∙ sym (ap (λ (x : Man). x.side) man) ∙ a.owner) in (
+        t,
+        record {
+          on_board = check.on_board;
+          king = sym (same_at t check.on_board far) ∙ check.king;
+          attacked = (
+            s,
+            record {
+              unit = a.unit;
+              on_board = a.on_board;
+              stands = sym (same_at s a.on_board away) ∙ a.stands;
+              owner = a.owner;
+              reaches = record { step = a.reaches.step; played = a.reaches.played; denoted = a.reaches.denoted; reaches = record { allows = a.reaches.reaches.allows; leads = same_walk a.unit.side a.reaches.step s t a.reaches.reaches.leads } };
+            },
+          );
+        },
+      )
+
+  -- the king is in check after both moves or after neither
+  same_check : IsInCheck (after b (becoming m o) u) b.mover → IsInCheck (after b m u) b.mover
+  same_check check = elim (king_cases u.kind) [
+    | inr piece ↦ piece_checked piece check
+    | inl king ↦
+        let same : o ≡ m.promotion = king_unnamed b (becoming m o) u q king ∙ sym (king_unnamed b m u p king) in
+        subst (λ x. IsInCheck (after b (becoming m x) u) b.mover) same check
+  ]
+
+-- a unit's moves between two squares are all lawful or none is
+pub lawful_too : (b : PlainBoard) (m n : Ply) (u : Man) → IsPosition b → unit_at b m.from ≡ Some u → n.from ≡ m.from → n.to ≡ m.to → IsNamed b.game u n → IsLawful b m → IsLawful b n
+lawful_too b m n u is stands from to named l =
+    let p = pseudo_by b m u stands l in
+    let o = n.promotion in
+    let q : IsPseudoLegal b (becoming m o) u = record {
+      on_board = p.on_board;
+      stands = p.stands;
+      owner = p.owner;
+      reaches = p.reaches;
+      no_king = p.no_king;
+      named = subst (λ t. IsSome o ↔ Promotes b.game u t) to named.named;
+      allowed = named.allowed;
+    } in
+    let same : becoming m o ≡ n = λ i. record { from = sym from i; to = sym to i; promotion = o } in
+    subst (IsLawful b) same (after b (becoming m o) u, record { unit = u; pseudo = q; leads = refl; safe = λ check. (move_by b m u stands l).safe (same_check b m o u is p q check) })
+
+-- a named move of the mover's unit to a square that it reaches, where no king stands
+pub pseudo_named : (b : PlainBoard) (m : Ply) (u : Man) (s : Place) (i : ℕ) → IsOnBoard b.game s → unit_at b s ≡ Some u → u.side ≡ b.mover → IsTarget b u s i → (IsSomeKing (unit_at b (place_in i)) → ⊥) → m.from ≡ s → m.to ≡ place_in i → IsNamed b.game u m → IsPseudoLegal b m u
+pseudo_named b m u s i on stands owner target no_king from to named = record {
+  on_board = subst (IsOnBoard b.game) (sym from) on;
+  stands = ap (unit_at b) from ∙ stands;
+  owner = owner;
+  reaches = subst (λ t. Reaches b u m.from t (unit_at b t)) (sym to) (subst (λ x. Reaches b u x (place_in i) (unit_at b (place_in i))) (sym from) target.1);
+  no_king = λ there. no_king (subst (λ t. IsSomeKing (unit_at b t)) to there);
+  named = named.named;
+  allowed = named.allowed;
+}
+
+-- a king stands there as one of the crowned
+pub some_crowned : (b : PlainBoard) (s : Place) → IsSomeKing (unit_at b s) → StandsAs b Crowned s
+some_crowned b s there = crowned (unit_at b s) refl there
+  where
+    crowned : (o : Option Man) → unit_at b s ≡ o → IsSomeKing o → StandsAs b Crowned s
+    crowned None e h = absurd h
+    crowned (Some v) e h = record { unit = v; stands = e; is = h }
+
+pub crowned_king : (b : PlainBoard) (s : Place) → StandsAs b Crowned s → IsSomeKing (unit_at b s)
+crowned_king b s w = subst IsSomeKing (sym w.stands) w.is
+
+-- a unit that isn't pinned moves lawfully wherever it reaches no king, if its own isn't in check
+pub free_safe : (b : PlainBoard) (u : Man) (s k : Place) (set : ℕ) → IsPosition b → IsOnBoard b.game s → unit_at b s ≡ Some u → u.side ≡ b.mover → (u.kind ≡ King → ⊥)
+    → IsOnBoard b.game k → unit_at b k ≡ king_of b.mover → (IsInCheck b b.mover → ⊥) → (IsPinned b b.mover k s → ⊥)
+    → ((i : ℕ) → Has set i ↔ (IsTarget b u s i × (IsSomeKing (unit_at b (place_in i)) → ⊥))) → HasSafe b u s set
+free_safe b u s k set is on stands owner piece on_k king unchecked free has = record {
+  cells = λ i h. ((has i).0 h).0;
+  lawful = λ i m h from to named.
+      let w = (has i).0 h in
+      let p = pseudo_named b m u s i on stands owner w.0 w.1 from to named in
+      let loose : IsPinned b b.mover k m.from → ⊥ = λ pin. free (subst (IsPinned b b.mover k) from pin) in
+      (after b m u, record { unit = u; pseudo = p; leads = refl; safe = λ check. unchecked (stays_safe b m u is p piece k on_k king loose check) });
+  all = λ m from l.
+      let p = pseudo_by b m u (ap (unit_at b) from ∙ stands) l in
+      (has (cell_of m.to)).1 (
+        subst (λ x. IsTarget b u x (cell_of m.to)) from (IsTarget-move b m u p),
+        λ there. p.no_king (subst (λ x. IsSomeKing (unit_at b x)) (place_in-cell_of b.game m.to (to_on_board b m u p)) there),
+      );
+}
+
+-- a pawn comes to its last rank from the one before it
+pub last_next : (g : Game) (side : Side) (from to : ℕ) → IsRankAhead side from to → IsLastRank g side to ↔ IsBeforeLast g side from
+last_next g White from to h = ((λ e. omega (arith, e, h)), (λ e. omega (arith, e, h)))
+last_next g Black from to h = ((λ e. omega (arith, e, h)), (λ e. omega (arith, e, h)))

@@ -1,0 +1,21 @@
+use Rattle.std.proofs.Common.{◌≡◌, ◌<◌, ◌^◌, ◌⊎◌, ℕ}
+use Rattle.moves.specs.Squares.{Ply}
+use Rattle.moves.specs.Mailbox.{cell_of, place_in}
+use Rattle.moves.specs.Targets.{Has, IsTarget}
+use Rattle.moves.specs.Moves.{IsLawful}
+use Rattle.moves.specs.Safe.{IsNamed}
+use Rattle.moves.proofs.safe.sifted.Given as given
+
+-- the unit reaches what is left, moves lawfully to what is safe, and to no other cell
+abbrev pub invariant-cells : given.invariant-cells
+invariant-cells l = record {
+  fits : l.left < 2 ^ 64;
+  left : (i : ℕ) → Has l.left i → IsTarget l.board l.unit l.from i;
+  cells : (i : ℕ) → Has l.safe i → IsTarget l.board l.unit l.from i;
+  lawful : (i : ℕ) (m : Ply) → Has l.safe i → m.from ≡ l.from → m.to ≡ place_in i → IsNamed l.board.game l.unit m → IsLawful l.board m;
+  all : (m : Ply) → m.from ≡ l.from → IsLawful l.board m → Has l.left (cell_of m.to) ⊎ Has l.safe (cell_of m.to);
+}
+
+-- each turn takes the lowest cell away
+abbrev pub decreases-cells : given.decreases-cells
+decreases-cells l = l.left

@@ -1,0 +1,121 @@
+//! The cells to which a unit moves lawfully.
+ghost use Rattle.std.specs.Prelude.{◌≡◌, IsTrue, IfSome, Some, ℕ, false};
+ghost use Rattle.board.specs.Board.{IsPosition};
+ghost use Rattle.moves.specs.Squares.{Ply, IsOnBoard, unit_at};
+ghost use Rattle.moves.specs.Reach.{Reaches};
+ghost use Rattle.moves.specs.Moves.{IsLawful};
+ghost use Rattle.moves.specs.Mailbox.{cell_of};
+ghost use Rattle.moves.specs.Targets.{Has, IsTarget};
+ghost use Rattle.moves.specs.Guard.{Guards};
+ghost use Rattle.moves.specs.Safe.{IsNamed, HasSafe};
+
+use crate::board_list::{Guard, is_lawful_to};
+use crate::mailbox::{cell_of, square_in};
+use crate::packed::Board;
+use crate::plies::{Move, is_king, promotes};
+use crate::sets::Class;
+use crate::squares::Square;
+use crate::targets::{common, except, has, lowest, targets, with_cell, without};
+use board::{Game, Kind, Unit};
+
+/// A move between the squares: a pawn that comes to its last rank becomes a queen.
+fn queening(game: Game, unit: Unit, from: Square, to: Square) -> Move
+    ensures from { result.from ≡ from }
+    ensures to { result.to ≡ to }
+    ensures named { IsNamed game unit result }
+{
+    let promotion = if promotes(game, unit, to) {
+        Some(Kind::Queen)
+    } else {
+        None
+    };
+    Move {
+        from,
+        to,
+        promotion,
+    }
+}
+
+/// Whether the unit's moves to a square that it reaches are lawful: all are, or none.
+pub(crate) fn may_go(board: &Board, guard: Guard, unit: Unit, from: Square, to: Square) -> bool
+    requires position { IsPosition board.now }
+    requires guards { Guards board.now guard }
+    requires from_on_board { IsOnBoard board.now.game from }
+    requires to_on_board { IsOnBoard board.now.game to }
+    requires stands { unit_at board.now from ≡ Some unit }
+    requires owner { unit.side ≡ board.now.mover }
+    requires reaches { Reaches board.now unit from to (unit_at board.now to) }
+    ensures all { IsTrue result → (m : Ply) → m.from ≡ from → m.to ≡ to → IsNamed board.now.game unit m → IsLawful board.now m }
+    ensures none { result ≡ false → (m : Ply) → m.from ≡ from → m.to ≡ to → IsLawful board.now m → ⊥ }
+{
+    let m = queening(board.game(), unit, from, to);
+    is_lawful_to(board, guard, m, unit, board.unit_in(cell_of(to)))
+}
+
+/// The cells that the unit reaches, without some to which no move of it is lawful.
+pub(crate) fn tried(board: &Board, guard: Guard, unit: Unit, from: Square) -> u64
+    requires position { IsPosition board.now }
+    requires guards { Guards board.now guard }
+    requires on_board { IsOnBoard board.now.game from }
+    requires stands { unit_at board.now from ≡ Some unit }
+    ensures reached { (i : ℕ) → Has result i → IsTarget board.now unit from i }
+    ensures all { (m : Ply) → m.from ≡ from → IsLawful board.now m → Has result (cell_of m.to) }
+{
+    let reached = targets(board, unit, cell_of(from));
+    if is_king(Some(unit)) {
+        return reached;
+    }
+    common(reached, guard.blocks)
+}
+
+/// The cells to which the unit moves lawfully, by a test of each.
+fn sifted(board: &Board, guard: Guard, unit: Unit, from: Square) -> u64
+    requires position { IsPosition board.now }
+    requires guards { Guards board.now guard }
+    requires on_board { IsOnBoard board.now.game from }
+    requires stands { unit_at board.now from ≡ Some unit }
+    requires owner { unit.side ≡ board.now.mover }
+    ensures { HasSafe board.now unit from result }
+{
+    let mut left = tried(board, guard, unit, from);
+    let mut safe = 0;
+    'cells: while left != 0 {
+        let cell = lowest(left);
+        left = without(left, cell);
+        let goes = may_go(board, guard, unit, from, square_in(cell));
+        safe = with_cell(safe, cell, goes);
+    }
+    safe
+}
+
+/// The cells to which the unit moves lawfully, where it can't leave its king in check: it isn't the king, which isn't in check,
+/// nor pinned to it.
+pub(crate) fn free_cells(board: &Board, guard: Guard, unit: Unit, from: Square) -> Option<u64>
+    requires position { IsPosition board.now }
+    requires guards { Guards board.now guard }
+    requires on_board { IsOnBoard board.now.game from }
+    requires stands { unit_at board.now from ≡ Some unit }
+    requires owner { unit.side ≡ board.now.mover }
+    ensures { IfSome result (HasSafe board.now unit from) }
+{
+    let cell = cell_of(from);
+    if is_king(Some(unit)) || guard.checked || has(guard.pins, cell) {
+        return None;
+    }
+    Some(except(targets(board, unit, cell), board.set(Class::Crowned)))
+}
+
+/// The cells to which the unit moves lawfully.
+pub(crate) fn safe_cells(board: &Board, guard: Guard, unit: Unit, from: Square) -> u64
+    requires position { IsPosition board.now }
+    requires guards { Guards board.now guard }
+    requires on_board { IsOnBoard board.now.game from }
+    requires stands { unit_at board.now from ≡ Some unit }
+    requires owner { unit.side ≡ board.now.mover }
+    ensures { HasSafe board.now unit from result }
+{
+    match free_cells(board, guard, unit, from) {
+        Some(free) => free,
+        None => sifted(board, guard, unit, from),
+    }
+}
