@@ -7,7 +7,7 @@ ghost use Rattle.decision.specs.Below.{ListsAll};
 use crate::memory::{Memory, pair_of};
 use crate::question::Question;
 use arrayvec::ArrayVec;
-use moves::{Move, after, list_lawful, mover_in_check};
+use moves::{Move, after, count_lawful, list_lawful, mover_in_check};
 
 /// The costs of moves, by their two squares: those of less cost are tried first.
 #[derive(Drop)]
@@ -20,15 +20,14 @@ const COUNTED_FROM: u8 = 4;
 
 /// What counts against the move: for the defender, how many moves it leaves the attacker; for the attacker, that it gives no
 /// check, then how many replies it leaves, and then how seldom it won.
-fn cost(memory: &Memory, q: &Question, n: u8, m: Move, lent: &mut ArrayVec<Move, 512>) -> u16
+fn cost(memory: &Memory, q: &Question, n: u8, m: Move) -> u16
     requires { IsLawful q.now.position m }
 {
     let next = after(&q.position, m);
     let replies = if n < COUNTED_FROM {
         0
     } else {
-        list_lawful(&next, lent);
-        lent.len() as u16
+        count_lawful(&next)
     };
     if !q.is_own_turn() {
         return replies;
@@ -43,9 +42,8 @@ fn costs_of(memory: &Memory, q: &Question, n: u8, moves: &[Move]) -> Costs
     requires { All (IsLawful q.now.position) moves.now }
 {
     let mut costs = Costs { of_pair: [0; 1296] };
-    let mut lent = ArrayVec::new();
     for m in moves {
-        costs.of_pair[pair_of(*m)] = cost(memory, q, n, *m, &mut lent);
+        costs.of_pair[pair_of(*m)] = cost(memory, q, n, *m);
     }
     costs
 }
