@@ -1,7 +1,9 @@
 -- Whether a move is lawful doesn't depend on what a pawn becomes.
-use Rattle.std.proofs.Common.{◌≡◌, ℕ, ◌+◌, arith, refl, sym, ap, subst, ◌∙◌, ◌⊎◌, ◌↔◌, inl, inr, Option, Some, None, IsSome}
+use Rattle.std.proofs.Common.{◌≡◌, ℕ, ◌+◌, ◌^◌, ◌<◌, arith, refl, sym, ap, subst, ◌∙◌, ◌⊎◌, ◌↔◌, inl, inr, Option, Some, None, IsSome}
 use Rattle.std.proofs.lemmas.Option.{same_Some}
+use Rattle.std.proofs.lemmas.Bool.{cases_eq}
 use Rattle.board.specs.declared.game.Game.{Game}
+use Rattle.board.specs.declared.game.Game.TheVariants.{LosAlamos, Gardner}
 use Rattle.board.specs.declared.game.Side.{Side}
 use Rattle.board.specs.declared.game.Side.TheVariants.{White, Black}
 use Rattle.board.specs.declared.game.Kind.{Kind}
@@ -13,7 +15,7 @@ use Rattle.board.specs.Board.{PlainBoard, IsPosition}
 use Rattle.moves.specs.Squares.{Place, Ply, IsOnBoard, unit_at}
 use Rattle.moves.specs.Reach.{Leads, Reaches, IsInCheck}
 use Rattle.moves.specs.Reach.Leads.{once, again}
-use Rattle.moves.specs.Moves.{IsLastRank, Promotes, IsSomeKing, IsPseudoLegal, IsLawful, placed, after}
+use Rattle.moves.specs.Moves.{IsLastRank, IsPromotion, Promotes, IsSomeKing, IsPseudoLegal, IsLawful, placed, after}
 use Rattle.moves.specs.Mailbox.{cell_of, place_in}
 use Rattle.moves.specs.Targets.{Has, IsTarget}
 use Rattle.moves.specs.Pinned.{IsPinned}
@@ -21,6 +23,7 @@ use Rattle.moves.specs.Sets.{StandsAs}
 use Rattle.moves.specs.declared.sets.Class.TheVariants.{Crowned}
 use Rattle.moves.specs.Safe.{IsNamed, HasSafe}
 use Rattle.moves.proofs.Cells.{place_in-cell_of}
+use Rattle.moves.proofs.Masks.{lowest-has}
 use Rattle.moves.proofs.Laying.{unit_at-to, unit_at-from, unit_at-other}
 use Rattle.moves.proofs.Keeps.{IsRankAhead, to_on_board}
 use Rattle.moves.proofs.Kings.{king_of}
@@ -170,3 +173,37 @@ free_safe b u s k set is on stands owner piece on_k king unchecked free has = re
 pub last_next : (g : Game) (side : Side) (from to : ℕ) → IsRankAhead side from to → IsLastRank g side to ↔ IsBeforeLast g side from
 last_next g White from to h = ((λ e. omega (arith, e, h)), (λ e. omega (arith, e, h)))
 last_next g Black from to h = ((λ e. omega (arith, e, h)), (λ e. omega (arith, e, h)))
+
+-- ---- some move to a cell of the set
+
+pawn_cases : (k : Kind) → (k ≡ Pawn) ⊎ (k ≡ Pawn → ⊥)
+pawn_cases King = inr (λ e. cc)
+pawn_cases Queen = inr (λ e. cc)
+pawn_cases Rook = inr (λ e. cc)
+pawn_cases Bishop = inr (λ e. cc)
+pawn_cases Knight = inr (λ e. cc)
+pawn_cases Pawn = inl refl
+
+last_cases : (g : Game) (side : Side) (rank : ℕ) → IsLastRank g side rank ⊎ (IsLastRank g side rank → ⊥)
+last_cases g White rank = cases_eq (rank + 1) (width_of g)
+last_cases g Black rank = cases_eq rank 0
+
+-- between two squares there is a move that names its promotion well
+named_move : (g : Game) (u : Man) (s t : Place) → (m : Ply) × (m.from ≡ s) × (m.to ≡ t) × IsNamed g u m
+named_move g u s t = elim (pawn_cases u.kind) [
+  | inr piece ↦ (record { from = s; to = t; promotion = None }, refl, refl, record { named = ((λ e. cc), λ p. absurd (piece p.0)); allowed = tt })
+  | inl pawn ↦ elim (last_cases g u.side t.rank) [
+    | inr far ↦ (record { from = s; to = t; promotion = None }, refl, refl, record { named = ((λ e. cc), λ p. absurd (far p.1)); allowed = tt })
+    | inl last ↦ (record { from = s; to = t; promotion = Some Queen }, refl, refl, record { named = ((λ _. (pawn, last)), λ _. refl); allowed = queen g })
+  ]
+]
+  where
+    queen : (g : Game) → IsPromotion g Queen
+    queen LosAlamos = tt
+    queen Gardner = tt
+
+pub some_safe : (b : PlainBoard) (u : Man) (s : Place) (set : ℕ) → HasSafe b u s set → set < 2 ^ 64 → (set ≡ 0 → ⊥) → (m : Ply) × IsLawful b m
+some_safe b u s set safe fits some =
+    let (i, h) = lowest-has set fits some in
+    let (m, from, to, named) = named_move b.game u s (place_in i) in
+    (m, safe.lawful i m h from to named)

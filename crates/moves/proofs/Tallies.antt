@@ -2,7 +2,7 @@
 use Rattle.std.proofs.Common.{◌≡◌, ◌≢◌, ℕ, ◌+◌, ◌*◌, ◌^◌, ◌<◌, ◌≤◌, refl, ap, subst, ◌∙◌, ◌↔◌, arith, true, List, [], length}
 use Rattle.std.specs.Int.{bit_at}
 use Rattle.board.specs.Games.{squares_of}
-use Rattle.board.specs.Board.{PlainBoard, unit_on, is_of_side}
+use Rattle.board.specs.Board.{PlainBoard, is_of_side}
 use Rattle.moves.specs.Squares.{Ply, square_number, unit_at}
 use Rattle.moves.specs.Moves.{IsLawful}
 use Rattle.moves.specs.Listing.{ListsBelow}
@@ -21,6 +21,12 @@ use Rattle.moves.proofs.Counts.{few_below}
 -- a unit of the mover stands in the cell
 abbrev pub IsOwn : PlainBoard → ℕ → Type 0
 IsOwn b i = IsCell b.game i × (is_of_side b.mover (unit_at b (place_in i)) ≡ true)
+
+-- a lawful move is one of such a unit
+pub own_left : (b : PlainBoard) (m : Ply) → IsLawful b m → IsOwn b (cell_of m.from)
+own_left b m l =
+    let on = (IsNumbered-lawful b m l).from in
+    (IsCell-cell_of b.game m.from on, ap (λ s. is_of_side b.mover (unit_at b s)) (place_in-cell_of b.game m.from on) ∙ own_from b m l)
 
 -- the moves from the squares below `upto` are counted, and the set has the mover's units from there on
 pub record IsTallied (b : PlainBoard) (set n : ℕ) : Type 0 where
@@ -47,10 +53,9 @@ module _ (b : PlainBoard) where
   -- the unit from which a lawful move goes is left, where it isn't counted
   mover_left : (set count : ℕ) (s : IsTallied b set count) (m : Ply) → IsLawful b m → s.upto ≤ square_number b.game m.from → Has set (cell_of m.from) × (square_number b.game (place_in (cell_of m.from)) ≡ square_number b.game m.from) × IsCell b.game (cell_of m.from)
   mover_left set count s m l first =
-      let on = (IsNumbered-lawful b m l).from in
-      let at : square_number b.game (place_in (cell_of m.from)) ≡ square_number b.game m.from = ap (square_number b.game) (place_in-cell_of b.game m.from on) in
-      let cell = IsCell-cell_of b.game m.from on in
-      ((s.left (cell_of m.from)).1 ((cell, ap (λ n. is_of_side b.mover (unit_on b n)) at ∙ own_from b m l), omega (arith, first, at)), at, cell)
+      let at : square_number b.game (place_in (cell_of m.from)) ≡ square_number b.game m.from = ap (square_number b.game) (place_in-cell_of b.game m.from (IsNumbered-lawful b m l).from) in
+      let own = own_left b m l in
+      ((s.left (cell_of m.from)).1 (own, omega (arith, first, at)), at, own.0)
 
   pub tallied_end : (set count : ℕ) → set ≡ 0 → IsTallied b set count → CountsLawful b count
   tallied_end set count none s = record {

@@ -1,43 +1,34 @@
 //! Whether a board has a lawful move.
-ghost use Rattle.std.specs.Prelude.{◌≡◌, ◌↔◌, ℕ, IsTrue, Some, false};
-ghost use Rattle.board.specs.Board.{IsPosition};
+ghost use Rattle.std.specs.Prelude.{◌≡◌, ◌↔◌, IsTrue, Some, true, false};
+ghost use Rattle.board.specs.Board.{IsPosition, is_of_side};
 ghost use Rattle.moves.specs.Squares.{Ply, IsOnBoard, unit_at};
-ghost use Rattle.moves.specs.Reach.{Reaches};
 ghost use Rattle.moves.specs.Moves.{IsLawful};
-ghost use Rattle.moves.specs.Mailbox.{cell_of};
-ghost use Rattle.moves.specs.Targets.{Has, IsTarget};
+ghost use Rattle.moves.specs.Mailbox.{place_in, IsCell};
 ghost use Rattle.moves.specs.Guard.{Guards};
 
-use crate::board_list::{Guard, guard_of, is_lawful_to, own_unit, promotion_count};
-use crate::list::PROMOTIONS;
-use crate::mailbox::{cell_of, square_in};
+use crate::board_list::{Guard, guard_of};
+use crate::mailbox::square_in;
 use crate::packed::Board;
-use crate::plies::{Move, is_king};
-use crate::safe::tried;
+use crate::safe::{free_cells, may_go, tried};
 use crate::squares::Square;
 use crate::targets::{lowest, without};
 use board::{Kind, Unit};
 
-/// Whether a move of the unit to a square that it reaches is lawful.
-fn has_move_to(board: &Board, guard: Guard, unit: Unit, from: Square, to: Square) -> bool
+/// Whether one of the unit's moves is lawful, each of which is tested.
+fn has_tested_move(board: &Board, guard: Guard, unit: Unit, from: Square) -> bool
     requires position { IsPosition board.now }
     requires guards { Guards board.now guard }
-    requires from_on_board { IsOnBoard board.now.game from }
-    requires to_on_board { IsOnBoard board.now.game to }
+    requires on_board { IsOnBoard board.now.game from }
     requires stands { unit_at board.now from ≡ Some unit }
     requires owner { unit.side ≡ board.now.mover }
-    requires reaches { Reaches board.now unit from to (unit_at board.now to) }
     ensures found { IsTrue result → (m : Ply) × IsLawful board.now m }
-    ensures none { result ≡ false → (m : Ply) → m.from ≡ from → m.to ≡ to → IsLawful board.now m → ⊥ }
+    ensures none { result ≡ false → (m : Ply) → m.from ≡ from → IsLawful board.now m → ⊥ }
 {
-    let target = board.unit_in(cell_of(to));
-    for i in 0..promotion_count(board.game(), unit, to) {
-        let m = Move {
-            from,
-            to,
-            promotion: PROMOTIONS[i],
-        };
-        if is_lawful_to(board, guard, m, unit, target) {
+    let mut left = tried(board, guard, unit, from);
+    'cells: while left != 0 {
+        let cell = lowest(left);
+        left = without(left, cell);
+        if may_go(board, guard, unit, from, square_in(cell)) {
             return true;
         }
     }
@@ -54,15 +45,10 @@ fn has_move_from(board: &Board, guard: Guard, unit: Unit, from: Square) -> bool
     ensures found { IsTrue result → (m : Ply) × IsLawful board.now m }
     ensures none { result ≡ false → (m : Ply) → m.from ≡ from → IsLawful board.now m → ⊥ }
 {
-    let mut left = tried(board, guard, unit, from);
-    'cells: while left != 0 {
-        let cell = lowest(left);
-        left = without(left, cell);
-        if has_move_to(board, guard, unit, from, square_in(cell)) {
-            return true;
-        }
+    match free_cells(board, guard, unit, from) {
+        Some(free) => free != 0,
+        None => has_tested_move(board, guard, unit, from),
     }
-    false
 }
 
 /// Whether the mover's king, which most often can, has a lawful move.
@@ -75,7 +61,22 @@ fn has_king_move(board: &Board, guard: Guard) -> bool
         side: board.mover(),
         kind: Kind::King,
     };
-    has_move_from(board, guard, king, square_in(guard.king))
+    has_tested_move(board, guard, king, square_in(guard.king))
+}
+
+/// Whether the mover's unit in the cell has a lawful move.
+fn has_move_in(board: &Board, guard: Guard, cell: u8) -> bool
+    requires position { IsPosition board.now }
+    requires guards { Guards board.now guard }
+    requires cell { IsCell board.now.game cell }
+    requires own { is_of_side board.now.mover (unit_at board.now (place_in cell)) ≡ true }
+    ensures found { IsTrue result → (m : Ply) × IsLawful board.now m }
+    ensures none { result ≡ false → (m : Ply) → m.from ≡ place_in cell → IsLawful board.now m → ⊥ }
+{
+    let Some(unit) = board.unit_in(cell) else {
+        unreachable!()
+    };
+    has_move_from(board, guard, unit, square_in(cell))
 }
 
 /// Whether there is a lawful move, on a board laid out: where the king is in check, its own moves are tried first.
@@ -87,13 +88,12 @@ pub(crate) fn has_move(board: &Board, guard: Guard) -> bool
     if guard.checked && has_king_move(board, guard) {
         return true;
     }
-    let game = board.game();
-    for number in 0..game.squares() {
-        let from = Square::of_number(game, number);
-        if let Some(unit) = own_unit(board, from) {
-            if has_move_from(board, guard, unit, from) {
-                return true;
-            }
+    let mut left = board.of_side(board.mover());
+    'units: while left != 0 {
+        let cell = lowest(left);
+        left = without(left, cell);
+        if has_move_in(board, guard, cell) {
+            return true;
         }
     }
     false

@@ -1,16 +1,16 @@
 //! What the side to move can reach with its next move.
-ghost use Rattle.std.specs.Prelude.{◌≡◌, ◌↔◌, IsTrue, Some, false, ℕ};
-ghost use Rattle.board.specs.Board.{IsPosition};
+ghost use Rattle.std.specs.Prelude.{◌≡◌, ◌↔◌, IsTrue, Some, true, false, ℕ};
+ghost use Rattle.board.specs.Board.{IsPosition, is_of_side};
 ghost use Rattle.moves.specs.declared.goal.Goal.TheVariants.{Mate};
 ghost use Rattle.moves.specs.Squares.{Ply, IsOnBoard, unit_at};
 ghost use Rattle.moves.specs.Reach.{Reaches};
 ghost use Rattle.moves.specs.Forces.{IsReached, Forces};
-ghost use Rattle.moves.specs.Mailbox.{cell_of};
+ghost use Rattle.moves.specs.Mailbox.{cell_of, place_in, IsCell};
 ghost use Rattle.moves.specs.Targets.{Has, IsTarget};
 ghost use Rattle.moves.specs.Checking.{Attains, Seeks};
 
 use crate::any_move::has_move;
-use crate::board_list::{guard_of, own_unit, promotion_count};
+use crate::board_list::{guard_of, promotion_count};
 use crate::checks::{Watch, checking, watch_of};
 use crate::goal::Goal;
 use crate::list::PROMOTIONS;
@@ -119,18 +119,32 @@ fn attains_from(board: &Board, quest: Quest, unit: Unit, from: Square) -> bool
     false
 }
 
+/// Whether some move of the mover's unit in the cell is such.
+fn attains_in(board: &Board, quest: Quest, cell: u8) -> bool
+    requires position { IsPosition board.now }
+    requires seeks { Seeks board.now quest }
+    requires cell { IsCell board.now.game cell }
+    requires own { is_of_side board.now.mover (unit_at board.now (place_in cell)) ≡ true }
+    ensures found { IsTrue result → (m : Ply) × Attains quest.goal board.now m }
+    ensures none { result ≡ false → (m : Ply) → m.from ≡ place_in cell → Attains quest.goal board.now m → ⊥ }
+{
+    let Some(unit) = board.unit_in(cell) else {
+        unreachable!()
+    };
+    attains_from(board, quest, unit, square_in(cell))
+}
+
 /// Whether some lawful move of the side to move brings the other side where the goal wants it.
 fn attains_any(board: &Board, quest: Quest) -> bool
     requires { Seeks board.now quest }
     ensures { IsTrue result ↔ Forces quest.goal board.now.mover board.now 1 }
 {
-    let game = board.game();
-    for number in 0..game.squares() {
-        let from = Square::of_number(game, number);
-        if let Some(unit) = own_unit(board, from) {
-            if attains_from(board, quest, unit, from) {
-                return true;
-            }
+    let mut left = board.of_side(board.mover());
+    'units: while left != 0 {
+        let cell = lowest(left);
+        left = without(left, cell);
+        if attains_in(board, quest, cell) {
+            return true;
         }
     }
     false

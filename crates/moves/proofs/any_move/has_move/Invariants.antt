@@ -1,8 +1,19 @@
-use Rattle.std.proofs.Common.{◌<◌}
-use Rattle.moves.specs.Squares.{Ply, square_number}
+use Rattle.std.proofs.Common.{◌<◌, ◌^◌, ℕ}
+use Rattle.moves.specs.Squares.{Ply}
+use Rattle.moves.specs.Mailbox.{cell_of}
+use Rattle.moves.specs.Targets.{Has}
 use Rattle.moves.specs.Moves.{IsLawful}
+use Rattle.moves.proofs.Tallies.{IsOwn}
 use Rattle.moves.proofs.any_move.has_move.Given as given
 
--- no move from a square so far is lawful
-abbrev pub invariant-loop-number : given.invariant-loop-number
-invariant-loop-number l = (m : Ply) → square_number l.board.game m.from < l.number → IsLawful l.board m → ⊥
+-- the mover's units are left from which a move may be lawful
+abbrev pub invariant-units : given.invariant-units
+invariant-units l = record {
+  fits : l.left < 2 ^ 64;
+  own : (i : ℕ) → Has l.left i → IsOwn l.board i;
+  all : (m : Ply) → IsLawful l.board m → Has l.left (cell_of m.from);
+}
+
+-- each turn takes the lowest cell away
+abbrev pub decreases-units : given.decreases-units
+decreases-units l = l.left

@@ -1,39 +1,58 @@
-use Rattle.std.proofs.Common.{◌≡◌, ap, sym, ◌∙◌, arith, refl, inl, inr}
-use Rattle.std.proofs.lemmas.Bool.{false≢true, cases_lt}
-use Rattle.board.specs.Games.{squares_of}
-use Rattle.board.specs.Board.{unit_on, is_of_side}
-use Rattle.moves.specs.Squares.{square_number}
-use Rattle.moves.proofs.Listed.{same_number}
-use Rattle.moves.proofs.Lists.{HasParts-lawful, own_from}
-use Rattle.moves.proofs.AtOnce.{forced_by, not_forced}
+use Rattle.std.proofs.Common.{◌≡◌, ℕ, true, ap, sym, ◌∙◌, ◌↔◌, subst, arith, refl, inl, inr}
+use Rattle.std.proofs.lemmas.Bool.{false≢true, cases_eq}
+use Rattle.board.specs.Board.{is_of_side}
+use Rattle.moves.specs.Squares.{unit_at}
+use Rattle.moves.specs.Mailbox.{cell_of, place_in, IsCell}
+use Rattle.moves.specs.Targets.{Has}
+use Rattle.moves.proofs.Cells.{IsCell-cell_of, place_in-cell_of, cell_small}
+use Rattle.moves.proofs.Lists.{IsNumbered-lawful}
+use Rattle.moves.proofs.Masks.{Has-zero}
+use Rattle.moves.proofs.AtOnce.{forced_by, not_forced, Has-kept}
+use Rattle.moves.proofs.Tallies.{IsOwn, own_left}
 use Rattle.moves.proofs.at_once.attains_any.Goals as goal
-use Rattle.moves.proofs.at_once.attains_any.Goals.{in-Some+else-attains_from, in_default}
 
-pub returns-then-attains_from : goal.returns-then-attains_from
-returns-then-attains_from c = (
-  λ _. let w = c.attains_from.ensures.found c.if-attains_from.true in forced_by c.args.quest.goal c.args.board.now w.0 w.1,
+pub units-init : goal.units-init
+units-init c =
+    let b = c.args.board.now in
+    let own : (i : ℕ) → Has c.of_side-left.result i ↔ IsOwn b i = subst (λ s. (i : ℕ) → Has c.of_side-left.result i ↔ (IsCell b.game i × (is_of_side s (unit_at b (place_in i)) ≡ true))) c.mover.ensures.value c.of_side-left.ensures in
+    record {
+      fits = c.of_side-left.type_inv;
+      own = λ i h. (own i).0 h;
+      all = λ m w. (own (cell_of m.from)).1 (own_left b m (w.next, w.move));
+    }
+
+pub attains_in-requires-clause-cell : goal.attains_in-requires-clause-cell
+attains_in-requires-clause-cell c = (c.units.invariant.own c.lowest-cell.result c.lowest-cell.ensures.there).0
+
+pub attains_in-requires-clause-own : goal.attains_in-requires-clause-own
+attains_in-requires-clause-own c = (c.units.invariant.own c.lowest-cell.result c.lowest-cell.ensures.there).1
+
+pub returns-then-attains_in : goal.returns-then-attains_in
+returns-then-attains_in c = (
+  λ _. let w = c.attains_in.ensures.found c.if-attains_in.true in forced_by c.args.quest.goal c.args.board.now w.0 w.1,
   λ _. refl,
 )
 
-pub loop-number-preserved : goal.loop-number-preserved
-loop-number-preserved c = λ m low w.
+pub units-preserved : goal.units-preserved
+units-preserved c =
     let b = c.args.board.now in
-    let n = c.loop-number.number in
-    let at : square_number b.game c.of_number-from.result ≡ n = rw c.game-game.ensures.value at c.of_number-from.ensures.number in
-    elim (cases_lt (square_number b.game m.from) n) [
-      | inl less ↦ c.loop-number.invariant m less w
-      | inr more ↦
-          let here : square_number b.game m.from ≡ square_number b.game c.of_number-from.result = omega (arith, low, more, at) in
-          elim c.match-own_unit.branch [
-            | in-Some+else-attains_from x ↦ x.attains_from.ensures.none x.if-attains_from.false m (same_number b.game m.from c.of_number-from.result w.move.pseudo.on_board (rw c.game-game.ensures.value at c.of_number-from.ensures.on_board) here) w
-            | in_default x ↦ false≢true (sym x.in_default.ensures ∙ ap (λ k. is_of_side b.mover (unit_on b k)) (sym here) ∙ own_from b m (w.next, w.move))
-          ]
-    ]
+    let inv = c.units.invariant in
+    let cell = c.lowest-cell.result in
+    let e = c.without-left.ensures in
+    record {
+      fits = omega (arith, e.less, inv.fits);
+      own = λ i h. inv.own i (Has-kept c.units.left c.without-left.result cell inv.fits e.less e.gone e.others i h);
+      all = λ m w.
+          let on = (IsNumbered-lawful b m (w.next, w.move)).from in
+          let small = cell_small b.game (cell_of m.from) (IsCell-cell_of b.game m.from on) in
+          elim (cases_eq (cell_of m.from) cell) [
+            | inl same ↦ absurd (c.attains_in.ensures.none c.if-attains_in.false m (sym (place_in-cell_of b.game m.from on) ∙ ap place_in same) w)
+            | inr other ↦ e.others (cell_of m.from) (omega (arith, small)) other ∙ inv.all m w
+          ];
+    }
 
 pub returns : goal.returns
-returns c =
-    let b = c.args.board.now in
-    let end : c.squares-number-end.result ≡ squares_of b.game = c.squares-number-end.ensures ∙ ap squares_of c.game-game.ensures.value in (
-      λ never. absurd (false≢true never),
-      λ f. absurd (not_forced c.args.quest.goal b (λ m w. let parts = HasParts-lawful b m (w.next, w.move) in c.loop-number.invariant m (omega (arith, parts.on_from, end)) w) f),
-    )
+returns c = (
+  λ never. absurd (false≢true never),
+  λ f. absurd (not_forced c.args.quest.goal c.args.board.now (λ m w. Has-zero (cell_of m.from) (subst (λ x. Has x (cell_of m.from)) c.units-test.false (c.units.invariant.all m w))) f),
+)

@@ -3,7 +3,7 @@ use Rattle.moves.specs.Squares.{Ply}
 use Rattle.moves.specs.Mailbox.{cell_of}
 use Rattle.moves.specs.Targets.{Has, IsTarget}
 use Rattle.moves.specs.Moves.{IsLawful}
-use Rattle.moves.proofs.any_move.has_move_from.Given as given
+use Rattle.moves.proofs.any_move.has_tested_move.Given as given
 
 -- the unit reaches what is left, and its lawful moves lead there
 abbrev pub invariant-cells : given.invariant-cells
