@@ -1,5 +1,5 @@
 -- The list of a unit's moves as its cells are read from the lowest on.
-use Rattle.std.proofs.Common.{◌≡◌, ◌≢◌, ℕ, ◌+◌, ◌-◌, ◌*◌, ◌^◌, ◌%◌, ◌<◌, ◌≤◌, w64, zero, suc, refl, sym, ap, subst, ◌∙◌, arith, inl, inr, ◌↔◌, List, Some}
+use Rattle.std.proofs.Common.{◌≡◌, ◌≢◌, ℕ, ◌+◌, ◌-◌, ◌*◌, ◌^◌, ◌%◌, ◌<◌, ◌≤◌, w64, zero, suc, refl, sym, ap, subst, ◌∙◌, arith, inl, inr, ◌↔◌, List}
 use Rattle.std.specs.Int.{bit_at, bit_not}
 use Rattle.std.specs.Int.RustNames.{bit_and}
 use Rattle.std.proofs.lemmas.Bool.{cases_lt, cases_order}
@@ -11,14 +11,14 @@ use Rattle.board.specs.declared.game.Kind.TheVariants.{Pawn}
 use Rattle.board.specs.declared.game.Unit.{Unit as Man}
 use Rattle.board.specs.Games.{squares_of}
 use Rattle.board.specs.Board.{PlainBoard}
-use Rattle.moves.specs.Squares.{Place, Ply, IsOnBoard, square_number, unit_at}
-use Rattle.moves.specs.Reach.{Reaches}
+use Rattle.moves.specs.Squares.{Place, Ply, IsOnBoard, square_number}
 use Rattle.moves.specs.Listing.{ListsBelow}
 use Rattle.moves.specs.Mailbox.{cell_of, place_in, IsCell}
 use Rattle.moves.specs.Targets.{Has, IsTarget}
+use Rattle.moves.specs.Safe.{HasSafe}
 use Rattle.moves.proofs.Cells.{IsCell-cell_of, place_in-cell_of, cell_small}
 use Rattle.moves.proofs.Listed.{same_number, number_within}
-use Rattle.moves.proofs.Lists.{ListsBelow-jump, ListsBelow-all_to, IsNumbered-lawful, HasParts-lawful, reaches_from}
+use Rattle.moves.proofs.Lists.{ListsBelow-jump, ListsBelow-all_to, IsNumbered-lawful, HasParts-lawful}
 use Rattle.moves.proofs.Room.{share, share-more, share-most, share-step, squares_36}
 
 -- cells are ordered as their squares' numbers are
@@ -67,30 +67,30 @@ module _ (g : Game) (P : ℕ → Type 0) (cell : (i : ℕ) → P i → IsCell g 
           let other : i ≢ to = λ e. let same : square_number g (place_in i) ≡ square_number g (place_in to) = ap (λ x. square_number g (place_in x)) e in omega (arith, later, same) in
           others i (omega (arith, small)) other ∙ (left i).1 (t, omega (arith, upto_number, later))
 
--- the squares numbered below `upto` are done, and the set has the targets from there on
-pub record IsScanned (b : PlainBoard) (u : Man) (from : Place) (set : ℕ) (moves : List Ply) (before now : ℕ) : Type 0 where
+-- the squares numbered below `upto` are done, and the set has the safe cells from there on
+pub record IsScanned (b : PlainBoard) (u : Man) (from : Place) (whole set : ℕ) (moves : List Ply) (before now : ℕ) : Type 0 where
   pub fits : set < 2 ^ 64
   pub upto : ℕ
   pub within : upto ≤ squares_of b.game
-  pub left : (i : ℕ) → Has set i ↔ (IsTarget b u from i × (upto ≤ square_number b.game (place_in i)))
+  pub left : (i : ℕ) → Has set i ↔ (Has whole i × (upto ≤ square_number b.game (place_in i)))
   pub lists : ListsBelow b ((square_number b.game from * 36 + upto) * 5) moves
   pub few : now ≤ before + share b.game u from upto
 
-module _ (b : PlainBoard) (u : Man) (from : Place) (on : IsOnBoard b.game from) (stands : unit_at b from ≡ Some u) where
-  pub IsScanned-start : (set : ℕ) (moves : List Ply) (n : ℕ) → set < 2 ^ 64 → ((i : ℕ) → Has set i ↔ IsTarget b u from i) → ListsBelow b (square_number b.game from * 36 * 5) moves → IsScanned b u from set moves n n
-  IsScanned-start set moves n fits targets lists =
+module _ (b : PlainBoard) (u : Man) (from : Place) (on : IsOnBoard b.game from) (whole : ℕ) (safe : HasSafe b u from whole) where
+  pub IsScanned-start : (moves : List Ply) (n : ℕ) → whole < 2 ^ 64 → ListsBelow b (square_number b.game from * 36 * 5) moves → IsScanned b u from whole whole moves n n
+  IsScanned-start moves n fits lists =
       let same : square_number b.game from * 36 * 5 ≡ (square_number b.game from * 36 + 0) * 5 = omega arith in
       record {
         fits = fits;
         upto = 0;
         within = omega arith;
-        left = λ i. (λ h. ((targets i).0 h, omega arith), λ h. (targets i).1 h.0);
+        left = λ i. (λ h. (h, omega arith), λ h. h.0);
         lists = subst (λ k. ListsBelow b k moves) same lists;
         few = omega arith;
       }
 
-  -- up to the next target no move of the unit is lawful
-  skip_to : (set upto to : ℕ) (moves : List Ply) → ((i : ℕ) → Has set i ↔ (IsTarget b u from i × (upto ≤ square_number b.game (place_in i)))) → ListsBelow b ((square_number b.game from * 36 + upto) * 5) moves
+  -- up to the next safe cell no move of the unit is lawful
+  skip_to : (set upto to : ℕ) (moves : List Ply) → ((i : ℕ) → Has set i ↔ (Has whole i × (upto ≤ square_number b.game (place_in i)))) → ListsBelow b ((square_number b.game from * 36 + upto) * 5) moves
       → upto ≤ to → to ≤ squares_of b.game → ((i : ℕ) → IsCell b.game i → square_number b.game (place_in i) < to → Has set i → ⊥)
       → ListsBelow b ((square_number b.game from * 36 + to) * 5) moves
   skip_to set upto to moves left lists more within none =
@@ -104,11 +104,10 @@ module _ (b : PlainBoard) (u : Man) (from : Place) (on : IsOnBoard b.game from) 
       let same_from : m.from ≡ from = same_number b.game m.from from numbered.from on f in
       let cell = IsCell-cell_of b.game m.to numbered.to in
       let at : place_in (cell_of m.to) ≡ m.to = place_in-cell_of b.game m.to numbered.to in
-      let reached : Reaches b u from (place_in (cell_of m.to)) (unit_at b (place_in (cell_of m.to))) = subst (λ x. Reaches b u from x (unit_at b x)) (sym at) (reaches_from b u from stands m l same_from) in
       none (cell_of m.to) cell (subst (λ x. square_number b.game x < to) (sym at) t')
-      ((left (cell_of m.to)).1 ((cell, reached), subst (λ x. upto ≤ square_number b.game x) (sym at) t)))
+      ((left (cell_of m.to)).1 (safe.all m same_from l, subst (λ x. upto ≤ square_number b.game x) (sym at) t)))
 
-  skip : (set : ℕ) (moves : List Ply) (n k low : ℕ) (s : IsScanned b u from set moves n k) (to : ℕ) → s.upto ≤ to → to ≤ squares_of b.game → ((i : ℕ) → IsCell b.game i → square_number b.game (place_in i) < to → Has set i → ⊥)
+  skip : (set : ℕ) (moves : List Ply) (n k low : ℕ) (s : IsScanned b u from whole set moves n k) (to : ℕ) → s.upto ≤ to → to ≤ squares_of b.game → ((i : ℕ) → IsCell b.game i → square_number b.game (place_in i) < to → Has set i → ⊥)
       → ListsBelow b ((square_number b.game from * 36 + to) * 5) moves
   skip set moves n k low s to more within none = skip_to set s.upto to moves s.left s.lists more within none
 
@@ -123,9 +122,12 @@ module _ (b : PlainBoard) (u : Man) (from : Place) (on : IsOnBoard b.game from) 
   share-up n k h = let same : n + (k - n) ≡ k = omega arith in subst (λ x. share b.game u from n ≤ share b.game u from x) same (share-jump n (k - n))
 
   -- the lowest cell of the set is the next target
-  module _ (set : ℕ) (moves : List Ply) (n k : ℕ) (s : IsScanned b u from set moves n k) (to : ℕ) (has : Has set to) (low : (i : ℕ) → i < to → bit_at set i ≡ 0) where
+  module _ (set : ℕ) (moves : List Ply) (n k : ℕ) (s : IsScanned b u from whole set moves n k) (to : ℕ) (has : Has set to) (low : (i : ℕ) → i < to → bit_at set i ≡ 0) where
+    pub next_has : Has whole to
+    next_has = ((s.left to).0 has).0
+
     pub next_target : IsTarget b u from to
-    next_target = ((s.left to).0 has).0
+    next_target = safe.cells to next_has
 
     pub next_lists : ListsBelow b ((square_number b.game from * 36 + square_number b.game (place_in to)) * 5) moves
     next_lists =
@@ -142,7 +144,7 @@ module _ (b : PlainBoard) (u : Man) (from : Place) (on : IsOnBoard b.game from) 
     -- once its moves are listed the rest is left
     pub IsScanned-more : (rest : ℕ) (more : List Ply) (now : ℕ) → rest < set → bit_at rest to ≡ 0 → ((i : ℕ) → i < 64 → i ≢ to → bit_at rest i ≡ bit_at set i) → now ≤ k + 5 → ((u.kind ≡ Pawn → ⊥) → now ≤ k + 1)
         → ListsBelow b ((square_number b.game from * 36 + square_number b.game (place_in to) + 1) * 5) more
-        → IsScanned b u from rest more n now
+        → IsScanned b u from whole rest more n now
     IsScanned-more rest more now less gone others five one lists =
         let number = square_number b.game (place_in to) in
         let upto_number = ((s.left to).0 has).1 in
@@ -154,13 +156,13 @@ module _ (b : PlainBoard) (u : Man) (from : Place) (on : IsOnBoard b.game from) 
           fits = omega (arith, less, s.fits);
           upto = number + 1;
           within = omega (arith, in_game);
-          left = left_after b.game (IsTarget b u from) (λ i t. t.0) set s.upto s.left to has low rest s.fits less gone others;
+          left = left_after b.game (Has whole) (λ i h. (safe.cells i h).0) set s.upto s.left to has low rest s.fits less gone others;
           lists = subst (λ x. ListsBelow b x more) same lists;
           few = omega (arith, s.few, step, up);
         }
 
   -- an empty set leaves nothing to list
-  pub IsScanned-end : (set : ℕ) (moves : List Ply) (n k : ℕ) → set ≡ 0 → IsScanned b u from set moves n k → ListsBelow b ((square_number b.game from + 1) * 36 * 5) moves × (k ≤ n + 36)
+  pub IsScanned-end : (set : ℕ) (moves : List Ply) (n k : ℕ) → set ≡ 0 → IsScanned b u from whole set moves n k → ListsBelow b ((square_number b.game from + 1) * 36 * 5) moves × (k ≤ n + 36)
   IsScanned-end set moves n k none s =
       let all = skip set moves n k 0 s (squares_of b.game) s.within (omega arith)
       (λ i c less h. let zeroed = bit_at-zero i in let there : bit_at 0 i ≡ 1 = subst (λ x. bit_at x i ≡ 1) none h in omega (arith, zeroed, there)) in (

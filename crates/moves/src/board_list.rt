@@ -4,13 +4,14 @@ ghost use Rattle.arrayvec.specs.ArrayVec.{array_vec_len};
 ghost use Rattle.board.specs.declared.game.Kind.TheVariants.{King, Pawn};
 ghost use Rattle.board.specs.Board.{IsPosition, is_of_side};
 ghost use Rattle.board.specs.Games.{width_of};
-ghost use Rattle.moves.specs.Squares.{IsOnBoard, square_number, unit_at};
+ghost use Rattle.moves.specs.Squares.{Ply, IsOnBoard, square_number, unit_at};
 ghost use Rattle.moves.specs.Reach.{Reaches, IsInCheck};
 ghost use Rattle.moves.specs.Moves.{Promotes, IsPseudoLegal, IsLawful, after};
 ghost use Rattle.moves.specs.Order.{ListsLawful};
 ghost use Rattle.moves.specs.Listing.{ListsBelow, ListsFrom};
 ghost use Rattle.moves.specs.Mailbox.{place_in, IsCell};
 ghost use Rattle.moves.specs.Guard.{Guards};
+ghost use Rattle.moves.specs.Safe.{IsNamed};
 
 use crate::blocks::blocks;
 use crate::list::PROMOTIONS;
@@ -19,8 +20,9 @@ use crate::mailbox::{cell_of, square_in};
 use crate::packed::Board;
 use crate::pinned::pinned;
 use crate::plies::{Move, is_king, is_promoted_well, promotes};
+use crate::safe::safe_cells;
 use crate::squares::Square;
-use crate::targets::{has, lowest, targets, without};
+use crate::targets::{has, lowest, without};
 use crate::words::{is_of_side, unit_of};
 use arrayvec::ArrayVec;
 use board::{Game, Kind, Unit};
@@ -116,37 +118,26 @@ pub(crate) fn promotion_count(game: Game, unit: Unit, to: Square) -> usize
     if promotes(game, unit, to) { 5 } else { 1 }
 }
 
-/// Adds the lawful moves of the unit to a square that it reaches, on which `target` stands.
-fn push_to(
-    board: &Board,
-    guard: Guard,
-    unit: Unit,
-    from: Square,
-    to: Square,
-    target: Option<Unit>,
-    moves: &mut ArrayVec<Move, 512>,
-)
-    requires position { IsPosition board.now }
-    requires guards { Guards board.now guard }
+/// Adds the moves of the unit to a square, all of which are lawful.
+fn push_to(board: &Board, unit: Unit, from: Square, to: Square, moves: &mut ArrayVec<Move, 512>)
     requires from_on_board { IsOnBoard board.now.game from }
     requires to_on_board { IsOnBoard board.now.game to }
     requires stands { unit_at board.now from ≡ Some unit }
-    requires owner { unit.side ≡ board.now.mover }
-    requires target { target ≡ unit_at board.now to }
-    requires reaches { Reaches board.now unit from to (unit_at board.now to) }
+    requires lawful { (m : Ply) → m.from ≡ from → m.to ≡ to → IsNamed board.now.game unit m → IsLawful board.now m }
     requires room { array_vec_len moves.old + 5 ≤ 512 }
     requires before { ListsBelow board.now ((square_number board.now.game from * 36 + square_number board.now.game to) * 5) moves.old.items }
     ensures after { ListsBelow board.now ((square_number board.now.game from * 36 + square_number board.now.game to + 1) * 5) moves.new.items }
     ensures few { array_vec_len moves.new ≤ array_vec_len moves.old + 5 }
     ensures one { (unit.kind ≡ Pawn → ⊥) → array_vec_len moves.new ≤ array_vec_len moves.old + 1 }
 {
-    for i in 0..promotion_count(board.game(), unit, to) {
+    let game = board.game();
+    for i in 0..promotion_count(game, unit, to) {
         let m = Move {
             from,
             to,
             promotion: PROMOTIONS[i],
         };
-        if is_lawful_to(board, guard, m, unit, target) {
+        if is_promoted_well(game, unit, m) {
             moves.push(m);
         }
     }
@@ -164,12 +155,11 @@ fn push_from(board: &Board, guard: Guard, unit: Unit, from: Square, moves: &mut 
     ensures after { ListsBelow board.now ((square_number board.now.game from + 1) * 36 * 5) moves.new.items }
     ensures few { array_vec_len moves.new ≤ array_vec_len moves.old + 36 }
 {
-    let mut left = targets(board, unit, cell_of(from));
+    let mut left = safe_cells(board, guard, unit, from);
     'cells: while left != 0 {
         let cell = lowest(left);
         left = without(left, cell);
-        let target = board.unit_in(cell);
-        push_to(board, guard, unit, from, square_in(cell), target, moves);
+        push_to(board, unit, from, square_in(cell), moves);
     }
 }
 
