@@ -55,7 +55,7 @@ king_from side None e = absurd (false≢true e)
 king_from side (Some u) e = let w = and_parts _ _ e in λ i. Some (record { side = own_side side u.side w.1 i; kind = king_kind u.kind w.0 i })
 
 -- the square of a number
-numbered : (g : Game) (n : ℕ) → n < squares_of g → (s : Place) × IsOnBoard g s × (square_number g s ≡ n)
+pub numbered : (g : Game) (n : ℕ) → n < squares_of g → (s : Place) × IsOnBoard g s × (square_number g s ≡ n)
 numbered LosAlamos n h = (record { file = n % 6; rank = n / 6 }, record { file = omega arith; rank = omega arith }, omega arith)
 numbered Gardner n h = (record { file = n % 5; rank = n / 5 }, record { file = omega arith; rank = omega arith }, omega arith)
 

@@ -3,7 +3,6 @@ ghost use Rattle.std.specs.Prelude.{◌≡◌, ◌≤◌, ◌+◌, ◌*◌, ◌<
 ghost use Rattle.arrayvec.specs.ArrayVec.{array_vec_len};
 ghost use Rattle.board.specs.declared.game.Kind.TheVariants.{King, Pawn};
 ghost use Rattle.board.specs.Board.{IsPosition, is_of_side};
-ghost use Rattle.board.specs.Games.{width_of};
 ghost use Rattle.moves.specs.Squares.{Ply, IsOnBoard, square_number, unit_at};
 ghost use Rattle.moves.specs.Reach.{Reaches, IsInCheck};
 ghost use Rattle.moves.specs.Moves.{Promotes, IsPseudoLegal, IsLawful, after};
@@ -178,19 +177,19 @@ pub(crate) fn own_unit(board: &Board, square: Square) -> Option<Unit>
     }
 }
 
-/// Adds the lawful moves of the mover's units on the rank.
-fn push_rank(board: &Board, guard: Guard, rank: u8, moves: &mut ArrayVec<Move, 512>)
+/// Adds the lawful moves of the mover's unit in the cell.
+fn push_in(board: &Board, guard: Guard, cell: u8, moves: &mut ArrayVec<Move, 512>)
+    requires position { IsPosition board.now }
     requires guards { Guards board.now guard }
-    requires rank { rank < width_of board.now.game }
-    requires before { ListsFrom board.now (width_of board.now.game * rank) moves.old.items }
-    ensures { ListsFrom board.now (width_of board.now.game * (rank + 1)) moves.new.items }
+    requires cell { IsCell board.now.game cell }
+    requires own { is_of_side board.now.mover (unit_at board.now (place_in cell)) ≡ true }
+    requires before { ListsFrom board.now (square_number board.now.game (place_in cell)) moves.old.items }
+    ensures { ListsFrom board.now (square_number board.now.game (place_in cell) + 1) moves.new.items }
 {
-    for file in 0..board.game().width() {
-        let from = Square { file, rank };
-        if let Some(unit) = own_unit(board, from) {
-            push_from(board, guard, unit, from, moves);
-        }
-    }
+    let Some(unit) = board.unit_in(cell) else {
+        unreachable!()
+    };
+    push_from(board, guard, unit, square_in(cell), moves);
 }
 
 /// Puts the lawful moves into the list, in order, in place of what it held.
@@ -199,8 +198,11 @@ pub fn list_lawful(board: &Board, moves: &mut ArrayVec<Move, 512>)
 {
     let guard = guard_of(board);
     moves.clear();
-    for rank in 0..board.game().width() {
-        push_rank(board, guard, rank, moves);
+    let mut left = board.of_side(board.mover());
+    'units: while left != 0 {
+        let cell = lowest(left);
+        left = without(left, cell);
+        push_in(board, guard, cell, moves);
     }
 }
 

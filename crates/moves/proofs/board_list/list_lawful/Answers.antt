@@ -1,12 +1,33 @@
-use Rattle.std.proofs.Common.{◌≡◌, ◌*◌, ◌≤◌, ap, subst, ◌∙◌, arith}
-use Rattle.board.specs.Games.{width_of, squares_of}
-use Rattle.moves.proofs.Lists.{ListsLawful-from}
+use Rattle.std.proofs.Common.{rules, ◌≡◌, ℕ, ◌↔◌, true, sym, subst, []}
+use Rattle.board.specs.Board.{is_of_side}
+use Rattle.moves.specs.Squares.{unit_at}
+use Rattle.moves.specs.Mailbox.{place_in, IsCell}
+use Rattle.moves.specs.Targets.{Has}
+use Rattle.moves.proofs.Tallies.{IsOwn}
+use Rattle.moves.proofs.Gathering.{IsGathered, gathered_start, gathered_end, gathered_more, next_unit, next_from}
 use Rattle.moves.proofs.board_list.list_lawful.Goals as goal
 
-pub returns : goal.returns
-returns c =
+pub units-init : goal.units-init
+units-init c =
     let b = c.args.board.now in
-    let end : c.width-rank-end.result ≡ width_of b.game = c.width-rank-end.ensures ∙ ap width_of c.game.ensures.value in
-    let all : width_of b.game ≡ c.loop-rank.rank = omega arith in
-    let squares : squares_of b.game ≤ width_of b.game * c.loop-rank.rank = subst (λ n. squares_of b.game ≤ width_of b.game * n) all (omega arith) in
-    ListsLawful-from b (width_of b.game * c.loop-rank.rank) c.loop-rank.moves.items squares c.loop-rank.invariant.lists
+    let own : (i : ℕ) → Has c.of_side-left.result i ↔ IsOwn b i = subst (λ s. (i : ℕ) → Has c.of_side-left.result i ↔ (IsCell b.game i × (is_of_side s (unit_at b (place_in i)) ≡ true))) c.mover.ensures.value c.of_side-left.ensures in
+    let empty : c.clear.new.self.items ≡ [] = search rules in
+    subst (IsGathered b c.of_side-left.result) (sym empty) (gathered_start b c.guard_of-guard.ensures.position c.of_side-left.result c.of_side-left.type_inv own)
+
+pub push_in-requires-clause-cell : goal.push_in-requires-clause-cell
+push_in-requires-clause-cell c = (next_unit c.args.board.now c.guard_of-guard.ensures.position c.units.left c.units.moves.items c.units.invariant c.lowest-cell.result c.lowest-cell.ensures.there c.lowest-cell.ensures.least).0
+
+pub push_in-requires-clause-own : goal.push_in-requires-clause-own
+push_in-requires-clause-own c = (next_unit c.args.board.now c.guard_of-guard.ensures.position c.units.left c.units.moves.items c.units.invariant c.lowest-cell.result c.lowest-cell.ensures.there c.lowest-cell.ensures.least).1
+
+pub push_in-requires-clause-before : goal.push_in-requires-clause-before
+push_in-requires-clause-before c = next_from c.args.board.now c.guard_of-guard.ensures.position c.units.left c.units.moves.items c.units.invariant c.lowest-cell.result c.lowest-cell.ensures.there c.lowest-cell.ensures.least
+
+pub units-preserved : goal.units-preserved
+units-preserved c =
+    let e = c.without-left.ensures in
+    gathered_more c.args.board.now c.guard_of-guard.ensures.position c.units.left c.units.moves.items c.units.invariant c.lowest-cell.result c.lowest-cell.ensures.there c.lowest-cell.ensures.least
+    c.without-left.result c.push_in.new.moves.items e.less e.gone e.others c.push_in.ensures
+
+pub returns : goal.returns
+returns c = gathered_end c.args.board.now c.guard_of-guard.ensures.position c.units.left c.units.moves.items c.units-test.false c.units.invariant

@@ -1,8 +1,10 @@
-use Rattle.std.proofs.Common.{◌*◌}
-use Rattle.board.specs.Games.{width_of}
-use Rattle.moves.specs.Listing.{ListsFrom}
+use Rattle.moves.proofs.Gathering.{IsGathered}
 use Rattle.moves.proofs.board_list.list_lawful.Given as given
 
--- the moves from the ranks so far are listed
-abbrev pub invariant-loop-rank : given.invariant-loop-rank
-invariant-loop-rank l = ListsFrom l.board (width_of l.board.game * l.rank) l.moves.items
+-- the moves of the units so far are listed
+abbrev pub invariant-units : given.invariant-units
+invariant-units l = IsGathered l.board l.left l.moves.items
+
+-- each turn takes the lowest cell away
+abbrev pub decreases-units : given.decreases-units
+decreases-units l = l.left
