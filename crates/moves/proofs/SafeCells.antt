@@ -1,7 +1,7 @@
 -- Whether a move is lawful doesn't depend on what a pawn becomes.
-use Rattle.std.proofs.Common.{◌≡◌, ℕ, ◌+◌, ◌^◌, ◌<◌, arith, refl, sym, ap, subst, ◌∙◌, ◌⊎◌, ◌↔◌, inl, inr, Option, Some, None, IsSome}
+use Rattle.std.proofs.Common.{◌≡◌, ℕ, ◌+◌, ◌^◌, ◌<◌, arith, refl, sym, ap, subst, ◌∙◌, ◌⊎◌, ◌↔◌, inl, inr, Option, Some, None, IsSome, true, false}
 use Rattle.std.proofs.lemmas.Option.{same_Some}
-use Rattle.std.proofs.lemmas.Bool.{cases_eq}
+use Rattle.std.proofs.lemmas.Bool.{cases_eq, false≢true}
 use Rattle.board.specs.declared.game.Game.{Game}
 use Rattle.board.specs.declared.game.Game.TheVariants.{LosAlamos, Gardner}
 use Rattle.board.specs.declared.game.Side.{Side}
@@ -10,10 +10,10 @@ use Rattle.board.specs.declared.game.Kind.{Kind}
 use Rattle.board.specs.declared.game.Kind.TheVariants.{King, Queen, Rook, Bishop, Knight, Pawn}
 use Rattle.board.specs.declared.game.Unit.{Unit as Man}
 use Rattle.board.specs.declared.step.Step.{Step}
-use Rattle.board.specs.Games.{width_of}
+use Rattle.board.specs.Games.{width_of, other_side}
 use Rattle.board.specs.Board.{PlainBoard, IsPosition}
 use Rattle.moves.specs.Squares.{Place, Ply, IsOnBoard, unit_at}
-use Rattle.moves.specs.Reach.{Leads, Reaches, IsInCheck}
+use Rattle.moves.specs.Reach.{Leads, Reaches, IsAttacked, IsInCheck}
 use Rattle.moves.specs.Reach.Leads.{once, again}
 use Rattle.moves.specs.Moves.{IsLastRank, IsPromotion, Promotes, IsSomeKing, IsPseudoLegal, IsLawful, placed, after}
 use Rattle.moves.specs.Mailbox.{cell_of, place_in}
@@ -21,8 +21,9 @@ use Rattle.moves.specs.Targets.{Has, IsTarget}
 use Rattle.moves.specs.Pinned.{IsPinned}
 use Rattle.moves.specs.Sets.{StandsAs}
 use Rattle.moves.specs.declared.sets.Class.TheVariants.{Crowned}
-use Rattle.moves.specs.Safe.{IsNamed, HasSafe}
-use Rattle.moves.proofs.Cells.{place_in-cell_of}
+use Rattle.moves.specs.Safe.{IsNamed, HasSafe, IsCalm}
+use Rattle.moves.proofs.Cells.{IsCell-cell_of, place_in-cell_of}
+use Rattle.moves.proofs.KingSteps.{steps_safely}
 use Rattle.moves.proofs.Masks.{lowest-has}
 use Rattle.moves.proofs.Laying.{unit_at-to, unit_at-from, unit_at-other}
 use Rattle.moves.proofs.Keeps.{IsRankAhead, to_on_board}
@@ -189,7 +190,7 @@ last_cases g White rank = cases_eq (rank + 1) (width_of g)
 last_cases g Black rank = cases_eq rank 0
 
 -- between two squares there is a move that names its promotion well
-named_move : (g : Game) (u : Man) (s t : Place) → (m : Ply) × (m.from ≡ s) × (m.to ≡ t) × IsNamed g u m
+pub named_move : (g : Game) (u : Man) (s t : Place) → (m : Ply) × (m.from ≡ s) × (m.to ≡ t) × IsNamed g u m
 named_move g u s t = elim (pawn_cases u.kind) [
   | inr piece ↦ (record { from = s; to = t; promotion = None }, refl, refl, record { named = ((λ e. cc), λ p. absurd (piece p.0)); allowed = tt })
   | inl pawn ↦ elim (last_cases g u.side t.rank) [
@@ -207,3 +208,25 @@ some_safe b u s set safe fits some =
     let (i, h) = lowest-has set fits some in
     let (m, from, to, named) = named_move b.game u s (place_in i) in
     (m, safe.lawful i m h from to named)
+
+-- ---- a step of the king, which isn't in check
+
+module _ (b : PlainBoard) (u : Man) (s t : Place) (is : IsPosition b) (king : u.kind ≡ King) (owner : u.side ≡ b.mover) (unchecked : IsInCheck b b.mover → ⊥) (stands : unit_at b s ≡ Some u) where
+  pub calm_lawful : IsOnBoard b.game s → IsOnBoard b.game t → Reaches b u s t (unit_at b t) → IsCalm b t u.side → (m : Ply) → m.from ≡ s → m.to ≡ t → IsNamed b.game u m → IsLawful b m
+  calm_lawful on on_to reaches calm m from to named =
+      let at : place_in (cell_of t) ≡ t = place_in-cell_of b.game t on_to in
+      let target : IsTarget b u s (cell_of t) = (IsCell-cell_of b.game t on_to, subst (λ x. Reaches b u s x (unit_at b x)) (sym at) reaches) in
+      let p = pseudo_named b m u s (cell_of t) on stands owner target (λ there. calm.no_king (subst (λ x. IsSomeKing (unit_at b x)) at there)) from (to ∙ sym at) named in
+      let none : IsAttacked b m.to (other_side b.mover) → ⊥ = λ a. calm.safe (subst (λ x. IsAttacked b x (other_side u.side)) to (subst (λ x. IsAttacked b m.to (other_side x)) (sym owner) a)) in
+      (after b m u, record { unit = u; pseudo = p; leads = refl; safe = (steps_safely b m u is p king unchecked false ((λ e. absurd (false≢true e)), λ a. absurd (none a))).0 refl })
+
+  pub lawful_calm : (m : Ply) → m.from ≡ s → m.to ≡ t → IsLawful b m → IsCalm b t u.side
+  lawful_calm m from to l =
+      let at : unit_at b m.from ≡ Some u = ap (unit_at b) from ∙ stands in
+      let p = pseudo_by b m u at l in
+      record {
+        no_king = λ there. p.no_king (subst (λ x. IsSomeKing (unit_at b x)) (sym to) there);
+        safe = λ a.
+            let here : IsAttacked b m.to (other_side b.mover) = subst (λ x. IsAttacked b m.to (other_side x)) owner (subst (λ x. IsAttacked b x (other_side u.side)) (sym to) a) in
+            false≢true ((steps_safely b m u is p king unchecked true ((λ _. here), λ _. refl)).1 (move_by b m u at l).safe);
+      }

@@ -3,9 +3,12 @@ use Rattle.std.specs.Prelude.{◌≡◌, ℕ, ◌+◌, ◌*◌, ◌⊎◌, ◌�
 use Rattle.board.specs.declared.game.Game.{Game}
 use Rattle.board.specs.declared.game.Game.TheVariants.{LosAlamos, Gardner}
 use Rattle.board.specs.declared.game.Unit.{Unit as Man}
+use Rattle.board.specs.declared.game.Side.{Side}
+use Rattle.board.specs.Games.{other_side}
 use Rattle.board.specs.Board.{PlainBoard}
-use Rattle.moves.specs.Squares.{Place, Ply}
-use Rattle.moves.specs.Moves.{Promotes, IsPromotion, IsLawful}
+use Rattle.moves.specs.Squares.{Place, Ply, unit_at}
+use Rattle.moves.specs.Reach.{IsAttacked}
+use Rattle.moves.specs.Moves.{Promotes, IsPromotion, IsSomeKing, IsLawful}
 use Rattle.moves.specs.Listing.{ListsBelow}
 use Rattle.moves.specs.Mailbox.{cell_of, place_in}
 use Rattle.moves.specs.Targets.{Has, IsTarget}
@@ -20,6 +23,11 @@ pub record HasSafe (b : PlainBoard) (u : Man) (s : Place) (set : ℕ) : Type 0 w
   pub cells : (i : ℕ) → Has set i → IsTarget b u s i
   pub lawful : (i : ℕ) (m : Ply) → Has set i → m.from ≡ s → m.to ≡ place_in i → IsNamed b.game u m → IsLawful b m
   pub all : (m : Ply) → m.from ≡ s → IsLawful b m → Has set (cell_of m.to)
+
+-- a king of the side would be safe on the square, and takes none there
+pub record IsCalm (b : PlainBoard) (s : Place) (side : Side) : Type 0 where
+  pub no_king : IsSomeKing (unit_at b s) → ⊥
+  pub safe : IsAttacked b s (other_side side) → ⊥
 
 -- how many kinds a pawn may become
 abbrev pub promotions_of : Game → ℕ

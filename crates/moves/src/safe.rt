@@ -1,22 +1,23 @@
 //! The cells to which a unit moves lawfully.
-ghost use Rattle.std.specs.Prelude.{◌≡◌, IsTrue, IfSome, Some, ℕ, false};
+ghost use Rattle.std.specs.Prelude.{◌≡◌, ◌↔◌, IsTrue, IfSome, Some, ℕ, false};
 ghost use Rattle.board.specs.Board.{IsPosition};
 ghost use Rattle.moves.specs.Squares.{Ply, IsOnBoard, unit_at};
 ghost use Rattle.moves.specs.Reach.{Reaches};
 ghost use Rattle.moves.specs.Moves.{IsLawful};
-ghost use Rattle.moves.specs.Mailbox.{cell_of};
+ghost use Rattle.moves.specs.Mailbox.{cell_of, place_in, IsCell};
 ghost use Rattle.moves.specs.Targets.{Has, IsTarget};
 ghost use Rattle.moves.specs.Guard.{Guards};
-ghost use Rattle.moves.specs.Safe.{IsNamed, HasSafe};
+ghost use Rattle.moves.specs.Safe.{IsNamed, HasSafe, IsCalm};
 
 use crate::board_list::{Guard, is_lawful_to};
+use crate::look::is_attacked;
 use crate::mailbox::{cell_of, square_in};
 use crate::packed::Board;
 use crate::plies::{Move, is_king, promotes};
 use crate::sets::Class;
 use crate::squares::Square;
 use crate::targets::{common, except, has, lowest, targets, with_cell, without};
-use board::{Game, Kind, Unit};
+use board::{Game, Kind, Side, Unit};
 
 /// A move between the squares: a pawn that comes to its last rank becomes a queen.
 fn queening(game: Game, unit: Unit, from: Square, to: Square) -> Move
@@ -36,6 +37,15 @@ fn queening(game: Game, unit: Unit, from: Square, to: Square) -> Move
     }
 }
 
+/// Whether no king stands in the cell, and no unit of the other side attacks it.
+fn is_calm(board: &Board, cell: u8, side: Side) -> bool
+    requires position { IsPosition board.now }
+    requires cell { IsCell board.now.game cell }
+    ensures { IsTrue result ↔ IsCalm board.now (place_in cell) side }
+{
+    !has(board.set(Class::Crowned), cell) && !is_attacked(board, cell, side)
+}
+
 /// Whether the unit's moves to a square that it reaches are lawful: all are, or none.
 pub(crate) fn may_go(board: &Board, guard: Guard, unit: Unit, from: Square, to: Square) -> bool
     requires position { IsPosition board.now }
@@ -49,6 +59,9 @@ pub(crate) fn may_go(board: &Board, guard: Guard, unit: Unit, from: Square, to: 
     ensures found { IsTrue result → (m : Ply) × IsLawful board.now m }
     ensures none { result ≡ false → (m : Ply) → m.from ≡ from → m.to ≡ to → IsLawful board.now m → ⊥ }
 {
+    if is_king(Some(unit)) && !guard.checked {
+        return is_calm(board, cell_of(to), unit.side);
+    }
     let m = queening(board.game(), unit, from, to);
     is_lawful_to(board, guard, m, unit, board.unit_in(cell_of(to)))
 }
