@@ -233,22 +233,3 @@ not-zero n = (
   λ e zero. false≢true (sym (not_from_true (eqb n 0) (eq-eqb n 0 zero)) ∙ e),
   λ h. not_from_false (eqb n 0) (false_from_ne_true (eqb n 0) (λ t. h (eqb-true n 0 t))),
 )
-
--- what is common to a set and to each of four
-pub four-among : (set : ℕ) (A B C D : ℕ → Type 0) (a b c d : ℕ) → ((i : ℕ) → Has a i ↔ (Has set i × A i)) → ((i : ℕ) → Has b i ↔ (Has set i × B i)) → ((i : ℕ) → Has c i ↔ (Has set i × C i)) → ((i : ℕ) → Has d i ↔ (Has set i × D i))
-    → (i : ℕ) → Has (bit_or (bit_or (bit_or a b) c) d) i ↔ (Has set i × (A i ⊎ (B i ⊎ (C i ⊎ D i))))
-four-among set A B C D a b c d ha hb hc hd i =
-    let v = four-are (λ j. Has set j × A j) (λ j. Has set j × B j) (λ j. Has set j × C j) (λ j. Has set j × D j) a b c d ha hb hc hd i in (
-      λ h. elim (v.0 h) [
-        | inl x ↦ (x.0, inl x.1)
-        | inr (inl x) ↦ (x.0, inr (inl x.1))
-        | inr (inr (inl x)) ↦ (x.0, inr (inr (inl x.1)))
-        | inr (inr (inr x)) ↦ (x.0, inr (inr (inr x.1)))
-      ],
-      λ w. v.1 (elim w.1 [
-        | inl x ↦ inl (w.0, x)
-        | inr (inl x) ↦ inr (inl (w.0, x))
-        | inr (inr (inl x)) ↦ inr (inr (inl (w.0, x)))
-        | inr (inr (inr x)) ↦ inr (inr (inr (w.0, x)))
-      ]),
-    )

@@ -61,7 +61,7 @@ cell-ray g way i j (beyond {k = k} a c r) = cell-ray g way k j r
 abbrev pub IsClear : PlainBoard → Way → ℕ → ℕ → Type 0
 IsClear b way i j = (k : ℕ) → IsOnRay b.game way i k → IsSooner (rises way) k j → unit_at b (place_in k) ≡ None
 
-pub rides-ray : (b : PlainBoard) (way : Way) (i j : ℕ) → Rides b way i j → IsOnRay b.game way i j
+rides-ray : (b : PlainBoard) (way : Way) (i j : ℕ) → Rides b way i j → IsOnRay b.game way i j
 rides-ray b way i j (once a c) = next a c
 rides-ray b way i j (again {k = k} a c e r) = beyond a c (rides-ray b way k j r)
 

@@ -12,7 +12,7 @@ ghost use Rattle.moves.specs.Looking.{Aims};
 
 use crate::packed::{Board, after};
 use crate::plies::Move;
-use crate::seen::{seen, slanted_to, straight_to};
+use crate::seen::seen;
 use crate::sets::Class;
 use crate::targets::lowest;
 use board::{Kind, Side};
@@ -26,11 +26,7 @@ fn struck(board: &Board, side: Side, kind: Kind, cell: u8, among: u64) -> u64
     if among == 0 {
         return 0;
     }
-    match kind {
-        Kind::Rook => straight_to(board, cell, among),
-        Kind::Bishop => slanted_to(board, cell, among),
-        _ => among & seen(board, side, kind, cell),
-    }
+    among & seen(board, side, kind, cell)
 }
 
 /// The cells of the other side's units that attack the cell.

@@ -78,39 +78,6 @@ fn slanted(board: &Board, cell: u8) -> u64
         | along(board, Way::SouthEast, cell)
 }
 
-/// Those of the cells to which a rider comes that way from the cell.
-fn along_to(board: &Board, way: Way, cell: u8, among: u64) -> u64
-    requires { IsCell board.now.game cell }
-    ensures { (j : ℕ) → Has result j ↔ (Has among j × Rides board.now way cell j) }
-{
-    if ray(board.game(), way, cell) & among == 0 {
-        return 0;
-    }
-    among & along(board, way, cell)
-}
-
-/// Those of the cells to which a rider comes from the cell along its rank and its file.
-pub(crate) fn straight_to(board: &Board, cell: u8, among: u64) -> u64
-    requires { IsCell board.now.game cell }
-    ensures { (j : ℕ) → Has result j ↔ (Has among j × RidesStraight board.now cell j) }
-{
-    along_to(board, Way::North, cell, among)
-        | along_to(board, Way::South, cell, among)
-        | along_to(board, Way::East, cell, among)
-        | along_to(board, Way::West, cell, among)
-}
-
-/// Those of the cells to which a rider comes from the cell along its diagonals.
-pub(crate) fn slanted_to(board: &Board, cell: u8, among: u64) -> u64
-    requires { IsCell board.now.game cell }
-    ensures { (j : ℕ) → Has result j ↔ (Has among j × RidesSlanted board.now cell j) }
-{
-    along_to(board, Way::NorthEast, cell, among)
-        | along_to(board, Way::SouthWest, cell, among)
-        | along_to(board, Way::NorthWest, cell, among)
-        | along_to(board, Way::SouthEast, cell, among)
-}
-
 /// The cells where a unit of the kind would take from this one.
 pub(crate) fn seen(board: &Board, side: Side, kind: Kind, cell: u8) -> u64
     requires { IsCell board.now.game cell }
