@@ -18,5 +18,6 @@ pub use answer::{Answer, MOST_LIMIT};
 pub use deciding::{decide, decide_on, decide_until};
 pub use decision::Decision;
 pub use memory::Memory;
+pub use order::in_order;
 pub use question::Question;
 pub use scout::{Never, Scout, Stop};

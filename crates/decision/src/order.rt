@@ -50,7 +50,7 @@ fn costs_of(memory: &Memory, q: &Question, n: u8, moves: &[Move]) -> Costs
 
 /// Puts the lawful moves into the list in place of what it held, those of least cost first.
 #[inline(never)]
-pub(crate) fn in_order(memory: &Memory, q: &Question, n: u8, moves: &mut ArrayVec<Move, 512>)
+pub fn in_order(memory: &Memory, q: &Question, n: u8, moves: &mut ArrayVec<Move, 512>)
     ensures { ListsAll q.now.position moves.new.items }
 {
     list_lawful(&q.position, moves);

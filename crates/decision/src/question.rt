@@ -25,7 +25,7 @@ pub(crate) const NOTHING: Interval = Interval {
 
 impl Question {
     /// The same of the position after a lawful move.
-    pub(crate) fn after(&self, m: Move) -> Question
+    pub fn after(&self, m: Move) -> Question
         requires { IsLawful self.now.position m }
         ensures { LeadsTo self.now m result }
     {

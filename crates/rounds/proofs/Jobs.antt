@@ -11,6 +11,7 @@ use Rattle.decision.specs.Questions.{IsForced}
 use Rattle.decision.specs.Answer.{Wins, IsLeastWin, ForcesNothing, IsAnswer}
 use Rattle.decision.specs.declared.answer.Answer.TheVariants.{Mate}
 use Rattle.decision.proofs.Winning.{wins_by, forced_by, next_round}
+use Rattle.decision.specs.Below.{ListsAll}
 use Rattle.rounds.specs.declared.bench.Root.{Root}
 use Rattle.rounds.specs.Jobs.{JobWins}
 use Rattle.rounds.specs.Roots.{LeadsTo, WinsIn}
@@ -29,8 +30,12 @@ move_at xs ys at job m same here is = is ∙ (λ i. get_or (same i) (here i) m)
 pub got_at : (xs : List Ply) (job : ℕ) (m : Ply) → job < length xs → m ≡ get_or xs job m → slice_get xs job ≡ Some m
 got_at xs job m h is = slice_get_read xs (length xs) job m refl h is
 
+-- a move on the list is lawful
+pub listed_move : (b : PlainBoard) (xs : List Ply) → ListsAll b xs → (i : ℕ) (m : Ply) → i < length xs → m ≡ get_or xs i m → IsLawful b m
+listed_move b xs lists i m h is = (lists m).0 (i, h, sym is)
+
 pub lawful_job : (b : PlainBoard) (xs : List Ply) → ListsLawful b xs → (job : ℕ) (m : Ply) → job < length xs → m ≡ get_or xs job m → IsLawful b m
-lawful_job b xs lists job m h is = (lists.exact m).0 (job, h, sym is)
+lawful_job b xs lists = listed_move b xs lists.exact
 
 module _ (goal : Goal) (b : PlainBoard) (n : ℕ) (xs : List Ply) where
   job_move : (job : ℕ) (m : Ply) → slice_get xs job ≡ Some m → JobWins goal b n xs job → Wins goal b n m

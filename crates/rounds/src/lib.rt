@@ -7,11 +7,13 @@ mod bench;
 mod deal;
 mod fault;
 mod gate;
+mod help;
 #[cfg(test)]
 mod key_tests;
 mod keys;
 #[cfg(test)]
 mod lent_tests;
+mod out;
 mod round;
 mod share;
 mod solving;

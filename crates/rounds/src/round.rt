@@ -10,6 +10,7 @@ ghost use Rattle.rounds.specs.Going.{GoesOn, EachGoesOn, SeatsGoOn};
 use crate::bench::{Bench, RootJobs, Search};
 use crate::deal::{Count, Thief, deal};
 use crate::gate::Gate;
+use crate::out::{Out, all_outs};
 use crate::share::{Part, Share, Verdict};
 use least::{JobSeat, Least, MakeFault};
 use slots::Seat;
@@ -19,12 +20,14 @@ use std::thread;
 use std::thread::Threads;
 
 /// A part of the jobs for each seat of the word.
-fn deal_out<'a, J: Count, T: Gate>(
+fn deal_out<'a, 'b, J: Count, T: Gate>(
     alloc: Global,
     bench: &Bench<'a, T>,
+    outs: &'b Vec<Out<J>>,
     mut job_seats: Vec<JobSeat<RootJobs>>,
-) -> Result<Vec<Part<'a, J>>, AllocError>
+) -> Result<Vec<Part<'a, 'b, J>>, AllocError>
     requires bench { IsBench J.jobs bench.now }
+    requires outs { length outs.now.items ≡ length job_seats.items }
     requires job_seats { AreJobSeats bench.now.least.now (length job_seats.items) job_seats.items }
     requires threads { (0 < length job_seats.items) × (length job_seats.items ≤ 17) }
     ensures count { IfOk result (λ parts. length parts.items ≡ length job_seats.items) }
@@ -38,7 +41,8 @@ fn deal_out<'a, J: Count, T: Gate>(
             unreachable!()
         };
         let local = deal(alloc, from, step, bench.root.jobs())?;
-        parts.push(Part::new(alloc, bench, jobs, local)?)?;
+        let out = &outs[usize::from(from)];
+        parts.push(Part::new(alloc, bench, jobs, local, out)?)?;
     }
     Ok(parts)
 }
@@ -46,7 +50,7 @@ fn deal_out<'a, J: Count, T: Gate>(
 /// The stealers of all deques.
 fn all_thieves<J: Count>(
     alloc: Global,
-    parts: &Vec<Part<'_, J>>,
+    parts: &Vec<Part<'_, '_, J>>,
 ) -> Result<Vec<Thief<J>>, AllocError>
     ensures { IfOk result (λ thieves. length thieves.items ≡ length parts.now.items) }
 {
@@ -59,12 +63,12 @@ fn all_thieves<J: Count>(
 }
 
 /// A share for each part, with a seat: the last one has the first seat. Nothing here takes memory.
-fn seat_all<'a, J: Count, T: Gate>(
+fn seat_all<'a, 'b, J: Count, T: Gate>(
     bench: &Bench<'_, T>,
-    mut parts: Vec<Part<'a, J>>,
+    mut parts: Vec<Part<'a, 'b, J>>,
     seats: &mut Vec<Seat>,
-    mut shares: Vec<Share<'a, J>>,
-) -> Vec<Share<'a, J>>
+    mut shares: Vec<Share<'a, 'b, J>>,
+) -> Vec<Share<'a, 'b, J>>
     requires parts { All (IsPart J.jobs bench.now) parts.items }
     requires seats { AreSeats bench.now.slots.now (length parts.items) seats.old.items }
     requires none { shares.items ≡ [] }
@@ -85,7 +89,7 @@ fn seat_all<'a, J: Count, T: Gate>(
 }
 
 /// The seats go back to where they came from, each to its place.
-fn give_back<J: Count>(mut shares: Vec<Share<'_, J>>, seats: &mut Vec<Seat>)
+fn give_back<J: Count>(mut shares: Vec<Share<'_, '_, J>>, seats: &mut Vec<Seat>)
     requires none { seats.old.items ≡ [] }
     requires room { length shares.items ≤ vec_capacity seats.old }
     ensures { seats.new.items ≡ seats_back shares.entry.items }
@@ -101,7 +105,8 @@ fn work_all<J: Count + Send + Sync, T: Gate, R: Threads + Wait + Sync>(
     rt: &R,
     bench: &Bench<'_, T>,
     thieves: &Vec<Thief<J>>,
-    shares: &mut Vec<Share<'_, J>>,
+    outs: &Vec<Out<J>>,
+    shares: &mut Vec<Share<'_, '_, J>>,
 )
     requires { All (IsShare J.jobs bench.now) shares.old.items }
     ensures count { length shares.new.items ≡ length shares.old.items }
@@ -116,19 +121,19 @@ fn work_all<J: Count + Send + Sync, T: Gate, R: Threads + Wait + Sync>(
         rt,
         shares.as_mut_slice(),
         threads,
-        &|_, share: &mut Share<'_, J>|
+        &|_, share: &mut Share<'_, '_, J>|
             requires { IsShare J.jobs bench.now share.now }
             ensures { IsShare J.jobs bench.entry.now share.exit.now
                 × GoesOn T.keeps bench.entry.now.slots.now share.entry.now.seat share.exit.now.seat }
-        { share.work(rt, bench, thieves) },
+        { share.work(rt, bench, thieves, outs) },
     );
 }
 
 /// What the caller's own share, or else another, says of a job.
 fn found<J: Count, T: Gate>(
     bench: &Bench<'_, T>,
-    shares: &Vec<Share<'_, J>>,
-    own: &Share<'_, J>,
+    shares: &Vec<Share<'_, '_, J>>,
+    own: &Share<'_, '_, J>,
     job: u16,
 ) -> Verdict
     requires shares { All (IsShare J.jobs bench.now) shares.now.items }
@@ -152,8 +157,8 @@ fn found<J: Count, T: Gate>(
 /// Whether a job wins. The caller decides it where no share has.
 fn wins<J: Count, T: Gate>(
     bench: &Bench<'_, T>,
-    shares: &Vec<Share<'_, J>>,
-    own: &mut Share<'_, J>,
+    shares: &Vec<Share<'_, '_, J>>,
+    own: &mut Share<'_, '_, J>,
     job: u16,
 ) -> bool
     requires shares { All (IsShare J.jobs bench.now) shares.now.items }
@@ -173,8 +178,8 @@ fn wins<J: Count, T: Gate>(
 /// Decides, by number, each job that no share decided, up to the least that wins.
 fn settle<J: Count, T: Gate>(
     bench: &Bench<'_, T>,
-    shares: &Vec<Share<'_, J>>,
-    own: &mut Share<'_, J>,
+    shares: &Vec<Share<'_, '_, J>>,
+    own: &mut Share<'_, '_, J>,
 ) -> Option<u16>
     requires shares { All (IsShare J.jobs bench.now) shares.now.items }
     requires own { IsShare J.jobs bench.now own.old }
@@ -193,7 +198,7 @@ fn settle<J: Count, T: Gate>(
 /// The same, of all shares: the last is the caller's own.
 fn settle_all<J: Count, T: Gate>(
     bench: &Bench<'_, T>,
-    shares: &mut Vec<Share<'_, J>>,
+    shares: &mut Vec<Share<'_, '_, J>>,
 ) -> Option<u16>
     requires some { 0 < length shares.old.items }
     requires shares { All (IsShare J.jobs bench.now) shares.old.items }
@@ -223,11 +228,12 @@ fn play<J: Count + Send + Sync, T: Gate, R: Threads + Wait + Sync>(
     ensures seats { AreSeats bench.now.slots.now (length seats.old.items) seats.new.items }
     ensures go_on { SeatsGoOn T.keeps bench.now.slots.now seats.old.items seats.new.items }
 {
-    let parts = deal_out::<J, T>(alloc, bench, job_seats)?;
+    let outs = all_outs(alloc, seats.len())?;
+    let parts = deal_out::<J, T>(alloc, bench, &outs, job_seats)?;
     let thieves = all_thieves(alloc, &parts)?;
     let room = Vec::with_capacity(alloc, seats.len())?;
     let mut shares = seat_all(bench, parts, seats, room);
-    work_all(rt, bench, &thieves, &mut shares);
+    work_all(rt, bench, &thieves, &outs, &mut shares);
     let first = settle_all(bench, &mut shares);
     give_back(shares, seats);
     Ok(first)

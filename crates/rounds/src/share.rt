@@ -4,6 +4,8 @@ ghost use Rattle.std.specs.Prelude.{◌≡◌};
 use crate::bench::{Bench, JobStop, RootJobs};
 use crate::deal::{Count, Owner, Thief, next_job};
 use crate::gate::Gate;
+use crate::help::help;
+use crate::out::Out;
 use decision::{Memory, Scout, decide_on, decide_until};
 use least::JobSeat;
 use slots::Seat;
@@ -21,13 +23,14 @@ pub(crate) enum Verdict {
 
 /// A share that has no seat yet: all of it that takes memory.
 #[derive(Drop)]
-pub(crate) struct Part<'a, J: Count> {
+pub(crate) struct Part<'a, 'b, J: Count> {
     pub local: Owner<J>,
+    pub out: &'b Out<J>,
     pub scout: Scout<JobStop<'a>>,
     pub row: Vec<Verdict>,
 }
 
-impl<'a, J: Count> Part<'a, J> {
+impl<'a, 'b, J: Count> Part<'a, 'b, J> {
     ghost use Rattle.std.specs.Prelude.{IfOk};
     ghost use Rattle.slots.specs.Promise.{IsSeatOf};
     ghost use Rattle.least.specs.Promise.{IsJobSeatOf};
@@ -39,7 +42,8 @@ impl<'a, J: Count> Part<'a, J> {
         bench: &Bench<'a, T>,
         jobs: JobSeat<RootJobs>,
         local: Owner<J>,
-    ) -> Result<Part<'a, J>, AllocError>
+        out: &'b Out<J>,
+    ) -> Result<Part<'a, 'b, J>, AllocError>
         requires bench { IsBench J.jobs bench.now }
         requires jobs { IsJobSeatOf bench.now.least.now jobs }
         ensures part { IfOk result (IsPart J.jobs bench.now) }
@@ -57,20 +61,31 @@ impl<'a, J: Count> Part<'a, J> {
             stop,
             memory: Memory::new(),
         };
-        Ok(Part { local, scout, row })
+        Ok(Part {
+            local,
+            out,
+            scout,
+            row,
+        })
     }
 
     /// The share, with its seat.
-    pub(crate) fn seated<T: Gate>(self, bench: &Bench<'_, T>, seat: Seat) -> Share<'a, J>
+    pub(crate) fn seated<T: Gate>(self, bench: &Bench<'_, T>, seat: Seat) -> Share<'a, 'b, J>
         requires part { IsPart J.jobs bench.now self }
         requires seat { IsSeatOf bench.now.slots.now seat }
         ensures share { IsShare J.jobs bench.now result }
         ensures seat { result.seat ≡ seat }
     {
         let _ = bench;
-        let Part { local, scout, row } = self;
+        let Part {
+            local,
+            out,
+            scout,
+            row,
+        } = self;
         Share {
             local,
+            out,
             seat,
             scout,
             row,
@@ -78,16 +93,17 @@ impl<'a, J: Count> Part<'a, J> {
     }
 }
 
-/// The thread's deque, its seat, what leads its searches, and what it found of each job.
+/// The thread's deque, what it tells the others of its job, its seat, what leads its searches, and what it found of each job.
 #[derive(Drop)]
-pub(crate) struct Share<'a, J: Count> {
+pub(crate) struct Share<'a, 'b, J: Count> {
     pub local: Owner<J>,
+    pub out: &'b Out<J>,
     pub seat: Seat,
     pub scout: Scout<JobStop<'a>>,
     pub row: Vec<Verdict>,
 }
 
-impl<'a, J: Count> Share<'a, J> {
+impl<'a, 'b, J: Count> Share<'a, 'b, J> {
     ghost use Rattle.std.specs.Prelude.{◌<◌, ◌↔◌, IsTrue};
     ghost use Rattle.rounds.specs.Verdicts.{IsRight};
     ghost use Rattle.rounds.specs.Shares.{WinsHere, IsShare};
@@ -135,7 +151,9 @@ impl<'a, J: Count> Share<'a, J> {
             .begin(bench.plies, job, bench.slots, &mut self.seat);
         let q = bench.root.question_of(job);
         let plies = bench.plies - 1;
+        self.out.begin(job);
         let decided = decide_until(bench.slots, &mut self.seat, &mut self.scout, &q, plies);
+        self.out.end();
         let Some(decision) = decided else {
             return;
         };
@@ -149,7 +167,7 @@ impl<'a, J: Count> Share<'a, J> {
     }
 
     /// Takes up one job after another, until none is found.
-    pub(crate) fn work<T: Gate, R: Wait>(
+    fn take_all<T: Gate, R: Wait>(
         &mut self,
         rt: &R,
         bench: &Bench<'_, T>,
@@ -165,5 +183,31 @@ impl<'a, J: Count> Share<'a, J> {
             };
             self.take_up(bench, job);
         }
+    }
+    /// Helps with each job that is out.
+    fn help_all<T: Gate>(&mut self, bench: &Bench<'_, T>, outs: &Vec<Out<J>>)
+        requires { IsShare J.jobs bench.now self.old }
+        ensures share { IsShare J.jobs bench.now self.new }
+        ensures goes_on { GoesOn T.keeps bench.now.slots.now self.old.seat self.new.seat }
+    {
+        for out in outs {
+            help(bench, out, &mut self.seat);
+        }
+    }
+
+    /// Takes up one job after another, until none is found, and then helps with those that are out.
+    pub(crate) fn work<T: Gate, R: Wait>(
+        &mut self,
+        rt: &R,
+        bench: &Bench<'_, T>,
+        thieves: &Vec<Thief<J>>,
+        outs: &Vec<Out<J>>,
+    )
+        requires { IsShare J.jobs bench.now self.old }
+        ensures share { IsShare J.jobs bench.now self.new }
+        ensures goes_on { GoesOn T.keeps bench.now.slots.now self.old.seat self.new.seat }
+    {
+        self.take_all(rt, bench, thieves);
+        self.help_all(bench, outs);
     }
 }

@@ -32,3 +32,6 @@ returns-clause-go_on g c = let keeps = g.T.Gate.keeps in let t = c.args.bench.no
     let all = each_more keeps t c.seat_all-shares.result.items c.work_all.new.shares.items c.settle_all-first.new.shares.items c.work_all.ensures.go_on c.settle_all-first.ensures.go_on in
     subst (λ (l : List (Seat ℕ View) × List (Seat ℕ View)). SeatsGoOn keeps t l.0 l.1) (λ i. (c.seat_all-shares.ensures.same i, sym c.give_back.ensures i))
     (back_goes_on keeps t c.seat_all-shares.result.items c.settle_all-first.new.shares.items all)
+
+pub returns-in_err-outs-clause-go_on : goal.returns-in_err-outs-clause-go_on
+returns-in_err-outs-clause-go_on g c = seats_none g.T.Gate.keeps c.args.bench.now.slots.now c.args.seats.now.items c.requires.seats.2

@@ -1,8 +1,5 @@
 use Rattle.rounds.proofs.Going.{goes_more}
 use Rattle.rounds.proofs.share.Share.work.Goals as goal
 
-pub loop-preserved : goal.loop-preserved
-loop-preserved g c = record {
-  share = c.take_up.ensures.share;
-  goes_on = goes_more g.T.Gate.keeps c.args.bench.now.slots.now c.args.self.now.seat c.loop.self.seat c.take_up.new.self.seat c.loop.invariant.goes_on c.take_up.ensures.goes_on;
-}
+pub returns-clause-goes_on : goal.returns-clause-goes_on
+returns-clause-goes_on g c = goes_more g.T.Gate.keeps c.args.bench.now.slots.now c.args.self.now.seat c.take_all.new.self.seat c.help_all.new.self.seat c.take_all.ensures.goes_on c.help_all.ensures.goes_on

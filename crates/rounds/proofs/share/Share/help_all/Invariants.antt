@@ -1,9 +1,9 @@
 use Rattle.rounds.specs.Shares.{IsShare}
 use Rattle.rounds.specs.Going.{GoesOn}
-use Rattle.rounds.proofs.share.Share.work.Given as goal
+use Rattle.rounds.proofs.share.Share.help_all.Given as goal
 
-abbrev pub invariant-loop : goal.invariant-loop
-invariant-loop g l =
+abbrev pub invariant-loop-out : goal.invariant-loop-out
+invariant-loop-out g l =
     record {
       share : IsShare g.J.Count.jobs l.fn.bench l.self;
       goes_on : GoesOn g.T.Gate.keeps l.fn.bench.slots.now l.fn.self.seat l.self.seat;

@@ -1,0 +1,11 @@
+use Rattle.std.proofs.Common.{◌<◌, sym, subst, length}
+use Rattle.decision.specs.Below.{ListsAll}
+use Rattle.decision.proofs.Below.{not_empty}
+use Rattle.rounds.proofs.Jobs.{listed_move}
+use Rattle.rounds.proofs.help.after_first_reply.Goals as goal
+
+pub after-requires : goal.after-requires
+after-requires c =
+    let some = not_empty (length c.in_order.new.moves.items) c.if-is_empty.ensures in
+    listed_move c.args.q.now.position c.deref.result.now (subst (ListsAll c.args.q.now.position) (sym c.deref.ensures.0) c.in_order.ensures)
+    0 c.index-deref-0.result (subst (λ l. 0 < length l) (sym c.deref.ensures.0) some) c.index-deref-0.is

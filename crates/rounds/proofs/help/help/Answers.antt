@@ -1,0 +1,18 @@
+use Rattle.std.proofs.Common.{arith, sym, subst, length, ap, ◌∙◌}
+use Rattle.decision.specs.Below.{ListsAll}
+use Rattle.decision.proofs.Calls.{continues_more}
+use Rattle.rounds.proofs.Jobs.{listed_move}
+use Rattle.rounds.proofs.help.help.Goals as goal
+
+pub after-below-requires : goal.after-below-requires
+after-below-requires g c =
+    let q = c.in-Some-after_first_reply.q in
+    let as_long = ap length c.deref.ensures.0 in
+    listed_move q.position c.deref.result.now (subst (ListsAll q.position) (sym c.deref.ensures.0) c.in_order.ensures) _ c.index-deref-place.result
+    (omega (arith, as_long, c.len-in-loop.ensures.value, c.len.ensures.value, c.if-len-taken.false)) c.index-deref-place.is
+
+pub loop-preserved : goal.loop-preserved
+loop-preserved g c = record {
+  seat = c.decide_until.ensures.continues.seat;
+  goes_on = continues_more c.args.bench.now.slots.now c.args.seat.now c.loop.seat c.decide_until.new.seat c.loop.invariant.goes_on c.decide_until.ensures.continues;
+}

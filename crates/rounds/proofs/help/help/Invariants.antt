@@ -1,0 +1,12 @@
+use Rattle.slots.specs.Promise.{IsSeatOf}
+use Rattle.std.proofs.Common.{◌≡◌, All}
+use Rattle.moves.specs.Moves.{IsLawful}
+use Rattle.decision.specs.Calls.{Continues}
+use Rattle.rounds.specs.Shares.{IsBench}
+use Rattle.rounds.proofs.help.help.Given as goal
+
+abbrev pub invariant-loop : goal.invariant-loop
+invariant-loop g l = record {
+  seat : IsSeatOf l.fn.bench.slots.now l.seat;
+  goes_on : Continues l.fn.bench.slots.now l.fn.seat l.seat;
+}
