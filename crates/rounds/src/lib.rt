@@ -9,6 +9,8 @@ mod fault;
 mod gate;
 mod help;
 #[cfg(test)]
+mod help_tests;
+#[cfg(test)]
 mod key_tests;
 mod keys;
 #[cfg(test)]

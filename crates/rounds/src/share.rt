@@ -146,12 +146,12 @@ impl<'a, 'b, J: Count> Share<'a, 'b, J> {
             return;
         }
         stop.job = job;
+        self.out.begin(job);
         bench
             .gate
             .begin(bench.plies, job, bench.slots, &mut self.seat);
         let q = bench.root.question_of(job);
         let plies = bench.plies - 1;
-        self.out.begin(job);
         let decided = decide_until(bench.slots, &mut self.seat, &mut self.scout, &q, plies);
         self.out.end();
         let Some(decision) = decided else {
@@ -167,12 +167,7 @@ impl<'a, 'b, J: Count> Share<'a, 'b, J> {
     }
 
     /// Takes up one job after another, until none is found.
-    fn take_all<T: Gate, R: Wait>(
-        &mut self,
-        rt: &R,
-        bench: &Bench<'_, T>,
-        thieves: &Vec<Thief<J>>,
-    )
+    fn take_all<T: Gate, R: Wait>(&mut self, rt: &R, bench: &Bench<'_, T>, thieves: &Vec<Thief<J>>)
         requires { IsShare J.jobs bench.now self.old }
         ensures share { IsShare J.jobs bench.now self.new }
         ensures goes_on { GoesOn T.keeps bench.now.slots.now self.old.seat self.new.seat }

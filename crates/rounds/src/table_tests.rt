@@ -15,7 +15,7 @@ use std::sync::atomic::{AtomicBool, AtomicU64, Ordering};
 use std::test::*;
 
 // An entry that says nothing of a position, so a true one.
-fn entry_of(position: Position) -> Entry
+pub(crate) fn entry_of(position: Position) -> Entry
     ensures { result.interval ≡ bounds_of 0 None }
 {
     Entry {
