@@ -33,7 +33,7 @@ impl<J: Count> Out<J> {
     }
 
     /// The thread is at the job.
-    pub(crate) fn begin(&self, job: u16)
+    pub(crate) fn enter(&self, job: u16)
         requires { job < J.jobs }
     {
         self.taken.store(0, SeqCst);
@@ -41,7 +41,7 @@ impl<J: Count> Out<J> {
     }
 
     /// The thread is at none.
-    pub(crate) fn end(&self) {
+    pub(crate) fn leave(&self) {
         self.job.store(0, SeqCst);
     }
 

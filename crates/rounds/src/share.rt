@@ -146,14 +146,14 @@ impl<'a, 'b, J: Count> Share<'a, 'b, J> {
             return;
         }
         stop.job = job;
-        self.out.begin(job);
+        self.out.enter(job);
         bench
             .gate
             .begin(bench.plies, job, bench.slots, &mut self.seat);
         let q = bench.root.question_of(job);
         let plies = bench.plies - 1;
         let decided = decide_until(bench.slots, &mut self.seat, &mut self.scout, &q, plies);
-        self.out.end();
+        self.out.leave();
         let Some(decision) = decided else {
             return;
         };
