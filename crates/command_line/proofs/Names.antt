@@ -5,7 +5,7 @@ use Rattle.command_line.specs.Words.{HasGoal, HasLimits, MeansAction, MeansFound
 use Rattle.moves.specs.declared.goal.Goal.{Goal}
 use Rattle.command_line.specs.declared.line.Limits.{Limits}
 use Rattle.command_line.specs.declared.line.Action.{Action}
-use Rattle.command_line.specs.declared.line.Action.TheVariants.{Solve, Tree, Check, Moves, Show}
+use Rattle.command_line.specs.declared.line.Action.TheVariants.{Solve, Keys, Tree, Check, Moves, Show}
 use Rattle.command_line.specs.declared.line.Order.{Order}
 use Rattle.command_line.specs.declared.line.Order.TheVariants.{One, Batch}
 
@@ -21,6 +21,7 @@ pub record Aims (name : Text) : Type 0 where
 -- such a name means no command where there is no goal
 pub no_goal : (name : Text) (rows : List Row) (action : Action) → Aims name → ((goal : Goal) → HasGoal rows goal → ⊥) → MeansAction name rows action → ⊥
 no_goal name rows (Solve goal limits) aims none means = none goal means.1
+no_goal name rows (Keys goal limits) aims none means = none goal means.1
 no_goal name rows (Tree goal limits) aims none means = none goal means.1
 no_goal name rows (Check goal) aims none means = none goal means.1
 no_goal name rows Moves aims none means = aims.moves means
@@ -35,6 +36,7 @@ pub record Searches (name : Text) : Type 0 where
 pub no_limits : (name : Text) (rows : List Row) (action : Action) → Searches name → ((limits : Limits) → HasLimits rows limits → ⊥)
     → MeansAction name rows action → ⊥
 no_limits name rows (Solve goal limits) searches none means = none limits means.2
+no_limits name rows (Keys goal limits) searches none means = none limits means.2
 no_limits name rows (Tree goal limits) searches none means = none limits means.2
 no_limits name rows (Check goal) searches none means = searches.check means.0
 no_limits name rows Moves searches none means = searches.aims.moves means
@@ -47,6 +49,15 @@ solve_searches name is = record {
     show = two_names 1 (codes "solve") (codes "show") 111 104 refl refl (λ e. omega arith) name is;
   };
   check = two_names 0 (codes "solve") (codes "check") 115 99 refl refl (λ e. omega arith) name is;
+}
+
+pub keys_searches : (name : Text) → name ≡ codes "keys" → Searches name
+keys_searches name is = record {
+  aims = record {
+    moves = two_names 0 (codes "keys") (codes "moves") 107 109 refl refl (λ e. omega arith) name is;
+    show = two_names 0 (codes "keys") (codes "show") 107 115 refl refl (λ e. omega arith) name is;
+  };
+  check = two_names 0 (codes "keys") (codes "check") 107 99 refl refl (λ e. omega arith) name is;
 }
 
 pub tree_searches : (name : Text) → name ≡ codes "tree" → Searches name

@@ -8,7 +8,7 @@ use Rattle.command_line.specs.Program.{program}
 use Rattle.command_line.specs.declared.line.Line.{Line}
 use Rattle.command_line.specs.declared.line.Limits.{Limits}
 use Rattle.command_line.specs.declared.line.Action.{Action}
-use Rattle.command_line.specs.declared.line.Action.TheVariants.{Solve, Tree, Check, Moves, Show}
+use Rattle.command_line.specs.declared.line.Action.TheVariants.{Solve, Keys, Tree, Check, Moves, Show}
 use Rattle.command_line.specs.declared.line.Order.{Order}
 use Rattle.command_line.specs.declared.line.Order.TheVariants.{One, Batch}
 
@@ -39,6 +39,7 @@ HasGoal rows goal = first_of (codes "goal") rows ≡ Some (goal_word goal)
 -- the command of that name with the values that were found for it
 abbrev pub MeansAction : Text → List Row → Action → Type 0
 MeansAction name rows (Solve goal limits) = (name ≡ codes "solve") × HasGoal rows goal × HasLimits rows limits
+MeansAction name rows (Keys goal limits) = (name ≡ codes "keys") × HasGoal rows goal × HasLimits rows limits
 MeansAction name rows (Tree goal limits) = (name ≡ codes "tree") × HasGoal rows goal × HasLimits rows limits
 MeansAction name rows (Check goal) = (name ≡ codes "check") × HasGoal rows goal
 MeansAction name rows Moves = name ≡ codes "moves"

@@ -28,6 +28,9 @@ A session:
       a b c d e f      White to move
   $ minimate solve --limit 3 'k5/6/2K3/6/6/1R4 w'
   mate 3 c4c5
+  $ minimate keys --limit 1 'k4/2P2/1K3/5/5 w'
+  c4c5q 1
+  c4c5r 1
   $ minimate tree --limit 3 'k5/6/2K3/6/6/1R4 w'
   c4c5{a6a5:b1a1#}
   $ minimate batch --limit 3 < positions
@@ -56,6 +59,21 @@ Examples:
   minimate solve --limit 3 'k5/6/2K3/6/6/1R4 w'
   minimate solve --limit 1 --goal stale 'k5/6/2K3/6/6/1R4 w'
   minimate solve --limit 9 --slots 1048573 '2qK1/3B1/1k1NQ/3b1/r1Q2 w'";
+
+pub const KEYS: &str = "List the first moves that force mate";
+
+pub const KEYS_NOTES: &str = "\
+Example:
+  minimate keys --limit 3 'k5/6/2K3/6/6/1R4 w'";
+
+pub const KEYS_MORE: &str = "\
+Each first move that forces mate within the limit has a line of its own, with
+the fewest plies that it takes, as `c4c5 3`, in the order of `minimate moves`;
+where there is none, `none within 3`. So a problem has one key where one line
+alone has the least number.
+
+Example:
+  minimate keys --limit 3 'k5/6/2K3/6/6/1R4 w'";
 
 pub const TREE: &str = "Write the tree of moves that forces mate";
 

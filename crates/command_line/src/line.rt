@@ -23,6 +23,8 @@ pub struct Line<'a> {
 pub enum Action {
     /// The fewest plies to the goal, and the first move.
     Solve(Goal, Limits),
+    /// Each first move that forces the goal, and the fewest plies that it takes.
+    Keys(Goal, Limits),
     /// Each lawful move.
     Moves,
     /// The board, drawn.

@@ -10,7 +10,7 @@ ghost use Rattle.command_line.specs.declared.line.Action.{Action as TheAction};
 ghost use Rattle.clap.specs.Words.{FailsBy, app_of, fault_of, first_of, found_of, kind_of, new_app, rows_of, rule_of, subcommand_of, subcommand_rows_of};
 ghost use Rattle.command_line.specs.Words.{HasGoal, HasLimits, HasLine, HasNumber, HasOrder, MeansAction, MeansFound, MeansOrder, MeansNoOrder};
 ghost use Rattle.clap.specs.declared.builder.command.Command.TheViews.{out-Command as fields_of};
-ghost use Rattle.command_line.specs.Program.{fen_rule, goal_rule, number_rule, limit_rule, workers_rule, slots_rule, limits_app, search_app, solve_app, tree_app, check_app, moves_app, show_app, batch_app, program};
+ghost use Rattle.command_line.specs.Program.{fen_rule, goal_rule, number_rule, limit_rule, workers_rule, slots_rule, limits_app, search_app, solve_app, keys_app, tree_app, check_app, moves_app, show_app, batch_app, program};
 
 use crate::help;
 use crate::line::{Action, Limits, Line, Order};
@@ -157,6 +157,13 @@ fn solve_command<'a>(alloc: Global) -> Result<Command<'a>, AllocError>
     )
 }
 
+fn keys_command<'a>(alloc: Global) -> Result<Command<'a>, AllocError>
+    ensures app { IfOk result (λ command. app_of command ≡ keys_app) }
+    ensures local { IfOk result (λ command. (fields_of command).has_globals ≡ false) }
+{
+    search_command(alloc, "keys", help::KEYS, help::KEYS_NOTES, help::KEYS_MORE)
+}
+
 fn tree_command<'a>(alloc: Global) -> Result<Command<'a>, AllocError>
     ensures app { IfOk result (λ command. app_of command ≡ tree_app) }
     ensures local { IfOk result (λ command. (fields_of command).has_globals ≡ false) }
@@ -230,6 +237,7 @@ fn command<'a>(alloc: Global) -> Result<Command<'a>, AllocError>
     .version("0.1.0")
     .subcommand_required(true)
     .subcommand(solve_command(alloc)?)?
+    .subcommand(keys_command(alloc)?)?
     .subcommand(tree_command(alloc)?)?
     .subcommand(check_command(alloc)?)?
     .subcommand(moves_command(alloc)?)?
@@ -280,6 +288,7 @@ fn action_of(name: &str, values: &ArgMatches<'_>) -> Option<Action>
 {
     match name {
         "solve" => Some(Action::Solve(goal_of(values)?, limits(values)?)),
+        "keys" => Some(Action::Keys(goal_of(values)?, limits(values)?)),
         "moves" => Some(Action::Moves),
         "show" => Some(Action::Show),
         "tree" => Some(Action::Tree(goal_of(values)?, limits(values)?)),

@@ -54,6 +54,8 @@ fn reads_each_command(rt: HostRuntime) {
     expect_action(&rt, &["minimate", "show", FEN], Action::Show);
     let tree = ["minimate", "tree", "--limit", "1", FEN];
     expect_action(&rt, &tree, Action::Tree(Goal::Mate, least));
+    let keys = ["minimate", "keys", "--goal", "stale", "--limit", "1", FEN];
+    expect_action(&rt, &keys, Action::Keys(Goal::MateOrStale, least));
     expect_action(&rt, &["minimate", "check", FEN], Action::Check(Goal::Mate));
     let stale = ["minimate", "check", "--goal", "stale", FEN];
     expect_action(&rt, &stale, Action::Check(Goal::MateOrStale));
@@ -76,6 +78,7 @@ fn reads_a_batch(rt: HostRuntime) {
 fn refuses_what_is_no_line(rt: HostRuntime) {
     expect_none(&rt, &["minimate", "solve", FEN]);
     expect_none(&rt, &["minimate", "solve", "--limit", "4294967296", FEN]);
+    expect_none(&rt, &["minimate", "keys", FEN]);
     expect_none(&rt, &["minimate", "check", "--goal", "Mate", FEN]);
     expect_none(&rt, &["minimate", "moves"]);
     expect_none(&rt, &["minimate", "show"]);

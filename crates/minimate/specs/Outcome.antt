@@ -1,11 +1,14 @@
 -- How the work on a reply may end.
-use Rattle.std.specs.Prelude.{◌≡◌, ◌⊎◌, ⊤, ℕ, List, Option, None, Some, IfSome, Result, Ok, Err}
+use Rattle.std.specs.Prelude.{◌≡◌, ◌⊎◌, ⊤, ℕ, List, Option, None, Some, IfSome, Result, Ok, Err, Vec}
+use Rattle.std.specs.declared.alloc.Global.{Global}
 use Rattle.board.specs.Board.{PlainBoard}
 use Rattle.moves.specs.declared.goal.Goal.{Goal}
 use Rattle.decision.specs.declared.answer.Answer.{Answer}
 use Rattle.rounds.specs.declared.fault.SolveFault.{SolveFault}
 use Rattle.rounds.specs.declared.fault.SolveFault.TheVariants as solve
+use Rattle.rounds.specs.declared.keys.Key.{Key}
 use Rattle.decision.specs.Answer.{IsAnswer}
+use Rattle.rounds.specs.Keys.{ListsKeys}
 use Rattle.minimate.specs.Output.{Reply, answered, refused, fault_of, input_of, IsOutput}
 use Rattle.command_line.specs.declared.line.Line.{Line}
 use Rattle.command_line.specs.declared.line.Limits.{Limits}
@@ -20,6 +23,11 @@ use Rattle.minimate.specs.declared.trouble.Trouble.TheVariants.{Refused, ReadFai
 abbrev pub Solves : Goal → PlainBoard → Limits → Result Answer SolveFault → Type 0
 Solves goal b limits (Ok answer) = (fault_of limits ≡ None) × IsAnswer goal b limits.limit answer
 Solves goal b limits (Err fault) = (fault_of limits ≡ Some fault) ⊎ ((fault_of limits ≡ None) × (fault ≡ solve.NoMemory))
+
+-- the same of the first moves that force the goal
+abbrev pub FindsKeys : Goal → PlainBoard → Limits → Result (Vec Key Global) SolveFault → Type 0
+FindsKeys goal b limits (Ok keys) = (fault_of limits ≡ None) × ListsKeys goal b limits.limit keys.items
+FindsKeys goal b limits (Err fault) = (fault_of limits ≡ Some fault) ⊎ ((fault_of limits ≡ None) × (fault ≡ solve.NoMemory))
 
 -- a text is that of an answer, and a refusal is right or is want of memory
 abbrev pub Gives : {B : Type 0} → (B → List ℕ) → (Reply → Type 0) → Result B Refusal → Type 0

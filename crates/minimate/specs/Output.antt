@@ -16,6 +16,8 @@ use Rattle.decision.specs.declared.answer.Answer.{Answer}
 use Rattle.decision.specs.declared.answer.Answer.TheVariants.{Mate, NoneWithin}
 use Rattle.decision.specs.Answer.{IsAnswer, IsFewest, ForcesNothing}
 use Rattle.rounds.specs.declared.fault.SolveFault.{SolveFault}
+use Rattle.rounds.specs.declared.keys.Key.{Key}
+use Rattle.rounds.specs.Keys.{ListsKeys}
 use Rattle.rounds.specs.Limits.{limits_fault}
 use Rattle.trees.specs.Best.{IsBest}
 use Rattle.wintree.specs.declared.fault.TreeFault.{TreeFault}
@@ -30,7 +32,7 @@ use Rattle.minimate.specs.Refusal.{refusal_status, refusal_text, refusal_of_fen,
 use Rattle.command_line.specs.declared.line.Line.{Line}
 use Rattle.command_line.specs.declared.line.Limits.{Limits}
 use Rattle.command_line.specs.declared.line.Action.{Action}
-use Rattle.command_line.specs.declared.line.Action.TheVariants.{Solve, Moves, Show, Tree, Check}
+use Rattle.command_line.specs.declared.line.Action.TheVariants.{Solve, Keys, Moves, Show, Tree, Check}
 use Rattle.minimate.specs.declared.refusal.Refusal.{Refusal}
 use Rattle.minimate.specs.declared.refusal.Refusal.TheVariants.{TooLong}
 
@@ -63,6 +65,15 @@ answer_text goal.Mate (Mate plies first) = codes "mate " ++ (decimal plies ++ (c
 answer_text goal.MateOrStale (Mate plies first) = codes "goal " ++ (decimal plies ++ (codes " " ++ line_of (move_text first)))
 answer_text goal (NoneWithin limit) = none_text limit
 
+-- a key on a line of its own, with the plies that it takes, as `c4c5 3`
+abbrev pub key_text : Key → List ℕ
+key_text key = move_text key.first ++ (codes " " ++ line_of (decimal key.plies))
+
+-- each key, or that nothing is forced within the limit
+abbrev pub keys_text : ℕ → List Key → List ℕ
+keys_text limit [] = none_text limit
+keys_text limit (key ∷ keys) = flat_map key_text (key ∷ keys)
+
 -- each move on a line of its own
 abbrev pub moves_text : List Ply → List ℕ
 moves_text moves = flat_map (λ m. line_of (move_text m)) moves
@@ -82,6 +93,12 @@ fault_of limits = limits_fault limits.limit limits.workers limits.slots
 abbrev pub ShowsAnswer : Goal → PlainBoard → Limits → Reply → Type 0
 ShowsAnswer goal b limits reply = MatchOption (fault_of limits)
     ((answer : Answer) × IsAnswer goal b limits.limit answer × (reply ≡ answered (answer_text goal answer)))
+    (λ fault. reply ≡ refused (refusal_of_solve fault))
+
+-- the first moves that force a goal within the limit, in order, each with its plies; or the refusal of the first value that is outside its limits
+abbrev pub ShowsKeys : Goal → PlainBoard → Limits → Reply → Type 0
+ShowsKeys goal b limits reply = MatchOption (fault_of limits)
+    ((keys : List Key) × ListsKeys goal b limits.limit keys × (reply ≡ answered (keys_text limits.limit keys)))
     (λ fault. reply ≡ refused (refusal_of_solve fault))
 
 -- the text of the best plan, where the goal is forced in some number of plies up to the limit, or that it is in none
@@ -126,6 +143,7 @@ ShowsCheck goal b input reply =
 -- the reply of the command
 abbrev pub Shows : PlainBoard → Action → List ℕ → Reply → Type 0
 Shows b (Solve goal limits) input reply = ShowsAnswer goal b limits reply
+Shows b (Keys goal limits) input reply = ShowsKeys goal b limits reply
 Shows b Moves input reply = ShowsMoves b reply
 Shows b Show input reply = reply ≡ answered (board_drawn b)
 Shows b (Tree goal limits) input reply = ShowsPlanFound goal b limits reply

@@ -1,10 +1,11 @@
 //! The reply to a line: the text of its answer, or why there is none.
 ghost use Rattle.std.specs.Prelude.{◌≡◌, ◌⊎◌, ◌+◌, ◌<◌, ◌≤◌, Err, IfErr, IfOk, IfSome, Ok, min, string_bytes, vec_items};
 ghost use Rattle.slots.specs.Promise.{IsSeatOf};
+ghost use Rattle.std.specs.List.{flat_map};
 ghost use Rattle.wintree.specs.Plan.{depth};
 ghost use Rattle.wintree.specs.Text.{text as tree_words};
-ghost use Rattle.minimate.specs.Outcome.{Solves, Gives, GivesIfRead, GivesReply, reads_failed};
-ghost use Rattle.minimate.specs.Output.{answer_text, none_text, moves_text, checked_text, line_of, ShowsAnswer, ShowsPlanFound, ShowsTree, ShowsCheck};
+ghost use Rattle.minimate.specs.Outcome.{Solves, FindsKeys, Gives, GivesIfRead, GivesReply, reads_failed};
+ghost use Rattle.minimate.specs.Output.{answer_text, none_text, key_text, keys_text, moves_text, checked_text, line_of, ShowsAnswer, ShowsKeys, ShowsPlanFound, ShowsTree, ShowsCheck};
 ghost use Rattle.minimate.specs.Run.{MayRead};
 
 use crate::device::Source;
@@ -17,7 +18,7 @@ use command_line::{Action, Limits, Line};
 use decision::Answer;
 use entry::MateLore;
 use moves::{Goal, Move, lawful, read_sound};
-use rounds::{NoGate, SolveFault, Task, make_table, solve, solve_over};
+use rounds::{Key, NoGate, SolveFault, Task, keys_over, make_table, solve, solve_over};
 use slots::{Seat, Slots};
 use std::alloc::{AllocError, Global};
 use std::fmt::Write;
@@ -100,6 +101,31 @@ fn searched_within<R: Threads + Wait + Sync>(
     Ok((answer, table, seats.take_last()))
 }
 
+/// The first moves that force the goal within the limits.
+fn keys_within<R: Threads + Wait + Sync>(
+    rt: &R,
+    alloc: Global,
+    position: &Position,
+    goal: Goal,
+    limits: Limits,
+) -> Result<Vec<Key>, SolveFault>
+    ensures { FindsKeys goal position.now limits result }
+{
+    let Search {
+        limit,
+        workers,
+        slots,
+    } = search_of(limits);
+    let (table, mut seats) = make_table(alloc, limit, workers, slots)?;
+    let task = Task {
+        position,
+        goal,
+        limit,
+        gate: &NoGate,
+    };
+    keys_over(rt, alloc, &task, &table, &mut seats)
+}
+
 pub fn answer_text(alloc: Global, goal: Goal, answer: Answer) -> Result<String, AllocError>
     ensures { IfOk result (λ text. string_bytes text ≡ answer_text goal answer) }
 {
@@ -108,14 +134,34 @@ pub fn answer_text(alloc: Global, goal: Goal, answer: Answer) -> Result<String, 
             Goal::Mate => format!(in alloc; "mate {plies} {first}\n"),
             Goal::MateOrStale => format!(in alloc; "goal {plies} {first}\n"),
         },
-        Answer::NoneWithin(limit) => none_text(alloc, limit),
+        Answer::NoneWithin(limit) => none_text(alloc, u32::from(limit)),
     }
 }
 
-fn none_text(alloc: Global, limit: u8) -> Result<String, AllocError>
+fn none_text(alloc: Global, limit: u32) -> Result<String, AllocError>
     ensures { IfOk result (λ text. string_bytes text ≡ none_text limit) }
 {
     format!(in alloc; "none within {limit}\n")
+}
+
+fn keys_text(alloc: Global, limit: u32, keys: &[Key]) -> Result<String, AllocError>
+    ensures { IfOk result (λ text. string_bytes text ≡ keys_text limit keys.now) }
+{
+    match keys {
+        [] => none_text(alloc, limit),
+        _ => key_lines(alloc, keys),
+    }
+}
+
+fn key_lines(alloc: Global, keys: &[Key]) -> Result<String, AllocError>
+    ensures { IfOk result (λ text. string_bytes text ≡ flat_map key_text keys.now) }
+{
+    let mut text = String::new(alloc);
+    for key in keys {
+        let Key { first, plies } = *key;
+        writeln!(text, "{first} {plies}")?;
+    }
+    Ok(text)
 }
 
 fn moves_text(alloc: Global, moves: &[Move]) -> Result<String, AllocError>
@@ -151,6 +197,20 @@ fn solve_text<R: Threads + Wait + Sync>(
     Ok(answer_text(alloc, goal, answer)?.into_bytes())
 }
 
+/// The first moves that force the goal, each with the plies that it takes.
+fn found_keys<R: Threads + Wait + Sync>(
+    rt: &R,
+    alloc: Global,
+    position: &Position,
+    goal: Goal,
+    limits: Limits,
+) -> Result<Vec<u8>, Refusal>
+    ensures { Gives vec_items (ShowsKeys goal position.now limits) result }
+{
+    let keys = keys_within(rt, alloc, position, goal, limits)?;
+    Ok(keys_text(alloc, limits.limit, keys.as_slice())?.into_bytes())
+}
+
 /// The tree that shows the answer, on one line, or that there is none.
 fn plan_text<R: Threads + Wait + Sync>(
     rt: &R,
@@ -167,7 +227,7 @@ fn plan_text<R: Threads + Wait + Sync>(
             let tree = build_tree(alloc, &table, &mut seat, position, goal, plies)?;
             Ok(tree_line(alloc, &tree)?)
         }
-        Answer::NoneWithin(limit) => Ok(none_text(alloc, limit)?.into_bytes()),
+        Answer::NoneWithin(limit) => Ok(none_text(alloc, u32::from(limit))?.into_bytes()),
     }
 }
 
@@ -233,6 +293,7 @@ pub fn reply<R: Threads + Wait + Sync, S: Source>(
     let position = read_sound(line.fen)?;
     match line.action {
         Action::Solve(goal, limits) => Ok(solve_text(rt, alloc, &position, goal, limits)?),
+        Action::Keys(goal, limits) => Ok(found_keys(rt, alloc, &position, goal, limits)?),
         Action::Moves => {
             let moves = lawful(&position);
             Ok(moves_text(alloc, moves.as_slice())?.into_bytes())

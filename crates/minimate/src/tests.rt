@@ -196,6 +196,7 @@ fn expect_refused<R: Threads + Wait + Abort + AllocGlobal + Sync>(rt: &R, fen: &
     expect(rt, &["minimate", "show", fen], 1, output);
     expect(rt, &["minimate", "solve", "--limit", "0", fen], 1, output);
     expect(rt, &["minimate", "tree", "--limit", "0", fen], 1, output);
+    expect(rt, &["minimate", "keys", "--limit", "0", fen], 1, output);
     expect(rt, &["minimate", "check", fen], 1, output);
 }
 
@@ -276,6 +277,33 @@ fn answers_the_same_with_any_workers(rt: HostRuntime) -> Result<(), Fail> {
         expect(&rt, &words, 0, "mate 3 c4c5\n");
     }
     Ok(())
+}
+
+/// Lists the keys for a goal within a limit, and expects an output with status 0.
+fn expect_keys<R: Threads + Wait + Abort + AllocGlobal + Sync>(
+    rt: &R,
+    goal: &str,
+    limit: &str,
+    fen: &str,
+    output: &str,
+) {
+    let words = ["minimate", "keys", "--goal", goal, "--limit", limit, fen];
+    expect(rt, &words, 0, output);
+}
+
+// The keys are those that a second reading of the rules finds.
+#[test]
+fn lists_keys(rt: HostRuntime) {
+    expect_keys(&rt, "mate", "1", ROOK_MATES, "f1f6 1\n");
+    let all = "f1d1 3\nf1e1 3\nf1f2 3\nf1f3 3\nf1f4 3\nf1f5 3\nf1f6 1\nb4c5 3\n";
+    expect_keys(&rt, "mate", "3", ROOK_MATES, all);
+    expect_keys(&rt, "mate", "4", ROOK_MATES, all);
+    expect_keys(&rt, "mate", "3", ROOK_MATES_IN_THREE, "c4c5 3\n");
+    expect_keys(&rt, "stale", "2", ROOK_MATES_IN_THREE, "b1b5 1\n");
+    expect_keys(&rt, "mate", "1", PAWN_MATES, "c4c5q 1\nc4c5r 1\n");
+    expect_keys(&rt, "mate", "2", ROOK_MATES_IN_THREE, "none within 2\n");
+    expect_keys(&rt, "mate", "5", STALEMATED, "none within 5\n");
+    expect_keys(&rt, "mate", "5", KINGS_ALONE, "none within 5\n");
 }
 
 /// Writes the tree for a goal within a limit, and expects an output with status 0.

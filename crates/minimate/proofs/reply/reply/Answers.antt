@@ -1,6 +1,6 @@
 use Rattle.std.proofs.Common.{◌∙◌, ap, rules, Ok, vec_items}
-use Rattle.minimate.specs.Output.{IsSoundText, ShowsAnswer, ShowsPlanFound, answered}
-use Rattle.command_line.specs.declared.line.Action.TheVariants.{Solve, Show, Tree, Check}
+use Rattle.minimate.specs.Output.{IsSoundText, ShowsAnswer, ShowsKeys, ShowsPlanFound, answered}
+use Rattle.command_line.specs.declared.line.Action.TheVariants.{Solve, Keys, Show, Tree, Check}
 use Rattle.minimate.proofs.ReplyLemmas.{fault_gives, gives_reply, refusal_gives}
 use Rattle.minimate.proofs.reply.reply.Goals as goal
 
@@ -21,6 +21,21 @@ returns-in_ok-solve_text-in-Solve-clause-given g c =
     let sound : IsSoundText c.args.line.now.fen.now c.in_ok-position.position = search rules in
     gives_reply vec_items c.args.line.now (g.S.Source.remaining c.args.reader.now) c.in_ok-position.position (Solve c.in-Solve.goal c.in-Solve.limits)
     (Ok c.in_ok-solve_text-in-Solve.field-0) sound c.in-Solve.is c.in_ok-solve_text-in-Solve.ensures
+
+pub returns-in_err-found_keys-in-Keys-clause-given : goal.returns-in_err-found_keys-in-Keys-clause-given
+returns-in_err-found_keys-in-Keys-clause-given g c =
+    let sound : IsSoundText c.args.line.now.fen.now c.in_ok-position.position = search rules in
+    gives_reply vec_items c.args.line.now (g.S.Source.remaining c.args.reader.now) c.in_ok-position.position (Keys c.in-Keys.goal c.in-Keys.limits)
+    c.from_residual-in_err-found_keys-in-Keys.result sound c.in-Keys.is
+    (refusal_gives vec_items (ShowsKeys c.in-Keys.goal c.in_ok-position.position c.in-Keys.limits)
+    c.from_residual-in_err-found_keys-in-Keys.result c.in_err-found_keys-in-Keys.field-0.0 c.in_err-found_keys-in-Keys.ensures
+    c.from_residual-in_err-found_keys-in-Keys.ensures)
+
+pub returns-in_ok-found_keys-in-Keys-clause-given : goal.returns-in_ok-found_keys-in-Keys-clause-given
+returns-in_ok-found_keys-in-Keys-clause-given g c =
+    let sound : IsSoundText c.args.line.now.fen.now c.in_ok-position.position = search rules in
+    gives_reply vec_items c.args.line.now (g.S.Source.remaining c.args.reader.now) c.in_ok-position.position (Keys c.in-Keys.goal c.in-Keys.limits)
+    (Ok c.in_ok-found_keys-in-Keys.field-0) sound c.in-Keys.is c.in_ok-found_keys-in-Keys.ensures
 
 pub returns-in_err-plan_text-in-Tree-clause-given : goal.returns-in_err-plan_text-in-Tree-clause-given
 returns-in_err-plan_text-in-Tree-clause-given g c =
