@@ -7,7 +7,7 @@ ghost use Rattle.rounds.specs.Shares.{IsBench};
 use crate::bench::Bench;
 use crate::deal::Count;
 use crate::gate::Gate;
-use crate::out::Out;
+use crate::outstanding::Out;
 use arrayvec::ArrayVec;
 use decision::{Memory, Question, Scout, Stop, decide_until, in_order};
 use moves::Move;

@@ -15,7 +15,7 @@ mod key_tests;
 mod keys;
 #[cfg(test)]
 mod lent_tests;
-mod out;
+mod outstanding;
 mod round;
 mod share;
 mod solving;

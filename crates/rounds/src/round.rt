@@ -10,7 +10,7 @@ ghost use Rattle.rounds.specs.Going.{GoesOn, EachGoesOn, SeatsGoOn};
 use crate::bench::{Bench, RootJobs, Search};
 use crate::deal::{Count, Thief, deal};
 use crate::gate::Gate;
-use crate::out::{Out, all_outs};
+use crate::outstanding::{Out, all_outs};
 use crate::share::{Part, Share, Verdict};
 use least::{JobSeat, Least, MakeFault};
 use slots::Seat;

@@ -5,7 +5,7 @@ use crate::bench::{Bench, JobStop, RootJobs};
 use crate::deal::{Count, Owner, Thief, next_job};
 use crate::gate::Gate;
 use crate::help::help;
-use crate::out::Out;
+use crate::outstanding::Out;
 use decision::{Memory, Scout, decide_on, decide_until};
 use least::JobSeat;
 use slots::Seat;
