@@ -147,6 +147,24 @@ pub fn decide_on(slots: &Slots<MateLore>, seat: &mut Seat, q: &Question, n: u8) 
     decision
 }
 
+/// The answer alone: the far slots are asked too, and an attacker's position is searched round by round, as those below are.
+pub fn is_forced(slots: &Slots<MateLore>, seat: &mut Seat, q: &Question, n: u8) -> bool
+    requires seat { IsSeatOf slots.now seat.old }
+    requires plies { n ≤ 63 }
+    ensures continues { Continues slots.now seat.old seat.new }
+    ensures answer { IsTrue result ↔ IsForced q.now n }
+{
+    let mut scout = Scout {
+        stop: Never,
+        memory: Memory::new(),
+    };
+    let mut caller = Caller { slots, seat };
+    let Some(yes) = visit(&mut caller, &mut scout, q, n) else {
+        unreachable!()
+    };
+    yes
+}
+
 /// Whether the attacker forces the goal from the position within n plies, whatever the table holds and whatever its other callers
 /// do. The table is asked first, of this position and of each below it; what is searched is stored after its own subtree.
 pub fn decide(

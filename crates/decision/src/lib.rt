@@ -15,7 +15,7 @@ mod searching;
 mod storing;
 
 pub use answer::{Answer, MOST_LIMIT};
-pub use deciding::{decide, decide_on, decide_until};
+pub use deciding::{decide, decide_on, decide_until, is_forced};
 pub use decision::Decision;
 pub use memory::Memory;
 pub use order::in_order;

@@ -7,7 +7,7 @@ ghost use Rattle.decision.specs.Answer.{Wins, IsFewest, IsLeastWin};
 ghost use Rattle.decision.specs.Calls.{Continues};
 ghost use Rattle.trees.specs.Best.{IsBestMove};
 
-use decision::{Question, decide_on};
+use decision::{Question, is_forced};
 use entry::MateLore;
 use moves::{Board, Goal, Move, after, lawful_on};
 use slots::{Seat, Slots};
@@ -33,7 +33,7 @@ fn least_win(
             attacker,
             goal,
         };
-        if decide_on(slots, seat, &q, n - 1).yes {
+        if is_forced(slots, seat, &q, n - 1) {
             return Some(*m);
         }
     }
@@ -63,7 +63,7 @@ fn fewest_plies(
     };
     for round in 0..(limit + 1) / 2 {
         let plies = 2 * round + 1;
-        if decide_on(slots, seat, &q, plies).yes {
+        if is_forced(slots, seat, &q, plies) {
             return plies;
         }
     }

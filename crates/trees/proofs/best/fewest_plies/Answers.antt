@@ -13,25 +13,25 @@ loop-round-init c = record {
   nothing = nothing_at_once c.args.goal c.args.board.now;
 }
 
-pub returns-then-decide_on-clause-continues : goal.returns-then-decide_on-clause-continues
-returns-then-decide_on-clause-continues c = continues_more _ _ _ _ c.loop-round.invariant.continues c.decide_on.ensures.continues
+pub returns-then-is_forced-clause-continues : goal.returns-then-is_forced-clause-continues
+returns-then-is_forced-clause-continues c = continues_more _ _ _ _ c.loop-round.invariant.continues c.is_forced.ensures.continues
 
-pub returns-then-decide_on-clause-fewest : goal.returns-then-decide_on-clause-fewest
-returns-then-decide_on-clause-fewest c =
-    let decided : IsTrue c.decide_on.result.yes ↔ Forces c.args.goal c.args.board.now.mover c.args.board.now (2 * c.loop-round.round + 1) =
-    (subst (λ (p : Side × PlainBoard). IsTrue c.decide_on.result.yes ↔ Forces c.args.goal p.0 p.1 (2 * c.loop-round.round + 1))
-    (λ i. (c.mover.ensures.value i, (c.of.ensures ∙ c.position.ensures) i)) c.decide_on.ensures.decided.answer) in
-    record { forced = decided.0 c.if-decide_on.true; fewer = λ k less f. c.loop-round.invariant.nothing k (omega (arith, less)) f }
+pub returns-then-is_forced-clause-fewest : goal.returns-then-is_forced-clause-fewest
+returns-then-is_forced-clause-fewest c =
+    let decided : IsTrue c.is_forced.result ↔ Forces c.args.goal c.args.board.now.mover c.args.board.now (2 * c.loop-round.round + 1) =
+    (subst (λ (p : Side × PlainBoard). IsTrue c.is_forced.result ↔ Forces c.args.goal p.0 p.1 (2 * c.loop-round.round + 1))
+    (λ i. (c.mover.ensures.value i, (c.of.ensures ∙ c.position.ensures) i)) c.is_forced.ensures.answer) in
+    record { forced = decided.0 c.if-is_forced.true; fewer = λ k less f. c.loop-round.invariant.nothing k (omega (arith, less)) f }
 
 pub loop-round-preserved : goal.loop-round-preserved
 loop-round-preserved c =
-    let decided : IsTrue c.decide_on.result.yes ↔ Forces c.args.goal c.args.board.now.mover c.args.board.now (2 * c.loop-round.round + 1) =
-    (subst (λ (p : Side × PlainBoard). IsTrue c.decide_on.result.yes ↔ Forces c.args.goal p.0 p.1 (2 * c.loop-round.round + 1))
-    (λ i. (c.mover.ensures.value i, (c.of.ensures ∙ c.position.ensures) i)) c.decide_on.ensures.decided.answer) in
+    let decided : IsTrue c.is_forced.result ↔ Forces c.args.goal c.args.board.now.mover c.args.board.now (2 * c.loop-round.round + 1) =
+    (subst (λ (p : Side × PlainBoard). IsTrue c.is_forced.result ↔ Forces c.args.goal p.0 p.1 (2 * c.loop-round.round + 1))
+    (λ i. (c.mover.ensures.value i, (c.of.ensures ∙ c.position.ensures) i)) c.is_forced.ensures.answer) in
     record {
-      continues = continues_more _ _ _ _ c.loop-round.invariant.continues c.decide_on.ensures.continues;
+      continues = continues_more _ _ _ _ c.loop-round.invariant.continues c.is_forced.ensures.continues;
       nothing = next_round c.args.goal c.args.board.now c.loop-round.round c.loop-round.invariant.nothing
-          (λ m w. false≢true (sym c.if-decide_on.false ∙ decided.1 (forced_by c.args.goal c.args.board.now (2 * c.loop-round.round + 1) m (omega arith) w)));
+          (λ m w. false≢true (sym c.if-is_forced.false ∙ decided.1 (forced_by c.args.goal c.args.board.now (2 * c.loop-round.round + 1) m (omega arith) w)));
     }
 
 pub unreachable-requires : goal.unreachable-requires
