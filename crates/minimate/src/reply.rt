@@ -1,5 +1,5 @@
 //! The reply to a line: the text of its answer, or why there is none.
-ghost use Rattle.std.specs.Prelude.{◌≡◌, ◌⊎◌, ◌+◌, ◌<◌, ◌≤◌, Err, IfErr, IfOk, IfSome, Ok, min, string_bytes, vec_items};
+ghost use Rattle.std.specs.Prelude.{◌≡◌, ◌⊎◌, ◌+◌, ◌<◌, ◌≤◌, All, Err, IfErr, IfOk, IfSome, Ok, length, min, string_bytes, vec_items};
 ghost use Rattle.slots.specs.Promise.{IsSeatOf};
 ghost use Rattle.std.specs.List.{flat_map};
 ghost use Rattle.wintree.specs.Plan.{depth};
@@ -24,7 +24,7 @@ use std::alloc::{AllocError, Global};
 use std::fmt::Write;
 use std::sync::Wait;
 use std::thread::Threads;
-use trees::build_tree;
+use trees::{build_tree, prepare_tree};
 use wintree::{NoMemory, Tree, check, read_tree, tree_text};
 
 /// With what `solve` searches.
@@ -73,16 +73,17 @@ fn answer_within<R: Threads + Wait + Sync>(
     solve(rt, alloc, position, goal, limit, workers, slots, &NoGate)
 }
 
-/// The same, with the table that it was found over and a seat there.
+/// The same, with the table that it was found over and its seats there.
 fn searched_within<R: Threads + Wait + Sync>(
     rt: &R,
     alloc: Global,
     position: &Position,
     goal: Goal,
     limits: Limits,
-) -> Result<(Answer, Slots<MateLore>, Seat), SolveFault>
+) -> Result<(Answer, Slots<MateLore>, Vec<Seat>), SolveFault>
     ensures answer { IfOk result (λ found. Solves goal position.now limits (Ok found.0)) }
-    ensures seat { IfOk result (λ found. IsSeatOf found.1 found.2) }
+    ensures some { IfOk result (λ found. 0 < length found.2.items) }
+    ensures seats { IfOk result (λ found. All (IsSeatOf found.1) found.2.items) }
     ensures fault { IfErr result (λ fault. Solves goal position.now limits (Err fault)) }
 {
     let Search {
@@ -98,7 +99,7 @@ fn searched_within<R: Threads + Wait + Sync>(
         gate: &NoGate,
     };
     let answer = solve_over(rt, alloc, &task, &table, &mut seats)?;
-    Ok((answer, table, seats.take_last()))
+    Ok((answer, table, seats))
 }
 
 /// The first moves that force the goal within the limits.
@@ -221,9 +222,11 @@ fn plan_text<R: Threads + Wait + Sync>(
 ) -> Result<Vec<u8>, Refusal>
     ensures { Gives vec_items (ShowsPlanFound goal position.now limits) result }
 {
-    let (answer, table, mut seat) = searched_within(rt, alloc, position, goal, limits)?;
+    let (answer, table, mut seats) = searched_within(rt, alloc, position, goal, limits)?;
     match answer {
         Answer::Mate { plies, .. } => {
+            prepare_tree(rt, &table, &mut seats, position, goal, plies);
+            let mut seat = seats.take_last();
             let tree = build_tree(alloc, &table, &mut seat, position, goal, plies)?;
             Ok(tree_line(alloc, &tree)?)
         }

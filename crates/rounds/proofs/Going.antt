@@ -1,7 +1,6 @@
 -- A seat that goes on, step by step.
-use Rattle.std.proofs.Common.{◌≡◌, ℕ, List, [], ◌∷◌, length, take, ◌++◌, All, sym, subst}
+use Rattle.std.proofs.Common.{◌≡◌, ℕ, List, [], ◌∷◌, ◌++◌, All, sym, subst}
 use Rattle.std.proofs.lemmas.List.Elements.{AllZip-push}
-use lib.Seq.{take-append_seam}
 use Rattle.atomic_table.specs.Seated.{TableId}
 use Rattle.atomic_table.specs.declared.shared.Seat.{Seat}
 use Rattle.slots.specs.declared.views.View.{View}
@@ -11,7 +10,7 @@ use Rattle.decision.proofs.Calls.{continues_none, continues_more}
 use Rattle.rounds.specs.declared.share.Share.{Share}
 use Rattle.rounds.specs.Shares.{seats_back}
 use Rattle.rounds.specs.Going.{GoesOn, EachGoesOn, SeatsGoOn}
-use Rattle.rounds.proofs.Zips.{zip_same, zip_then, zip_back}
+use Rattle.decision.proofs.Zips.{zip_same, zip_then, zip_back}
 
 module _ (keeps : TableId → Seat ℕ View → Seat ℕ View → Type 0) (t : TableId) where
   pub goes_none : (a : Seat ℕ View) → IsSeatOf t a → GoesOn keeps t a a
@@ -50,7 +49,3 @@ module _ (keeps : TableId → Seat ℕ View → Seat ℕ View → Type 0) (t : T
 
     pub back_goes_on : (xs ys : List (Share J)) → EachGoesOn keeps t xs ys → SeatsGoOn keeps t (seats_back xs) (seats_back ys)
     back_goes_on xs ys p = zip_back (GoesOn keeps t) (λ u. u.seat) xs ys p
-
--- as many as there are, of those and others
-pub take_whole : {X : Type 0} (n : ℕ) (xs ys : List X) → length xs ≡ n → take n (xs ++ ys) ≡ xs
-take_whole n xs ys e = subst (λ (k : ℕ). take k (xs ++ ys) ≡ xs) e (take-append_seam xs ys)

@@ -4,6 +4,5 @@ pub mod Jobs
 pub mod Lists
 pub mod Rows
 pub mod Shares
-pub mod Zips
 pub mod Taking
 pub mod Picking

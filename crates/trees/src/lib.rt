@@ -4,6 +4,8 @@
 mod best;
 mod building;
 mod laws;
+mod preparing;
 
 pub use building::build_tree;
 pub use laws::one_best_tree;
+pub use preparing::prepare_tree;

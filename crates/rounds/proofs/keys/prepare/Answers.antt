@@ -1,7 +1,7 @@
 use Rattle.std.proofs.Common.{rules, sym, subst}
 use Rattle.rounds.specs.Going.{GoesOn, SeatsGoOn}
-use Rattle.rounds.proofs.Going.{seats_none, take_whole}
-use Rattle.rounds.proofs.Zips.{zip_each}
+use Rattle.rounds.proofs.Going.{seats_none}
+use Rattle.decision.proofs.Zips.{take_whole, zip_each}
 use Rattle.rounds.proofs.keys.prepare.Goals as goal
 
 pub returns-then-threads-lt2-clause-go_on : goal.returns-then-threads-lt2-clause-go_on

@@ -1,7 +1,6 @@
 use Rattle.std.proofs.Common.{rules, sym, subst}
 use Rattle.rounds.specs.Going.{GoesOn, EachGoesOn}
-use Rattle.rounds.proofs.Going.{take_whole}
-use Rattle.rounds.proofs.Zips.{zip_each}
+use Rattle.decision.proofs.Zips.{take_whole, zip_each}
 use Rattle.rounds.proofs.round.work_all.Goals as goal
 
 pub returns-clause-go_on : goal.returns-clause-go_on

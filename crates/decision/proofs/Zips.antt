@@ -1,6 +1,7 @@
 -- Lists that stand in a relation place by place.
-use Rattle.std.proofs.Common.{◌≡◌, ℕ, suc, ◌<◌, List, [], ◌∷◌, length, get_or, map, reverse, All, sym, subst, arith}
+use Rattle.std.proofs.Common.{◌≡◌, ℕ, suc, ◌<◌, List, [], ◌∷◌, length, take, get_or, map, reverse, ◌++◌, All, sym, subst, arith}
 use Rattle.std.specs.List.{AllZip}
+use lib.Seq.{take-append_seam}
 use Rattle.std.proofs.lemmas.Grind.{reverse_onto}
 use Rattle.std.proofs.lemmas.List.Elements.{AllZip-push, All-head, All-tail}
 
@@ -34,3 +35,7 @@ module _ {X : Type 0} (R : X → X → Type 0) where
   zip_back f (x ∷ xs) (y ∷ ys) p =
       subst (λ (l : List X × List X). AllZip R l.0 l.1) (λ i. (sym (reverse_onto (map f xs) (f x) []) i, sym (reverse_onto (map f ys) (f y) []) i))
       (AllZip-push R (reverse (map f xs)) (reverse (map f ys)) (f x) (f y) (zip_back f xs ys p.1) p.0)
+
+-- as many as there are, of those and others
+pub take_whole : {X : Type 0} (n : ℕ) (xs ys : List X) → length xs ≡ n → take n (xs ++ ys) ≡ xs
+take_whole n xs ys e = subst (λ (k : ℕ). take k (xs ++ ys) ≡ xs) e (take-append_seam xs ys)

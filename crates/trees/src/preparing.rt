@@ -1,0 +1,112 @@
+//! What a tree needs, searched by several threads. It stands in the table alone, and no answer rests on it.
+ghost use Rattle.std.specs.Prelude.{◌≡◌, ◌<◌, ◌≤◌, All, length};
+ghost use Rattle.moves.specs.Squares.{Ply};
+ghost use Rattle.moves.specs.Moves.{IsMove};
+ghost use Rattle.moves.specs.Forces.{Forces};
+ghost use Rattle.slots.specs.Promise.{IsSeatOf};
+ghost use Rattle.decision.specs.Answer.{IsFewest};
+ghost use Rattle.decision.specs.Calls.{Continues};
+ghost use Rattle.trees.specs.Seats.{SeatsContinue};
+
+use crate::best::best_move;
+use board::Position;
+use entry::MateLore;
+use moves::{Board, Goal, after, lawful_on};
+use slots::{Seat, Slots};
+use std::sync::Wait;
+use std::thread;
+use std::thread::Threads;
+
+/// From so many plies on a line is searched by all threads.
+const PREPARED_FROM: u8 = 7;
+
+/// One thread's way through the tree: each begins at another reply of a position, every other one from the last on.
+#[derive(Drop)]
+struct Walk<'a> {
+    slots: &'a Slots<MateLore>,
+    goal: Goal,
+    turn: usize,
+}
+
+impl Walk<'_> {
+    /// The number of the reply that comes after k others, of so many.
+    fn place(&self, k: usize, count: usize) -> usize
+        requires { k < count }
+        ensures { result < count }
+    {
+        let from = (self.turn / 2).wrapping_mul(5).wrapping_mul(count) / 13;
+        let at = from.wrapping_add(k) % count;
+        if self.turn % 2 == 0 {
+            at
+        } else {
+            count - 1 - at
+        }
+    }
+}
+
+/// Finds the best move, and then those after each reply.
+#[cycle(preparing)]
+fn prepare_line(walk: &Walk<'_>, seat: &mut Seat, board: &Board, limit: u8)
+    requires seat { IsSeatOf walk.now.slots.now seat.old }
+    requires limit { limit ≤ 63 }
+    requires forced { Forces walk.now.goal board.now.mover board.now limit }
+    ensures { Continues walk.now.slots.now seat.old seat.new }
+{
+    if limit < PREPARED_FROM {
+        return;
+    }
+    let attack = best_move(walk.slots, seat, board, walk.goal, limit);
+    prepare_replies(walk, seat, &after(board, attack), limit - 2);
+}
+
+/// The same after each lawful reply, where each is met within so many plies.
+#[cycle(preparing)]
+fn prepare_replies(walk: &Walk<'_>, seat: &mut Seat, board: &Board, n: u8)
+    requires seat { IsSeatOf walk.now.slots.now seat.old }
+    requires plies { n ≤ 61 }
+    requires forced { (m : Ply) (q : _) → IsMove board.now m q → Forces walk.now.goal q.mover q n }
+    ensures { Continues walk.now.slots.now seat.old seat.new }
+{
+    let moves = lawful_on(board);
+    let replies = moves.as_slice();
+    let count = replies.len();
+    for k in 0..count {
+        let reply = replies[walk.place(k, count)];
+        prepare_line(walk, seat, &after(board, reply), n);
+    }
+}
+
+/// Searches, by a thread for each seat, what the tree of a position needs whose fewest plies to the goal these are, so that
+/// `build_tree` finds most of it in the table. A thread that can't be started is left out.
+pub fn prepare_tree<R: Threads + Wait + Sync>(
+    rt: &R,
+    slots: &Slots<MateLore>,
+    seats: &mut Vec<Seat>,
+    position: &Position,
+    goal: Goal,
+    plies: u8,
+)
+    requires seats { All (IsSeatOf slots.now) seats.old.items }
+    requires plies { plies ≤ 63 }
+    requires fewest { IsFewest goal position.now plies }
+    ensures seats { length seats.new.items ≡ length seats.old.items }
+    ensures go_on { SeatsContinue slots.now seats.old.items seats.new.items }
+{
+    let threads = seats.len();
+    if threads < 2 || plies < PREPARED_FROM {
+        return;
+    }
+    let board = Board::of(position);
+    thread::for_each_mut(
+        rt,
+        seats.as_mut_slice(),
+        threads,
+        &|turn, seat: &mut Seat|
+            requires { (plies ≤ 63) × Forces goal board.mover board plies × IsSeatOf slots.now seat.now }
+            ensures { Continues slots.entry.now seat.entry.now seat.exit.now }
+        {
+            let walk = Walk { slots, goal, turn };
+            prepare_line(&walk, seat, &board, plies)
+        },
+    );
+}
