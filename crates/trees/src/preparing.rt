@@ -89,7 +89,8 @@ pub fn prepare_tree<R: Threads + Wait + Sync>(
     requires seats { All (IsSeatOf slots.now) seats.old.items }
     requires plies { plies ≤ 63 }
     requires fewest { IsFewest goal position.now plies }
-    ensures seats { length seats.new.items ≡ length seats.old.items }
+    ensures count { length seats.new.items ≡ length seats.old.items }
+    ensures seats { All (IsSeatOf slots.now) seats.new.items }
     ensures go_on { SeatsContinue slots.now seats.old.items seats.new.items }
 {
     let threads = seats.len();
@@ -103,7 +104,7 @@ pub fn prepare_tree<R: Threads + Wait + Sync>(
         threads,
         &|turn, seat: &mut Seat|
             requires { (plies ≤ 63) × Forces goal board.mover board plies × IsSeatOf slots.now seat.now }
-            ensures { Continues slots.entry.now seat.entry.now seat.exit.now }
+            ensures { IsSeatOf slots.entry.now seat.exit.now × Continues slots.entry.now seat.entry.now seat.exit.now }
         {
             let walk = Walk { slots, goal, turn };
             prepare_line(&walk, seat, &board, plies)

@@ -28,4 +28,4 @@ returns-clause-go_on g c =
     (zip_each (Continues c.args.slots.now) c.args.seats.now.items c.for_each_mut.new.s (search rules) (λ k d lt.
     let one = (c.for_each_mut.ensures k d (search rules)).1 in
     subst (λ (seats : Seat ℕ View × Seat ℕ View). Continues c.args.slots.now seats.0 seats.1)
-    (λ i. ((one.argument_is ∙ ap (λ items. get_or items k d) c.as_mut_slice.ensures.value) i, one.left i)) one.call))
+    (λ i. ((one.argument_is ∙ ap (λ items. get_or items k d) c.as_mut_slice.ensures.value) i, one.left i)) one.call.1))
