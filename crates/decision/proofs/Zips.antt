@@ -18,6 +18,11 @@ module _ {X : Type 0} (R : X → X → Type 0) where
   zip_same P h [] a = tt
   zip_same P h (x ∷ xs) a = (h x (All-head P x xs a), zip_same P h xs (All-tail P x xs a))
 
+  -- each with itself, but for the last
+  pub zip_last : (P : X → Type 0) → ((x : X) → P x → R x x) → (xs xs' ys : List X) (s s' : X) → xs ≡ ys ++ s ∷ [] → xs' ≡ ys ++ s' ∷ [] → All P ys → R s s' → AllZip R xs xs'
+  zip_last P h xs xs' ys s s' e e' a on =
+      subst (λ (l : List X × List X). AllZip R l.0 l.1) (λ i. (sym e i, sym e' i)) (AllZip-push R ys ys s s' (zip_same P h ys a) on)
+
   -- one after the other
   pub zip_then : ((x y z : X) → R x y → R y z → R x z) → (xs ys zs : List X) → AllZip R xs ys → AllZip R ys zs → AllZip R xs zs
   zip_then t [] [] [] p q = tt

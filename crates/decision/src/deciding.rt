@@ -13,7 +13,7 @@ ghost use Rattle.decision.specs.Below.{Tells, Asked};
 use crate::asking::{ask, first_slot, settled};
 use crate::caller::Caller;
 use crate::decision::Decision;
-use crate::leaf::answer_now;
+use crate::leaf::{answer_now, leaf};
 use crate::memory::Memory;
 use crate::order::in_order;
 use crate::question::Question;
@@ -147,7 +147,10 @@ pub fn decide_on(slots: &Slots<MateLore>, seat: &mut Seat, q: &Question, n: u8) 
     decision
 }
 
-/// The answer alone: the far slots are asked too, and an attacker's position is searched round by round, as those below are.
+/// Up to so many plies the answer alone is found sooner than the table is asked.
+const UNASKED: u8 = 2;
+
+/// The answer alone, as those below are found: the far slots are asked too, and an attacker's position is searched round by round.
 pub fn is_forced(slots: &Slots<MateLore>, seat: &mut Seat, q: &Question, n: u8) -> bool
     requires seat { IsSeatOf slots.now seat.old }
     requires plies { n ≤ 63 }
@@ -158,6 +161,9 @@ pub fn is_forced(slots: &Slots<MateLore>, seat: &mut Seat, q: &Question, n: u8) 
         stop: Never,
         memory: Memory::new(),
     };
+    if n <= UNASKED {
+        return leaf(&mut scout.memory, q, n);
+    }
     let mut caller = Caller { slots, seat };
     let Some(yes) = visit(&mut caller, &mut scout, q, n) else {
         unreachable!()

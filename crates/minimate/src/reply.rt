@@ -24,7 +24,7 @@ use std::alloc::{AllocError, Global};
 use std::fmt::Write;
 use std::sync::Wait;
 use std::thread::Threads;
-use trees::{build_tree, prepare_tree};
+use trees::{Wanted, build_tree_over};
 use wintree::{NoMemory, Tree, check, read_tree, tree_text};
 
 /// With what `solve` searches.
@@ -225,9 +225,12 @@ fn plan_text<R: Threads + Wait + Sync>(
     let (answer, table, mut seats) = searched_within(rt, alloc, position, goal, limits)?;
     match answer {
         Answer::Mate { plies, .. } => {
-            prepare_tree(rt, &table, &mut seats, position, goal, plies);
-            let mut seat = seats.take_last();
-            let tree = build_tree(alloc, &table, &mut seat, position, goal, plies)?;
+            let wanted = Wanted {
+                position,
+                goal,
+                plies,
+            };
+            let tree = build_tree_over(rt, alloc, &wanted, &table, &mut seats)?;
             Ok(tree_line(alloc, &tree)?)
         }
         Answer::NoneWithin(limit) => Ok(none_text(alloc, u32::from(limit))?.into_bytes()),

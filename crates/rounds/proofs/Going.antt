@@ -10,7 +10,7 @@ use Rattle.decision.proofs.Calls.{continues_none, continues_more}
 use Rattle.rounds.specs.declared.share.Share.{Share}
 use Rattle.rounds.specs.Shares.{seats_back}
 use Rattle.rounds.specs.Going.{GoesOn, EachGoesOn, SeatsGoOn}
-use Rattle.decision.proofs.Zips.{zip_same, zip_then, zip_back}
+use Rattle.decision.proofs.Zips.{zip_same, zip_last, zip_then, zip_back}
 
 module _ (keeps : TableId → Seat ℕ View → Seat ℕ View → Type 0) (t : TableId) where
   pub goes_none : (a : Seat ℕ View) → IsSeatOf t a → GoesOn keeps t a a
@@ -33,16 +33,13 @@ module _ (keeps : TableId → Seat ℕ View → Seat ℕ View → Type 0) (t : T
 
   -- the last one alone was used
   pub seats_last : (xs xs' ys : List (Seat ℕ View)) (s s' : Seat ℕ View) → xs ≡ ys ++ s ∷ [] → xs' ≡ ys ++ s' ∷ [] → All (IsSeatOf t) ys → GoesOn keeps t s s' → SeatsGoOn keeps t xs xs'
-  seats_last xs xs' ys s s' e e' seats on =
-      subst (λ (l : List (Seat ℕ View) × List (Seat ℕ View)). SeatsGoOn keeps t l.0 l.1) (λ i. (sym e i, sym e' i))
-      (AllZip-push (GoesOn keeps t) ys ys s s' (seats_none ys seats) on)
+  seats_last xs xs' ys s s' e e' seats on = zip_last (GoesOn keeps t) (IsSeatOf t) (goes_none keeps t) xs xs' ys s s' e e' seats on
 
   module _ {J : Type 0} where
     -- the last share alone was used
     pub each_last : (xs xs' ys : List (Share J)) (s s' : Share J) → xs ≡ ys ++ s ∷ [] → xs' ≡ ys ++ s' ∷ [] → All (λ u. IsSeatOf t u.seat) ys → GoesOn keeps t s.seat s'.seat → EachGoesOn keeps t xs xs'
     each_last xs xs' ys s s' e e' seats on =
-        subst (λ (l : List (Share J) × List (Share J)). EachGoesOn keeps t l.0 l.1) (λ i. (sym e i, sym e' i))
-        (AllZip-push (λ a b. GoesOn keeps t a.seat b.seat) ys ys s s' (zip_same (λ a b. GoesOn keeps t a.seat b.seat) (λ u. IsSeatOf t u.seat) (λ u h. goes_none keeps t u.seat h) ys seats) on)
+        zip_last (λ a b. GoesOn keeps t a.seat b.seat) (λ u. IsSeatOf t u.seat) (λ u h. goes_none keeps t u.seat h) xs xs' ys s s' e e' seats on
 
     pub each_more : (xs ys zs : List (Share J)) → EachGoesOn keeps t xs ys → EachGoesOn keeps t ys zs → EachGoesOn keeps t xs zs
     each_more xs ys zs p q = zip_then (λ a b. GoesOn keeps t a.seat b.seat) (λ a b c. goes_more keeps t a.seat b.seat c.seat) xs ys zs p q

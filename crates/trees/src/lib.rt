@@ -8,4 +8,4 @@ mod preparing;
 
 pub use building::build_tree;
 pub use laws::one_best_tree;
-pub use preparing::prepare_tree;
+pub use preparing::{Wanted, build_tree_over};

@@ -1,21 +1,26 @@
-//! What a tree needs, searched by several threads. It stands in the table alone, and no answer rests on it.
-ghost use Rattle.std.specs.Prelude.{◌≡◌, ◌<◌, ◌≤◌, All, length};
+//! A tree that several threads prepare: what they find stands in the table alone, and no answer rests on it.
+ghost use Rattle.std.specs.Prelude.{◌≡◌, ◌<◌, ◌≤◌, All, IfOk, length, vec_capacity};
 ghost use Rattle.moves.specs.Squares.{Ply};
 ghost use Rattle.moves.specs.Moves.{IsMove};
 ghost use Rattle.moves.specs.Forces.{Forces};
 ghost use Rattle.slots.specs.Promise.{IsSeatOf};
 ghost use Rattle.decision.specs.Answer.{IsFewest};
 ghost use Rattle.decision.specs.Calls.{Continues};
+ghost use Rattle.wintree.specs.Wins.{Wins, height};
+ghost use Rattle.trees.specs.Best.{IsBest};
 ghost use Rattle.trees.specs.Seats.{SeatsContinue};
 
 use crate::best::best_move;
+use crate::building::build_tree;
 use board::Position;
 use entry::MateLore;
 use moves::{Board, Goal, after, lawful_on};
 use slots::{Seat, Slots};
+use std::alloc::Global;
 use std::sync::Wait;
 use std::thread;
 use std::thread::Threads;
+use wintree::{NoMemory, Tree};
 
 /// From so many plies on a line is searched by all threads.
 const PREPARED_FROM: u8 = 7;
@@ -76,9 +81,8 @@ fn prepare_replies(walk: &Walk<'_>, seat: &mut Seat, board: &Board, n: u8)
     }
 }
 
-/// Searches, by a thread for each seat, what the tree of a position needs whose fewest plies to the goal these are, so that
-/// `build_tree` finds most of it in the table. A thread that can't be started is left out.
-pub fn prepare_tree<R: Threads + Wait + Sync>(
+/// Searches, by a thread for each seat, what the tree of a position needs whose fewest plies to the goal these are.
+fn prepare_tree<R: Threads + Wait + Sync>(
     rt: &R,
     slots: &Slots<MateLore>,
     seats: &mut Vec<Seat>,
@@ -89,6 +93,7 @@ pub fn prepare_tree<R: Threads + Wait + Sync>(
     requires seats { All (IsSeatOf slots.now) seats.old.items }
     requires plies { plies ≤ 63 }
     requires fewest { IsFewest goal position.now plies }
+    ensures capacity { vec_capacity seats.new ≡ vec_capacity seats.old }
     ensures count { length seats.new.items ≡ length seats.old.items }
     ensures seats { All (IsSeatOf slots.now) seats.new.items }
     ensures go_on { SeatsContinue slots.now seats.old.items seats.new.items }
@@ -110,4 +115,45 @@ pub fn prepare_tree<R: Threads + Wait + Sync>(
             prepare_line(&walk, seat, &board, plies)
         },
     );
+}
+
+/// The tree that is wanted: that of a position whose fewest plies to the goal these are.
+#[derive(Drop)]
+pub struct Wanted<'a> {
+    pub position: &'a Position,
+    pub goal: Goal,
+    pub plies: u8,
+}
+
+/// The tree that `build_tree` gives, its longer lines searched by a thread for each seat. The last seat is that of the
+/// caller's own thread. A thread that can't be started is left out. After a want of memory the table and the seats serve the next
+/// call.
+pub fn build_tree_over<R: Threads + Wait + Sync>(
+    rt: &R,
+    alloc: Global,
+    wanted: &Wanted<'_>,
+    slots: &Slots<MateLore>,
+    seats: &mut Vec<Seat>,
+) -> Result<Tree, NoMemory>
+    requires some { 0 < length seats.old.items }
+    requires seats { All (IsSeatOf slots.now) seats.old.items }
+    requires plies { wanted.now.plies ≤ 63 }
+    requires fewest { IsFewest wanted.now.goal wanted.now.position.now wanted.now.plies }
+    ensures count { length seats.new.items ≡ length seats.old.items }
+    ensures seats { All (IsSeatOf slots.now) seats.new.items }
+    ensures go_on { SeatsContinue slots.now seats.old.items seats.new.items }
+    ensures best { IfOk result (IsBest wanted.now.goal wanted.now.position.now) }
+    ensures wins { IfOk result (Wins wanted.now.goal wanted.now.position.now) }
+    ensures height { IfOk result (λ tree. height tree ≡ wanted.now.plies) }
+{
+    let Wanted {
+        position,
+        goal,
+        plies,
+    } = *wanted;
+    prepare_tree(rt, slots, seats, position, goal, plies);
+    let mut own = seats.take_last();
+    let tree = build_tree(alloc, slots, &mut own, position, goal, plies);
+    seats.push_reserved(own);
+    tree
 }
