@@ -7,12 +7,13 @@ use board::Position;
 use decision::Answer;
 use entry::MateLore;
 use moves::Goal;
+use rounds::{NoGate, Task, make_table, solve_over};
 use slots::Slots;
 use std::process::Abort;
 use std::sync::Wait;
 use std::test::Fail;
 use std::thread::Threads;
-use trees::build_tree;
+use trees::{Wanted, build_tree, build_tree_over};
 use wintree::{Tree, check, tree_text};
 
 /// The tree of a position where the side to move forces the goal within nine plies.
@@ -32,6 +33,32 @@ fn tree_of<R: Threads + Wait + Abort + AllocGlobal + Sync>(
         panic!(rt; "no seat")
     };
     build_tree(rt.alloc(), &table, &mut seat, position, goal, plies).expect(rt, "memory")
+}
+
+/// The same, by so many workers and the caller's own thread, over the table and the seats of their solve.
+fn tree_by<R: Threads + Wait + Abort + AllocGlobal + Sync>(
+    rt: &R,
+    position: &Position,
+    goal: Goal,
+    workers: u8,
+) -> Tree {
+    let (table, mut seats) = make_table(rt.alloc(), 9, workers, 4096).expect(rt, "a table");
+    let task = Task {
+        position,
+        goal,
+        limit: 9,
+        gate: &NoGate,
+    };
+    let Ok(Answer::Mate { plies, .. }) = solve_over(rt, rt.alloc(), &task, &table, &mut seats)
+    else {
+        panic!(rt; "no mate")
+    };
+    let wanted = Wanted {
+        position,
+        goal,
+        plies,
+    };
+    build_tree_over(rt, rt.alloc(), &wanted, &table, &mut seats).expect(rt, "memory")
 }
 
 // Each of these positions has one reply at most to its best move; the trees were worked out by hand.
@@ -71,4 +98,24 @@ fn trees_of_longer_mates_win(rt: HostRuntime) {
         let built = tree_of(&rt, &root, Goal::Mate, 4096);
         assert_eq!(rt; check(&root, &built, Goal::Mate), Some(plies), "{text}");
     }
+}
+
+// A position has one best tree, so several threads give the one that a single thread gives. Mates of an independent program.
+#[test]
+fn threads_build_the_tree_that_one_builds(rt: HostRuntime) -> Result<(), Fail> {
+    for (text, plies) in [
+        ("1K1k1/qR3/5/5/5 w", 7),
+        ("5/3k1/2R2/1KP1P/5 w", 9),
+        ("R1b1N/3qk/2N2/5/4K b", 9),
+    ] {
+        let root = position(&rt, text);
+        let alone = tree_text(rt.alloc(), &tree_of(&rt, &root, Goal::Mate, 4096))?;
+        for workers in [1, 4] {
+            let tree = tree_by(&rt, &root, Goal::Mate, workers);
+            let bytes = tree_text(rt.alloc(), &tree)?;
+            assert_eq!(rt; bytes.as_slice(), alone.as_slice(), "{text}");
+            assert_eq!(rt; check(&root, &tree, Goal::Mate), Some(plies), "{text}");
+        }
+    }
+    Ok(())
 }
