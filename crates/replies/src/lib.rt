@@ -6,13 +6,13 @@ mod board_text;
 mod device;
 mod drawing;
 mod refusal;
-mod reply;
+mod replying;
 mod transfer;
 mod trouble;
 
 pub use advice::{Refused, advise, advise_words};
 pub use device::{Counted, Failed, Sink, Source};
 pub use refusal::Refusal;
-pub use reply::{Search, answer_text, reply, search_of};
+pub use replying::{Search, answer_text, reply, search_of};
 pub use transfer::{InputFault, write_all};
 pub use trouble::Trouble;

@@ -1,5 +1,5 @@
 use Rattle.replies.proofs.ReplyLemmas.{check_refused}
-use Rattle.replies.proofs.reply.check_text.Goals as goal
+use Rattle.replies.proofs.replying.check_text.Goals as goal
 
 pub returns-in_err-verdict_text-clause-shown : goal.returns-in_err-verdict_text-clause-shown
 returns-in_err-verdict_text-clause-shown g c =
