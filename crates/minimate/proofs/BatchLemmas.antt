@@ -14,15 +14,17 @@ use Rattle.board.specs.declared.fault.FenFault.{FenFault}
 use Rattle.command_line.specs.declared.line.Limits.{Limits}
 use Rattle.moves.specs.Reading.{IsSoundFault}
 use Rattle.moves.specs.declared.goal.Goal.{Goal}
-use Rattle.minimate.proofs.ReplyLemmas.{of_any}
+use Rattle.replies.proofs.ReplyLemmas.{of_any}
+use Rattle.replies.specs.Device.{AppendsBeginning}
+use Rattle.replies.specs.Input.{without_line_feed}
+use Rattle.replies.specs.Outcome.{Gives}
+use Rattle.replies.specs.Output.{IsSoundText, ShowsAnswer, answered, fault_of, refused}
+use Rattle.replies.specs.Refusal.{refusal_of_fen, refusal_of_solve}
+use Rattle.replies.specs.declared.refusal.Refusal.{Refusal}
+use Rattle.replies.specs.declared.refusal.Refusal.TheVariants.{TooLong}
 use Rattle.minimate.specs.Batch.{AnswersLines, EndsBatch, IsLineReply, IsReplyText, RunsBatch, is_remark, joined, lines_of, onto, said_in}
 use Rattle.minimate.specs.Desk.{Fails, GivesNext, GivesSaid, RepliesToFirst, SameSolver, Step, TakesLines, TakesStep, WritesUntil, stop_status}
-use Rattle.minimate.specs.Device.{AppendsBeginning}
-use Rattle.minimate.specs.Input.{without_line_feed}
 use Rattle.minimate.specs.Lines.{IsNext, TakesLine, left_of}
-use Rattle.minimate.specs.Outcome.{Gives}
-use Rattle.minimate.specs.Output.{IsSoundText, ShowsAnswer, answered, fault_of, refused}
-use Rattle.minimate.specs.Refusal.{refusal_of_fen, refusal_of_solve}
 use Rattle.minimate.specs.Run.{Ending, Finishes, Refuses, Run, no_memory}
 use Rattle.rounds.specs.declared.fault.SolveFault.{SolveFault}
 use Rattle.rounds.specs.declared.fault.SolveFault.TheVariants as solve
@@ -32,8 +34,6 @@ use Rattle.minimate.specs.declared.batch.Stop.TheVariants.{ReadFailed, WriteFail
 use Rattle.minimate.specs.declared.lines.Next.{Next}
 use Rattle.minimate.specs.declared.lines.Next.TheVariants.{Line}
 use Rattle.minimate.specs.declared.lines.Unread.{Unread}
-use Rattle.minimate.specs.declared.refusal.Refusal.{Refusal}
-use Rattle.minimate.specs.declared.refusal.Refusal.TheVariants.{TooLong}
 
 -- ---- what a line says
 

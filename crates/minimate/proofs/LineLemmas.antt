@@ -5,7 +5,7 @@ use lib.Seq.{take-append_seam, get_or-append_seam}
 use Rattle.std.proofs.lemmas.Option.{IfSome_then}
 use Rattle.std.specs.Io.BufRead.{take_through, drop_through}
 use Rattle.std.specs.Io.KnownBytes.{ReadConsumes}
-use Rattle.minimate.specs.Input.{without_line_feed}
+use Rattle.replies.specs.Input.{without_line_feed}
 use Rattle.minimate.specs.Lines.{HasNoFeed, Holds, IsNext, TakesByte, TakesLine, left_of}
 use Rattle.minimate.specs.declared.lines.Held.{Held}
 use Rattle.minimate.specs.declared.lines.Next.{Next}

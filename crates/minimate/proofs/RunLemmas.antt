@@ -1,12 +1,12 @@
 -- A run, from how its text was written.
 use Rattle.std.proofs.Common.{◌≡◌, ◌≢◌, ◌⊎◌, [], IfSome, inl, inr, refl, arith, subst, ◌∙◌}
 use Rattle.std.proofs.lemmas.Option.{IfSome_then}
-use Rattle.minimate.specs.Output.{Reply, input_of, IsOutput, refused}
-use Rattle.minimate.specs.Refusal.{refusal_status}
+use Rattle.replies.specs.Output.{Reply, input_of, IsOutput, refused}
+use Rattle.replies.specs.Refusal.{refusal_status}
+use Rattle.replies.specs.declared.refusal.Refusal.{Refusal}
+use Rattle.replies.specs.declared.refusal.Refusal.TheVariants.{Fields, Shape, Letter, Run as RunOfDigits, Side, Kings, Units, PawnRank, OtherInCheck, Limit, Workers, Slots, TooLong, Grammar, Deep, NoMemory}
 use Rattle.minimate.specs.Run.{Run, Writes, HasReply, no_memory, RunsLine, Finishes, Refuses}
 use Rattle.command_line.specs.declared.line.Line.{Line}
-use Rattle.minimate.specs.declared.refusal.Refusal.{Refusal}
-use Rattle.minimate.specs.declared.refusal.Refusal.TheVariants.{Fields, Shape, Letter, Run as RunOfDigits, Side, Kings, Units, PawnRank, OtherInCheck, Limit, Workers, Slots, TooLong, Grammar, Deep, NoMemory}
 
 -- a run that wrote a reply of status 0 or 1
 pub run_of_reply : (line : Line) (run : Run) (reply : Reply) → run.failed_reads ≡ 0

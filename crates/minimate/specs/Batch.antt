@@ -6,11 +6,11 @@ use Rattle.board.specs.declared.fault.FenFault.{FenFault}
 use Rattle.moves.specs.Reading.{IsSoundFault}
 use Rattle.moves.specs.declared.goal.Goal.{Goal}
 use Rattle.command_line.specs.declared.line.Limits.{Limits}
-use Rattle.minimate.specs.Input.{without_line_feed}
-use Rattle.minimate.specs.Output.{Reply, IsSoundText, ShowsAnswer, fault_of, line_of, refused}
-use Rattle.minimate.specs.Refusal.{refusal_of_fen, refusal_of_solve}
+use Rattle.replies.specs.Input.{without_line_feed}
+use Rattle.replies.specs.Output.{Reply, IsSoundText, ShowsAnswer, fault_of, line_of, refused}
+use Rattle.replies.specs.Refusal.{refusal_of_fen, refusal_of_solve}
+use Rattle.replies.specs.declared.refusal.Refusal.TheVariants.{TooLong}
 use Rattle.minimate.specs.Run.{Run, Writes, Finishes, Refuses, no_memory}
-use Rattle.minimate.specs.declared.refusal.Refusal.TheVariants.{TooLong}
 
 -- ---- lines
 

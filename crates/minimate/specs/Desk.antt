@@ -8,19 +8,19 @@ use Rattle.command_line.specs.declared.line.Limits.{Limits}
 use Rattle.rounds.specs.Seats.{AreSeats}
 use Rattle.rounds.specs.declared.fault.SolveFault.{SolveFault}
 use Rattle.rounds.specs.declared.fault.SolveFault.TheVariants as solve
+use Rattle.replies.specs.Device.{AppendsBeginning}
+use Rattle.replies.specs.Output.{fault_of, refused}
+use Rattle.replies.specs.declared.refusal.Refusal.{Refusal}
+use Rattle.replies.specs.declared.refusal.Refusal.TheVariants as refusal
+use Rattle.replies.specs.declared.transfer.InputFault.{InputFault}
+use Rattle.replies.specs.declared.transfer.InputFault.TheVariants as input
 use Rattle.minimate.specs.Batch.{AnswersLines, IsLineReply, IsReplyText, joined}
-use Rattle.minimate.specs.Device.{AppendsBeginning}
 use Rattle.minimate.specs.Lines.{IsNext, IsUnread, left_of}
-use Rattle.minimate.specs.Output.{fault_of, refused}
 use Rattle.minimate.specs.declared.batch.Desk.{Desk}
 use Rattle.minimate.specs.declared.batch.Solver.{Solver}
 use Rattle.minimate.specs.declared.batch.Stop.{Stop}
 use Rattle.minimate.specs.declared.batch.Stop.TheVariants.{ReadFailed, WriteFailed, NoMemory}
 use Rattle.minimate.specs.declared.lines.Next.{Next}
-use Rattle.minimate.specs.declared.refusal.Refusal.{Refusal}
-use Rattle.minimate.specs.declared.refusal.Refusal.TheVariants as refusal
-use Rattle.minimate.specs.declared.transfer.InputFault.{InputFault}
-use Rattle.minimate.specs.declared.transfer.InputFault.TheVariants as input
 
 -- ---- the desk
 

@@ -1,9 +1,3 @@
-pub mod Device
-pub mod Input
-pub mod Refusal
-pub mod Drawing
-pub mod Output
-pub mod Outcome
 pub mod Lines
 pub mod Run
 pub mod Batch

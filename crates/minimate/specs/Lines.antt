@@ -2,7 +2,7 @@
 use Rattle.std.specs.Prelude.{◌≡◌, ◌≢◌, ◌-◌, ◌<◌, ◌≤◌, ℕ, List, [], ◌∷◌, length, take, drop, Option, None, Some, IfSome, All, MatchBool}
 use Rattle.std.specs.Io.BufRead.{take_through, drop_through}
 use Rattle.std.specs.Io.KnownBytes.{prepend_known}
-use Rattle.minimate.specs.Input.{without_line_feed}
+use Rattle.replies.specs.Input.{without_line_feed}
 use Rattle.minimate.specs.declared.lines.Unread.{Unread}
 use Rattle.minimate.specs.declared.lines.Held.{Held}
 use Rattle.minimate.specs.declared.lines.Next.{Next}

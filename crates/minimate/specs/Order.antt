@@ -6,9 +6,9 @@ use Rattle.command_line.specs.Words.{MeansOrder, MeansNoOrder}
 use Rattle.command_line.specs.declared.line.Limits.{Limits}
 use Rattle.command_line.specs.declared.line.Order.{Order}
 use Rattle.command_line.specs.declared.line.Order.TheVariants.{One, Batch}
+use Rattle.replies.specs.Output.{MayRead, fault_of}
 use Rattle.minimate.specs.Batch.{RunsBatch}
-use Rattle.minimate.specs.Output.{fault_of}
-use Rattle.minimate.specs.Run.{Run, Writes, GivesUp, MayRead, MayTell, RunsLine, failures_of}
+use Rattle.minimate.specs.Run.{Run, Writes, GivesUp, MayTell, RunsLine, failures_of}
 
 -- the run is one of the order
 abbrev pub RunsOrder : Order → Run → Type 0

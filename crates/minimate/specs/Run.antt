@@ -1,14 +1,11 @@
 -- What a run of the program does: its status, and what it reads and writes.
 use Rattle.std.specs.Prelude.{◌≡◌, ◌⊎◌, ◌↔◌, ◌+◌, ◌-◌, ◌<◌, ◌≤◌, ℕ, List, [], Option, IfSome}
 use Rattle.std.specs.Io.KnownBytes.{Appends}
-use Rattle.minimate.specs.Device.{AppendsBeginning}
-use Rattle.board.specs.Board.{PlainBoard}
-use Rattle.moves.specs.declared.goal.Goal.{Goal}
-use Rattle.minimate.specs.Output.{Reply, IsSoundText, IsOutput, input_of, refused}
+use Rattle.replies.specs.Device.{AppendsBeginning}
+use Rattle.replies.specs.Output.{Reply, IsOutput, input_of, refused}
 use Rattle.command_line.specs.declared.line.Line.{Line}
-use Rattle.command_line.specs.declared.line.Action.TheVariants.{Check}
-use Rattle.minimate.specs.declared.refusal.Refusal.{Refusal}
-use Rattle.minimate.specs.declared.refusal.Refusal.TheVariants.{NoMemory}
+use Rattle.replies.specs.declared.refusal.Refusal.{Refusal}
+use Rattle.replies.specs.declared.refusal.Refusal.TheVariants.{NoMemory}
 
 -- what was seen of a run's writer, and the status
 pub record Ending : Type 0 where
@@ -56,10 +53,6 @@ WritesBeginning ending text = AppendsBeginning ending.before ending.after text
 abbrev pub HasReply : Line → Run → (Reply → Type 0) → Type 0
 HasReply line run Is =
     IfSome (input_of line.action run.input) (λ input. (reply : Reply) × IsOutput line input reply × Is reply)
-
--- the line reads the input: it is a `check` at a sound position
-abbrev pub MayRead : Line → Type 0
-MayRead line = ((goal : Goal) × (line.action ≡ Check goal)) × ((b : PlainBoard) × IsSoundText line.fen.now b)
 
 -- a run with this status tells why: its line was refused, or memory was
 abbrev pub MayTell : ℕ → Type 0

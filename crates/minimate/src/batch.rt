@@ -1,22 +1,20 @@
 //! A batch: a solve of each position of the input, over one table.
 ghost use Rattle.std.specs.Prelude.{◌≡◌, ◌<◌, IfOk, vec_items};
+ghost use Rattle.replies.specs.Outcome.{Gives};
+ghost use Rattle.replies.specs.Output.{ShowsAnswer, refused};
 ghost use Rattle.minimate.specs.Batch.{IsReplyText, said_in};
 ghost use Rattle.minimate.specs.Desk.{GivesNext, GivesSaid, IsDesk, IsSolver, OpensDesk, SameSolver, TakesLines, TakesStep, step_of, stop_of};
-ghost use Rattle.minimate.specs.Outcome.{Gives};
-ghost use Rattle.minimate.specs.Output.{ShowsAnswer, refused};
 ghost use Rattle.minimate.specs.declared.batch.Stop.TheVariants.{NoMemory, WriteFailed};
 
-use crate::advice::{Refused, advise};
-use crate::device::{Failed, Sink, Source};
 use crate::ending::refused_text;
 use crate::lines::{Next, Unread, is_remark, said_in};
-use crate::refusal::Refusal;
-use crate::reply::{answer_text, search_of};
-use crate::transfer::{InputFault, write_all};
 use board::Position;
 use command_line::Limits;
 use entry::MateLore;
 use moves::{Goal, read_sound};
+use replies::{
+    Failed, InputFault, Refusal, Refused, Sink, Source, advise, answer_text, search_of, write_all,
+};
 use rounds::{NoGate, SolveFault, Task, make_table, solve_over};
 use slots::{Seat, Slots};
 use std::alloc::{AllocError, Global};

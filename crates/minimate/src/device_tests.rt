@@ -1,8 +1,8 @@
 //! Readers and writers of the standard library that fail once and would work if they were asked again.
 ghost use Rattle.std.specs.Prelude.{None};
 
-use crate::device::Counted;
 use crate::tests::run_quietly;
+use replies::Counted;
 use std::io::{self, Read, Write};
 use std::test::Fail;
 

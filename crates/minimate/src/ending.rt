@@ -1,11 +1,9 @@
 //! How a run ends: what is written last, and the status.
 ghost use Rattle.std.specs.Prelude.{◌≡◌, ◌↔◌, ◌<◌, IfOk, IsTrue, string_bytes};
-ghost use Rattle.minimate.specs.Output.{refused};
+ghost use Rattle.replies.specs.Output.{refused};
 ghost use Rattle.minimate.specs.Run.{ending_of, Finishes, MayTell, Refuses, no_memory};
 
-use crate::device::Sink;
-use crate::refusal::Refusal;
-use crate::transfer::write_all;
+use replies::{Refusal, Sink, write_all};
 use std::alloc::{AllocError, Global};
 
 pub const ANSWERED: u8 = 0;

@@ -1,11 +1,10 @@
 //! An input, line by line.
 ghost use Rattle.std.specs.Prelude.{◌≡◌, ◌+◌, ◌<◌, ◌++◌, ◌∷◌, [], ℕ, IfOk, List, OnErr, OnOk};
+ghost use Rattle.replies.specs.Input.{failed_reads};
 ghost use Rattle.minimate.specs.Batch.{is_remark, said_in, without_return};
-ghost use Rattle.minimate.specs.Input.{failed_reads};
 ghost use Rattle.minimate.specs.Lines.{Fills, HasNoFeed, Holds, IsNext, IsUnread, TakesByte, TakesLine, left_of};
 
-use crate::device::{Failed, Source};
-use crate::transfer::InputFault;
+use replies::{Failed, InputFault, Source};
 use std::alloc::{AllocError, Global};
 use std::sync::Wait;
 

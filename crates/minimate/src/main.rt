@@ -1,28 +1,20 @@
 //! Forced mates in minichess: the program.
 #![tactic(auto)]
 
-mod advice;
 mod batch;
-mod board_text;
-mod device;
 #[cfg(test)]
 mod device_tests;
-mod drawing;
 mod ending;
 mod lines;
 mod program;
 #[cfg(test)]
 mod program_tests;
-mod refusal;
-mod reply;
 mod run;
 #[cfg(test)]
 mod tests;
-mod transfer;
-mod trouble;
 
-use crate::device::Counted;
 use crate::program::run_program;
+use replies::Counted;
 use std::process::ExitCode;
 use std::{env, io};
 

@@ -4,10 +4,9 @@ ghost use Rattle.std.specs.Io.KnownBytes.{Appends};
 ghost use Rattle.minimate.specs.Run.{ending_of, run_of, MayTell};
 ghost use Rattle.minimate.specs.Program.{RunsProgram, MayReadIn, MeansBatchIn, no_text, no_goal};
 
-use crate::advice::advise_words;
-use crate::device::{Sink, Source};
 use crate::ending::{REFUSED_WORDS, give_up_for_memory};
 use crate::run::run;
+use replies::{Sink, Source, advise_words};
 use std::alloc::Global;
 use std::io::{self, Write};
 use std::sync::Wait;

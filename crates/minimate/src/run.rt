@@ -1,20 +1,16 @@
 //! A run of the program over any reader and writer.
 ghost use Rattle.std.specs.Prelude.{◌≡◌, ◌⊎◌, ◌<◌, None, map};
+ghost use Rattle.replies.specs.Output.{fault_of, MayRead};
 ghost use Rattle.minimate.specs.Batch.{RunsBatch};
 ghost use Rattle.minimate.specs.Order.{MayReadFor, MeansBatch, RunsWords};
-ghost use Rattle.minimate.specs.Output.{fault_of};
-ghost use Rattle.minimate.specs.Run.{ending_of, run_of, MayRead, MayTell, Refuses, RunsLine};
+ghost use Rattle.minimate.specs.Run.{ending_of, run_of, MayTell, Refuses, RunsLine};
 
-use crate::advice::{Refused, advise};
 use crate::batch::{Batch, Desk, Stop, answer_lines};
-use crate::device::{Sink, Source};
 use crate::ending::{
     ANSWERED, FAILED, REFUSED_WORDS, finish, give_up_for_memory, may_tell, refuse,
 };
-use crate::refusal::Refusal;
-use crate::reply::reply;
-use crate::trouble::Trouble;
 use command_line::{Line, LineFault, Order, read_order};
+use replies::{Refusal, Refused, Sink, Source, Trouble, advise, reply};
 use std::convert::AsStr;
 use std::io::Write;
 use std::sync::Wait;

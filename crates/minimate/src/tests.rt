@@ -1,8 +1,8 @@
 //! Whole runs over devices in memory: worked positions, refusals, and devices that fail.
 ghost use Rattle.std.specs.Prelude.{◌≡◌, ◌<◌, None, Some, IfOk};
 
-use crate::device::{Counted, Failed, Sink, Source};
 use crate::run::run;
+use replies::{Counted, Failed, Sink, Source};
 use std::alloc::{AllocError, Global};
 use std::process::Abort;
 use std::sync::Wait;

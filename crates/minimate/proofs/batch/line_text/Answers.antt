@@ -1,7 +1,7 @@
 use Rattle.std.proofs.Common.{◌∙◌, ap, inl, inr, subst, sym}
 use Rattle.std.proofs.lemmas.Result.{IfOk-weaker}
+use Rattle.replies.specs.Refusal.{refusal_status}
 use Rattle.minimate.specs.Batch.{IsReplyText}
-use Rattle.minimate.specs.Refusal.{refusal_status}
 use Rattle.minimate.proofs.batch.line_text.Goals as goal
 
 pub returns-in-Ok-clause-text : goal.returns-in-Ok-clause-text

@@ -1,5 +1,5 @@
 use Rattle.std.proofs.Common.{rules, ◌∙◌, sym}
-use Rattle.minimate.specs.Output.{IsSoundText}
+use Rattle.replies.specs.Output.{IsSoundText}
 use Rattle.minimate.proofs.BatchLemmas.{said_fault, said_gives}
 use Rattle.minimate.proofs.batch.said_text.Goals as goal
 

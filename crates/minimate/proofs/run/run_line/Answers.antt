@@ -1,7 +1,7 @@
 use Rattle.std.proofs.Common.{inl, refl, arith}
 use Rattle.std.proofs.KnownBytes.{Appends-nil}
+use Rattle.replies.specs.Output.{answered}
 use Rattle.minimate.proofs.RunLemmas.{run_of_reply, run_of_refusal, run_of_failed_read}
-use Rattle.minimate.specs.Output.{answered}
 use Rattle.minimate.proofs.run.run_line.Goals as goal
 
 pub returns-in-Ok-clause-runs : goal.returns-in-Ok-clause-runs

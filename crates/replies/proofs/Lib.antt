@@ -1,0 +1,3 @@
+mod DeviceLemmas
+pub mod ReplyLemmas
+mod DrawingLemmas

@@ -1,0 +1,76 @@
+-- A reply, from what its parts give.
+use Rattle.std.proofs.Common.{◌≡◌, ◌≤◌, ◌⊎◌, ℕ, List, Option, None, Some, Result, Ok, Err, IfSome, IsErr, IsErrAnd, length, inl, inr, refl, sym, subst}
+use Rattle.std.proofs.lemmas.Bool.{le-ltb}
+use Rattle.std.proofs.lemmas.Option.{IfSome_then}
+use Rattle.board.specs.Board.{PlainBoard}
+use Rattle.board.specs.declared.fault.FenFault.{FenFault}
+use Rattle.moves.specs.Reading.{IsSoundFault}
+use Rattle.moves.specs.declared.goal.Goal.{Goal}
+use Rattle.replies.specs.Input.{IsInput, without_line_feed}
+use Rattle.replies.specs.Outcome.{GivesIfRead, GivesReply}
+use Rattle.replies.specs.Output.{Reply, refused, IsSoundText, IsOutput, Shows, ShowsTree, ShowsCheck, input_of}
+use Rattle.replies.specs.Refusal.{refusal_of_fen}
+use Rattle.command_line.specs.declared.line.Line.{Line}
+use Rattle.command_line.specs.declared.line.Action.{Action}
+use Rattle.replies.specs.declared.refusal.Refusal.{Refusal}
+use Rattle.replies.specs.declared.refusal.Refusal.TheVariants.{NoMemory}
+use Rattle.replies.specs.declared.trouble.Trouble.{Trouble}
+use Rattle.replies.specs.declared.trouble.Trouble.TheVariants.{Refused, ReadFailed}
+
+-- what holds of each value holds of the one that is known
+pub of_any : {X : Type 0} (known : Option X) (P : X → Type 0) → ((x : X) → P x) → IfSome known P
+of_any None P all = tt
+of_any (Some x) P all = all x
+
+-- a refusal that is right, or is want of memory, is given
+pub refusal_gives : {B : Type 0} (bytes : B → List ℕ) (Is : Reply → Type 0) (r : Result B Trouble) (refusal : Refusal) → (refusal ≡ NoMemory) ⊎ Is (refused refusal)
+    → IsErr r × IsErrAnd r (λ trouble. trouble ≡ Refused refusal) → GivesIfRead bytes Is r
+refusal_gives bytes Is (Ok b) refusal right err = absurd err.1
+refusal_gives bytes Is (Err (Refused other)) refusal right err =
+    let same : refusal ≡ other = cc in subst (λ x. (x ≡ NoMemory) ⊎ Is (refused x)) same right
+refusal_gives bytes Is (Err ReadFailed) refusal right err = tt
+
+-- a text of a fault is refused, whatever the input
+pub fault_gives : {B : Type 0} (bytes : B → List ℕ) (line : Line) (known : Option (List ℕ)) (r : Result B Trouble) (fault : FenFault)
+    → IsSoundFault line.fen.now fault → IsErr r × IsErrAnd r (λ trouble. trouble ≡ Refused (refusal_of_fen fault)) → GivesReply bytes line known r
+fault_gives bytes line known r fault is err =
+    of_any (input_of line.action known) _
+    (λ input. refusal_gives bytes (IsOutput line input) r (refusal_of_fen fault) (inr (inr (fault, is, refl))) err)
+
+-- the reply of the command at the sound position of the line is the line's output
+output_at : (line : Line) (input : List ℕ) (b : PlainBoard) (action : Action) (reply : Reply) → IsSoundText line.fen.now b → line.action ≡ action
+    → Shows b action input reply → IsOutput line input reply
+output_at line input b action reply sound is shows = inl (b, sound, subst (λ a. Shows b a input reply) (sym is) shows)
+
+-- what a command gives at the sound position of the line, a reply gives
+gives_at : {B : Type 0} (bytes : B → List ℕ) (line : Line) (input : List ℕ) (b : PlainBoard) (action : Action) (r : Result B Trouble)
+    → IsSoundText line.fen.now b → line.action ≡ action → GivesIfRead bytes (Shows b action input) r → GivesIfRead bytes (IsOutput line input) r
+gives_at bytes line input b action (Ok text) sound is gives = output_at line input b action _ sound is gives
+gives_at bytes line input b action (Err (Refused refusal)) sound is (inl none) = inl none
+gives_at bytes line input b action (Err (Refused refusal)) sound is (inr shows) = inr (output_at line input b action _ sound is shows)
+gives_at bytes line input b action (Err ReadFailed) sound is gives = tt
+
+-- the same where the input that the command reads is known
+pub gives_reply : {B : Type 0} (bytes : B → List ℕ) (line : Line) (known : Option (List ℕ)) (b : PlainBoard) (action : Action) (r : Result B Trouble)
+    → IsSoundText line.fen.now b → line.action ≡ action → IfSome (input_of action known) (λ input. GivesIfRead bytes (Shows b action input) r)
+    → GivesReply bytes line known r
+gives_reply {B} bytes line known b action r sound is gives =
+    subst (λ a. IfSome (input_of a known) (λ input. GivesIfRead bytes (IsOutput line input) r)) (sym is)
+    (IfSome_then (input_of action known) gives (λ input one. gives_at bytes line input b action r sound is one))
+
+-- ---- a check
+
+-- an input that isn't too long is checked
+shows_check : (goal : Goal) (b : PlainBoard) (input : List ℕ) (reply : Reply) → length input ≤ 1048576
+    → ShowsTree goal b (without_line_feed input) reply → ShowsCheck goal b input reply
+shows_check goal b input reply fits shows = rw (le-ltb 1048576 (length input) fits) shows
+
+-- what is refused of the input that was read is refused of the reader's input
+pub check_refused : {B : Type 0} (bytes : B → List ℕ) (goal : Goal) (b : PlainBoard) (known : Option (List ℕ)) (read : List ℕ) (r : Result B Trouble) (refusal : Refusal)
+    → IsInput known read → (refusal ≡ NoMemory) ⊎ ShowsTree goal b (without_line_feed read) (refused refusal)
+    → IsErr r × IsErrAnd r (λ trouble. trouble ≡ Refused refusal)
+    → IfSome known (λ input. GivesIfRead bytes (ShowsCheck goal b input) r)
+check_refused {B} bytes goal b known read r refusal is right err =
+    let here : GivesIfRead bytes (ShowsCheck goal b read) r = refusal_gives bytes (ShowsCheck goal b read) r refusal
+    (elim right [ inl none ↦ inl none | inr shows ↦ inr (shows_check goal b read (refused refusal) is.0 shows) ]) err in
+    IfSome_then known is.1 (λ input same. subst (λ i. GivesIfRead bytes (ShowsCheck goal b i) r) (sym same) here)

@@ -1,0 +1,24 @@
+-- The input of a run.
+use Rattle.std.specs.Prelude.{◌≡◌, ◌-◌, ◌<◌, ◌≤◌, ◌==◌, ℕ, List, Option, IfSome, Result, Ok, Err, length, take, slice_index, if◌then◌else◌}
+use Rattle.replies.specs.declared.transfer.InputFault.{InputFault}
+use Rattle.replies.specs.declared.transfer.InputFault.TheVariants.{ReadFailed, TooLong, NoMemory}
+
+-- these are all the bytes that the reader had, where it tells, and they are at most 1,048,576
+abbrev pub IsInput : Option (List ℕ) → List ℕ → Type 0
+IsInput known bytes = (length bytes ≤ 1048576) × IfSome known (λ input. input ≡ bytes)
+
+-- the reader had more than 1,048,576 bytes, where it tells
+abbrev pub IsTooLong : Option (List ℕ) → Type 0
+IsTooLong known = IfSome known (λ input. 1048576 < length input)
+
+-- how many reads failed: one at most, since a failure ends the reading
+abbrev pub failed_reads : {T : Type 0} → Result T InputFault → ℕ
+failed_reads (Ok bytes) = 0
+failed_reads (Err ReadFailed) = 1
+failed_reads (Err TooLong) = 0
+failed_reads (Err NoMemory) = 0
+
+-- the bytes without one line feed at their end, if there is one
+abbrev pub without_line_feed : List ℕ → List ℕ
+without_line_feed bytes =
+    if slice_index bytes (length bytes - 1) == 10 then take (length bytes - 1) bytes else bytes

@@ -1,0 +1,6 @@
+pub mod Device
+pub mod Input
+pub mod Refusal
+pub mod Drawing
+pub mod Output
+pub mod Outcome

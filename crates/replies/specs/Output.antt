@@ -1,0 +1,171 @@
+-- What the program writes for a line, and the status that it ends with.
+use Rattle.std.specs.Prelude.{◌≡◌, ◌⊎◌, ℕ, List, [], ◌∷◌, ◌++◌, ◌≢◌, ◌≤◌, nat_lt, length, Option, None, Some, MatchBool, MatchOption, SomeIff, codes}
+use Rattle.std.specs.List.{flat_map}
+use Rattle.std.specs.Fmt.{decimal}
+use Rattle.board.specs.declared.fault.FenFault.{FenFault}
+use Rattle.board.specs.Board.{PlainBoard, IsPosition}
+use Rattle.board.specs.Fen.{IsFenText}
+use Rattle.moves.specs.declared.goal.Goal.{Goal}
+use Rattle.moves.specs.declared.goal.Goal.TheVariants as goal
+use Rattle.moves.specs.MoveText.{move_text}
+use Rattle.moves.specs.Order.{ListsLawful}
+use Rattle.moves.specs.Reach.{IsSound}
+use Rattle.moves.specs.Reading.{IsSoundFault}
+use Rattle.moves.specs.Squares.{Ply}
+use Rattle.decision.specs.declared.answer.Answer.{Answer}
+use Rattle.decision.specs.declared.answer.Answer.TheVariants.{Mate, NoneWithin}
+use Rattle.decision.specs.Answer.{IsAnswer, IsFewest, ForcesNothing}
+use Rattle.rounds.specs.declared.fault.SolveFault.{SolveFault}
+use Rattle.rounds.specs.declared.keys.Key.{Key}
+use Rattle.rounds.specs.Keys.{ListsKeys}
+use Rattle.rounds.specs.Limits.{limits_fault}
+use Rattle.trees.specs.Best.{IsBest}
+use Rattle.wintree.specs.declared.fault.TreeFault.{TreeFault}
+use Rattle.wintree.specs.declared.fault.TreeFault.TheVariants as tree
+use Rattle.wintree.specs.Offset.{IsFaultOf}
+use Rattle.wintree.specs.Plan.{Plan, depth}
+use Rattle.wintree.specs.Text.{TreeText, text as plan_text}
+use Rattle.wintree.specs.Wins.{Wins, height}
+use Rattle.replies.specs.Drawing.{board_drawn}
+use Rattle.replies.specs.Input.{without_line_feed}
+use Rattle.replies.specs.Refusal.{refusal_status, refusal_text, refusal_of_fen, refusal_of_solve, refusal_of_tree}
+use Rattle.command_line.specs.declared.line.Line.{Line}
+use Rattle.command_line.specs.declared.line.Limits.{Limits}
+use Rattle.command_line.specs.declared.line.Action.{Action}
+use Rattle.command_line.specs.declared.line.Action.TheVariants.{Solve, Keys, Moves, Show, Tree, Check}
+use Rattle.replies.specs.declared.refusal.Refusal.{Refusal}
+use Rattle.replies.specs.declared.refusal.Refusal.TheVariants.{TooLong}
+
+-- what is written, and the status
+pub record Reply : Type 0 where
+  pub status : ℕ
+  pub text : List ℕ
+
+-- a text on a line of its own
+abbrev pub line_of : List ℕ → List ℕ
+line_of text = text ++ 10 ∷ []
+
+-- an answer, with status 0
+abbrev pub answered : List ℕ → Reply
+answered text = record { status = 0; text = text }
+
+-- a refusal, with its status
+abbrev pub refused : Refusal → Reply
+refused refusal = record { status = refusal_status refusal; text = line_of (codes "refused: " ++ refusal_text refusal) }
+
+-- ---- the texts of answers
+
+-- that nothing is forced within the limit, as `none within 1`
+abbrev pub none_text : ℕ → List ℕ
+none_text limit = line_of (codes "none within " ++ decimal limit)
+
+-- the plies and the first move, as `mate 1 f1f6`, or `goal 1 b1b5` where stalemate is good too; or `none within 1`
+abbrev pub answer_text : Goal → Answer → List ℕ
+answer_text goal.Mate (Mate plies first) = codes "mate " ++ (decimal plies ++ (codes " " ++ line_of (move_text first)))
+answer_text goal.MateOrStale (Mate plies first) = codes "goal " ++ (decimal plies ++ (codes " " ++ line_of (move_text first)))
+answer_text goal (NoneWithin limit) = none_text limit
+
+-- a key on a line of its own, with the plies that it takes, as `c4c5 3`
+abbrev pub key_text : Key → List ℕ
+key_text key = move_text key.first ++ (codes " " ++ line_of (decimal key.plies))
+
+-- each key, or that nothing is forced within the limit
+abbrev pub keys_text : ℕ → List Key → List ℕ
+keys_text limit [] = none_text limit
+keys_text limit (key ∷ keys) = flat_map key_text (key ∷ keys)
+
+-- each move on a line of its own
+abbrev pub moves_text : List Ply → List ℕ
+moves_text moves = flat_map (λ m. line_of (move_text m)) moves
+
+-- in how many plies a tree wins, as `yes 3`, or `no`
+abbrev pub checked_text : Option ℕ → List ℕ
+checked_text None = line_of (codes "no")
+checked_text (Some plies) = line_of (codes "yes " ++ decimal plies)
+
+-- ---- the reply to each command, at a position
+
+-- the first of these values that is refused, if one is
+abbrev pub fault_of : Limits → Option SolveFault
+fault_of limits = limits_fault limits.limit limits.workers limits.slots
+
+-- the answer for a goal within the limit, or the refusal of the first value that is outside its limits
+abbrev pub ShowsAnswer : Goal → PlainBoard → Limits → Reply → Type 0
+ShowsAnswer goal b limits reply = MatchOption (fault_of limits)
+    ((answer : Answer) × IsAnswer goal b limits.limit answer × (reply ≡ answered (answer_text goal answer)))
+    (λ fault. reply ≡ refused (refusal_of_solve fault))
+
+-- the first moves that force a goal within the limit, in order, each with its plies; or the refusal of the first value that is outside its limits
+abbrev pub ShowsKeys : Goal → PlainBoard → Limits → Reply → Type 0
+ShowsKeys goal b limits reply = MatchOption (fault_of limits)
+    ((keys : List Key) × ListsKeys goal b limits.limit keys × (reply ≡ answered (keys_text limits.limit keys)))
+    (λ fault. reply ≡ refused (refusal_of_solve fault))
+
+-- the text of the best plan, where the goal is forced in some number of plies up to the limit, or that it is in none
+abbrev pub ShowsBest : Goal → PlainBoard → ℕ → Reply → Type 0
+ShowsBest goal b limit reply =
+    ((plies : ℕ) × (plies ≤ limit) × IsFewest goal b plies × ((plan : Plan) × IsBest goal b plan × (reply ≡ answered (line_of (plan_text plan)))))
+    ⊎ (ForcesNothing goal b limit × (reply ≡ answered (none_text limit)))
+
+-- the same, or the refusal of the first value that is outside its limits
+abbrev pub ShowsPlanFound : Goal → PlainBoard → Limits → Reply → Type 0
+ShowsPlanFound goal b limits reply =
+    MatchOption (fault_of limits) (ShowsBest goal b limits.limit reply) (λ fault. reply ≡ refused (refusal_of_solve fault))
+
+-- the lawful moves, in order
+abbrev pub ShowsMoves : PlainBoard → Reply → Type 0
+ShowsMoves b reply = (moves : List Ply) × ListsLawful b moves × (reply ≡ answered (moves_text moves))
+
+-- the height of a plan that wins for the goal, or that it doesn't win
+abbrev pub ShowsPlan : Goal → PlainBoard → Plan → Reply → Type 0
+ShowsPlan goal b plan reply =
+    (plies : Option ℕ) × SomeIff plies (Wins goal b plan) (height plan) × (reply ≡ answered (checked_text plies))
+
+-- the text is that of the plan, in which at most 32 of the attacker's moves are nested
+abbrev pub IsTreeText : List ℕ → Plan → Type 0
+IsTreeText text plan = TreeText text plan × (depth plan ≤ 32)
+
+-- the text is no such plan's, and this is its fault
+abbrev pub IsTreeFault : List ℕ → TreeFault → Type 0
+IsTreeFault text fault = IsFaultOf text fault × (fault ≢ tree.NoMemory)
+
+-- what is said of the text's plan, or the refusal of the text's fault
+abbrev pub ShowsTree : Goal → PlainBoard → List ℕ → Reply → Type 0
+ShowsTree goal b text reply =
+    ((plan : Plan) × IsTreeText text plan × ShowsPlan goal b plan reply)
+    ⊎ ((fault : TreeFault) × IsTreeFault text fault × (reply ≡ refused (refusal_of_tree fault)))
+
+-- the same of the input without a line feed at its end, or that the input is too long: more than 1,048,576 bytes
+abbrev pub ShowsCheck : Goal → PlainBoard → List ℕ → Reply → Type 0
+ShowsCheck goal b input reply =
+    MatchBool (nat_lt 1048576 (length input)) (reply ≡ refused TooLong) (ShowsTree goal b (without_line_feed input) reply)
+
+-- the reply of the command
+abbrev pub Shows : PlainBoard → Action → List ℕ → Reply → Type 0
+Shows b (Solve goal limits) input reply = ShowsAnswer goal b limits reply
+Shows b (Keys goal limits) input reply = ShowsKeys goal b limits reply
+Shows b Moves input reply = ShowsMoves b reply
+Shows b Show input reply = reply ≡ answered (board_drawn b)
+Shows b (Tree goal limits) input reply = ShowsPlanFound goal b limits reply
+Shows b (Check goal) input reply = ShowsCheck goal b input reply
+
+-- ---- the output of a line
+
+-- the text is that of this position, and the side that isn't to move is out of check
+abbrev pub IsSoundText : List ℕ → PlainBoard → Type 0
+IsSoundText text b = IsPosition b × IsFenText text b × IsSound b
+
+-- the reply to a line with this input: its command's at the sound position of its text, or the refusal of its text's fault
+abbrev pub IsOutput : Line → List ℕ → Reply → Type 0
+IsOutput line input reply =
+    ((b : PlainBoard) × IsSoundText line.fen.now b × Shows b line.action input reply)
+    ⊎ ((fault : FenFault) × IsSoundFault line.fen.now fault × (reply ≡ refused (refusal_of_fen fault)))
+
+-- what is known of the input that a command reads: all but `check` read none
+abbrev pub input_of : Action → Option (List ℕ) → Option (List ℕ)
+input_of (Check goal) known = known
+input_of _ known = Some []
+
+-- the line reads the input: it is a `check` at a sound position
+abbrev pub MayRead : Line → Type 0
+MayRead line = ((goal : Goal) × (line.action ≡ Check goal)) × ((b : PlainBoard) × IsSoundText line.fen.now b)

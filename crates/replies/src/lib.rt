@@ -1,0 +1,18 @@
+//! The text that answers a line, or why there is none, over any reader and writer.
+#![tactic(auto)]
+
+mod advice;
+mod board_text;
+mod device;
+mod drawing;
+mod refusal;
+mod replying;
+mod transfer;
+mod trouble;
+
+pub use advice::{Refused, advise, advise_words};
+pub use device::{Counted, Failed, Sink, Source};
+pub use refusal::Refusal;
+pub use replying::{Search, answer_text, reply, search_of};
+pub use transfer::{InputFault, write_all};
+pub use trouble::Trouble;

@@ -1,0 +1,133 @@
+//! What stands after `refused: `.
+ghost use Rattle.std.specs.Prelude.{◌≡◌, Some};
+ghost use Rattle.replies.specs.Refusal.{refusal_status, refusal_text, refusal_of_fen, refusal_of_solve, refusal_of_tree};
+ghost use Rattle.replies.specs.declared.refusal.Refusal.TheVariants.{NoMemory as no_memory};
+
+use board::FenFault;
+use rounds::SolveFault;
+use std::alloc::AllocError;
+use std::fmt;
+use wintree::{NoMemory, TreeFault};
+
+/// Why a line was not answered, by the name that is printed.
+#[derive(Clone, Copy, Debug, PartialEq, Eq)]
+pub enum Refusal {
+    // of the position's text
+    Fields,
+    Shape,
+    Letter,
+    Run,
+    Side,
+    Kings,
+    Units,
+    PawnRank,
+    OtherInCheck,
+
+    // of the values of `solve` and `tree`
+    Limit,
+    Workers,
+    Slots,
+
+    // of the input of `check`
+    TooLong,
+    Grammar(usize),
+    Deep,
+
+    NoMemory,
+}
+
+impl Refusal {
+    /// The status of a run that ends with it.
+    pub fn status(self) -> u8
+        ensures { result ≡ refusal_status self }
+    {
+        match self {
+            Refusal::NoMemory => 3,
+            _ => 1,
+        }
+    }
+}
+
+impl fmt::Display for Refusal {
+    ghost output = { λ refusal. Some (refusal_text refusal) };
+
+    fn fmt<W: fmt::Write>(&self, f: &mut fmt::Formatter<W>) -> fmt::Result {
+        match self {
+            Refusal::Fields => write!(f, "Fields"),
+            Refusal::Shape => write!(f, "Shape"),
+            Refusal::Letter => write!(f, "Letter"),
+            Refusal::Run => write!(f, "Run"),
+            Refusal::Side => write!(f, "Side"),
+            Refusal::Kings => write!(f, "Kings"),
+            Refusal::Units => write!(f, "Units"),
+            Refusal::PawnRank => write!(f, "PawnRank"),
+            Refusal::OtherInCheck => write!(f, "OtherInCheck"),
+            Refusal::Limit => write!(f, "Limit"),
+            Refusal::Workers => write!(f, "Workers"),
+            Refusal::Slots => write!(f, "Slots"),
+            Refusal::TooLong => write!(f, "TooLong"),
+            Refusal::Grammar(offset) => write!(f, "Grammar at offset {offset}"),
+            Refusal::Deep => write!(f, "Deep"),
+            Refusal::NoMemory => write!(f, "NoMemory"),
+        }
+    }
+}
+
+impl From<FenFault> for Refusal {
+    ghost from_gives = { λ fault refusal. refusal ≡ refusal_of_fen fault };
+
+    fn from(fault: FenFault) -> Refusal {
+        match fault {
+            FenFault::Fields => Refusal::Fields,
+            FenFault::Shape => Refusal::Shape,
+            FenFault::Letter => Refusal::Letter,
+            FenFault::Run => Refusal::Run,
+            FenFault::Side => Refusal::Side,
+            FenFault::Kings => Refusal::Kings,
+            FenFault::Units => Refusal::Units,
+            FenFault::PawnRank => Refusal::PawnRank,
+            FenFault::OtherInCheck => Refusal::OtherInCheck,
+        }
+    }
+}
+
+impl From<SolveFault> for Refusal {
+    ghost from_gives = { λ fault refusal. refusal ≡ refusal_of_solve fault };
+
+    fn from(fault: SolveFault) -> Refusal {
+        match fault {
+            SolveFault::Limit => Refusal::Limit,
+            SolveFault::Workers => Refusal::Workers,
+            SolveFault::Slots => Refusal::Slots,
+            SolveFault::NoMemory => Refusal::NoMemory,
+        }
+    }
+}
+
+impl From<TreeFault> for Refusal {
+    ghost from_gives = { λ fault refusal. refusal ≡ refusal_of_tree fault };
+
+    fn from(fault: TreeFault) -> Refusal {
+        match fault {
+            TreeFault::Grammar(offset) => Refusal::Grammar(offset),
+            TreeFault::Deep => Refusal::Deep,
+            TreeFault::NoMemory => Refusal::NoMemory,
+        }
+    }
+}
+
+impl From<NoMemory> for Refusal {
+    ghost from_gives = { λ _ refusal. refusal ≡ no_memory };
+
+    fn from(_refused: NoMemory) -> Refusal {
+        Refusal::NoMemory
+    }
+}
+
+impl From<AllocError> for Refusal {
+    ghost from_gives = { λ _ refusal. refusal ≡ no_memory };
+
+    fn from(_error: AllocError) -> Refusal {
+        Refusal::NoMemory
+    }
+}

@@ -1,0 +1,311 @@
+//! The reply to a line: the text of its answer, or why there is none.
+ghost use Rattle.std.specs.Prelude.{◌≡◌, ◌⊎◌, ◌+◌, ◌<◌, ◌≤◌, All, Err, IfErr, IfOk, IfSome, Ok, length, min, string_bytes, vec_items};
+ghost use Rattle.slots.specs.Promise.{IsSeatOf};
+ghost use Rattle.std.specs.List.{flat_map};
+ghost use Rattle.wintree.specs.Plan.{depth};
+ghost use Rattle.wintree.specs.Text.{text as tree_words};
+ghost use Rattle.replies.specs.Outcome.{Solves, FindsKeys, Gives, GivesIfRead, GivesReply, reads_failed};
+ghost use Rattle.replies.specs.Output.{answer_text, none_text, key_text, keys_text, moves_text, checked_text, line_of, ShowsAnswer, ShowsKeys, ShowsPlanFound, ShowsTree, ShowsCheck, MayRead};
+
+use crate::device::Source;
+use crate::drawing::board_drawn;
+use crate::refusal::Refusal;
+use crate::transfer::{read_all, without_line_feed};
+use crate::trouble::Trouble;
+use board::Position;
+use command_line::{Action, Limits, Line};
+use decision::Answer;
+use entry::MateLore;
+use moves::{Goal, Move, lawful, read_sound};
+use rounds::{Key, NoGate, SolveFault, Task, keys_over, make_table, solve, solve_over};
+use slots::{Seat, Slots};
+use std::alloc::{AllocError, Global};
+use std::fmt::Write;
+use std::sync::Wait;
+use std::thread::Threads;
+use trees::{Wanted, build_tree_over};
+use wintree::{NoMemory, Tree, check, read_tree, tree_text};
+
+/// With what `solve` searches.
+#[derive(Clone, Copy)]
+pub struct Search {
+    pub limit: u8,
+    pub workers: u8,
+    pub slots: usize,
+}
+
+/// The number as a byte. One that is too great is outside what is searched with, and stays so as 255.
+fn byte_of(number: u32) -> u8
+    ensures { result ≡ min number 255 }
+{
+    u8::try_from(number).unwrap_or(u8::MAX)
+}
+
+/// The values of the line, in the types that `solve` takes.
+pub fn search_of(limits: Limits) -> Search
+    ensures limit { result.limit ≡ min limits.limit 255 }
+    ensures workers { result.workers ≡ min limits.workers 255 }
+    ensures slots { result.slots ≡ limits.slots }
+{
+    Search {
+        limit: byte_of(limits.limit),
+        workers: byte_of(limits.workers),
+        slots: limits.slots as usize,
+    }
+}
+
+/// The answer within the limits.
+fn answer_within<R: Threads + Wait + Sync>(
+    rt: &R,
+    alloc: Global,
+    position: &Position,
+    goal: Goal,
+    limits: Limits,
+) -> Result<Answer, SolveFault>
+    ensures { Solves goal position.now limits result }
+{
+    let Search {
+        limit,
+        workers,
+        slots,
+    } = search_of(limits);
+    solve(rt, alloc, position, goal, limit, workers, slots, &NoGate)
+}
+
+/// The same, with the table that it was found over and its seats there.
+fn searched_within<R: Threads + Wait + Sync>(
+    rt: &R,
+    alloc: Global,
+    position: &Position,
+    goal: Goal,
+    limits: Limits,
+) -> Result<(Answer, Slots<MateLore>, Vec<Seat>), SolveFault>
+    ensures answer { IfOk result (λ found. Solves goal position.now limits (Ok found.0)) }
+    ensures some { IfOk result (λ found. 0 < length found.2.items) }
+    ensures seats { IfOk result (λ found. All (IsSeatOf found.1) found.2.items) }
+    ensures fault { IfErr result (λ fault. Solves goal position.now limits (Err fault)) }
+{
+    let Search {
+        limit,
+        workers,
+        slots,
+    } = search_of(limits);
+    let (table, mut seats) = make_table(alloc, limit, workers, slots)?;
+    let task = Task {
+        position,
+        goal,
+        limit,
+        gate: &NoGate,
+    };
+    let answer = solve_over(rt, alloc, &task, &table, &mut seats)?;
+    Ok((answer, table, seats))
+}
+
+/// The first moves that force the goal within the limits.
+fn keys_within<R: Threads + Wait + Sync>(
+    rt: &R,
+    alloc: Global,
+    position: &Position,
+    goal: Goal,
+    limits: Limits,
+) -> Result<Vec<Key>, SolveFault>
+    ensures { FindsKeys goal position.now limits result }
+{
+    let Search {
+        limit,
+        workers,
+        slots,
+    } = search_of(limits);
+    let (table, mut seats) = make_table(alloc, limit, workers, slots)?;
+    let task = Task {
+        position,
+        goal,
+        limit,
+        gate: &NoGate,
+    };
+    keys_over(rt, alloc, &task, &table, &mut seats)
+}
+
+/// What is printed of an answer.
+pub fn answer_text(alloc: Global, goal: Goal, answer: Answer) -> Result<String, AllocError>
+    ensures { IfOk result (λ text. string_bytes text ≡ answer_text goal answer) }
+{
+    match answer {
+        Answer::Mate { plies, first } => match goal {
+            Goal::Mate => format!(in alloc; "mate {plies} {first}\n"),
+            Goal::MateOrStale => format!(in alloc; "goal {plies} {first}\n"),
+        },
+        Answer::NoneWithin(limit) => none_text(alloc, u32::from(limit)),
+    }
+}
+
+fn none_text(alloc: Global, limit: u32) -> Result<String, AllocError>
+    ensures { IfOk result (λ text. string_bytes text ≡ none_text limit) }
+{
+    format!(in alloc; "none within {limit}\n")
+}
+
+fn keys_text(alloc: Global, limit: u32, keys: &[Key]) -> Result<String, AllocError>
+    ensures { IfOk result (λ text. string_bytes text ≡ keys_text limit keys.now) }
+{
+    match keys {
+        [] => none_text(alloc, limit),
+        _ => key_lines(alloc, keys),
+    }
+}
+
+fn key_lines(alloc: Global, keys: &[Key]) -> Result<String, AllocError>
+    ensures { IfOk result (λ text. string_bytes text ≡ flat_map key_text keys.now) }
+{
+    let mut text = String::new(alloc);
+    for key in keys {
+        let Key { first, plies } = *key;
+        writeln!(text, "{first} {plies}")?;
+    }
+    Ok(text)
+}
+
+fn moves_text(alloc: Global, moves: &[Move]) -> Result<String, AllocError>
+    ensures { IfOk result (λ text. string_bytes text ≡ moves_text moves.now) }
+{
+    let mut text = String::new(alloc);
+    for m in moves {
+        writeln!(text, "{m}")?;
+    }
+    Ok(text)
+}
+
+fn checked_text(alloc: Global, plies: Option<u8>) -> Result<String, AllocError>
+    ensures { IfOk result (λ text. string_bytes text ≡ checked_text plies) }
+{
+    match plies {
+        Some(plies) => format!(in alloc; "yes {plies}\n"),
+        None => format!(in alloc; "no\n"),
+    }
+}
+
+/// The fewest plies to the goal and the first move.
+fn solve_text<R: Threads + Wait + Sync>(
+    rt: &R,
+    alloc: Global,
+    position: &Position,
+    goal: Goal,
+    limits: Limits,
+) -> Result<Vec<u8>, Refusal>
+    ensures { Gives vec_items (ShowsAnswer goal position.now limits) result }
+{
+    let answer = answer_within(rt, alloc, position, goal, limits)?;
+    Ok(answer_text(alloc, goal, answer)?.into_bytes())
+}
+
+/// The first moves that force the goal, each with the plies that it takes.
+fn found_keys<R: Threads + Wait + Sync>(
+    rt: &R,
+    alloc: Global,
+    position: &Position,
+    goal: Goal,
+    limits: Limits,
+) -> Result<Vec<u8>, Refusal>
+    ensures { Gives vec_items (ShowsKeys goal position.now limits) result }
+{
+    let keys = keys_within(rt, alloc, position, goal, limits)?;
+    Ok(keys_text(alloc, limits.limit, keys.as_slice())?.into_bytes())
+}
+
+/// The tree that shows the answer, on one line, or that there is none.
+fn plan_text<R: Threads + Wait + Sync>(
+    rt: &R,
+    alloc: Global,
+    position: &Position,
+    goal: Goal,
+    limits: Limits,
+) -> Result<Vec<u8>, Refusal>
+    ensures { Gives vec_items (ShowsPlanFound goal position.now limits) result }
+{
+    let (answer, table, mut seats) = searched_within(rt, alloc, position, goal, limits)?;
+    match answer {
+        Answer::Mate { plies, .. } => {
+            let wanted = Wanted {
+                position,
+                goal,
+                plies,
+            };
+            let tree = build_tree_over(rt, alloc, &wanted, &table, &mut seats)?;
+            Ok(tree_line(alloc, &tree)?)
+        }
+        Answer::NoneWithin(limit) => Ok(none_text(alloc, u32::from(limit))?.into_bytes()),
+    }
+}
+
+fn tree_line(alloc: Global, tree: &Tree) -> Result<Vec<u8>, NoMemory>
+    ensures { IfOk result (λ line. line.items ≡ line_of (tree_words tree.now)) }
+{
+    let mut line = tree_text(alloc, tree)?;
+    line.push(b'\n')?;
+    Ok(line)
+}
+
+/// In how many plies the tree of a text wins, if it wins.
+fn verdict_text(
+    alloc: Global,
+    position: &Position,
+    goal: Goal,
+    text: &[u8],
+) -> Result<Vec<u8>, Refusal>
+    ensures { Gives vec_items (ShowsTree goal position.now text.now) result }
+{
+    let tree = read_tree(alloc, text)?;
+    look_at_depth(&tree);
+    let plies = check(position, &tree, goal);
+    Ok(checked_text(alloc, plies)?.into_bytes())
+}
+
+/// Does nothing but read the depth, by which contracts learn that it is at most 32.
+fn look_at_depth(tree: &Tree)
+    ensures { depth tree.now ≤ 32 }
+{
+    let _ = tree.depth();
+}
+
+/// In how many plies the tree of the input wins, if it wins.
+fn check_text<S: Source>(
+    alloc: Global,
+    position: &Position,
+    goal: Goal,
+    reader: &mut S,
+) -> Result<Vec<u8>, Trouble>
+    requires { S.failures reader.old < u64.MAX }
+    ensures shown { IfSome (S.remaining reader.old) (λ input. GivesIfRead vec_items (ShowsCheck goal position.now input) result) }
+    ensures counts { S.failures reader.new ≡ S.failures reader.old + reads_failed result }
+{
+    let input = read_all(alloc, reader)?;
+    let text = without_line_feed(input.as_slice());
+    Ok(verdict_text(alloc, position, goal, text)?)
+}
+
+/// The text that answers a line. Only `check` asks the reader for anything, and only where the
+/// position is sound.
+pub fn reply<R: Threads + Wait + Sync, S: Source>(
+    rt: &R,
+    alloc: Global,
+    line: &Line<'_>,
+    reader: &mut S,
+) -> Result<Vec<u8>, Trouble>
+    requires { S.failures reader.old < u64.MAX }
+    ensures given { GivesReply vec_items line.now (S.remaining reader.old) result }
+    ensures asked { MayRead line.now ⊎ (reader.new ≡ reader.old) }
+    ensures counts { S.failures reader.new ≡ S.failures reader.old + reads_failed result }
+{
+    let position = read_sound(line.fen)?;
+    match line.action {
+        Action::Solve(goal, limits) => Ok(solve_text(rt, alloc, &position, goal, limits)?),
+        Action::Keys(goal, limits) => Ok(found_keys(rt, alloc, &position, goal, limits)?),
+        Action::Moves => {
+            let moves = lawful(&position);
+            Ok(moves_text(alloc, moves.as_slice())?.into_bytes())
+        }
+        Action::Show => Ok(board_drawn(alloc, &position)?.into_bytes()),
+        Action::Tree(goal, limits) => Ok(plan_text(rt, alloc, &position, goal, limits)?),
+        Action::Check(goal) => check_text(alloc, &position, goal, reader),
+    }
+}
