@@ -1,7 +1,10 @@
-// Preloaded into a program, refuses its request for memory number FAIL_AT. At the end it writes to the file FAIL_LOG how many
-// requests there were, 1 where one was refused, and how many blocks of memory were never given back.
+// Preloaded into a program, refuses its request for memory number FAIL_AT, and each thread that it asks for from number THREADS_FROM
+// on. At the end it writes to the file FAIL_LOG how many requests for memory there were, 1 where something was refused, and how many
+// blocks of memory were never given back.
 #define _GNU_SOURCE
+#include <dlfcn.h>
 #include <errno.h>
+#include <pthread.h>
 #include <stdio.h>
 #include <stdlib.h>
 #include <sys/syscall.h>
@@ -53,6 +56,17 @@ int posix_memalign(void **block, size_t align, size_t size) {
 void free(void *block) {
     if (block) __atomic_sub_fetch(&live, 1, __ATOMIC_SEQ_CST);
     __libc_free(block);
+}
+
+int pthread_create(pthread_t *thread, const pthread_attr_t *settings, void *(*start)(void *), void *given_to) {
+    static long threads = 0;
+    const char *number = getenv("THREADS_FROM");
+    if (number && __atomic_add_fetch(&threads, 1, __ATOMIC_SEQ_CST) >= atol(number)) {
+        refused = 1;
+        return EAGAIN;
+    }
+    int (*create)(pthread_t *, const pthread_attr_t *, void *(*)(void *), void *) = dlsym(RTLD_NEXT, "pthread_create");
+    return create(thread, settings, start, given_to);
 }
 
 static void report(void) {
