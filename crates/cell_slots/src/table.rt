@@ -71,7 +71,8 @@ impl<L: Lore> CellSlots<L> {
     ) -> Result<(CellSlots<L>, Vec<CellSeat>), MakeFault>
         ensures table { IfOk result (λ r. r.0.len ≡ slots) }
         ensures seats { IfOk result (λ r. (length r.1.items ≡ callers) × All (IsNewSeat r.0) r.1.items) }
-        ensures size { MatchResult result (λ _. IsSize slots callers) (λ e. (e ≡ MakeFault.Size) ↔ (¬ IsSize slots callers)) }
+        ensures size { MatchResult result (λ _. IsSize slots callers)
+            (λ e. (e ≡ MakeFault.Size) ↔ (¬ IsSize slots callers)) }
         ensures limits { (MOST_SLOTS ≡ 64) × (MOST_CALLERS ≡ 17) }
     {
         if slots < 1 || slots > MOST_SLOTS || callers < 1 || callers > MOST_CALLERS {
@@ -158,10 +159,14 @@ impl<L: Lore> CellSlots<L> {
 }
 
 fn tell_all<L: Lore>(cells: &Vec<Cell<L>>, tokens: &mut Vec<Token>, others: &mut Vec<Token>)
-    requires tokens { (map token_table tokens.old.items ≡ map (λ c. c.table.shared.table_id) cells.now.items) × All IsSeated tokens.old.items }
-    requires others { (map token_table others.old.items ≡ map (λ c. c.table.shared.table_id) cells.now.items) × All IsSeated others.old.items }
-    ensures tokens { (map token_table tokens.new.items ≡ map token_table tokens.old.items) × All IsSeated tokens.new.items }
-    ensures told { (i : ℕ) → tokens_part tokens.new.items i ≡ told_part (tokens_part tokens.old.items i) (tokens_part others.old.items i) }
+    requires tokens { (map token_table tokens.old.items ≡ map (λ c. c.table.shared.table_id) cells.now.items)
+        × All IsSeated tokens.old.items }
+    requires others { (map token_table others.old.items ≡ map (λ c. c.table.shared.table_id) cells.now.items)
+        × All IsSeated others.old.items }
+    ensures tokens { (map token_table tokens.new.items ≡ map token_table tokens.old.items)
+        × All IsSeated tokens.new.items }
+    ensures told { (i : ℕ) → tokens_part tokens.new.items i
+        ≡ told_part (tokens_part tokens.old.items i) (tokens_part others.old.items i) }
 {
     for i in 0..cells.len() {
         let cell = &cells[i];

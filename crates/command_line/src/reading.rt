@@ -284,7 +284,8 @@ fn goal_of(matches: &ArgMatches<'_>) -> Option<Goal>
 
 fn action_of(name: &str, values: &ArgMatches<'_>) -> Option<Action>
     ensures some { IfSome result (MeansAction name.now (rows_of (found_of values.now))) }
-    ensures none { IfNone result ((action : TheAction) → MeansAction name.now (rows_of (found_of values.now)) action → ⊥) }
+    ensures none { IfNone result
+        ((action : TheAction) → MeansAction name.now (rows_of (found_of values.now)) action → ⊥) }
 {
     match name {
         "solve" => Some(Action::Solve(goal_of(values)?, limits(values)?)),

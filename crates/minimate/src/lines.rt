@@ -65,7 +65,8 @@ impl Unread {
         requires bounds { IsUnread self.old }
         requires room { S.failures reader.old < u64.MAX }
         ensures bounds { IsUnread self.new }
-        ensures takes { IfOk result (TakesByte (left_of self.old (S.remaining reader.old)) (left_of self.new (S.remaining reader.new))) }
+        ensures takes { IfOk result (TakesByte (left_of self.old (S.remaining reader.old))
+            (left_of self.new (S.remaining reader.new))) }
         ensures ok { OnOk result (S.failures reader.new ≡ S.failures reader.old) }
         ensures err { OnErr result (S.failures reader.new ≡ S.failures reader.old + 1) }
     {
@@ -88,7 +89,8 @@ impl Unread {
         requires bounds { IsUnread self.old }
         requires room { S.failures reader.old < u64.MAX }
         ensures bounds { IsUnread self.new }
-        ensures takes { IfOk result (TakesLine (left_of self.old (S.remaining reader.old)) (left_of self.new (S.remaining reader.new))) }
+        ensures takes { IfOk result (TakesLine (left_of self.old (S.remaining reader.old))
+            (left_of self.new (S.remaining reader.new))) }
         ensures counts { S.failures reader.new ≡ S.failures reader.old + failed_reads result }
     {
         let mut held = Held::new(alloc);
@@ -148,7 +150,8 @@ impl Held {
 
     /// The line, where a feed comes next.
     fn ended(self) -> Result<Next, AllocError>
-        ensures { IfOk result (λ next. (raw rest : List ℕ) → HasNoFeed raw → Holds raw self → IsNext (raw ++ 10 ∷ rest) next) }
+        ensures { IfOk result (λ next. (raw rest : List ℕ) → HasNoFeed raw → Holds raw self
+            → IsNext (raw ++ 10 ∷ rest) next) }
     {
         if self.is_long {
             return Ok(Next::TooLong);

@@ -42,7 +42,8 @@ fn king_after(board: &Board, guard: Guard, m: Move, unit: Unit) -> u8
     requires guards { Guards board.now guard }
     requires pseudo { IsPseudoLegal board.now m unit }
     ensures cell { IsCell board.now.game result }
-    ensures king { unit_at (after board.now m unit) (place_in result) ≡ Some (record { side = unit.side; kind = King }) }
+    ensures king { unit_at (after board.now m unit) (place_in result)
+        ≡ Some (record { side = unit.side; kind = King }) }
 {
     if is_king(Some(unit)) {
         return cell_of(m.to);
@@ -124,8 +125,10 @@ fn push_to(board: &Board, unit: Unit, from: Square, to: Square, moves: &mut Arra
     requires stands { unit_at board.now from ≡ Some unit }
     requires lawful { (m : Ply) → m.from ≡ from → m.to ≡ to → IsNamed board.now.game unit m → IsLawful board.now m }
     requires room { array_vec_len moves.old + 5 ≤ 512 }
-    requires before { ListsBelow board.now ((square_number board.now.game from * 36 + square_number board.now.game to) * 5) moves.old.items }
-    ensures after { ListsBelow board.now ((square_number board.now.game from * 36 + square_number board.now.game to + 1) * 5) moves.new.items }
+    requires before { ListsBelow board.now
+        ((square_number board.now.game from * 36 + square_number board.now.game to) * 5) moves.old.items }
+    ensures after { ListsBelow board.now
+        ((square_number board.now.game from * 36 + square_number board.now.game to + 1) * 5) moves.new.items }
     ensures few { array_vec_len moves.new ≤ array_vec_len moves.old + 5 }
     ensures one { (unit.kind ≡ Pawn → ⊥) → array_vec_len moves.new ≤ array_vec_len moves.old + 1 }
 {

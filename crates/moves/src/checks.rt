@@ -49,7 +49,8 @@ pub(crate) fn watch_of(board: &Board) -> Option<Watch>
 fn seen(board: &Board, king: u8, kind: Kind) -> u64
     requires cell { IsCell board.now.game king }
     requires played { IsPlayed board.now.game kind }
-    ensures { (i : ℕ) → IsTarget board.now (record { side = board.now.mover; kind = kind }) (place_in king) i → Has result i }
+    ensures { (i : ℕ) → IsTarget board.now (record { side = board.now.mover; kind = kind }) (place_in king) i
+        → Has result i }
 {
     let unit = Unit {
         side: board.mover(),
@@ -63,7 +64,8 @@ fn seen(board: &Board, king: u8, kind: Kind) -> u64
 fn aiming(board: &Board, watch: Watch, unit: Unit) -> u64
     requires watches { Watches board.now watch }
     requires played { IsPlayed board.now.game unit.kind }
-    ensures { (m : Ply) → IsPseudoLegal board.now m unit → Aims board.now unit m.to (place_in watch.king) → Has result (cell_of m.to) }
+    ensures { (m : Ply) → IsPseudoLegal board.now m unit → Aims board.now unit m.to (place_in watch.king)
+        → Has result (cell_of m.to) }
 {
     match unit.kind {
         Kind::Pawn => watch.near,
@@ -77,7 +79,8 @@ fn aiming(board: &Board, watch: Watch, unit: Unit) -> u64
 
 /// Whether the unit's next move is its last as a pawn.
 pub(crate) fn may_promote(board: &Board, unit: Unit, from: Square) -> bool
-    ensures { (to : Place) → Reaches board.now unit from to (unit_at board.now to) → IsTrue result ↔ Promotes board.now.game unit to }
+    ensures { (to : Place) → Reaches board.now unit from to (unit_at board.now to)
+        → IsTrue result ↔ Promotes board.now.game unit to }
 {
     if unit.kind != Kind::Pawn {
         return false;

@@ -19,7 +19,8 @@ use board::{Game, Unit};
 
 /// How many moves the unit has to each square that it reaches.
 fn moves_to_each(board: &Board, unit: Unit, from: Square) -> u16
-    ensures each { (to : Place) → Reaches board.now unit from to (unit_at board.now to) → IsEach board.now.game unit to result }
+    ensures each { (to : Place) → Reaches board.now unit from to (unit_at board.now to)
+        → IsEach board.now.game unit to result }
     ensures few { result ≤ 4 }
 {
     if !may_promote(board, unit, from) {

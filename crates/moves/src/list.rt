@@ -37,8 +37,10 @@ fn push_between(
     requires to_on_board { IsOnBoard position.now.game to }
     requires stands { unit_at position.now from ≡ Some unit }
     requires room { array_vec_len moves.old + 5 ≤ 512 }
-    requires before { ListsBelow position.now ((square_number position.now.game from * 36 + square_number position.now.game to) * 5) moves.old.items }
-    ensures after { ListsBelow position.now ((square_number position.now.game from * 36 + square_number position.now.game to + 1) * 5) moves.new.items }
+    requires before { ListsBelow position.now
+        ((square_number position.now.game from * 36 + square_number position.now.game to) * 5) moves.old.items }
+    ensures after { ListsBelow position.now
+        ((square_number position.now.game from * 36 + square_number position.now.game to + 1) * 5) moves.new.items }
     ensures few { array_vec_len moves.new ≤ array_vec_len moves.old + 5 }
     ensures one { (unit.kind ≡ Pawn → ⊥) → array_vec_len moves.new ≤ array_vec_len moves.old + 1 }
 {

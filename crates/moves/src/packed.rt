@@ -183,7 +183,8 @@ impl Board {
 
     /// The cells of a side's units.
     pub(crate) fn of_side(&self, side: Side) -> u64
-        ensures { (i : ℕ) → Has result i ↔ (IsCell self.now.game i × (is_of_side side (unit_at self.now (place_in i)) ≡ true)) }
+        ensures { (i : ℕ) → Has result i
+            ↔ (IsCell self.now.game i × (is_of_side side (unit_at self.now (place_in i)) ≡ true)) }
     {
         match side {
             Side::White => self.set(Class::White),

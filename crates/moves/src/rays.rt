@@ -16,7 +16,8 @@ fn extend(game: Game, step: &Step, from: Square, squares: &mut ArrayVec<u8, 5>)
     requires on_board { IsOnBoard game from }
     requires goes { 0 < unsigned_abs step.now.dx + unsigned_abs step.now.dy }
     requires room { array_vec_len squares.old + squares_left step.now.dx step.now.dy from ≤ 5 }
-    ensures { (more : List ℕ) × (squares.new.items ≡ squares.old.items ++ more) × IsRay game step.now.dx step.now.dy from more }
+    ensures { (more : List ℕ) × (squares.new.items ≡ squares.old.items ++ more)
+        × IsRay game step.now.dx step.now.dy from more }
 {
     let Some(square) = next(game, Side::White, step, from) else {
         return;

@@ -55,7 +55,8 @@ pub(crate) fn may_go(board: &Board, guard: Guard, unit: Unit, from: Square, to: 
     requires stands { unit_at board.now from ≡ Some unit }
     requires owner { unit.side ≡ board.now.mover }
     requires reaches { Reaches board.now unit from to (unit_at board.now to) }
-    ensures all { IsTrue result → (m : Ply) → m.from ≡ from → m.to ≡ to → IsNamed board.now.game unit m → IsLawful board.now m }
+    ensures all { IsTrue result → (m : Ply) → m.from ≡ from → m.to ≡ to → IsNamed board.now.game unit m
+        → IsLawful board.now m }
     ensures found { IsTrue result → (m : Ply) × IsLawful board.now m }
     ensures none { result ≡ false → (m : Ply) → m.from ≡ from → m.to ≡ to → IsLawful board.now m → ⊥ }
 {

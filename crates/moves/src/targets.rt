@@ -50,7 +50,8 @@ fn ahead(side: Side, cell: u8) -> u8
 /// The cell ahead of a pawn, if it is empty.
 fn pushed(board: &Board, side: Side, cell: u8) -> u64
     requires { IsCell board.now.game cell }
-    ensures { (j : ℕ) → Has result j ↔ (IsNext (ahead_way side) cell j × IsCell board.now.game j × (unit_at board.now (place_in j) ≡ None)) }
+    ensures { (j : ℕ) → Has result j ↔ (IsNext (ahead_way side) cell j × IsCell board.now.game j
+        × (unit_at board.now (place_in j) ≡ None)) }
 {
     let next = ahead(side, cell);
     if next < 63 {

@@ -56,7 +56,8 @@ pub(crate) fn put(words: &mut [u64; 3], game: Game, square: Square, code: u8)
     requires square { IsOnBoard game square }
     requires code { code < 16 }
     ensures there { code_on game words.new (square_number game square) ≡ code }
-    ensures elsewhere { (k i : ℕ) → (k ≡ word_of game (square_number game square) → i ≡ place_of game (square_number game square) → ⊥)
+    ensures elsewhere { (k i : ℕ) → (k ≡ word_of game (square_number game square)
+        → i ≡ place_of game (square_number game square) → ⊥)
         → digit (slice_index_or words.new k 0) i ≡ digit (slice_index_or words.old k 0) i }
 {
     let (word, place) = place_of(game, square);

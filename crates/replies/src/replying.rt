@@ -275,7 +275,8 @@ fn check_text<S: Source>(
     reader: &mut S,
 ) -> Result<Vec<u8>, Trouble>
     requires { S.failures reader.old < u64.MAX }
-    ensures shown { IfSome (S.remaining reader.old) (λ input. GivesIfRead vec_items (ShowsCheck goal position.now input) result) }
+    ensures shown { IfSome (S.remaining reader.old)
+        (λ input. GivesIfRead vec_items (ShowsCheck goal position.now input) result) }
     ensures counts { S.failures reader.new ≡ S.failures reader.old + reads_failed result }
 {
     let input = read_all(alloc, reader)?;

@@ -36,7 +36,8 @@ fn plies_of<T: Gate>(search: &Search<'_, T>, seat: &mut Seat, job: u16, limit: u
     requires limit { IsLimit limit }
     ensures seat { IsSeatOf search.now.slots.now seat.new }
     ensures goes_on { GoesOn T.keeps search.now.slots.now seat.old seat.new }
-    ensures plies { MatchOption result ((n : ℕ) → n ≤ limit → TakesIn search.now.root n job → ⊥) (λ n. (n ≤ limit) × TakesIn search.now.root n job) }
+    ensures plies { MatchOption result ((n : ℕ) → n ≤ limit → TakesIn search.now.root n job → ⊥)
+        (λ n. (n ≤ limit) × TakesIn search.now.root n job) }
 {
     for number in 0..(limit + 1) / 2 {
         let plies = 2 * number + 1;

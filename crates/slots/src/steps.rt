@@ -28,7 +28,8 @@ impl<L: Lore> Slots<L> {
         requires told { (K.slot ≡ slot) × (K.busy ≡ Offered words Store.Busy) × (K.done ≡ Offered words Store.Worn) }
         requires seat { IsSeatOf self.now seat.old × (slot < slots_of self.now) }
         ensures seat { IsTaken self.now seat.new × (seat.new.id ≡ seat.old.id) }
-        ensures step { offered (way_of L.key L.prefers) slot (Offered words Store.Busy) (Offered words Store.Worn) seat.old.me result seat.new.me }
+        ensures step { offered (way_of L.key L.prefers) slot (Offered words Store.Busy)
+            (Offered words Store.Worn) seat.old.me result seat.new.me }
     {
         self.table.shared.load::<Offer<K, L>>(seat, 4 * slot)
     }
@@ -36,7 +37,8 @@ impl<L: Lore> Slots<L> {
     // Reads one word.
     pub(crate) fn read(&self, seat: &mut Seat, slot: usize, i: usize) -> u64
         requires seat { IsTaken self.now seat.old × (slot < slots_of self.now) × (i < 3) }
-        requires half { (at : ℕ) × (got : List ℕ) × (seat.old.me.0.half ≡ Reading at got) × (seat.old.me.0.slot ≡ slot) × (length got ≡ i) }
+        requires half { (at : ℕ) × (got : List ℕ) × (seat.old.me.0.half ≡ Reading at got)
+            × (seat.old.me.0.slot ≡ slot) × (length got ≡ i) }
         ensures seat { IsTaken self.now seat.new × (seat.new.id ≡ seat.old.id) }
         ensures step { read seat.old.me result seat.new.me }
     {
@@ -53,9 +55,11 @@ impl<L: Lore> Slots<L> {
     ) -> u64
         requires told { (K.busy ≡ Asked key Probe.Busy) × (K.done ≡ Asked key reply) }
         requires seat { IsTaken self.now seat.old × (slot < slots_of self.now) }
-        requires half { (at : ℕ) × (got : List ℕ) × (seat.old.me.0.half ≡ Reading at got) × (seat.old.me.0.slot ≡ slot) × (length got ≡ 3) × IsAnswer L.key got (Asked key reply) }
+        requires half { (at : ℕ) × (got : List ℕ) × (seat.old.me.0.half ≡ Reading at got)
+            × (seat.old.me.0.slot ≡ slot) × (length got ≡ 3) × IsAnswer L.key got (Asked key reply) }
         ensures seat { (seat.new.table_id ≡ seat.old.table_id) × (seat.new.id ≡ seat.old.id) }
-        ensures step { looked (way_of L.key L.prefers) L.meets (Asked key Probe.Busy) (Asked key reply) seat.old.me result seat.new.me }
+        ensures step { looked (way_of L.key L.prefers) L.meets (Asked key Probe.Busy)
+            (Asked key reply) seat.old.me result seat.new.me }
     {
         self.table.shared.load::<Look<K, L>>(seat, 4 * slot)
     }
@@ -69,10 +73,13 @@ impl<L: Lore> Slots<L> {
         got: [u64; 3],
     ) -> u64
         requires told { (K.busy ≡ Offered words Store.Busy) × (K.done ≡ Offered words (Store.Kept got)) }
-        requires seat { IsTaken self.now seat.old × (slot < slots_of self.now) × (slot % 2 ≡ 0) × (L.prefers got words ≡ true) }
-        requires half { (at : ℕ) × (seat.old.me.0.half ≡ Reading at got) × (seat.old.me.0.slot ≡ slot) × (length got ≡ 3) }
+        requires seat { IsTaken self.now seat.old × (slot < slots_of self.now) × (slot % 2 ≡ 0)
+            × (L.prefers got words ≡ true) }
+        requires half { (at : ℕ) × (seat.old.me.0.half ≡ Reading at got) × (seat.old.me.0.slot ≡ slot)
+            × (length got ≡ 3) }
         ensures seat { (seat.new.table_id ≡ seat.old.table_id) × (seat.new.id ≡ seat.old.id) }
-        ensures step { looked (way_of L.key L.prefers) L.meets (Offered words Store.Busy) (Offered words (Store.Kept got)) seat.old.me result seat.new.me }
+        ensures step { looked (way_of L.key L.prefers) L.meets (Offered words Store.Busy)
+            (Offered words (Store.Kept got)) seat.old.me result seat.new.me }
     {
         self.table.shared.load::<Look<K, L>>(seat, 4 * slot)
     }
@@ -89,7 +96,8 @@ impl<L: Lore> Slots<L> {
         requires seat { IsTaken self.now seat.old × (slot < slots_of self.now) × (gate + 1 < 2 ^ 64) }
         requires half { (got : List ℕ) × (seat.old.me.0.half ≡ Reading gate got) × (seat.old.me.0.slot ≡ slot) }
         ensures seat { (seat.new.table_id ≡ seat.old.table_id) × (seat.new.id ≡ seat.old.id) }
-        ensures step { claimed (way_of L.key L.prefers) (Offered words Store.Busy) gate (gate + 1) seat.old.me result seat.new.me }
+        ensures step { claimed (way_of L.key L.prefers) (Offered words Store.Busy)
+            gate (gate + 1) seat.old.me result seat.new.me }
     {
         self.table
             .shared
@@ -99,7 +107,8 @@ impl<L: Lore> Slots<L> {
     // Writes one word, under the claim.
     pub(crate) fn write(&self, seat: &mut Seat, slot: usize, i: usize, word: u64)
         requires seat { IsTaken self.now seat.old × (slot < slots_of self.now) × (i < 3) }
-        requires half { (at : ℕ) × (stood : List ℕ) × (put : List ℕ) × (seat.old.me.0.half ≡ Writing at stood put) × (seat.old.me.0.slot ≡ slot) × (length put ≡ i) }
+        requires half { (at : ℕ) × (stood : List ℕ) × (put : List ℕ) × (seat.old.me.0.half ≡ Writing at stood put)
+            × (seat.old.me.0.slot ≡ slot) × (length put ≡ i) }
         ensures seat { IsTaken self.now seat.new × (seat.new.id ≡ seat.old.id) }
         ensures step { written word seat.old.me seat.new.me }
     {
@@ -112,7 +121,9 @@ impl<L: Lore> Slots<L> {
     pub(crate) fn publish<K: Told>(&self, seat: &mut Seat, slot: usize, words: [u64; 3], gate: u64)
         requires told { K.done ≡ Offered words Store.Stored }
         requires seat { IsTaken self.now seat.old × (slot < slots_of self.now) × (gate + 2 < 2 ^ 64) }
-        requires half { (stood : List ℕ) × (seat.old.me.0.half ≡ Writing (gate + 1) stood words) × (seat.old.me.0.slot ≡ slot) × Yields (way_at slot (way_of L.key L.prefers)) stood words × L.meets words × (length words ≡ 3) }
+        requires half { (stood : List ℕ) × (seat.old.me.0.half ≡ Writing (gate + 1) stood words)
+            × (seat.old.me.0.slot ≡ slot) × Yields (way_at slot (way_of L.key L.prefers)) stood words × L.meets words
+            × (length words ≡ 3) }
         ensures seat { (seat.new.table_id ≡ seat.old.table_id) × (seat.new.id ≡ seat.old.id) }
         ensures step { published (way_of L.key L.prefers) (Offered words Store.Stored) seat.old.me seat.new.me }
     {
@@ -144,7 +155,8 @@ impl<L: Lore> Slots<L> {
         requires seat { IsTaken self.now seat.old × (slot < slots_of self.now) }
         requires half { (at : ℕ) × (seat.old.me.0.half ≡ Reading at []) × (seat.old.me.0.slot ≡ slot) }
         ensures seat { IsTaken self.now seat.new × (seat.new.id ≡ seat.old.id) × (length result ≡ 3) }
-        ensures half { (at : ℕ) → seat.old.me.0.half ≡ Reading at [] → Along slot 3 (Reading at result) seat.old.me.0 seat.new.me.0 }
+        ensures half { (at : ℕ) → seat.old.me.0.half ≡ Reading at []
+            → Along slot 3 (Reading at result) seat.old.me.0 seat.new.me.0 }
     {
         let first = self.read(seat, slot, 0);
         pause.at(2);
@@ -167,9 +179,11 @@ impl<L: Lore> Slots<L> {
         pause: &mut P,
     )
         requires seat { IsTaken self.now seat.old × (slot < slots_of self.now) × (done ≤ 5) }
-        requires half { (at : ℕ) × (stood : List ℕ) × (seat.old.me.0.half ≡ Writing at stood []) × (seat.old.me.0.slot ≡ slot) }
+        requires half { (at : ℕ) × (stood : List ℕ) × (seat.old.me.0.half ≡ Writing at stood [])
+            × (seat.old.me.0.slot ≡ slot) }
         ensures seat { IsTaken self.now seat.new × (seat.new.id ≡ seat.old.id) }
-        ensures half { (at : ℕ) (stood : List ℕ) → seat.old.me.0.half ≡ Writing at stood [] → Along slot 3 (Writing at stood (first ∷ second ∷ third ∷ [])) seat.old.me.0 seat.new.me.0 }
+        ensures half { (at : ℕ) (stood : List ℕ) → seat.old.me.0.half ≡ Writing at stood []
+            → Along slot 3 (Writing at stood (first ∷ second ∷ third ∷ [])) seat.old.me.0 seat.new.me.0 }
     {
         self.write(seat, slot, 0, first);
         pause.at(done + 1);

@@ -40,11 +40,13 @@ impl<L: Lore> Slots<L> {
         pause: &mut P,
     ) -> Store
         requires seat { IsTaken self.now seat.old × (slot < slots_of self.now) × (gate + 2 < 2 ^ 64) × (done ≤ 4) }
-        requires half { (got : List ℕ) × (seat.old.me.0.half ≡ Reading gate got) × (seat.old.me.0.slot ≡ slot) × Yields (way_at slot (way_of L.key L.prefers)) got words }
+        requires half { (got : List ℕ) × (seat.old.me.0.half ≡ Reading gate got) × (seat.old.me.0.slot ≡ slot)
+            × Yields (way_at slot (way_of L.key L.prefers)) got words }
         requires lore { L.meets words }
         ensures seat { IsSeatOf self.now seat.new × (seat.new.id ≡ seat.old.id) }
         ensures call { Done (way_of L.key L.prefers) slot (Offered words result) 5 seat.old.me.0 seat.new.me.0 }
-        ensures busy { result ≡ Store.Busy → ((known slot seat.new).low ≡ gate) × (gate < (known slot seat.new).high) × (stores (seen slot seat.new) ≡ (known slot seat.new).high / 2) }
+        ensures busy { result ≡ Store.Busy → ((known slot seat.new).low ≡ gate) × (gate < (known slot seat.new).high)
+            × (stores (seen slot seat.new) ≡ (known slot seat.new).high / 2) }
     {
         let found = self.claim::<Brand>(seat, slot, words, gate);
         if found != gate {

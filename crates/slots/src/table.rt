@@ -77,7 +77,8 @@ impl<L: Lore> Slots<L> {
         requires other { IsSeatOf self.now other }
         ensures seat { IsSeatOf self.now seat.new × (seat.new.id ≡ seat.old.id) × (number seat.new ≡ number seat.old) }
         ensures told { all_seen seat.new ≡ longer (all_seen seat.old) (all_seen other) }
-        ensures mine { (all_mine seat.new ≡ all_mine seat.old) × ((slot : ℕ) → known slot seat.new ≡ known slot seat.old) }
+        ensures mine { (all_mine seat.new ≡ all_mine seat.old)
+            × ((slot : ℕ) → known slot seat.new ≡ known slot seat.old) }
         ensures history { KnowsHistory (way_of L.key L.prefers) seat.new }
         ensures steps { steps seat.new ≡ steps seat.old + 2 }
     {

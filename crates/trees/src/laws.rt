@@ -7,5 +7,6 @@ ghost use Rattle.trees.specs.Best.{IsBest};
 
 /// A position has one best tree at most.
 pub fn one_best_tree()
-    ensures { (goal : Goal) (b : PlainBoard) (plan other : Plan) → IsBest goal b plan → IsBest goal b other → plan ≡ other }
+    ensures { (goal : Goal) (b : PlainBoard) (plan other : Plan) → IsBest goal b plan → IsBest goal b other
+        → plan ≡ other }
 {}

@@ -7,7 +7,8 @@ ghost use Rattle.wintree.specs.Offset.{IsFarthest, IsDeep, open_braces};
 
 /// Too deep means that within the bytes before the offset of the fault 32 braces are open at once.
 pub fn deep_is_before_the_fault()
-    ensures { (bytes : List ℕ) (g : ℕ) → IsFarthest bytes g → (IsDeep bytes ↔ ((k : ℕ) × (k ≤ g) × (open_braces (take k bytes) ≡ 32))) }
+    ensures { (bytes : List ℕ) (g : ℕ) → IsFarthest bytes g
+        → (IsDeep bytes ↔ ((k : ℕ) × (k ≤ g) × (open_braces (take k bytes) ≡ 32))) }
 {}
 
 /// There is one offset of the fault at most.

@@ -75,7 +75,8 @@ fn two_stores(slots: &Slots<Bounded>, seat: &mut Seat) -> (Store, Store)
     requires seat { IsSeatOf slots.now seat.old }
     requires room { 1 < slots_of slots.now }
     ensures seat { IsSeatOf slots.now seat.new }
-    ensures order { all_mine seat.new ≡ (all_mine seat.old ++ call 1 (number seat.old) (Offered PLAIN result.0) ∷ []) ++ call 0 (number seat.old) (Offered EXACT result.1) ∷ [] }
+    ensures order { all_mine seat.new ≡ (all_mine seat.old ++ call 1 (number seat.old) (Offered PLAIN result.0) ∷ [])
+        ++ call 0 (number seat.old) (Offered EXACT result.1) ∷ [] }
 {
     let first = slots.store(seat, 1, PLAIN);
     let second = slots.store(seat, 0, EXACT);

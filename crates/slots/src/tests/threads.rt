@@ -85,7 +85,8 @@ fn four<R: Threads + Sync>(
     third: Seat,
     fourth: Seat,
 ) -> Tally
-    requires seats { IsSeatOf slots.now one × IsSeatOf slots.now other × IsSeatOf slots.now third × IsSeatOf slots.now fourth }
+    requires seats { IsSeatOf slots.now one × IsSeatOf slots.now other × IsSeatOf slots.now third
+        × IsSeatOf slots.now fourth }
     requires room { 1 < slots_of slots.now }
 {
     let (a, b) = join(
