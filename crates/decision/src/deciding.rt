@@ -150,7 +150,8 @@ pub fn decide_on(slots: &Slots<MateLore>, seat: &mut Seat, q: &Question, n: u8) 
 /// Up to so many plies the answer alone is found sooner than the table is asked.
 const UNASKED: u8 = 2;
 
-/// The answer alone, as those below are found: the far slots are asked too, and an attacker's position is searched round by round.
+/// Whether the attacker forces the goal within n plies: the answer alone. The far slots are asked too, and an attacker's
+/// position is searched round by round.
 pub fn is_forced(slots: &Slots<MateLore>, seat: &mut Seat, q: &Question, n: u8) -> bool
     requires seat { IsSeatOf slots.now seat.old }
     requires plies { n ≤ 63 }
