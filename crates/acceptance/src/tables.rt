@@ -1,8 +1,8 @@
 //! A table of true entries with one caller, for the tests.
 ghost use Rattle.std.specs.Prelude.{◌≡◌, ◌≤◌, ◌+◌, ◌↔◌, IsTrue, IfSome};
 ghost use Rattle.board.specs.declared.game.Side.TheVariants.{White};
-ghost use Rattle.moves.specs.declared.goal.Goal.TheVariants.{Mate};
-ghost use Rattle.moves.specs.Forces.{Forces};
+ghost use Rattle.rules.specs.declared.goal.Goal.TheVariants.{Mate};
+ghost use Rattle.rules.specs.Forces.{Forces};
 ghost use Rattle.entry.specs.Packing.{entry_of};
 ghost use Rattle.slots.specs.Promise.{IsSeatOf, AllNew};
 ghost use Rattle.entry.specs.Truth.{IsTruePacking};

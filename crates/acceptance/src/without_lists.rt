@@ -1,6 +1,6 @@
 //! Calls on boards that make no list of moves, or fill one that is lent.
 ghost use Rattle.std.specs.Prelude.{◌<◌, IfSome};
-ghost use Rattle.moves.specs.Moves.{IsPromoted};
+ghost use Rattle.rules.specs.Moves.{IsPromoted};
 
 use crate::leaves::LEAVES;
 use arrayvec::ArrayVec;

@@ -2,7 +2,7 @@
 use Rattle.std.proofs.Common.{◌≡◌, ◌≢◌, ◌∙◌, List, ℕ, ap, arith, codes, refl, slice_index, sym}
 use Rattle.clap.specs.Words.{Row, Text}
 use Rattle.command_line.specs.Words.{HasGoal, HasLimits, MeansAction, MeansFound}
-use Rattle.moves.specs.declared.goal.Goal.{Goal}
+use Rattle.rules.specs.declared.goal.Goal.{Goal}
 use Rattle.command_line.specs.declared.line.Limits.{Limits}
 use Rattle.command_line.specs.declared.line.Action.{Action}
 use Rattle.command_line.specs.declared.line.Action.TheVariants.{Solve, Keys, Tree, Check, Moves, Show}

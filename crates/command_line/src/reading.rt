@@ -1,6 +1,6 @@
 //! Reading the words of a command line.
 ghost use Rattle.std.specs.Prelude.{◌≡◌, ◌↔◌, false, IfErr, IfNone, IfOk, IfSome, None, OnErr, Some, ℕ, codes, map};
-ghost use Rattle.moves.specs.declared.goal.Goal.{Goal as TheGoal};
+ghost use Rattle.rules.specs.declared.goal.Goal.{Goal as TheGoal};
 ghost use Rattle.clap.specs.declared.error.kind.ErrorKind.TheVariants.{OutOfMemory};
 ghost use Rattle.command_line.specs.declared.reading.LineFault.TheVariants.{NoMemory, Words};
 ghost use Rattle.command_line.specs.declared.line.Line.{Line as TheLine};

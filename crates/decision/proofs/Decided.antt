@@ -17,7 +17,7 @@ use Rattle.decision.specs.Decisions.{Asks, IsAsked, IsProbeOf, OffersBoth, AsksB
 use Rattle.decision.specs.Decisions.Asks.{first_decides, one_slot, second_decides, neither_decides}
 use Rattle.decision.proofs.Callers.{adds_more, goes_more}
 use Rattle.decision.proofs.Slots.{begins_on, ends_behind}
-use Rattle.moves.specs.Squares.{Ply}
+use Rattle.rules.specs.Squares.{Ply}
 use Rattle.decision.specs.Below.{IsAskedAfter}
 use Rattle.decision.proofs.Below.{asked_first, asked_on, asked_behind, asked_next}
 

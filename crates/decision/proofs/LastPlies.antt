@@ -1,10 +1,10 @@
 -- The last three plies.
 use Rattle.std.proofs.Common.{◌≡◌, ℕ, ◌<◌, ◌≤◌, ◌↔◌, IsTrue, Bool, true, false, inl, inr, zero, suc, sym, subst, arith}
 use Rattle.board.specs.declared.game.Side.{Side}
-use Rattle.moves.specs.Moves.{IsLawful}
-use Rattle.moves.specs.Squares.{Ply}
-use Rattle.moves.specs.Forces.{IsReached, Forces}
-use Rattle.moves.proofs.Forcing.{on_own, on_other, to_other, turn-other, Forces-more, Forces-even}
+use Rattle.rules.specs.Moves.{IsLawful}
+use Rattle.rules.specs.Squares.{Ply}
+use Rattle.rules.specs.Forces.{IsReached, Forces}
+use Rattle.rules.proofs.Forcing.{on_own, on_other, to_other, turn-other, Forces-more, Forces-even}
 use Rattle.decision.specs.declared.question.Question.{Question}
 use Rattle.decision.specs.Questions.{IsForced}
 use Rattle.decision.specs.Below.{is_own}

@@ -2,12 +2,12 @@
 use Rattle.std.proofs.Common.{◌≡◌, ◌↔◌, IsTrue, Bool, true, false, not, inl, inr, refl, sym, ◌∙◌, subst}
 use Rattle.std.proofs.lemmas.Bool.{false≢true}
 use Rattle.board.specs.Board.{PlainBoard}
-use Rattle.moves.specs.declared.goal.Goal.{Goal}
-use Rattle.moves.specs.declared.goal.Goal.TheVariants.{Mate, MateOrStale}
-use Rattle.moves.specs.Squares.{Ply}
-use Rattle.moves.specs.Reach.{IsInCheck}
-use Rattle.moves.specs.Moves.{IsLawful, IsMated}
-use Rattle.moves.specs.Forces.{IsReached}
+use Rattle.rules.specs.declared.goal.Goal.{Goal}
+use Rattle.rules.specs.declared.goal.Goal.TheVariants.{Mate, MateOrStale}
+use Rattle.rules.specs.Squares.{Ply}
+use Rattle.rules.specs.Reach.{IsInCheck}
+use Rattle.rules.specs.Moves.{IsLawful, IsMated}
+use Rattle.rules.specs.Forces.{IsReached}
 
 -- in check, mate is want of a lawful move
 mated_exactly : (b : PlainBoard) (some : Bool) → IsInCheck b b.mover → (IsTrue some ↔ ((m : Ply) × IsLawful b m)) → IsTrue (not some) ↔ IsMated b

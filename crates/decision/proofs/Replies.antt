@@ -3,7 +3,7 @@ use Rattle.std.proofs.Common.{◌≡◌, ℕ, ◌<◌, ◌≤◌, ◌-◌, ◌�
 use Rattle.std.specs.Option.{IfSome, MatchOption}
 use Rattle.std.proofs.lemmas.Bool.{false≢true}
 use Rattle.board.specs.Board.{IsPosition}
-use Rattle.moves.specs.Forces.{Forces}
+use Rattle.rules.specs.Forces.{Forces}
 use Rattle.slots.specs.declared.calls.Probe.{Probe}
 use Rattle.slots.specs.declared.calls.Probe.TheVariants.{Hit, Vacant, Other, Busy}
 use Rattle.slots.specs.declared.calls.Act.TheVariants.{Asked}

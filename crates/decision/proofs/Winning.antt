@@ -8,13 +8,13 @@ use Rattle.board.specs.declared.game.Side.{Side}
 use Rattle.board.specs.declared.game.Side.TheVariants.{White, Black}
 use Rattle.board.specs.Games.{is_same_side}
 use Rattle.board.specs.Board.{PlainBoard}
-use Rattle.moves.specs.Squares.{Ply}
-use Rattle.moves.specs.declared.goal.Goal.{Goal}
-use Rattle.moves.specs.Moves.{IsMove}
-use Rattle.moves.specs.Order.{IsPlyBefore, ListsLawful}
-use Rattle.moves.specs.Forces.{IsReached, Forces}
-use Rattle.moves.proofs.Keeps.{one_after}
-use Rattle.moves.proofs.Forcing.{on_own, to_own, on_other, to_other, turn-own, same_side-self, twice, twice-double, Forces-even}
+use Rattle.rules.specs.Squares.{Ply}
+use Rattle.rules.specs.declared.goal.Goal.{Goal}
+use Rattle.rules.specs.Moves.{IsMove}
+use Rattle.rules.specs.Order.{IsPlyBefore, ListsLawful}
+use Rattle.rules.specs.Forces.{IsReached, Forces}
+use Rattle.rules.proofs.Keeps.{one_after}
+use Rattle.rules.proofs.Forcing.{on_own, to_own, on_other, to_other, turn-own, same_side-self, twice, twice-double, Forces-even}
 use Rattle.decision.specs.Answer.{Wins, IsLeastWin, ForcesNothing}
 
 -- ---- one move

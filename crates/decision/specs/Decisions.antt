@@ -1,9 +1,9 @@
 -- What a decision promises of the calls that it adds.
 use Rattle.std.specs.Prelude.{◌≡◌, ℕ, ◌+◌, ◌<◌, ◌≤◌, ◌↔◌, IsTrue, Bool, true, false, List, All, Contains}
 use Rattle.board.specs.Board.{PlainBoard}
-use Rattle.moves.specs.Squares.{Ply}
-use Rattle.moves.specs.Moves.{IsMove, IsLawful}
-use Rattle.moves.specs.Forces.{OnTurn}
+use Rattle.rules.specs.Squares.{Ply}
+use Rattle.rules.specs.Moves.{IsMove, IsLawful}
+use Rattle.rules.specs.Forces.{OnTurn}
 use Rattle.slots.specs.declared.calls.Call.{Call}
 use Rattle.slots.specs.declared.calls.Act.TheVariants.{Asked, Offered}
 use Rattle.slots.specs.declared.calls.Probe.{Probe}

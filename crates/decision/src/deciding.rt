@@ -1,8 +1,8 @@
 //! Whether an attacker forces the goal within so many plies.
 ghost use Rattle.std.specs.Prelude.{◌≡◌, ◌<◌, ◌≤◌, ◌↔◌, IsTrue, IfSome, All, MatchOption};
-ghost use Rattle.moves.specs.Squares.{Ply};
-ghost use Rattle.moves.specs.Moves.{IsLawful};
-ghost use Rattle.moves.specs.Forces.{Forces};
+ghost use Rattle.rules.specs.Squares.{Ply};
+ghost use Rattle.rules.specs.Moves.{IsLawful};
+ghost use Rattle.rules.specs.Forces.{Forces};
 ghost use Rattle.slots.specs.Promise.{slots_of, number, IsSeatOf};
 ghost use Rattle.decision.specs.Calls.{added, Continues, KnowsHistory};
 ghost use Rattle.decision.specs.Callers.{adds, Searches};

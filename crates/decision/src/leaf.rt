@@ -1,6 +1,6 @@
 //! The last three plies, with no table and no key.
 ghost use Rattle.std.specs.Prelude.{◌≡◌, ◌≤◌, ◌↔◌, IsTrue, IfSome, true, false};
-ghost use Rattle.moves.specs.Forces.{IsReached};
+ghost use Rattle.rules.specs.Forces.{IsReached};
 ghost use Rattle.decision.specs.Questions.{IsForced};
 ghost use Rattle.decision.specs.Below.{is_own};
 

@@ -1,7 +1,7 @@
 //! Which moves are tried first. No answer depends on it.
 ghost use Rattle.std.specs.Prelude.{◌<◌, All, IfSome, length};
 ghost use Rattle.std.specs.List.Sorted.{IsPermutation};
-ghost use Rattle.moves.specs.Moves.{IsLawful};
+ghost use Rattle.rules.specs.Moves.{IsLawful};
 ghost use Rattle.decision.specs.Below.{ListsAll};
 
 use crate::memory::{Memory, pair_of};

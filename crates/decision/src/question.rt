@@ -2,7 +2,7 @@
 ghost use Rattle.std.specs.Prelude.{◌≡◌};
 ghost use Rattle.board.specs.Board.{IsPosition};
 ghost use Rattle.board.specs.Games.{is_same_side};
-ghost use Rattle.moves.specs.Moves.{IsLawful};
+ghost use Rattle.rules.specs.Moves.{IsLawful};
 ghost use Rattle.decision.specs.Questions.{key_for, LeadsTo};
 
 use board::Side;

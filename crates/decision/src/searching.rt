@@ -1,6 +1,6 @@
 //! The search below the given position: the table is asked of each position but those of the last plies.
 ghost use Rattle.std.specs.Prelude.{◌≡◌, ◌<◌, ◌≤◌, ◌-◌, ◌↔◌, IsTrue, All, MatchOption};
-ghost use Rattle.moves.specs.Moves.{IsLawful};
+ghost use Rattle.rules.specs.Moves.{IsLawful};
 ghost use Rattle.slots.specs.Promise.{slots_of, number};
 ghost use Rattle.decision.specs.Callers.{GoesOn, adds, Searches};
 ghost use Rattle.decision.specs.Questions.{IsForced, IsKnownOf};

@@ -10,7 +10,7 @@ use Rattle.board.specs.declared.game.Game.TheVariants.{LosAlamos, Gardner}
 use Rattle.board.specs.declared.game.Side.{Side}
 use Rattle.board.specs.Games.{width_of, squares_of}
 use Rattle.board.specs.Board.{PlainBoard, IsPosition}
-use Rattle.moves.specs.declared.goal.Goal.{Goal}
+use Rattle.rules.specs.declared.goal.Goal.{Goal}
 use Rattle.moves.specs.Words.{digit, man_of, code_on, flags_of, game_of, game_of_flags, mover_of_flags, units_in, unpacked, IsUnused}
 use Rattle.moves.specs.Words.{IsPacked as IsBoard}
 use Rattle.moves.proofs.Digits.{digit_shifted}

@@ -14,8 +14,8 @@ use Rattle.board.specs.declared.game.Kind.TheVariants.{King, Queen, Rook, Bishop
 use Rattle.board.specs.declared.game.Unit.{Unit as Man}
 use Rattle.board.specs.Games.{width_of, squares_of, IsPlayed}
 use Rattle.board.specs.Board.{PlainBoard, unit_on, MayStandOn, IsInnerRank, IsArmy, IsPosition}
-use Rattle.moves.specs.declared.goal.Goal.{Goal}
-use Rattle.moves.specs.declared.goal.Goal.TheVariants.{Mate, MateOrStale}
+use Rattle.rules.specs.declared.goal.Goal.{Goal}
+use Rattle.rules.specs.declared.goal.Goal.TheVariants.{Mate, MateOrStale}
 use Rattle.moves.specs.Words.{man_of}
 use Rattle.entry.specs.Bounds.{Bounds, IsBounds}
 use Rattle.entry.specs.declared.entries.Entry.{Entry}

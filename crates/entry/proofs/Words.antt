@@ -7,8 +7,8 @@ use Rattle.board.specs.declared.game.Side.{Side}
 use Rattle.board.specs.declared.game.Side.TheVariants.{White, Black}
 use Rattle.board.specs.Games.{width_of}
 use Rattle.board.specs.Board.{IsPosition}
-use Rattle.moves.specs.declared.goal.Goal.{Goal}
-use Rattle.moves.specs.declared.goal.Goal.TheVariants.{Mate, MateOrStale}
+use Rattle.rules.specs.declared.goal.Goal.{Goal}
+use Rattle.rules.specs.declared.goal.Goal.TheVariants.{Mate, MateOrStale}
 use Rattle.entry.specs.Bounds.{Bounds, IsBounds}
 use Rattle.entry.specs.declared.entries.Entry.{Entry}
 use Rattle.entry.specs.declared.marks.Marks.{Marks}

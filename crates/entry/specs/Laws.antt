@@ -1,6 +1,6 @@
 -- Laws of entries.
 use Rattle.std.specs.Prelude.{◌≡◌, ℕ, ◌+◌, List, Some, None}
-use Rattle.moves.specs.Forces.{Forces}
+use Rattle.rules.specs.Forces.{Forces}
 use Rattle.entry.specs.Bounds.{Bounds, bounds_of, AreConsistent, meeting}
 use Rattle.entry.specs.declared.entries.Entry.{Entry}
 use Rattle.entry.specs.Packing.{Packing}

@@ -11,8 +11,8 @@ use Rattle.board.specs.declared.game.Kind.TheVariants.{Bishop, Pawn}
 use Rattle.board.specs.declared.game.Unit.{Unit as Man}
 use Rattle.board.specs.Games.{width_of, squares_of, most_units}
 use Rattle.board.specs.Board.{PlainBoard, board_of, unit_on, is_king_of, is_of_side}
-use Rattle.moves.specs.declared.goal.Goal.{Goal}
-use Rattle.moves.specs.declared.goal.Goal.TheVariants.{Mate, MateOrStale}
+use Rattle.rules.specs.declared.goal.Goal.{Goal}
+use Rattle.rules.specs.declared.goal.Goal.TheVariants.{Mate, MateOrStale}
 use Rattle.moves.specs.Words.{man_of}
 use Rattle.entry.specs.Bounds.{Bounds, bounds_of}
 use Rattle.entry.specs.declared.entries.Entry.{Entry}

@@ -12,8 +12,8 @@ use Rattle.std.specs.declared.alloc.Global.{Global}
 use Rattle.board.specs.Board.{PlainBoard}
 use Rattle.board.specs.declared.fault.FenFault.{FenFault}
 use Rattle.command_line.specs.declared.line.Limits.{Limits}
-use Rattle.moves.specs.Reading.{IsSoundFault}
-use Rattle.moves.specs.declared.goal.Goal.{Goal}
+use Rattle.rules.specs.Reading.{IsSoundFault}
+use Rattle.rules.specs.declared.goal.Goal.{Goal}
 use Rattle.replies.proofs.ReplyLemmas.{of_any}
 use Rattle.replies.specs.Device.{AppendsBeginning}
 use Rattle.replies.specs.Input.{without_line_feed}

@@ -3,8 +3,8 @@ use Rattle.std.specs.Prelude.{◌≡◌, ◌⊎◌, ◌-◌, ◌==◌, ℕ, Bool
 use Rattle.std.specs.List.{AllZip, flat_map}
 use Rattle.board.specs.Board.{PlainBoard}
 use Rattle.board.specs.declared.fault.FenFault.{FenFault}
-use Rattle.moves.specs.Reading.{IsSoundFault}
-use Rattle.moves.specs.declared.goal.Goal.{Goal}
+use Rattle.rules.specs.Reading.{IsSoundFault}
+use Rattle.rules.specs.declared.goal.Goal.{Goal}
 use Rattle.command_line.specs.declared.line.Limits.{Limits}
 use Rattle.replies.specs.Input.{without_line_feed}
 use Rattle.replies.specs.Output.{Reply, IsSoundText, ShowsAnswer, fault_of, line_of, refused}

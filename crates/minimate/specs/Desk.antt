@@ -3,7 +3,7 @@ use Rattle.std.specs.Prelude.{◌≡◌, ◌⊎◌, ◌+◌, ◌<◌, ℕ, Bool,
 use Rattle.std.specs.Io.KnownBytes.{Appends}
 use Rattle.std.specs.Io.BufRead.{take_through, drop_through}
 use Rattle.std.specs.declared.alloc.Global.{Global}
-use Rattle.moves.specs.declared.goal.Goal.{Goal}
+use Rattle.rules.specs.declared.goal.Goal.{Goal}
 use Rattle.command_line.specs.declared.line.Limits.{Limits}
 use Rattle.rounds.specs.Seats.{AreSeats}
 use Rattle.rounds.specs.declared.fault.SolveFault.{SolveFault}

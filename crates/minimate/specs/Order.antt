@@ -1,7 +1,7 @@
 -- What a run of the words does: what they ask for, if they mean an order.
 use Rattle.std.specs.Prelude.{◌≡◌, ◌⊎◌, List, [], None}
 use Rattle.clap.specs.Words.{Text}
-use Rattle.moves.specs.declared.goal.Goal.{Goal}
+use Rattle.rules.specs.declared.goal.Goal.{Goal}
 use Rattle.command_line.specs.Words.{MeansOrder, MeansNoOrder}
 use Rattle.command_line.specs.declared.line.Limits.{Limits}
 use Rattle.command_line.specs.declared.line.Order.{Order}

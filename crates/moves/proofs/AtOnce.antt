@@ -10,18 +10,18 @@ use Rattle.board.specs.declared.game.Kind.TheVariants.{King, Queen, Rook, Bishop
 use Rattle.board.specs.declared.game.Unit.{Unit as Man}
 use Rattle.board.specs.Games.{is_same_side}
 use Rattle.board.specs.Board.{PlainBoard}
-use Rattle.moves.specs.declared.goal.Goal.{Goal}
-use Rattle.moves.specs.declared.goal.Goal.TheVariants.{Mate, MateOrStale}
-use Rattle.moves.specs.Squares.{Ply, unit_at}
-use Rattle.moves.specs.Reach.{IsInCheck}
-use Rattle.moves.specs.Moves.{Promotes, IsPseudoLegal, IsMove, IsLawful, IsMated, after}
-use Rattle.moves.specs.Order.{promotion_number}
-use Rattle.moves.specs.declared.list.TheConstants.{PROMOTIONS}
-use Rattle.moves.specs.Forces.{IsReached, Forces}
-use Rattle.moves.specs.Targets.{Has}
+use Rattle.rules.specs.declared.goal.Goal.{Goal}
+use Rattle.rules.specs.declared.goal.Goal.TheVariants.{Mate, MateOrStale}
+use Rattle.rules.specs.Squares.{Ply, unit_at}
+use Rattle.rules.specs.Reach.{IsInCheck}
+use Rattle.rules.specs.Moves.{Promotes, IsPseudoLegal, IsMove, IsLawful, IsMated, after}
+use Rattle.rules.specs.Order.{promotion_number}
+use Rattle.rules.specs.declared.list.TheConstants.{PROMOTIONS}
+use Rattle.rules.specs.Forces.{IsReached, Forces}
+use Rattle.cells.specs.CellSets.{Has}
 use Rattle.moves.specs.Checking.{Attains}
-use Rattle.moves.proofs.Lists.{HasParts-lawful, promotes_to}
-use Rattle.moves.proofs.Forcing.{on_own, to_own, on_other, to_other, same_side-self, turn-own}
+use Rattle.rules.proofs.Lists.{HasParts-lawful, promotes_to}
+use Rattle.rules.proofs.Forcing.{on_own, to_own, on_other, to_other, same_side-self, turn-own}
 
 -- ---- the goal, by check and by whether a move is lawful
 

@@ -12,14 +12,14 @@ use Rattle.board.specs.Games.{other_side}
 use Rattle.board.specs.Board.{PlainBoard, is_of_side, IsPosition}
 use Rattle.moves.specs.declared.sets.Class.{Class}
 use Rattle.moves.specs.declared.sets.Class.TheVariants.{Crowned, Straight, Slanted, Horsed, Foot}
-use Rattle.moves.specs.Squares.{unit_at}
-use Rattle.moves.specs.Reach.{AttacksFrom, IsAttacked, IsInCheck}
-use Rattle.moves.specs.Mailbox.{cell_of, place_in, IsCell}
+use Rattle.rules.specs.Squares.{unit_at}
+use Rattle.rules.specs.Reach.{AttacksFrom, IsAttacked, IsInCheck}
+use Rattle.cells.specs.Mailbox.{cell_of, place_in, IsCell}
 use Rattle.moves.specs.Looking.{Aims, IsStruck}
-use Rattle.moves.specs.Targets.{Has}
+use Rattle.cells.specs.CellSets.{Has}
 use Rattle.moves.specs.Sets.{IsOf, Holds}
-use Rattle.moves.proofs.Cells.{IsCell-cell_of, place_in-cell_of}
-use Rattle.moves.proofs.Masks.{Has-and, Has-or, Has-zero, lowest-has}
+use Rattle.cells.proofs.CellNumbers.{IsCell-cell_of, place_in-cell_of}
+use Rattle.cells.proofs.Masks.{Has-and, Has-or, Has-zero, lowest-has}
 use Rattle.moves.proofs.Reaching.{foe-side, side-foe}
 use Rattle.moves.proofs.Kings.{king_of, check_from, check_at}
 use Rattle.moves.proofs.Looking.{Aims-attacked, AttacksFrom-struck, struck_played}

@@ -9,22 +9,22 @@ use Rattle.board.specs.declared.game.Unit.{Unit as Man}
 use Rattle.board.specs.declared.step.Step.{Step}
 use Rattle.board.specs.Games.{other_side}
 use Rattle.board.specs.Board.{PlainBoard, IsPosition}
-use Rattle.moves.specs.Squares.{Place, Ply, IsOnBoard, unit_at}
-use Rattle.moves.specs.Reach.{Leads, AttacksFrom, IsInCheck, IsAttacked}
-use Rattle.moves.specs.Reach.Leads.{once, again}
-use Rattle.moves.specs.Moves.{IsPseudoLegal, after}
-use Rattle.moves.specs.declared.tables.Way.{Way}
-use Rattle.moves.specs.Mailbox.{cell_of, place_in, IsCell}
-use Rattle.moves.specs.Ways.{Rides}
-use Rattle.moves.specs.Targets.{Has}
+use Rattle.rules.specs.Squares.{Place, Ply, IsOnBoard, unit_at}
+use Rattle.rules.specs.Reach.{Leads, AttacksFrom, IsInCheck, IsAttacked}
+use Rattle.rules.specs.Reach.Leads.{once, again}
+use Rattle.rules.specs.Moves.{IsPseudoLegal, after}
+use Rattle.cells.specs.declared.tables.Way.{Way}
+use Rattle.cells.specs.Mailbox.{cell_of, place_in, IsCell}
+use Rattle.cells.specs.Ways.{Rides}
+use Rattle.cells.specs.CellSets.{Has}
 use Rattle.moves.specs.Looking.{foe_of, IsStruck}
 use Rattle.moves.specs.Guard.{HasBlocks}
-use Rattle.moves.proofs.Cells.{IsCell-cell_of, place_in-cell_of, cell_of-place_in, cell_small}
-use Rattle.moves.proofs.Rides.{one_target}
+use Rattle.cells.proofs.CellNumbers.{IsCell-cell_of, place_in-cell_of, cell_of-place_in, cell_small}
+use Rattle.rules.proofs.Rides.{one_target}
 use Rattle.moves.proofs.Riding.{Rides-leads}
 use Rattle.moves.proofs.Seeing.{ways_of, single_step}
 use Rattle.moves.proofs.Laying.{unit_at-other}
-use Rattle.moves.proofs.Keeps.{to_on_board}
+use Rattle.rules.proofs.Keeps.{to_on_board}
 use Rattle.moves.proofs.Kings.{king_of, check_from}
 use Rattle.moves.proofs.Guarding.{king_stays}
 use Rattle.moves.proofs.Looking.{IsAttacked-struck, IsStruck-attacked, Aims-attacked, struck_played}

@@ -23,17 +23,17 @@ use Rattle.board.specs.declared.terms.Term.{Term}
 use Rattle.board.specs.Denotation.{IsAtomLeap, Denotes, terms_of}
 use Rattle.board.specs.Games.{other_side, IsPlayed}
 use Rattle.board.specs.Board.{PlainBoard, IsPosition}
-use Rattle.moves.specs.Squares.{Place, Ply, IsOnBoard, unit_at}
-use Rattle.moves.specs.Reach.{ahead_of, IsStep, Leads, Allows, Reaches, IsInCheck}
-use Rattle.moves.specs.Reach.Leads.{once, again}
-use Rattle.moves.specs.Moves.{IsPseudoLegal, placed, after}
-use Rattle.moves.specs.Mailbox.{cell_of}
+use Rattle.rules.specs.Squares.{Place, Ply, IsOnBoard, unit_at}
+use Rattle.rules.specs.Reach.{ahead_of, IsStep, Leads, Allows, Reaches, IsInCheck}
+use Rattle.rules.specs.Reach.Leads.{once, again}
+use Rattle.rules.specs.Moves.{IsPseudoLegal, placed, after}
+use Rattle.cells.specs.Mailbox.{cell_of}
 use Rattle.moves.specs.Targets.{IsTarget}
 use Rattle.moves.specs.Pinned.{IsPinned}
 use Rattle.moves.specs.Looking.{Aims}
-use Rattle.moves.proofs.Cells.{IsCell-cell_of, place_in-cell_of}
+use Rattle.cells.proofs.CellNumbers.{IsCell-cell_of, place_in-cell_of}
 use Rattle.moves.proofs.Laying.{unit_at-to, unit_at-from, unit_at-other}
-use Rattle.moves.proofs.Keeps.{to_on_board}
+use Rattle.rules.proofs.Keeps.{to_on_board}
 use Rattle.moves.proofs.Kings.{king_of, check_from, one_king}
 use Rattle.moves.proofs.Looking.{Leads-then, size-neg, captures_from}
 use Rattle.moves.proofs.Pins.{stood, walked, place_cases, own_or_other, no_unit}

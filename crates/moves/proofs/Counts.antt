@@ -13,18 +13,18 @@ use Rattle.board.specs.declared.game.Kind.TheVariants.{Queen, Rook, Bishop, Knig
 use Rattle.board.specs.declared.game.Unit.{Unit as Man}
 use Rattle.board.specs.Games.{squares_of}
 use Rattle.board.specs.Board.{PlainBoard}
-use Rattle.moves.specs.Squares.{Place, Ply, IsOnBoard, square_number, unit_at}
-use Rattle.moves.specs.Moves.{Promotes, IsPromotion, IsLawful}
-use Rattle.moves.specs.Order.{promotion_number}
-use Rattle.moves.specs.Listing.{ply_number, ListsBelow}
-use Rattle.moves.specs.Mailbox.{cell_of, place_in, IsCell}
-use Rattle.moves.specs.Targets.{Has}
+use Rattle.rules.specs.Squares.{Place, Ply, IsOnBoard, square_number, unit_at}
+use Rattle.rules.specs.Moves.{Promotes, IsPromotion, IsLawful}
+use Rattle.rules.specs.Order.{promotion_number}
+use Rattle.rules.specs.Listing.{ply_number, ListsBelow}
+use Rattle.cells.specs.Mailbox.{cell_of, place_in, IsCell}
+use Rattle.cells.specs.CellSets.{Has}
 use Rattle.moves.specs.Safe.{IsNamed, HasSafe, IsEach, promotions_of}
-use Rattle.moves.proofs.Cells.{place_in-cell_of, cell_small}
-use Rattle.moves.proofs.Listed.{same_number, number_within}
+use Rattle.cells.proofs.CellNumbers.{place_in-cell_of, cell_small}
+use Rattle.rules.proofs.Listed.{same_number, number_within}
 use Rattle.moves.proofs.Guarding.{promotes_well}
-use Rattle.moves.proofs.Lists.{IsNumbered, IsNumbered-lawful, HasParts-lawful, ListsBelow-jump, ListsBelow-push, ListsBelow-skip, ListsBelow-promoted}
-use Rattle.moves.proofs.Room.{squares_36}
+use Rattle.rules.proofs.Lists.{IsNumbered, IsNumbered-lawful, HasParts-lawful, ListsBelow-jump, ListsBelow-push, ListsBelow-skip, ListsBelow-promoted}
+use Rattle.rules.proofs.Room.{squares_36}
 use Rattle.moves.proofs.Scanning.{number_order}
 
 -- ---- a list has no more moves than numbers

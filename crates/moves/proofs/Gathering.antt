@@ -9,16 +9,16 @@ use Rattle.board.specs.declared.game.Game.TheVariants.{LosAlamos, Gardner}
 use Rattle.board.specs.declared.game.Unit.{Unit as Man}
 use Rattle.board.specs.Games.{most_units, squares_of}
 use Rattle.board.specs.Board.{PlainBoard, unit_on, is_of_side, IsPosition}
-use Rattle.moves.specs.Squares.{Ply, square_number, unit_at}
-use Rattle.moves.specs.Order.{ListsLawful}
-use Rattle.moves.specs.Mailbox.{cell_of, place_in, IsCell}
-use Rattle.moves.specs.Targets.{Has}
-use Rattle.moves.specs.Listing.{ListsBelow, ListsFrom}
-use Rattle.moves.proofs.Cells.{IsCell-cell_of, place_in-cell_of}
-use Rattle.moves.proofs.Listed.{number_within}
-use Rattle.moves.proofs.Lists.{ListsBelow-nil, ListsBelow-not_own, ListsLawful-from}
-use Rattle.moves.proofs.Room.{squares_36}
-use Rattle.moves.proofs.Masks.{Has-zero}
+use Rattle.rules.specs.Squares.{Ply, square_number, unit_at}
+use Rattle.rules.specs.Order.{ListsLawful}
+use Rattle.cells.specs.Mailbox.{cell_of, place_in, IsCell}
+use Rattle.cells.specs.CellSets.{Has}
+use Rattle.rules.specs.Listing.{ListsBelow, ListsFrom}
+use Rattle.cells.proofs.CellNumbers.{IsCell-cell_of, place_in-cell_of}
+use Rattle.rules.proofs.Listed.{number_within}
+use Rattle.rules.proofs.Lists.{ListsBelow-nil, ListsBelow-not_own, ListsLawful-from}
+use Rattle.rules.proofs.Room.{squares_36}
+use Rattle.cells.proofs.Masks.{Has-zero}
 use Rattle.moves.proofs.Guarding.{numbered}
 use Rattle.moves.proofs.Scanning.{cell_order, left_after}
 use Rattle.moves.proofs.Tallies.{IsOwn}

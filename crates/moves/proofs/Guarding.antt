@@ -13,11 +13,11 @@ use Rattle.board.specs.declared.game.Kind.TheVariants.{King, Queen, Rook, Bishop
 use Rattle.board.specs.declared.game.Unit.{Unit as Man}
 use Rattle.board.specs.Games.{squares_of, is_same_side}
 use Rattle.board.specs.Board.{PlainBoard, unit_on, is_king, is_king_of, is_of_side, IsPosition, MayStandOn}
-use Rattle.moves.specs.Squares.{Place, Ply, IsOnBoard, square_number, unit_at}
-use Rattle.moves.specs.Reach.{IsInCheck}
-use Rattle.moves.specs.Moves.{Promotes, IsPromotion, IsSomeKing, IsPseudoLegal, IsLawful, after}
-use Rattle.moves.specs.Mailbox.{cell_of, place_in, IsCell}
-use Rattle.moves.proofs.Cells.{IsCell-cell_of, place_in-cell_of}
+use Rattle.rules.specs.Squares.{Place, Ply, IsOnBoard, square_number, unit_at}
+use Rattle.rules.specs.Reach.{IsInCheck}
+use Rattle.rules.specs.Moves.{Promotes, IsPromotion, IsSomeKing, IsPseudoLegal, IsLawful, after}
+use Rattle.cells.specs.Mailbox.{cell_of, place_in, IsCell}
+use Rattle.cells.proofs.CellNumbers.{IsCell-cell_of, place_in-cell_of}
 use Rattle.moves.proofs.Laying.{unit_at-to, unit_at-other}
 use Rattle.moves.proofs.Kings.{king_of}
 

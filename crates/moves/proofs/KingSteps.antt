@@ -11,12 +11,12 @@ use Rattle.board.specs.Denotation.{terms_of}
 use Rattle.board.specs.Games.{other_side}
 use Rattle.board.specs.Board.{PlainBoard, IsPosition}
 use Rattle.board.proofs.Leaps.{goes_somewhere}
-use Rattle.moves.specs.Squares.{Place, Ply, IsOnBoard, unit_at}
-use Rattle.moves.specs.Reach.{Leads, IsAttacked, IsInCheck}
-use Rattle.moves.specs.Reach.Leads.{once, again}
-use Rattle.moves.specs.Moves.{IsPseudoLegal, after}
-use Rattle.moves.proofs.Rides.{room_of, room_of-step}
-use Rattle.moves.proofs.Keeps.{to_on_board, IsPosition-after}
+use Rattle.rules.specs.Squares.{Place, Ply, IsOnBoard, unit_at}
+use Rattle.rules.specs.Reach.{Leads, IsAttacked, IsInCheck}
+use Rattle.rules.specs.Reach.Leads.{once, again}
+use Rattle.rules.specs.Moves.{IsPseudoLegal, after}
+use Rattle.rules.proofs.Rides.{room_of, room_of-step}
+use Rattle.rules.proofs.Keeps.{to_on_board, IsPosition-after}
 use Rattle.moves.proofs.Laying.{unit_at-from, unit_at-other}
 use Rattle.moves.proofs.Kings.{king_of, check_at, check_from}
 use Rattle.moves.proofs.Guarding.{king_moved}

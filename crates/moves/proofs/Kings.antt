@@ -8,12 +8,12 @@ use Rattle.board.specs.declared.game.Kind.TheVariants.{King}
 use Rattle.board.specs.declared.game.Unit.{Unit as Man}
 use Rattle.board.specs.Games.{other_side}
 use Rattle.board.specs.Board.{PlainBoard, is_king_of, IsPosition}
-use Rattle.moves.specs.Squares.{Place, IsOnBoard, square_number, unit_at}
-use Rattle.moves.specs.Reach.{IsAttacked, IsInCheck}
-use Rattle.moves.specs.Mailbox.{cell_of, place_in, IsCell}
-use Rattle.moves.proofs.Cells.{IsCell-cell_of, place_in-cell_of}
-use Rattle.moves.proofs.Listed.{same_number, number_within}
-use Rattle.moves.proofs.Room.{squares_36}
+use Rattle.rules.specs.Squares.{Place, IsOnBoard, square_number, unit_at}
+use Rattle.rules.specs.Reach.{IsAttacked, IsInCheck}
+use Rattle.cells.specs.Mailbox.{cell_of, place_in, IsCell}
+use Rattle.cells.proofs.CellNumbers.{IsCell-cell_of, place_in-cell_of}
+use Rattle.rules.proofs.Listed.{same_number, number_within}
+use Rattle.rules.proofs.Room.{squares_36}
 
 abbrev pub king_of : Side → Option Man
 king_of side = Some (record { side = side; kind = King })

@@ -6,13 +6,13 @@ use Rattle.board.specs.declared.game.Game.TheVariants.{LosAlamos, Gardner}
 use Rattle.board.specs.declared.game.Unit.{Unit as Man}
 use Rattle.board.specs.Games.{width_of}
 use Rattle.board.specs.Board.{PlainBoard}
-use Rattle.moves.specs.Squares.{Place, IsOnBoard, square_number, unit_at}
+use Rattle.rules.specs.Squares.{Place, IsOnBoard, square_number, unit_at}
 use Rattle.board.specs.Board.{IsPosition}
-use Rattle.moves.specs.Squares.{Ply}
-use Rattle.moves.specs.Moves.{IsPseudoLegal, placed, after}
-use Rattle.moves.proofs.Keeps.{to_on_board, other_square}
-use Rattle.moves.proofs.Listed.{same_number}
-use Rattle.moves.proofs.Cells.{small_squares}
+use Rattle.rules.specs.Squares.{Ply}
+use Rattle.rules.specs.Moves.{IsPseudoLegal, placed, after}
+use Rattle.rules.proofs.Keeps.{to_on_board, other_square}
+use Rattle.rules.proofs.Listed.{same_number}
+use Rattle.cells.proofs.CellNumbers.{small_squares}
 
 -- ---- a move
 

@@ -19,9 +19,9 @@ use Rattle.board.specs.Denotation.{IsAtomLeap, Denotes, terms_of}
 use Rattle.board.specs.Games.{other_side, IsPlayed}
 use Rattle.board.specs.declared.game.Game.{Game}
 use Rattle.board.specs.Board.{PlainBoard, IsPosition, MayStandOn}
-use Rattle.moves.specs.Squares.{Place, IsOnBoard, square_number, unit_at}
-use Rattle.moves.specs.Reach.{ahead_of, IsStep, Leads, Allows, AttacksFrom, IsAttacked}
-use Rattle.moves.specs.Reach.Leads.{once, again}
+use Rattle.rules.specs.Squares.{Place, IsOnBoard, square_number, unit_at}
+use Rattle.rules.specs.Reach.{ahead_of, IsStep, Leads, Allows, AttacksFrom, IsAttacked}
+use Rattle.rules.specs.Reach.Leads.{once, again}
 use Rattle.moves.specs.Looking.{foe_of, IsStruck, Aims}
 
 some_same : {X : Type 0} {x y : X} → Some x ≡ Some y → x ≡ y

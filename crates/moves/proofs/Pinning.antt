@@ -6,19 +6,19 @@ use Rattle.board.specs.declared.game.Side.{Side}
 use Rattle.board.specs.Games.{other_side}
 use Rattle.board.specs.Board.{PlainBoard, is_of_side}
 use Rattle.moves.specs.declared.sets.Class.TheVariants.{Straight, Slanted}
-use Rattle.moves.specs.declared.tables.Way.{Way}
-use Rattle.moves.specs.declared.tables.Way.TheVariants.{North, South, East, West, NorthEast, SouthWest, NorthWest, SouthEast}
-use Rattle.moves.specs.declared.tables.TheConstants.{WAYS}
-use Rattle.moves.specs.Squares.{unit_at}
-use Rattle.moves.specs.Reach.{Leads}
-use Rattle.moves.specs.Mailbox.{cell_of, place_in, IsCell}
+use Rattle.cells.specs.declared.tables.Way.{Way}
+use Rattle.cells.specs.declared.tables.Way.TheVariants.{North, South, East, West, NorthEast, SouthWest, NorthWest, SouthEast}
+use Rattle.cells.specs.declared.tables.TheConstants.{WAYS}
+use Rattle.rules.specs.Squares.{unit_at}
+use Rattle.rules.specs.Reach.{Leads}
+use Rattle.cells.specs.Mailbox.{cell_of, place_in, IsCell}
 use Rattle.moves.specs.Pinned.{IsPinned}
 use Rattle.moves.specs.Sets.{Holds}
-use Rattle.moves.specs.Targets.{Has}
-use Rattle.moves.specs.Ways.{Rides, rises}
-use Rattle.moves.proofs.Cells.{IsCell-cell_of, place_in-cell_of}
+use Rattle.cells.specs.CellSets.{Has}
+use Rattle.cells.specs.Ways.{Rides, rises}
+use Rattle.cells.proofs.CellNumbers.{IsCell-cell_of, place_in-cell_of}
 use Rattle.moves.proofs.Looking.{both_back}
-use Rattle.moves.proofs.Masks.{Has-and, Has-or}
+use Rattle.cells.proofs.Masks.{Has-and, Has-or}
 use Rattle.moves.proofs.Reaching.{side-foe}
 use Rattle.moves.proofs.Riding.{IsSooner, Rides-clear, Rides-leads}
 use Rattle.moves.proofs.Seeing.{rides_as}

@@ -11,14 +11,14 @@ use Rattle.board.specs.declared.game.Unit.{Unit as Man}
 use Rattle.board.specs.declared.step.Step.{Step}
 use Rattle.board.specs.Games.{other_side}
 use Rattle.board.specs.Board.{PlainBoard, IsPosition}
-use Rattle.moves.specs.Squares.{Place, Ply, IsOnBoard, square_number, unit_at}
-use Rattle.moves.specs.Reach.{Leads, IsInCheck}
-use Rattle.moves.specs.Reach.Leads.{once, again}
-use Rattle.moves.specs.Moves.{IsPromotion, IsPseudoLegal, placed, after}
+use Rattle.rules.specs.Squares.{Place, Ply, IsOnBoard, square_number, unit_at}
+use Rattle.rules.specs.Reach.{Leads, IsInCheck}
+use Rattle.rules.specs.Reach.Leads.{once, again}
+use Rattle.rules.specs.Moves.{IsPromotion, IsPseudoLegal, placed, after}
 use Rattle.moves.specs.Pinned.{IsPinned}
-use Rattle.moves.proofs.Listed.{same_number}
+use Rattle.rules.proofs.Listed.{same_number}
 use Rattle.moves.proofs.Laying.{unit_at-to, unit_at-from, unit_at-other}
-use Rattle.moves.proofs.Keeps.{to_on_board}
+use Rattle.rules.proofs.Keeps.{to_on_board}
 use Rattle.moves.proofs.Kings.{king_of, check_from, one_king}
 use Rattle.moves.proofs.Looking.{captures_from}
 

@@ -20,18 +20,19 @@ use Rattle.board.specs.declared.terms.Term.{Term}
 use Rattle.board.specs.Denotation.{IsAtomLeap, terms_of, Denotes}
 use Rattle.board.specs.Games.{other_side, IsPlayed}
 use Rattle.board.specs.Board.{PlainBoard, is_of_side}
-use Rattle.moves.specs.Squares.{Place, unit_at}
-use Rattle.moves.specs.Reach.{ahead_of, IsShift, IsStep, Leads, Allows, Reaches}
-use Rattle.moves.specs.Reach.Leads.{once, again}
-use Rattle.moves.specs.StepTables.{table_of}
-use Rattle.moves.specs.Mailbox.{place_in, IsAway, IsCell}
+use Rattle.rules.specs.Squares.{Place, unit_at}
+use Rattle.rules.specs.Reach.{ahead_of, IsShift, IsStep, Leads, Allows, Reaches}
+use Rattle.rules.specs.Reach.Leads.{once, again}
+use Rattle.cells.specs.StepTables.{table_of}
+use Rattle.cells.specs.Mailbox.{place_in, IsAway, IsCell}
 use Rattle.moves.specs.Looking.{Aims}
-use Rattle.moves.specs.Targets.{Has, IsTarget}
-use Rattle.moves.specs.Ways.{IsNext, ahead_way}
-use Rattle.moves.proofs.Cells.{shift_in, cell_small}
-use Rattle.moves.proofs.TableTests.{table_of-exact}
-use Rattle.moves.proofs.Masks.{Has-and, Has-or, Has-minus, Has-zero}
-use Rattle.moves.proofs.OnRays.{next_of, next-is, is-next}
+use Rattle.cells.specs.CellSets.{Has}
+use Rattle.moves.specs.Targets.{IsTarget}
+use Rattle.cells.specs.Ways.{IsNext, ahead_way}
+use Rattle.cells.proofs.CellNumbers.{shift_in, cell_small}
+use Rattle.cells.proofs.TableTests.{table_of-exact}
+use Rattle.cells.proofs.Masks.{Has-and, Has-or, Has-minus, Has-zero}
+use Rattle.cells.proofs.OnRays.{next_of, next-is, is-next}
 
 -- ---- where a step may end
 

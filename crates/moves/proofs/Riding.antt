@@ -6,19 +6,19 @@ use Rattle.board.specs.declared.game.Game.{Game}
 use Rattle.board.specs.declared.game.Side.{Side}
 use Rattle.board.specs.declared.step.Step.{Step}
 use Rattle.board.specs.Board.{PlainBoard}
-use Rattle.moves.specs.declared.tables.Way.{Way}
-use Rattle.moves.specs.declared.tables.Way.TheVariants.{North, South, East, West, NorthEast, SouthWest, NorthWest, SouthEast}
-use Rattle.moves.specs.Squares.{Place, IsOnBoard, unit_at}
-use Rattle.moves.specs.Reach.{ahead_of, IsShift, IsStep, Leads}
-use Rattle.moves.specs.Reach.Leads.{once as lead, again as lead_on}
-use Rattle.moves.specs.Mailbox.{cell_of, place_in, IsCell}
-use Rattle.moves.specs.Ways.{files_of, ranks_of, IsNext, IsOnRay, Rides, rises}
-use Rattle.moves.specs.Ways.IsOnRay.{next, beyond}
-use Rattle.moves.specs.Ways.Rides.{once, again}
-use Rattle.moves.proofs.Cells.{shift_in, IsCell-cell_of, place_in-cell_of, cell_of-place_in, cell_small}
-use Rattle.moves.proofs.Masks.{Has-and}
+use Rattle.cells.specs.declared.tables.Way.{Way}
+use Rattle.cells.specs.declared.tables.Way.TheVariants.{North, South, East, West, NorthEast, SouthWest, NorthWest, SouthEast}
+use Rattle.rules.specs.Squares.{Place, IsOnBoard, unit_at}
+use Rattle.rules.specs.Reach.{ahead_of, IsShift, IsStep, Leads}
+use Rattle.rules.specs.Reach.Leads.{once as lead, again as lead_on}
+use Rattle.cells.specs.Mailbox.{cell_of, place_in, IsCell}
+use Rattle.cells.specs.Ways.{files_of, ranks_of, IsNext, IsOnRay, Rides, rises}
+use Rattle.cells.specs.Ways.IsOnRay.{next, beyond}
+use Rattle.cells.specs.Ways.Rides.{once, again}
+use Rattle.cells.proofs.CellNumbers.{shift_in, IsCell-cell_of, place_in-cell_of, cell_of-place_in, cell_small}
+use Rattle.cells.proofs.Masks.{Has-and}
 use Rattle.moves.proofs.Shown.{none_from}
-use Rattle.moves.specs.Targets.{Has}
+use Rattle.cells.specs.CellSets.{Has}
 use Rattle.std.specs.Int.RustNames.{bit_and}
 
 -- the cell j lies on the way before k

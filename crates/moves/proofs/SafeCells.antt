@@ -12,21 +12,22 @@ use Rattle.board.specs.declared.game.Unit.{Unit as Man}
 use Rattle.board.specs.declared.step.Step.{Step}
 use Rattle.board.specs.Games.{width_of, other_side}
 use Rattle.board.specs.Board.{PlainBoard, IsPosition}
-use Rattle.moves.specs.Squares.{Place, Ply, IsOnBoard, unit_at}
-use Rattle.moves.specs.Reach.{Leads, Reaches, IsAttacked, IsInCheck}
-use Rattle.moves.specs.Reach.Leads.{once, again}
-use Rattle.moves.specs.Moves.{IsLastRank, IsPromotion, Promotes, IsSomeKing, IsPseudoLegal, IsLawful, placed, after}
-use Rattle.moves.specs.Mailbox.{cell_of, place_in}
-use Rattle.moves.specs.Targets.{Has, IsTarget}
+use Rattle.rules.specs.Squares.{Place, Ply, IsOnBoard, unit_at}
+use Rattle.rules.specs.Reach.{Leads, Reaches, IsAttacked, IsInCheck}
+use Rattle.rules.specs.Reach.Leads.{once, again}
+use Rattle.rules.specs.Moves.{IsLastRank, IsPromotion, Promotes, IsSomeKing, IsPseudoLegal, IsLawful, placed, after}
+use Rattle.cells.specs.Mailbox.{cell_of, place_in}
+use Rattle.cells.specs.CellSets.{Has}
+use Rattle.moves.specs.Targets.{IsTarget}
 use Rattle.moves.specs.Pinned.{IsPinned}
 use Rattle.moves.specs.Sets.{StandsAs}
 use Rattle.moves.specs.declared.sets.Class.TheVariants.{Crowned}
 use Rattle.moves.specs.Safe.{IsNamed, HasSafe, IsCalm}
-use Rattle.moves.proofs.Cells.{IsCell-cell_of, place_in-cell_of}
+use Rattle.cells.proofs.CellNumbers.{IsCell-cell_of, place_in-cell_of}
 use Rattle.moves.proofs.KingSteps.{steps_safely}
-use Rattle.moves.proofs.Masks.{lowest-has}
+use Rattle.cells.proofs.Masks.{lowest-has}
 use Rattle.moves.proofs.Laying.{unit_at-to, unit_at-from, unit_at-other}
-use Rattle.moves.proofs.Keeps.{IsRankAhead, to_on_board}
+use Rattle.rules.proofs.Keeps.{IsRankAhead, to_on_board}
 use Rattle.moves.proofs.Kings.{king_of}
 use Rattle.moves.proofs.Pins.{place_cases, promotes_no_king, own_or_other, no_unit, stays_safe}
 use Rattle.moves.proofs.AtOnce.{pseudo_by, move_by}

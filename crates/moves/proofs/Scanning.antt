@@ -11,15 +11,16 @@ use Rattle.board.specs.declared.game.Kind.TheVariants.{Pawn}
 use Rattle.board.specs.declared.game.Unit.{Unit as Man}
 use Rattle.board.specs.Games.{squares_of}
 use Rattle.board.specs.Board.{PlainBoard}
-use Rattle.moves.specs.Squares.{Place, Ply, IsOnBoard, square_number}
-use Rattle.moves.specs.Listing.{ListsBelow}
-use Rattle.moves.specs.Mailbox.{cell_of, place_in, IsCell}
-use Rattle.moves.specs.Targets.{Has, IsTarget}
+use Rattle.rules.specs.Squares.{Place, Ply, IsOnBoard, square_number}
+use Rattle.rules.specs.Listing.{ListsBelow}
+use Rattle.cells.specs.Mailbox.{cell_of, place_in, IsCell}
+use Rattle.cells.specs.CellSets.{Has}
+use Rattle.moves.specs.Targets.{IsTarget}
 use Rattle.moves.specs.Safe.{HasSafe}
-use Rattle.moves.proofs.Cells.{IsCell-cell_of, place_in-cell_of, cell_small}
-use Rattle.moves.proofs.Listed.{same_number, number_within}
-use Rattle.moves.proofs.Lists.{ListsBelow-jump, ListsBelow-all_to, IsNumbered-lawful, HasParts-lawful}
-use Rattle.moves.proofs.Room.{share, share-more, share-most, share-step, squares_36}
+use Rattle.cells.proofs.CellNumbers.{IsCell-cell_of, place_in-cell_of, cell_small}
+use Rattle.rules.proofs.Listed.{same_number, number_within}
+use Rattle.rules.proofs.Lists.{ListsBelow-jump, ListsBelow-all_to, IsNumbered-lawful, HasParts-lawful}
+use Rattle.rules.proofs.Room.{share, share-more, share-most, share-step, squares_36}
 
 -- cells are ordered as their squares' numbers are
 pub cell_order : (g : Game) (i j : ℕ) → IsCell g i → IsCell g j → square_number g (place_in i) < square_number g (place_in j) → i < j
@@ -169,16 +170,3 @@ module _ (b : PlainBoard) (u : Man) (from : Place) (on : IsOnBoard b.game from) 
         ListsBelow-all_to b (square_number b.game from) (squares_of b.game) moves (omega arith) (squares_36 b.game) all,
         (let most = share-most b.game u from s.upto s.within in omega (arith, s.few, most)),
       )
-
--- a set without its lowest cell is less
-pub less_cleared : (set to : ℕ) → to < 64 → bit_at set to ≡ 1 → bit_and set (bit_not w64 (1 * 2 ^ to % 2 ^ 64)) < set
-less_cleared set to wide has =
-    let le = and_le_l set (bit_not w64 (1 * 2 ^ to % 2 ^ 64)) in
-    let gone = bit_at_clear_same w64 set to wide in
-    elim (cases_lt (bit_and set (bit_not w64 (1 * 2 ^ to % 2 ^ 64))) set) [
-      | inl less ↦ less
-      | inr more ↦
-          let same : bit_and set (bit_not w64 (1 * 2 ^ to % 2 ^ 64)) ≡ set = omega (arith, le, more) in
-          let here : bit_at (bit_and set (bit_not w64 (1 * 2 ^ to % 2 ^ 64))) to ≡ 1 = ap (λ x. bit_at x to) same ∙ has in
-          absurd (omega (arith, gone, here))
-    ]

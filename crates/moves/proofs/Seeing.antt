@@ -15,18 +15,19 @@ use Rattle.board.specs.declared.step.Step.{Step}
 use Rattle.board.specs.declared.terms.Atom.TheVariants.{Wazir, Ferz}
 use Rattle.board.specs.Denotation.{IsAtomLeap, IsTermStep, doubled, terms_of, Denotes}
 use Rattle.board.specs.Board.{PlainBoard}
-use Rattle.moves.specs.declared.tables.Way.{Way}
-use Rattle.moves.specs.declared.tables.Way.TheVariants.{North, South, East, West, NorthEast, SouthWest, NorthWest, SouthEast}
-use Rattle.moves.specs.Squares.{Place}
-use Rattle.moves.specs.Reach.{ahead_of, IsStep, Leads}
-use Rattle.moves.specs.Reach.Leads.{once, again}
-use Rattle.moves.specs.StepTables.{table_of}
-use Rattle.moves.specs.Mailbox.{place_in, IsCell}
+use Rattle.cells.specs.declared.tables.Way.{Way}
+use Rattle.cells.specs.declared.tables.Way.TheVariants.{North, South, East, West, NorthEast, SouthWest, NorthWest, SouthEast}
+use Rattle.rules.specs.Squares.{Place}
+use Rattle.rules.specs.Reach.{ahead_of, IsStep, Leads}
+use Rattle.rules.specs.Reach.Leads.{once, again}
+use Rattle.cells.specs.StepTables.{table_of}
+use Rattle.cells.specs.Mailbox.{place_in, IsCell}
 use Rattle.moves.specs.Looking.{Aims}
-use Rattle.moves.specs.Sets.{RidesStraight, RidesSlanted, IsLeapt}
-use Rattle.moves.specs.Ways.{files_of, ranks_of, Rides}
-use Rattle.moves.proofs.Cells.{shift_in}
-use Rattle.moves.proofs.TableTests.{table_of-exact}
+use Rattle.cells.specs.Leaps.{IsLeapt}
+use Rattle.moves.specs.Sets.{RidesStraight, RidesSlanted}
+use Rattle.cells.specs.Ways.{files_of, ranks_of, Rides}
+use Rattle.cells.proofs.CellNumbers.{shift_in}
+use Rattle.cells.proofs.TableTests.{table_of-exact}
 use Rattle.moves.proofs.Riding.{Goes, cell-rides, Leads-rides, Rides-leads}
 
 -- ---- a rider's steps and its ways

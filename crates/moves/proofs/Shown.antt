@@ -12,17 +12,17 @@ use Rattle.board.specs.Board.{PlainBoard, unit_on, is_of_side, IsPosition}
 use Rattle.moves.specs.declared.sets.Class.{Class}
 use Rattle.moves.specs.declared.sets.Class.TheVariants.{White, Black, Crowned, Straight, Slanted, Horsed, Foot}
 use Rattle.moves.specs.declared.sets.Sets.{Sets}
-use Rattle.moves.specs.Squares.{Place, Ply, IsOnBoard, square_number, unit_at}
-use Rattle.moves.specs.Moves.{IsPseudoLegal, placed, after}
-use Rattle.moves.specs.Mailbox.{cell_of, place_in, IsCell}
-use Rattle.moves.specs.Targets.{Has}
+use Rattle.rules.specs.Squares.{Place, Ply, IsOnBoard, square_number, unit_at}
+use Rattle.rules.specs.Moves.{IsPseudoLegal, placed, after}
+use Rattle.cells.specs.Mailbox.{cell_of, place_in, IsCell}
+use Rattle.cells.specs.CellSets.{Has}
 use Rattle.moves.specs.Sets.{IsOf, StandsAs, Holds, Shows, HasMoved, AreMoved}
-use Rattle.moves.proofs.Cells.{IsCell-cell_of, place_in-cell_of, cell_of-place_in}
-use Rattle.moves.proofs.Reached.{same_cell}
-use Rattle.moves.proofs.Keeps.{to_on_board}
+use Rattle.cells.proofs.CellNumbers.{IsCell-cell_of, place_in-cell_of, cell_of-place_in}
+use Rattle.cells.proofs.Reached.{same_cell}
+use Rattle.rules.proofs.Keeps.{to_on_board}
 use Rattle.moves.proofs.Laying.{unit_at-to, unit_at-from, unit_at-other}
-use Rattle.moves.proofs.Listed.{same_number, number_within}
-use Rattle.moves.proofs.Masks.{Has-or, Has-zero, Has-clear, Has-minus, and_fits}
+use Rattle.rules.proofs.Listed.{same_number, number_within}
+use Rattle.cells.proofs.Masks.{Has-or, Has-zero, Has-clear, Has-minus, and_fits}
 
 -- ---- units of a side
 

@@ -3,18 +3,18 @@ use Rattle.std.proofs.Common.{◌≡◌, ◌≢◌, ℕ, ◌+◌, ◌*◌, ◌^�
 use Rattle.std.specs.Int.{bit_at}
 use Rattle.board.specs.Games.{squares_of}
 use Rattle.board.specs.Board.{PlainBoard, is_of_side}
-use Rattle.moves.specs.Squares.{Ply, square_number, unit_at}
-use Rattle.moves.specs.Moves.{IsLawful}
-use Rattle.moves.specs.Listing.{ListsBelow}
-use Rattle.moves.specs.Mailbox.{cell_of, place_in, IsCell}
-use Rattle.moves.specs.Targets.{Has}
+use Rattle.rules.specs.Squares.{Ply, square_number, unit_at}
+use Rattle.rules.specs.Moves.{IsLawful}
+use Rattle.rules.specs.Listing.{ListsBelow}
+use Rattle.cells.specs.Mailbox.{cell_of, place_in, IsCell}
+use Rattle.cells.specs.CellSets.{Has}
 use Rattle.moves.specs.Counting.{CountsLawful}
 use Rattle.moves.specs.Safe.{CountsFrom}
-use Rattle.moves.proofs.Cells.{IsCell-cell_of, place_in-cell_of}
-use Rattle.moves.proofs.Listed.{number_within}
-use Rattle.moves.proofs.Lists.{IsNumbered-lawful, HasParts-lawful, ListsBelow-nil, ListsBelow-jump, ListsLawful-from, own_from}
-use Rattle.moves.proofs.Room.{squares_36}
-use Rattle.moves.proofs.Masks.{Has-zero}
+use Rattle.cells.proofs.CellNumbers.{IsCell-cell_of, place_in-cell_of}
+use Rattle.rules.proofs.Listed.{number_within}
+use Rattle.rules.proofs.Lists.{IsNumbered-lawful, HasParts-lawful, ListsBelow-nil, ListsBelow-jump, ListsLawful-from, own_from}
+use Rattle.rules.proofs.Room.{squares_36}
+use Rattle.cells.proofs.Masks.{Has-zero}
 use Rattle.moves.proofs.Scanning.{cell_order, left_after}
 use Rattle.moves.proofs.Counts.{few_below}
 

@@ -5,15 +5,16 @@ use Rattle.board.specs.Games.{other_side}
 use Rattle.board.specs.Board.{PlainBoard}
 use Rattle.moves.specs.declared.at_once.Quest.{Quest}
 use Rattle.moves.specs.declared.checks.Watch.{Watch}
-use Rattle.moves.specs.declared.goal.Goal.{Goal}
-use Rattle.moves.specs.declared.goal.Goal.TheVariants.{Mate}
-use Rattle.moves.specs.Squares.{Ply, unit_at}
-use Rattle.moves.specs.Reach.{IsInCheck}
-use Rattle.moves.specs.Moves.{IsMove}
-use Rattle.moves.specs.Forces.{IsReached}
-use Rattle.moves.specs.Mailbox.{place_in, IsCell}
+use Rattle.rules.specs.declared.goal.Goal.{Goal}
+use Rattle.rules.specs.declared.goal.Goal.TheVariants.{Mate}
+use Rattle.rules.specs.Squares.{Ply, unit_at}
+use Rattle.rules.specs.Reach.{IsInCheck}
+use Rattle.rules.specs.Moves.{IsMove}
+use Rattle.rules.specs.Forces.{IsReached}
+use Rattle.cells.specs.Mailbox.{place_in, IsCell}
 use Rattle.moves.specs.Pinned.{IsPinned}
-use Rattle.moves.specs.Targets.{Has, IsTarget}
+use Rattle.cells.specs.CellSets.{Has}
+use Rattle.moves.specs.Targets.{IsTarget}
 
 -- the watch tells the cell of the other king, which isn't attacked, which cells have units that alone keep a rider of the mover from it, and which cells a king and a knight of the mover would reach from there
 pub record Watches (b : PlainBoard) (watch : Watch) : Type 0 where

@@ -1,8 +1,8 @@
 -- How many lawful moves a board has.
 use Rattle.std.specs.Prelude.{◌≡◌, ℕ, List, length}
 use Rattle.board.specs.Board.{PlainBoard}
-use Rattle.moves.specs.Squares.{Ply}
-use Rattle.moves.specs.Order.{ListsLawful}
+use Rattle.rules.specs.Squares.{Ply}
+use Rattle.rules.specs.Order.{ListsLawful}
 
 -- the board has n lawful moves: that many are in the list of them
 pub record CountsLawful (b : PlainBoard) (n : ℕ) : Type 0 where

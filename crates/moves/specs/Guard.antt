@@ -4,12 +4,12 @@ use Rattle.board.specs.declared.game.Kind.TheVariants.{King}
 use Rattle.board.specs.declared.game.Unit.{Unit as Man}
 use Rattle.board.specs.Board.{PlainBoard}
 use Rattle.moves.specs.declared.board_list.Guard.{Guard}
-use Rattle.moves.specs.Squares.{Ply, unit_at}
-use Rattle.moves.specs.Reach.{IsInCheck}
-use Rattle.moves.specs.Moves.{IsPseudoLegal, after}
-use Rattle.moves.specs.Mailbox.{cell_of, place_in, IsCell}
+use Rattle.rules.specs.Squares.{Ply, unit_at}
+use Rattle.rules.specs.Reach.{IsInCheck}
+use Rattle.rules.specs.Moves.{IsPseudoLegal, after}
+use Rattle.cells.specs.Mailbox.{cell_of, place_in, IsCell}
 use Rattle.moves.specs.Pinned.{IsPinned}
-use Rattle.moves.specs.Targets.{Has}
+use Rattle.cells.specs.CellSets.{Has}
 
 -- a unit other than the king, that moves and leaves the king out of check, comes to a cell of the set
 abbrev pub HasBlocks : PlainBoard → ℕ → Type 0

@@ -6,8 +6,8 @@ use Rattle.board.specs.declared.step.Step.{Step}
 use Rattle.board.specs.Denotation.{terms_of, Denotes}
 use Rattle.board.specs.Games.{other_side}
 use Rattle.board.specs.Board.{PlainBoard}
-use Rattle.moves.specs.Squares.{Place, unit_at}
-use Rattle.moves.specs.Reach.{Leads}
+use Rattle.rules.specs.Squares.{Place, unit_at}
+use Rattle.rules.specs.Reach.{Leads}
 
 -- the same kind on the other side
 abbrev pub foe_of : Man → Man

@@ -7,8 +7,8 @@ use Rattle.board.specs.declared.step.Step.{Step}
 use Rattle.board.specs.Games.{other_side}
 use Rattle.board.specs.Denotation.{terms_of, Denotes}
 use Rattle.board.specs.Board.{PlainBoard}
-use Rattle.moves.specs.Squares.{Place, IsOnBoard, unit_at}
-use Rattle.moves.specs.Reach.{Leads}
+use Rattle.rules.specs.Squares.{Place, IsOnBoard, unit_at}
+use Rattle.rules.specs.Reach.{Leads}
 
 -- a rider of the other side comes to the unit on s, and would come on from there to the king's square k
 pub record IsPinned (b : PlainBoard) (side : Side) (k s : Place) : Type 0 where

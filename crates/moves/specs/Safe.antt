@@ -6,12 +6,13 @@ use Rattle.board.specs.declared.game.Unit.{Unit as Man}
 use Rattle.board.specs.declared.game.Side.{Side}
 use Rattle.board.specs.Games.{other_side}
 use Rattle.board.specs.Board.{PlainBoard}
-use Rattle.moves.specs.Squares.{Place, Ply, unit_at}
-use Rattle.moves.specs.Reach.{IsAttacked}
-use Rattle.moves.specs.Moves.{Promotes, IsPromotion, IsSomeKing, IsLawful}
-use Rattle.moves.specs.Listing.{ListsBelow}
-use Rattle.moves.specs.Mailbox.{cell_of, place_in}
-use Rattle.moves.specs.Targets.{Has, IsTarget}
+use Rattle.rules.specs.Squares.{Place, Ply, unit_at}
+use Rattle.rules.specs.Reach.{IsAttacked}
+use Rattle.rules.specs.Moves.{Promotes, IsPromotion, IsSomeKing, IsLawful}
+use Rattle.rules.specs.Listing.{ListsBelow}
+use Rattle.cells.specs.Mailbox.{cell_of, place_in}
+use Rattle.cells.specs.CellSets.{Has}
+use Rattle.moves.specs.Targets.{IsTarget}
 
 -- the move names a promotion where it must, and one of the game's
 pub record IsNamed (g : Game) (u : Man) (m : Ply) : Type 0 where

@@ -13,12 +13,12 @@ use Rattle.board.specs.Board.{PlainBoard}
 use Rattle.moves.specs.declared.sets.Class.{Class}
 use Rattle.moves.specs.declared.sets.Class.TheVariants.{White, Black, Crowned, Straight, Slanted, Horsed, Foot}
 use Rattle.moves.specs.declared.sets.Sets.{Sets}
-use Rattle.moves.specs.Squares.{Place, unit_at}
-use Rattle.moves.specs.Reach.{ahead_of}
-use Rattle.moves.specs.Mailbox.{place_in, IsAway, IsCell}
-use Rattle.moves.specs.Ways.{Rides}
-use Rattle.moves.specs.declared.tables.Way.TheVariants.{North, South, East, West, NorthEast, SouthWest, NorthWest, SouthEast}
-use Rattle.moves.specs.Targets.{Has}
+use Rattle.rules.specs.Squares.{Place, unit_at}
+use Rattle.rules.specs.Reach.{ahead_of}
+use Rattle.cells.specs.Mailbox.{place_in, IsAway, IsCell}
+use Rattle.cells.specs.Ways.{Rides}
+use Rattle.cells.specs.declared.tables.Way.TheVariants.{North, South, East, West, NorthEast, SouthWest, NorthWest, SouthEast}
+use Rattle.cells.specs.CellSets.{Has}
 use Rattle.moves.specs.Words.{unpacked, IsPacked}
 
 -- the unit is of the class: of a side, of a kind, or a rider along ranks and files, or along diagonals
@@ -72,14 +72,6 @@ RidesStraight b i j = Rides b North i j ⊎ (Rides b South i j ⊎ (Rides b East
 -- or along a diagonal
 abbrev pub RidesSlanted : PlainBoard → ℕ → ℕ → Type 0
 RidesSlanted b i j = Rides b NorthEast i j ⊎ (Rides b SouthWest i j ⊎ (Rides b NorthWest i j ⊎ Rides b SouthEast i j))
-
--- a step of the kind that may capture leads from cell i to cell j at once
-pub record IsLeapt (g : Game) (side : Side) (kind : Kind) (i j : ℕ) : Type 0 where
-  pub cell : IsCell g j
-  pub step : Step
-  pub denoted : Denotes (terms_of kind) step
-  pub captures : step.mode ≡ Move → ⊥
-  pub away : IsAway step.dx (ahead_of side step.dy) i j
 
 -- what a board keeps: words of a position, and sets that show the same
 pub record IsKept (words : List ℕ) (sets : Sets) : Type 0 where

@@ -1,18 +1,17 @@
 //! Whether a board has a lawful move.
 ghost use Rattle.std.specs.Prelude.{◌≡◌, ◌↔◌, IsTrue, Some, true, false};
 ghost use Rattle.board.specs.Board.{IsPosition, is_of_side};
-ghost use Rattle.moves.specs.Squares.{Ply, IsOnBoard, unit_at};
-ghost use Rattle.moves.specs.Moves.{IsLawful};
-ghost use Rattle.moves.specs.Mailbox.{place_in, IsCell};
+ghost use Rattle.rules.specs.Squares.{Ply, IsOnBoard, unit_at};
+ghost use Rattle.rules.specs.Moves.{IsLawful};
+ghost use Rattle.cells.specs.Mailbox.{place_in, IsCell};
 ghost use Rattle.moves.specs.Guard.{Guards};
 
 use crate::board_list::{Guard, guard_of};
-use crate::mailbox::square_in;
 use crate::packed::Board;
 use crate::safe::{free_cells, may_go, tried};
-use crate::squares::Square;
-use crate::targets::{lowest, without};
 use board::{Kind, Unit};
+use rules::Square;
+use cells::{lowest, square_in, without};
 
 /// Whether one of the unit's moves is lawful, each of which is tested.
 fn has_tested_move(board: &Board, guard: Guard, unit: Unit, from: Square) -> bool

@@ -1,26 +1,24 @@
 //! What the side to move can reach with its next move.
 ghost use Rattle.std.specs.Prelude.{◌≡◌, ◌↔◌, IsTrue, Some, true, false, ℕ};
 ghost use Rattle.board.specs.Board.{IsPosition, is_of_side};
-ghost use Rattle.moves.specs.declared.goal.Goal.TheVariants.{Mate};
-ghost use Rattle.moves.specs.Squares.{Ply, IsOnBoard, unit_at};
-ghost use Rattle.moves.specs.Reach.{Reaches};
-ghost use Rattle.moves.specs.Forces.{IsReached, Forces};
-ghost use Rattle.moves.specs.Mailbox.{cell_of, place_in, IsCell};
-ghost use Rattle.moves.specs.Targets.{Has, IsTarget};
+ghost use Rattle.rules.specs.declared.goal.Goal.TheVariants.{Mate};
+ghost use Rattle.rules.specs.Squares.{Ply, IsOnBoard, unit_at};
+ghost use Rattle.rules.specs.Reach.{Reaches};
+ghost use Rattle.rules.specs.Forces.{IsReached, Forces};
+ghost use Rattle.cells.specs.Mailbox.{cell_of, place_in, IsCell};
+ghost use Rattle.cells.specs.CellSets.{Has};
+ghost use Rattle.moves.specs.Targets.{IsTarget};
 ghost use Rattle.moves.specs.Checking.{Attains, Seeks};
 
 use crate::any_move::has_move;
 use crate::board_list::{guard_of, promotion_count};
 use crate::checks::{Watch, checking, watch_of};
-use crate::goal::Goal;
-use crate::list::PROMOTIONS;
 use crate::look::is_checked;
-use crate::mailbox::{cell_of, square_in};
 use crate::packed::Board;
-use crate::plies::{Move, is_king, is_promoted_well};
-use crate::squares::Square;
-use crate::targets::{lowest, targets, without};
+use crate::targets::targets;
 use board::Unit;
+use rules::{PROMOTIONS, Goal, Move, Square, is_king, is_promoted_well};
+use cells::{cell_of, lowest, square_in, without};
 
 /// The goal, and for a mate, a watch on the other king, if that isn't attacked already.
 #[derive(Clone, Copy)]

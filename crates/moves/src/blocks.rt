@@ -3,17 +3,16 @@ ghost use Rattle.std.specs.Prelude.{◌≡◌, ◌<◌, ℕ, Some};
 ghost use Rattle.board.specs.declared.game.Kind.TheVariants.{King};
 ghost use Rattle.board.specs.Board.{IsPosition};
 ghost use Rattle.board.specs.Games.{other_side};
-ghost use Rattle.moves.specs.Squares.{unit_at};
-ghost use Rattle.moves.specs.Reach.{AttacksFrom};
-ghost use Rattle.moves.specs.Mailbox.{place_in, IsCell};
-ghost use Rattle.moves.specs.Targets.{Has};
-ghost use Rattle.moves.specs.Ways.{Rides};
+ghost use Rattle.rules.specs.Squares.{unit_at};
+ghost use Rattle.rules.specs.Reach.{AttacksFrom};
+ghost use Rattle.cells.specs.Mailbox.{place_in, IsCell};
+ghost use Rattle.cells.specs.CellSets.{Has};
+ghost use Rattle.cells.specs.Ways.{Rides};
 ghost use Rattle.moves.specs.Guard.{HasBlocks};
 
 use crate::packed::Board;
 use crate::seen::along;
-use crate::tables::{WAYS, Way};
-use crate::targets::{has, single};
+use cells::{WAYS, Way, has, single};
 
 /// The cells that way from the king to the first unit, if that is the checker.
 fn between(board: &Board, way: Way, king: u8, checker: u8) -> u64

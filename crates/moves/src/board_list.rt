@@ -3,28 +3,25 @@ ghost use Rattle.std.specs.Prelude.{◌≡◌, ◌≤◌, ◌+◌, ◌*◌, ◌<
 ghost use Rattle.arrayvec.specs.ArrayVec.{array_vec_len};
 ghost use Rattle.board.specs.declared.game.Kind.TheVariants.{King, Pawn};
 ghost use Rattle.board.specs.Board.{IsPosition, is_of_side};
-ghost use Rattle.moves.specs.Squares.{Ply, IsOnBoard, square_number, unit_at};
-ghost use Rattle.moves.specs.Reach.{Reaches, IsInCheck};
-ghost use Rattle.moves.specs.Moves.{Promotes, IsPseudoLegal, IsLawful, after};
-ghost use Rattle.moves.specs.Order.{ListsLawful};
-ghost use Rattle.moves.specs.Listing.{ListsBelow, ListsFrom};
-ghost use Rattle.moves.specs.Mailbox.{place_in, IsCell};
+ghost use Rattle.rules.specs.Squares.{Ply, IsOnBoard, square_number, unit_at};
+ghost use Rattle.rules.specs.Reach.{Reaches, IsInCheck};
+ghost use Rattle.rules.specs.Moves.{Promotes, IsPseudoLegal, IsLawful, after};
+ghost use Rattle.rules.specs.Order.{ListsLawful};
+ghost use Rattle.rules.specs.Listing.{ListsBelow, ListsFrom};
+ghost use Rattle.cells.specs.Mailbox.{place_in, IsCell};
 ghost use Rattle.moves.specs.Guard.{Guards};
 ghost use Rattle.moves.specs.Safe.{IsNamed};
 
 use crate::blocks::blocks;
-use crate::list::PROMOTIONS;
 use crate::look::{attackers, is_attacked, king_attacked, king_cell};
-use crate::mailbox::{cell_of, square_in};
 use crate::packed::Board;
 use crate::pinned::pinned;
-use crate::plies::{Move, is_king, is_promoted_well, promotes};
 use crate::safe::safe_cells;
-use crate::squares::Square;
-use crate::targets::{has, lowest, without};
 use crate::words::{is_of_side, unit_of};
 use arrayvec::ArrayVec;
 use board::{Game, Kind, Unit};
+use rules::{PROMOTIONS, Move, Square, is_king, is_promoted_well, promotes};
+use cells::{cell_of, has, lowest, square_in, without};
 
 /// What the mover's king asks of each move: the cell where it stands, whether it is in check, where it isn't, the cells of the
 /// units that are pinned to it, and cells to which a unit other than the king must come.

@@ -2,21 +2,22 @@
 ghost use Rattle.std.specs.Prelude.{◌≡◌, ◌↔◌, ℕ, IsTrue, IfSome, Some};
 ghost use Rattle.board.specs.Board.{IsPosition};
 ghost use Rattle.board.specs.Games.{IsPlayed, other_side};
-ghost use Rattle.moves.specs.Squares.{Place, Ply, IsOnBoard, unit_at};
-ghost use Rattle.moves.specs.Reach.{Reaches, IsInCheck};
-ghost use Rattle.moves.specs.Moves.{Promotes, IsPseudoLegal, after};
-ghost use Rattle.moves.specs.Mailbox.{cell_of, place_in, IsCell};
-ghost use Rattle.moves.specs.Targets.{Has, IsTarget};
+ghost use Rattle.rules.specs.Squares.{Place, Ply, IsOnBoard, unit_at};
+ghost use Rattle.rules.specs.Reach.{Reaches, IsInCheck};
+ghost use Rattle.rules.specs.Moves.{Promotes, IsPseudoLegal, after};
+ghost use Rattle.cells.specs.Mailbox.{cell_of, place_in, IsCell};
+ghost use Rattle.cells.specs.CellSets.{Has};
+ghost use Rattle.moves.specs.Targets.{IsTarget};
 ghost use Rattle.moves.specs.Looking.{Aims};
 ghost use Rattle.moves.specs.Checking.{Watches};
 
 use crate::look::{king_attacked, king_cell};
-use crate::mailbox::cell_of;
 use crate::packed::Board;
 use crate::pinned::pinned;
-use crate::squares::Square;
-use crate::targets::{common, has, targets};
+use crate::targets::targets;
 use board::{Kind, Side, Unit};
+use rules::Square;
+use cells::{cell_of, common, has};
 
 /// The cell of the king that isn't the mover's, the cells of the units that alone keep a rider of the mover from it, and the
 /// cells that a king and a knight of the mover would reach from it.

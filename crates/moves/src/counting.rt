@@ -1,21 +1,20 @@
 //! How many lawful moves there are.
 ghost use Rattle.std.specs.Prelude.{◌≡◌, ◌≤◌, true};
 ghost use Rattle.board.specs.Board.{IsPosition, is_of_side};
-ghost use Rattle.moves.specs.Squares.{Place, square_number, unit_at};
-ghost use Rattle.moves.specs.Reach.{Reaches};
-ghost use Rattle.moves.specs.Mailbox.{place_in, IsCell};
+ghost use Rattle.rules.specs.Squares.{Place, square_number, unit_at};
+ghost use Rattle.rules.specs.Reach.{Reaches};
+ghost use Rattle.cells.specs.Mailbox.{place_in, IsCell};
 ghost use Rattle.moves.specs.Counting.{CountsLawful};
 ghost use Rattle.moves.specs.Guard.{Guards};
 ghost use Rattle.moves.specs.Safe.{IsEach, CountsFrom};
 
 use crate::board_list::{Guard, guard_of};
 use crate::checks::may_promote;
-use crate::mailbox::square_in;
 use crate::packed::Board;
 use crate::safe::safe_cells;
-use crate::squares::Square;
-use crate::targets::{lowest, without};
 use board::{Game, Unit};
+use rules::Square;
+use cells::{lowest, square_in, without};
 
 /// How many moves the unit has to each square that it reaches.
 fn moves_to_each(board: &Board, unit: Unit, from: Square) -> u16

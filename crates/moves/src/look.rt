@@ -3,19 +3,19 @@ ghost use Rattle.std.specs.Prelude.{◌≡◌, ◌<◌, ◌+◌, ◌↔◌, IsTr
 ghost use Rattle.board.specs.declared.game.Kind.TheVariants.{King};
 ghost use Rattle.board.specs.Board.{IsPosition};
 ghost use Rattle.board.specs.Games.{other_side};
-ghost use Rattle.moves.specs.Squares.{unit_at};
-ghost use Rattle.moves.specs.Reach.{AttacksFrom, IsAttacked, IsInCheck};
-ghost use Rattle.moves.specs.Moves.{IsLawful, GivesCheck};
-ghost use Rattle.moves.specs.Mailbox.{place_in, IsCell};
-ghost use Rattle.moves.specs.Targets.{Has};
+ghost use Rattle.rules.specs.Squares.{unit_at};
+ghost use Rattle.rules.specs.Reach.{AttacksFrom, IsAttacked, IsInCheck};
+ghost use Rattle.rules.specs.Moves.{IsLawful, GivesCheck};
+ghost use Rattle.cells.specs.Mailbox.{place_in, IsCell};
+ghost use Rattle.cells.specs.CellSets.{Has};
 ghost use Rattle.moves.specs.Looking.{Aims};
 
 use crate::packed::{Board, after};
-use crate::plies::Move;
 use crate::seen::seen;
 use crate::sets::Class;
-use crate::targets::lowest;
 use board::{Kind, Side};
+use rules::Move;
+use cells::lowest;
 
 /// Those of the cells where a unit of the kind would take from this one.
 fn struck(board: &Board, side: Side, kind: Kind, cell: u8, among: u64) -> u64

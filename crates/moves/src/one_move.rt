@@ -1,15 +1,15 @@
 //! Whether one move is lawful on a board. No list is made.
 ghost use Rattle.std.specs.Prelude.{◌↔◌, IsTrue};
 ghost use Rattle.board.specs.Board.{IsPosition};
-ghost use Rattle.moves.specs.Squares.{IsOnBoard};
-ghost use Rattle.moves.specs.Moves.{IsLawful};
+ghost use Rattle.rules.specs.Squares.{IsOnBoard};
+ghost use Rattle.rules.specs.Moves.{IsLawful};
 
 use crate::board_list::{guard_of, is_lawful_to, own_unit};
-use crate::mailbox::cell_of;
 use crate::packed::Board;
-use crate::plies::Move;
-use crate::targets::{has, targets};
+use crate::targets::targets;
 use board::Game;
+use rules::Move;
+use cells::{cell_of, has};
 
 /// Whether the board has both squares of the move.
 fn has_squares(game: Game, m: Move) -> bool

@@ -3,19 +3,18 @@ ghost use Rattle.std.specs.Prelude.{◌≡◌, ◌<◌, ◌+◌, ◌*◌, ◌↔
 ghost use Rattle.board.specs.Board.{unit_on, is_of_side, IsPosition};
 ghost use Rattle.board.specs.Games.{width_of, squares_of};
 ghost use Rattle.moves.specs.Words.{digit, man_of, game_of_flags, mover_of_flags, IsFlags, unpacked, IsPacked};
-ghost use Rattle.moves.specs.Squares.{IsOnBoard, unit_at};
-ghost use Rattle.moves.specs.Mailbox.{place_in, IsCell};
-ghost use Rattle.moves.specs.Targets.{Has};
+ghost use Rattle.rules.specs.Squares.{IsOnBoard, unit_at};
+ghost use Rattle.cells.specs.Mailbox.{place_in, IsCell};
+ghost use Rattle.cells.specs.CellSets.{Has};
 ghost use Rattle.moves.specs.Sets.{Holds};
-ghost use Rattle.moves.specs.Moves.{IsPseudoLegal, IsMove, IsLawful, after};
+ghost use Rattle.rules.specs.Moves.{IsPseudoLegal, IsMove, IsLawful, after};
 
-use crate::mailbox::{cell_of, cells, square_in};
-use crate::plies::Move;
 use crate::sets::{Class, Sets};
-use crate::squares::Square;
 use crate::words::{code_of, code_on, put, turned, unit_of, with_digit};
 use board::{Game, Position, Side, Unit};
 use std::marker::Model;
+use rules::{Move, Square};
+use cells::{cell_of, cells, square_in};
 
 /// A position: four bits a square, two ranks a word, and the side to move and the game in word 0; and its units as sets.
 #[derive(Drop)]

@@ -1,17 +1,16 @@
 //! The units that alone keep an enemy rider from their king.
 ghost use Rattle.std.specs.Prelude.{◌≡◌, ℕ, None};
-ghost use Rattle.moves.specs.Squares.{unit_at};
-ghost use Rattle.moves.specs.Mailbox.{place_in, IsCell};
+ghost use Rattle.rules.specs.Squares.{unit_at};
+ghost use Rattle.cells.specs.Mailbox.{place_in, IsCell};
 ghost use Rattle.moves.specs.Pinned.{IsPinned};
-ghost use Rattle.moves.specs.Targets.{Has};
-ghost use Rattle.moves.specs.Ways.{Rides};
+ghost use Rattle.cells.specs.CellSets.{Has};
+ghost use Rattle.cells.specs.Ways.{Rides};
 
 use crate::packed::Board;
 use crate::seen::along;
 use crate::sets::Class;
-use crate::tables::{WAYS, Way};
-use crate::targets::lowest;
 use board::Side;
+use cells::{WAYS, Way, lowest};
 
 /// The cell of the first unit that way from the king, if one of the riders stands next behind it.
 fn pinned_along(board: &Board, way: Way, cell: u8, riders: u64) -> u64

@@ -1,23 +1,23 @@
 //! The cells to which a unit moves lawfully.
 ghost use Rattle.std.specs.Prelude.{◌≡◌, ◌↔◌, IsTrue, IfSome, Some, ℕ, false};
 ghost use Rattle.board.specs.Board.{IsPosition};
-ghost use Rattle.moves.specs.Squares.{Ply, IsOnBoard, unit_at};
-ghost use Rattle.moves.specs.Reach.{Reaches};
-ghost use Rattle.moves.specs.Moves.{IsLawful};
-ghost use Rattle.moves.specs.Mailbox.{cell_of, place_in, IsCell};
-ghost use Rattle.moves.specs.Targets.{Has, IsTarget};
+ghost use Rattle.rules.specs.Squares.{Ply, IsOnBoard, unit_at};
+ghost use Rattle.rules.specs.Reach.{Reaches};
+ghost use Rattle.rules.specs.Moves.{IsLawful};
+ghost use Rattle.cells.specs.Mailbox.{cell_of, place_in, IsCell};
+ghost use Rattle.cells.specs.CellSets.{Has};
+ghost use Rattle.moves.specs.Targets.{IsTarget};
 ghost use Rattle.moves.specs.Guard.{Guards};
 ghost use Rattle.moves.specs.Safe.{IsNamed, HasSafe, IsCalm};
 
 use crate::board_list::{Guard, is_lawful_to};
 use crate::look::is_attacked;
-use crate::mailbox::{cell_of, square_in};
 use crate::packed::Board;
-use crate::plies::{Move, is_king, promotes};
 use crate::sets::Class;
-use crate::squares::Square;
-use crate::targets::{common, except, has, lowest, targets, with_cell, without};
+use crate::targets::targets;
 use board::{Game, Kind, Side, Unit};
+use rules::{Move, Square, is_king, promotes};
+use cells::{cell_of, common, except, has, lowest, square_in, with_cell, without};
 
 /// A move between the squares: a pawn that comes to its last rank becomes a queen.
 fn queening(game: Game, unit: Unit, from: Square, to: Square) -> Move

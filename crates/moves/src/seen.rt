@@ -1,29 +1,15 @@
 //! What a unit sees from a cell: where it would take.
 ghost use Rattle.std.specs.Prelude.{◌≡◌, ◌<◌, ◌↔◌, ℕ, true, false};
 ghost use Rattle.std.specs.Int.{bit_at};
-ghost use Rattle.moves.specs.Mailbox.{place_in, IsCell};
-ghost use Rattle.moves.specs.Targets.{Has};
+ghost use Rattle.cells.specs.Mailbox.{place_in, IsCell};
+ghost use Rattle.cells.specs.CellSets.{Has};
 ghost use Rattle.moves.specs.Looking.{Aims};
-ghost use Rattle.moves.specs.Ways.{Rides, rises};
+ghost use Rattle.cells.specs.Ways.{Rides, rises};
 ghost use Rattle.moves.specs.Sets.{RidesStraight, RidesSlanted};
 
 use crate::packed::Board;
-use crate::tables::{Way, king_leaps, knight_leaps, pawn_captures, ray};
 use board::{Kind, Side};
-
-/// The cells up to the lowest of the set, which may be empty.
-fn up_to_lowest(stops: u64) -> u64
-    ensures { (j : ℕ) → j < 63 → Has result j ↔ ((i : ℕ) → i < j → Has stops i → ⊥) }
-{
-    u64::MAX >> (63 - (stops | 1 << 63).trailing_zeros())
-}
-
-/// The cells down to the highest of the set, which may be empty.
-fn down_to_highest(stops: u64) -> u64
-    ensures { (j : ℕ) → 0 < j → j < 64 → Has result j ↔ ((i : ℕ) → j < i → Has stops i → ⊥) }
-{
-    u64::MAX << (63 - (stops | 1).leading_zeros())
-}
+use cells::{Way, down_to_highest, king_leaps, knight_leaps, pawn_captures, ray, up_to_lowest};
 
 /// The cells to which a rider comes from the cell, north, east or between them.
 fn upward(board: &Board, way: Way, cell: u8) -> u64

@@ -1,16 +1,15 @@
 //! The units of a board as sets of cells, one bit a cell.
 ghost use Rattle.std.specs.Prelude.{◌≡◌, ◌<◌, ◌↔◌, ℕ, IsTrue, Some, None};
 ghost use Rattle.board.specs.Board.{PlainBoard, IsPosition, unit_on};
-ghost use Rattle.moves.specs.Squares.{unit_at};
-ghost use Rattle.moves.specs.Moves.{IsPseudoLegal, placed, after};
-ghost use Rattle.moves.specs.Mailbox.{cell_of, place_in, IsCell};
-ghost use Rattle.moves.specs.Targets.{Has};
+ghost use Rattle.rules.specs.Squares.{unit_at};
+ghost use Rattle.rules.specs.Moves.{IsPseudoLegal, placed, after};
+ghost use Rattle.cells.specs.Mailbox.{cell_of, place_in, IsCell};
+ghost use Rattle.cells.specs.CellSets.{Has};
 ghost use Rattle.moves.specs.Sets.{IsOf, Holds, Shows, HasMoved, AreMoved};
 
-use crate::mailbox::cell_of;
-use crate::squares::Square;
-use crate::targets::with_cell;
 use board::{Kind, Position, Side, Unit};
+use rules::Square;
+use cells::{cell_of, with_cell};
 
 /// What the units of a set have in common. A queen goes both straight and slanted.
 #[derive(Clone, Copy)]

@@ -2,11 +2,11 @@
 ghost use Rattle.std.specs.Prelude.{◌≡◌, ◌≢◌, ◌<◌, ℕ, Some, slice_index_or};
 ghost use Rattle.std.specs.Int.RustNames.{bit_xor};
 ghost use Rattle.board.specs.Board.{is_of_side};
-ghost use Rattle.moves.specs.Squares.{IsOnBoard, square_number};
+ghost use Rattle.rules.specs.Squares.{IsOnBoard, square_number};
 ghost use Rattle.moves.specs.Words.{digit, word_of, place_of, code_on, man_of};
 
-use crate::squares::Square;
 use board::{Game, Kind, Side, Unit};
+use rules::Square;
 
 /// The code at a place of the word.
 pub(crate) fn digit(word: u64, place: u8) -> u8

@@ -4,8 +4,8 @@ use Rattle.std.proofs.lemmas.Bool.{le-ltb}
 use Rattle.std.proofs.lemmas.Option.{IfSome_then}
 use Rattle.board.specs.Board.{PlainBoard}
 use Rattle.board.specs.declared.fault.FenFault.{FenFault}
-use Rattle.moves.specs.Reading.{IsSoundFault}
-use Rattle.moves.specs.declared.goal.Goal.{Goal}
+use Rattle.rules.specs.Reading.{IsSoundFault}
+use Rattle.rules.specs.declared.goal.Goal.{Goal}
 use Rattle.replies.specs.Input.{IsInput, without_line_feed}
 use Rattle.replies.specs.Outcome.{GivesIfRead, GivesReply}
 use Rattle.replies.specs.Output.{Reply, refused, IsSoundText, IsOutput, Shows, ShowsTree, ShowsCheck, input_of}

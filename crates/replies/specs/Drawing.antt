@@ -8,7 +8,7 @@ use Rattle.board.specs.declared.game.Unit.{Unit as Man}
 use Rattle.board.specs.Board.{PlainBoard}
 use Rattle.board.specs.Fen.{letter_of}
 use Rattle.board.specs.Games.{width_of}
-use Rattle.moves.specs.Squares.{unit_at}
+use Rattle.rules.specs.Squares.{unit_at}
 
 -- a unit's letter, or a point where nothing stands
 abbrev pub letter_on : Option Man → ℕ

@@ -2,7 +2,7 @@
 use Rattle.std.specs.Prelude.{◌≡◌, ◌⊎◌, ⊤, ℕ, List, Option, None, Some, IfSome, Result, Ok, Err, Vec}
 use Rattle.std.specs.declared.alloc.Global.{Global}
 use Rattle.board.specs.Board.{PlainBoard}
-use Rattle.moves.specs.declared.goal.Goal.{Goal}
+use Rattle.rules.specs.declared.goal.Goal.{Goal}
 use Rattle.decision.specs.declared.answer.Answer.{Answer}
 use Rattle.rounds.specs.declared.fault.SolveFault.{SolveFault}
 use Rattle.rounds.specs.declared.fault.SolveFault.TheVariants as solve

@@ -5,13 +5,13 @@ use Rattle.std.specs.Fmt.{decimal}
 use Rattle.board.specs.declared.fault.FenFault.{FenFault}
 use Rattle.board.specs.Board.{PlainBoard, IsPosition}
 use Rattle.board.specs.Fen.{IsFenText}
-use Rattle.moves.specs.declared.goal.Goal.{Goal}
-use Rattle.moves.specs.declared.goal.Goal.TheVariants as goal
-use Rattle.moves.specs.MoveText.{move_text}
-use Rattle.moves.specs.Order.{ListsLawful}
-use Rattle.moves.specs.Reach.{IsSound}
-use Rattle.moves.specs.Reading.{IsSoundFault}
-use Rattle.moves.specs.Squares.{Ply}
+use Rattle.rules.specs.declared.goal.Goal.{Goal}
+use Rattle.rules.specs.declared.goal.Goal.TheVariants as goal
+use Rattle.rules.specs.MoveText.{move_text}
+use Rattle.rules.specs.Order.{ListsLawful}
+use Rattle.rules.specs.Reach.{IsSound}
+use Rattle.rules.specs.Reading.{IsSoundFault}
+use Rattle.rules.specs.Squares.{Ply}
 use Rattle.decision.specs.declared.answer.Answer.{Answer}
 use Rattle.decision.specs.declared.answer.Answer.TheVariants.{Mate, NoneWithin}
 use Rattle.decision.specs.Answer.{IsAnswer, IsFewest, ForcesNothing}

@@ -2,10 +2,10 @@
 use Rattle.std.proofs.Common.{◌≡◌, ℕ, ◌+◌, ◌-◌, ◌*◌, ◌<◌, ◌≤◌, ◌⊎◌, inl, inr, refl, sym, ap, subst, ◌∙◌, arith, List, length, get_or, Some, Bool, Contains, ◌↔◌, IsTrue, slice_get}
 use Rattle.std.proofs.lemmas.Option.{slice_get_read, get_or_from_slice_get}
 use Rattle.board.specs.Board.{PlainBoard}
-use Rattle.moves.specs.Squares.{Ply}
-use Rattle.moves.specs.declared.goal.Goal.{Goal}
-use Rattle.moves.specs.Moves.{IsLawful}
-use Rattle.moves.specs.Order.{IsPlyBefore, ListsLawful}
+use Rattle.rules.specs.Squares.{Ply}
+use Rattle.rules.specs.declared.goal.Goal.{Goal}
+use Rattle.rules.specs.Moves.{IsLawful}
+use Rattle.rules.specs.Order.{IsPlyBefore, ListsLawful}
 use Rattle.decision.specs.declared.question.Question.{Question}
 use Rattle.decision.specs.Questions.{IsForced}
 use Rattle.decision.specs.Answer.{Wins, IsLeastWin, ForcesNothing, IsAnswer}

@@ -5,11 +5,11 @@ use Rattle.std.proofs.lemmas.Option.{slice_get_read}
 use Rattle.board.specs.declared.game.Side.{Side}
 use Rattle.board.specs.Games.{is_same_side}
 use Rattle.board.specs.Board.{PlainBoard}
-use Rattle.moves.specs.declared.goal.Goal.{Goal}
-use Rattle.moves.specs.Squares.{Ply}
-use Rattle.moves.specs.Order.{IsPlyBefore}
-use Rattle.moves.specs.Forces.{IsReached, Forces}
-use Rattle.moves.proofs.Forcing.{on_own, on_other, to_other, turn-own, turn-other, same_side-self, twice, twice-double, Forces-even}
+use Rattle.rules.specs.declared.goal.Goal.{Goal}
+use Rattle.rules.specs.Squares.{Ply}
+use Rattle.rules.specs.Order.{IsPlyBefore}
+use Rattle.rules.specs.Forces.{IsReached, Forces}
+use Rattle.rules.proofs.Forcing.{on_own, on_other, to_other, turn-own, turn-other, same_side-self, twice, twice-double, Forces-even}
 use Rattle.decision.specs.Answer.{Wins}
 use Rattle.rounds.specs.declared.bench.Root.{Root}
 use Rattle.rounds.specs.declared.keys.Key.{Key}

@@ -1,9 +1,9 @@
 -- Which jobs of a list of moves win.
 use Rattle.std.specs.Prelude.{◌≡◌, ℕ, List, slice_get, Some}
 use Rattle.board.specs.Board.{PlainBoard}
-use Rattle.moves.specs.declared.goal.Goal.{Goal}
-use Rattle.moves.specs.Squares.{Ply}
-use Rattle.moves.specs.Order.{ListsLawful}
+use Rattle.rules.specs.declared.goal.Goal.{Goal}
+use Rattle.rules.specs.Squares.{Ply}
+use Rattle.rules.specs.Order.{ListsLawful}
 use Rattle.decision.specs.Answer.{Wins}
 
 -- the move with this number wins within n plies

@@ -1,9 +1,9 @@
 -- The first moves that force the goal.
 use Rattle.std.specs.Prelude.{ℕ, ◌<◌, ◌≤◌, ◌↔◌, List, AllPairs, Contains}
 use Rattle.board.specs.Board.{PlainBoard}
-use Rattle.moves.specs.declared.goal.Goal.{Goal}
-use Rattle.moves.specs.Squares.{Ply}
-use Rattle.moves.specs.Order.{IsPlyBefore}
+use Rattle.rules.specs.declared.goal.Goal.{Goal}
+use Rattle.rules.specs.Squares.{Ply}
+use Rattle.rules.specs.Order.{IsPlyBefore}
 use Rattle.decision.specs.Answer.{Wins}
 use Rattle.rounds.specs.declared.keys.Key.{Key}
 

@@ -1,8 +1,8 @@
 -- The jobs of a solve: the lawful moves of the root, by number.
 use Rattle.std.specs.Prelude.{◌≡◌, ℕ, ◌<◌, length, slice_get, Option, Some}
-use Rattle.moves.specs.Squares.{Ply}
-use Rattle.moves.specs.Moves.{IsMove}
-use Rattle.moves.specs.Order.{ListsLawful}
+use Rattle.rules.specs.Squares.{Ply}
+use Rattle.rules.specs.Moves.{IsMove}
+use Rattle.rules.specs.Order.{ListsLawful}
 use Rattle.decision.specs.declared.question.Question.{Question}
 use Rattle.decision.specs.Questions.{question}
 use Rattle.rounds.specs.declared.bench.Root.{Root}

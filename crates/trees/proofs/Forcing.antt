@@ -3,14 +3,14 @@ use Rattle.std.proofs.Common.{◌≡◌, ℕ, zero, suc, ◌+◌, ◌-◌, ◌<�
 use Rattle.board.specs.declared.game.Side.{Side}
 use Rattle.board.specs.Games.{is_same_side}
 use Rattle.board.specs.Board.{PlainBoard}
-use Rattle.moves.specs.Squares.{Ply}
-use Rattle.moves.specs.Moves.{IsMove, IsLawful}
-use Rattle.moves.specs.declared.goal.Goal.{Goal}
-use Rattle.moves.specs.declared.goal.Goal.TheVariants.{Mate, MateOrStale}
-use Rattle.moves.specs.Reach.{IsInCheck}
-use Rattle.moves.specs.Forces.{IsReached, Forces}
-use Rattle.moves.proofs.Keeps.{one_after}
-use Rattle.moves.proofs.Forcing.{on_own, on_other, turn-own, turn-other, same_side-self, Forces-more}
+use Rattle.rules.specs.Squares.{Ply}
+use Rattle.rules.specs.Moves.{IsMove, IsLawful}
+use Rattle.rules.specs.declared.goal.Goal.{Goal}
+use Rattle.rules.specs.declared.goal.Goal.TheVariants.{Mate, MateOrStale}
+use Rattle.rules.specs.Reach.{IsInCheck}
+use Rattle.rules.specs.Forces.{IsReached, Forces}
+use Rattle.rules.proofs.Keeps.{one_after}
+use Rattle.rules.proofs.Forcing.{on_own, on_other, turn-own, turn-other, same_side-self, Forces-more}
 use Rattle.decision.specs.Answer.{IsFewest}
 use Rattle.decision.proofs.Winning.{same_mover}
 use Rattle.wintree.specs.Wins.{EndsAt}

@@ -1,10 +1,10 @@
 -- The tree that takes the fewest plies, and then the least move.
 use Rattle.std.specs.Prelude.{ℕ}
 use Rattle.board.specs.Board.{PlainBoard}
-use Rattle.moves.specs.declared.goal.Goal.{Goal}
-use Rattle.moves.specs.Squares.{Ply}
-use Rattle.moves.specs.Moves.{IsMove}
-use Rattle.moves.specs.Order.{ListsLawful}
+use Rattle.rules.specs.declared.goal.Goal.{Goal}
+use Rattle.rules.specs.Squares.{Ply}
+use Rattle.rules.specs.Moves.{IsMove}
+use Rattle.rules.specs.Order.{ListsLawful}
 use Rattle.decision.specs.Answer.{IsFewest, IsLeastWin}
 use Rattle.wintree.specs.Plan.{Plan, ends, splits, Replies, last, more}
 use Rattle.wintree.specs.Wins.{EndsAt, moves_of}

@@ -1,7 +1,7 @@
 //! The attacker's best move.
 ghost use Rattle.std.specs.Prelude.{◌<◌, ◌≤◌, MatchOption};
-ghost use Rattle.moves.specs.Squares.{Ply};
-ghost use Rattle.moves.specs.Forces.{Forces};
+ghost use Rattle.rules.specs.Squares.{Ply};
+ghost use Rattle.rules.specs.Forces.{Forces};
 ghost use Rattle.slots.specs.Promise.{IsSeatOf};
 ghost use Rattle.decision.specs.Answer.{Wins, IsFewest, IsLeastWin};
 ghost use Rattle.decision.specs.Calls.{Continues};

@@ -1,9 +1,9 @@
 //! The building of a tree.
 ghost use Rattle.std.specs.Prelude.{◌≡◌, ◌<◌, ◌≤◌, ◌+◌, ◌*◌, IfOk, All, map};
-ghost use Rattle.moves.specs.Squares.{Ply};
-ghost use Rattle.moves.specs.Moves.{IsMove, IsLawful};
-ghost use Rattle.moves.specs.Order.{ListsLawful};
-ghost use Rattle.moves.specs.Forces.{IsReached, Forces};
+ghost use Rattle.rules.specs.Squares.{Ply};
+ghost use Rattle.rules.specs.Moves.{IsMove, IsLawful};
+ghost use Rattle.rules.specs.Order.{ListsLawful};
+ghost use Rattle.rules.specs.Forces.{IsReached, Forces};
 ghost use Rattle.slots.specs.Promise.{IsSeatOf};
 ghost use Rattle.decision.specs.Answer.{IsFewest};
 ghost use Rattle.decision.specs.Calls.{Continues};

@@ -1,7 +1,7 @@
 //! A law of the definition. The function does nothing: its contract is the law.
 ghost use Rattle.std.specs.Prelude.{◌≡◌};
 ghost use Rattle.board.specs.Board.{PlainBoard};
-ghost use Rattle.moves.specs.declared.goal.Goal.{Goal};
+ghost use Rattle.rules.specs.declared.goal.Goal.{Goal};
 ghost use Rattle.wintree.specs.Plan.{Plan};
 ghost use Rattle.trees.specs.Best.{IsBest};
 

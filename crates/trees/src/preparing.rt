@@ -1,8 +1,8 @@
 //! A tree that several threads prepare: what they find stands in the table alone, and no answer rests on it.
 ghost use Rattle.std.specs.Prelude.{◌≡◌, ◌<◌, ◌≤◌, All, IfOk, length, vec_capacity};
-ghost use Rattle.moves.specs.Squares.{Ply};
-ghost use Rattle.moves.specs.Moves.{IsMove};
-ghost use Rattle.moves.specs.Forces.{Forces};
+ghost use Rattle.rules.specs.Squares.{Ply};
+ghost use Rattle.rules.specs.Moves.{IsMove};
+ghost use Rattle.rules.specs.Forces.{Forces};
 ghost use Rattle.slots.specs.Promise.{IsSeatOf};
 ghost use Rattle.decision.specs.Answer.{IsFewest};
 ghost use Rattle.decision.specs.Calls.{Continues};

@@ -5,7 +5,7 @@ use Rattle.std.proofs.lemmas.List.{take-append-le}
 use Rattle.wintree.specs.declared.tree.End.{End}
 use Rattle.wintree.specs.declared.tree.End.TheVariants.{Mate, Stale}
 use Rattle.wintree.specs.Plan.{Plan, ends, splits, Replies, last, more, depth, deepest, IsPlan, ArePlans}
-use Rattle.moves.specs.MoveText.{move_text}
+use Rattle.rules.specs.MoveText.{move_text}
 use Rattle.wintree.specs.Text.{text, replies_text, end_text, TreeText}
 use Rattle.wintree.specs.declared.fault.TreeFault.{TreeFault}
 use Rattle.wintree.specs.declared.fault.TreeFault.TheVariants.{Grammar, Deep, NoMemory}

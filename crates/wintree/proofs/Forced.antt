@@ -3,13 +3,13 @@ use Rattle.std.proofs.Common.{◌≡◌, ℕ, zero, suc, ◌+◌, ◌-◌, ◌�
 use Rattle.board.specs.declared.game.Side.{Side}
 use Rattle.board.specs.Games.{is_same_side}
 use Rattle.board.specs.Board.{PlainBoard}
-use Rattle.moves.specs.Squares.{Ply}
-use Rattle.moves.specs.Moves.{IsMove}
-use Rattle.moves.specs.declared.goal.Goal.{Goal}
-use Rattle.moves.specs.declared.goal.Goal.TheVariants as goals
-use Rattle.moves.specs.Forces.{Forces, IsReached}
-use Rattle.moves.proofs.Keeps.{one_after}
-use Rattle.moves.proofs.Forcing.{to_own, to_other, turn-own, turn-other, same_side-self, Forces-more}
+use Rattle.rules.specs.Squares.{Ply}
+use Rattle.rules.specs.Moves.{IsMove}
+use Rattle.rules.specs.declared.goal.Goal.{Goal}
+use Rattle.rules.specs.declared.goal.Goal.TheVariants as goals
+use Rattle.rules.specs.Forces.{Forces, IsReached}
+use Rattle.rules.proofs.Keeps.{one_after}
+use Rattle.rules.proofs.Forcing.{to_own, to_other, turn-own, turn-other, same_side-self, Forces-more}
 use Rattle.wintree.specs.declared.tree.End.{End}
 use Rattle.wintree.specs.declared.tree.End.TheVariants as ending
 use Rattle.wintree.specs.Plan.{Plan, ends, splits, Replies, last, more}

@@ -1,7 +1,7 @@
 -- The height of a plan.
 use Rattle.std.proofs.Common.{◌≡◌, ℕ, zero, suc, ◌+◌, ◌*◌, ◌<◌, ◌≤◌, max, List, [], ◌∷◌, length, drop, get_or, sym, ap, ◌∙◌, arith}
 use Rattle.std.proofs.lemmas.List.{drop_more}
-use Rattle.moves.specs.Squares.{Ply}
+use Rattle.rules.specs.Squares.{Ply}
 use Rattle.wintree.specs.Plan.{Plan, ends, splits, Replies, last, more, depth, deepest, deepest_in, replies_of, plan_of}
 use Rattle.wintree.specs.Wins.{height, highest}
 use Rattle.wintree.specs.Answered.{highest_in}

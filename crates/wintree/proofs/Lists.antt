@@ -6,7 +6,7 @@ use Rattle.std.specs.List.{AllByRecursion}
 use Rattle.wintree.specs.declared.tree.Next.{Next}
 use Rattle.wintree.specs.declared.tree.Next.TheVariants.{Replies}
 use Rattle.wintree.specs.View.{plan_after, HasReplies, IsKept}
-use Rattle.moves.specs.Squares.{Ply}
+use Rattle.rules.specs.Squares.{Ply}
 use Rattle.wintree.specs.Plan.{Plan, depth, deepest, deepest_in, replies_of, plan_of, IsPly, IsPlan, ArePlans, ArePlansIn}
 
 pub deepest-replies_of : (first : Ply × Plan) (others : List (Ply × Plan)) → deepest (replies_of first others) ≡ deepest_in (first ∷ others)

@@ -5,9 +5,9 @@ use Rattle.std.proofs.lemmas.Bool.Decides.{eqb_tells}
 use Rattle.wintree.proofs.Places.{count_by-append}
 use Rattle.board.specs.declared.game.Kind.{Kind}
 use Rattle.board.specs.declared.game.Kind.TheVariants.{King, Queen, Rook, Bishop, Knight, Pawn}
-use Rattle.moves.specs.Squares.{Ply}
+use Rattle.rules.specs.Squares.{Ply}
 use Rattle.wintree.specs.Plan.{IsPly}
-use Rattle.moves.specs.MoveText.{square_text, promotion_text, move_text}
+use Rattle.rules.specs.MoveText.{square_text, promotion_text, move_text}
 use Rattle.wintree.specs.Ahead.{promotion_of, first_of, IsPlain}
 
 -- the text of a promotion is nothing, or a letter of one

@@ -3,12 +3,12 @@ use Rattle.std.proofs.Common.{◌≡◌, ℕ, ◌+◌, List, [], ◌∷◌, ◌+
 use Rattle.std.proofs.lemmas.List.{append_cancel_right, append-nil}
 use Rattle.board.specs.declared.game.Kind.{Kind}
 use Rattle.board.specs.declared.game.Kind.TheVariants.{King, Queen, Rook, Bishop, Knight, Pawn}
-use Rattle.moves.specs.Squares.{Place, Ply}
-use Rattle.moves.specs.Moves.{IsPromoted}
+use Rattle.rules.specs.Squares.{Place, Ply}
+use Rattle.rules.specs.Moves.{IsPromoted}
 use Rattle.wintree.specs.declared.tree.End.{End}
 use Rattle.wintree.specs.declared.tree.End.TheVariants.{Mate, Stale}
 use Rattle.wintree.specs.Plan.{Plan, ends, splits, Replies, last, more, IsPly, IsPlan, ArePlans}
-use Rattle.moves.specs.MoveText.{move_text, promotion_text}
+use Rattle.rules.specs.MoveText.{move_text, promotion_text}
 use Rattle.wintree.specs.Text.{text, replies_text, end_text}
 use Rattle.wintree.specs.Ahead.{promotion_of, first_of}
 use Rattle.wintree.proofs.MoveTexts.{same_rest}

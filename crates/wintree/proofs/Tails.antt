@@ -1,8 +1,8 @@
 -- The text of a list of replies, as it is written.
 use Rattle.std.proofs.Common.{◌≡◌, ℕ, ◌<◌, List, [], ◌∷◌, ◌++◌, length, refl, sym, ap, ◌∙◌, append_assoc, arith}
-use Rattle.moves.specs.Squares.{Ply}
+use Rattle.rules.specs.Squares.{Ply}
 use Rattle.wintree.specs.Plan.{Plan, replies_of, plan_of}
-use Rattle.moves.specs.MoveText.{move_text}
+use Rattle.rules.specs.MoveText.{move_text}
 use Rattle.wintree.specs.Text.{text, replies_text}
 use Rattle.wintree.specs.Ahead.{closed_text, listed_text}
 

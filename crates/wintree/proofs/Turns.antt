@@ -1,9 +1,9 @@
 -- What is ahead once a byte was read.
 use Rattle.std.proofs.Common.{◌≡◌, ◌↔◌, ◌⊎◌, ℕ, suc, List, [], ◌∷◌, ◌++◌, refl, sym, ap, ◌∙◌, subst, inl, inr, Some, None, arith}
-use Rattle.moves.specs.Squares.{Ply}
+use Rattle.rules.specs.Squares.{Ply}
 use Rattle.wintree.specs.declared.tree.End.{End}
 use Rattle.wintree.specs.declared.tree.End.TheVariants.{Mate, Stale}
-use Rattle.moves.specs.MoveText.{move_text, promotion_text}
+use Rattle.rules.specs.MoveText.{move_text, promotion_text}
 use Rattle.wintree.specs.Text.{end_text}
 use Rattle.wintree.specs.Plan.{IsPly}
 use Rattle.wintree.specs.Ahead.{AfterTree, IsTreeAhead, AreRepliesAhead, promotion_of, first_of}

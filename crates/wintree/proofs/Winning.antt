@@ -2,11 +2,11 @@
 use Rattle.std.proofs.Common.{◌≡◌, ◌↔◌, ℕ, suc, ◌+◌, ◌<◌, List, [], ◌∷◌, length, drop, get_or, refl, sym, ap, ◌∙◌, subst, arith}
 use Rattle.std.proofs.lemmas.List.{drop_more}
 use Rattle.board.specs.Board.{PlainBoard}
-use Rattle.moves.specs.Squares.{Ply}
-use Rattle.moves.specs.Moves.{IsMove}
-use Rattle.moves.specs.Order.{ListsLawful}
-use Rattle.moves.specs.declared.goal.Goal.{Goal}
-use Rattle.moves.proofs.Keeps.{one_after}
+use Rattle.rules.specs.Squares.{Ply}
+use Rattle.rules.specs.Moves.{IsMove}
+use Rattle.rules.specs.Order.{ListsLawful}
+use Rattle.rules.specs.declared.goal.Goal.{Goal}
+use Rattle.rules.proofs.Keeps.{one_after}
 use Rattle.wintree.specs.declared.tree.End.{End}
 use Rattle.wintree.specs.Plan.{Plan, ends, replies_of, plan_of}
 use Rattle.wintree.specs.Wins.{Wins, EachWins, EndsAt, moves_of}

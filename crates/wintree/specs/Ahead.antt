@@ -2,8 +2,8 @@
 use Rattle.std.specs.Prelude.{◌≡◌, ◌≢◌, ◌⊎◌, ◌↔◌, ℕ, zero, suc, ◌+◌, ◌<◌, ◌≤◌, List, [], ◌∷◌, ◌++◌, length, take, count_by, ◌==◌, slice_get, Option, Some, None, if◌then◌else◌, All}
 use Rattle.board.specs.declared.game.Kind.{Kind}
 use Rattle.board.specs.declared.game.Kind.TheVariants.{Queen, Rook, Bishop, Knight}
-use Rattle.moves.specs.Squares.{Ply}
-use Rattle.moves.specs.MoveText.{move_text, promotion_text}
+use Rattle.rules.specs.Squares.{Ply}
+use Rattle.rules.specs.MoveText.{move_text, promotion_text}
 use Rattle.wintree.specs.Plan.{Plan, Replies, depth, IsPly, IsPlan, ArePlans, ArePlansIn}
 use Rattle.wintree.specs.Text.{text, replies_text}
 use Rattle.wintree.specs.Offset.{IsText}

@@ -1,9 +1,9 @@
 -- Replies as a list, as the checker goes over them. Only the checker's own contracts cite this.
 use Rattle.std.specs.Prelude.{◌≡◌, ℕ, max, List, [], ◌∷◌}
 use Rattle.board.specs.Board.{PlainBoard}
-use Rattle.moves.specs.Squares.{Ply}
-use Rattle.moves.specs.Moves.{IsMove}
-use Rattle.moves.specs.declared.goal.Goal.{Goal}
+use Rattle.rules.specs.Squares.{Ply}
+use Rattle.rules.specs.Moves.{IsMove}
+use Rattle.rules.specs.declared.goal.Goal.{Goal}
 use Rattle.wintree.specs.Plan.{Plan}
 use Rattle.wintree.specs.Wins.{Wins, height}
 

@@ -2,7 +2,7 @@
 use Rattle.std.specs.Prelude.{ℕ, suc, ◌+◌, ◌≤◌, max, List, [], ◌∷◌}
 use Rattle.std.proofs.Common.{arith}
 use denote.Param.Weighed.{most}
-use Rattle.moves.specs.Squares.{Ply}
+use Rattle.rules.specs.Squares.{Ply}
 use Rattle.wintree.specs.declared.tree.Next.{Next}
 use Rattle.wintree.specs.declared.tree.Next.TheVariants.{End, Replies}
 use Rattle.wintree.specs.declared.tree.Tree.TheDeep.{deep-Next}

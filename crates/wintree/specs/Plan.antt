@@ -4,8 +4,8 @@ use Rattle.std.proofs.Common.{ap₂}
 use Rattle.std.specs.Coded.{Coded}
 use base.Stored.{Gv, gnil, gnum, gcons}
 use Rattle.board.specs.declared.game.Game.TheVariants.{LosAlamos}
-use Rattle.moves.specs.Squares.{Ply, IsOnBoard}
-use Rattle.moves.specs.Moves.{IsPromoted}
+use Rattle.rules.specs.Squares.{Ply, IsOnBoard}
+use Rattle.rules.specs.Moves.{IsPromoted}
 use Rattle.moves.specs.contracts.plies.Move.{the_row as move_row}
 use Rattle.wintree.specs.declared.tree.End.{End}
 use Rattle.wintree.specs.declared.tree.End.TheVariants.{Mate}

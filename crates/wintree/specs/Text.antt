@@ -4,7 +4,7 @@
 --     square = 'a'..'f' '1'..'6'
 --     promotion = 'q' | 'r' | 'b' | 'n'
 use Rattle.std.specs.Prelude.{◌≡◌, ℕ, List, ◌++◌, codes}
-use Rattle.moves.specs.MoveText.{move_text}
+use Rattle.rules.specs.MoveText.{move_text}
 use Rattle.wintree.specs.declared.tree.End.{End}
 use Rattle.wintree.specs.declared.tree.End.TheVariants.{Mate, Stale}
 use Rattle.wintree.specs.Plan.{Plan, ends, splits, Replies, last, more, IsPlan}

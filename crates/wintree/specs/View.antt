@@ -1,6 +1,6 @@
 -- What a tree's fields mean.
 use Rattle.std.specs.Prelude.{◌≡◌, ℕ, ◌<◌, ◌≤◌, length}
-use Rattle.moves.specs.Squares.{Ply}
+use Rattle.rules.specs.Squares.{Ply}
 use Rattle.wintree.specs.declared.tree.Next.{Next}
 use Rattle.wintree.specs.declared.tree.Next.TheVariants.{End, Replies}
 use Rattle.wintree.specs.Plan.{Plan, ends, depth, plan_of, IsPlan}

@@ -1,11 +1,11 @@
 -- Winning trees, and their height.
 use Rattle.std.specs.Prelude.{ℕ, suc, max, List, [], ◌∷◌}
 use Rattle.board.specs.Board.{PlainBoard}
-use Rattle.moves.specs.Squares.{Ply}
-use Rattle.moves.specs.Moves.{IsMove, IsMated, IsStalemated}
-use Rattle.moves.specs.Order.{ListsLawful}
-use Rattle.moves.specs.declared.goal.Goal.{Goal}
-use Rattle.moves.specs.declared.goal.Goal.TheVariants.{Mate, MateOrStale}
+use Rattle.rules.specs.Squares.{Ply}
+use Rattle.rules.specs.Moves.{IsMove, IsMated, IsStalemated}
+use Rattle.rules.specs.Order.{ListsLawful}
+use Rattle.rules.specs.declared.goal.Goal.{Goal}
+use Rattle.rules.specs.declared.goal.Goal.TheVariants.{Mate, MateOrStale}
 use Rattle.wintree.specs.declared.tree.End.{End}
 use Rattle.wintree.specs.declared.tree.End.TheVariants as ending
 use Rattle.wintree.specs.Plan.{Plan, ends, splits, Replies, last, more}

@@ -1,8 +1,8 @@
 //! The checker of winning trees, which trusts no solver.
 
 ghost use Rattle.std.specs.Prelude.{◌≡◌, ◌<◌, ◌↔◌, SomeIff, IfSome, IsTrue, length, slice_index_or};
-ghost use Rattle.moves.specs.Forces.{Forces};
-ghost use Rattle.moves.specs.Order.{ListsLawful};
+ghost use Rattle.rules.specs.Forces.{Forces};
+ghost use Rattle.rules.specs.Order.{ListsLawful};
 ghost use Rattle.wintree.specs.Wins.{Wins, EndsAt, height};
 ghost use Rattle.wintree.specs.Answered.{AreAnswered, highest_in};
 

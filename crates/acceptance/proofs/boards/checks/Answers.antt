@@ -1,6 +1,6 @@
 use Rattle.std.proofs.Common.{None, subst, sym}
 use Rattle.board.specs.Board.{PlainBoard}
-use Rattle.moves.specs.Moves.{IsLawful}
+use Rattle.rules.specs.Moves.{IsLawful}
 use Rattle.acceptance.proofs.boards.checks.Goals as goal
 
 pub gives_check-requires : goal.gives_check-requires

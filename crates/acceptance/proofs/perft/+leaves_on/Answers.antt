@@ -1,7 +1,7 @@
 use Rattle.std.proofs.Common.{subst, sym, arith}
-use Rattle.moves.specs.Moves.{IsLawful}
-use Rattle.moves.specs.Order.{ListsLawful}
-use Rattle.moves.proofs.Listed.{lawful_at}
+use Rattle.rules.specs.Moves.{IsLawful}
+use Rattle.rules.specs.Order.{ListsLawful}
+use Rattle.rules.proofs.Listed.{lawful_at}
 use Rattle.acceptance.proofs.perft.+leaves_on.Goals as goal
 
 pub after-requires : goal.after-requires

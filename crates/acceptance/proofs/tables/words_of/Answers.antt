@@ -1,7 +1,7 @@
 use Rattle.std.proofs.Common.{◌≡◌, ◌+◌, Bool, true, false, not, Some, None, refl, sym, ◌∙◌}
 use Rattle.std.proofs.lemmas.Bool.{false≢true}
 use Rattle.board.specs.declared.game.Side.TheVariants.{White}
-use Rattle.moves.specs.declared.goal.Goal.TheVariants.{Mate}
+use Rattle.rules.specs.declared.goal.Goal.TheVariants.{Mate}
 use Rattle.entry.specs.Bounds.{bounds_of}
 use Rattle.entry.specs.Packing.{entry_of}
 use Rattle.acceptance.proofs.tables.words_of.Goals as goal

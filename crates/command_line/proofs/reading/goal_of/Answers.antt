@@ -1,8 +1,8 @@
 use Rattle.std.proofs.Common.{◌≡◌, ◌∙◌, Option, None, Some, ap, codes, sym}
 use Rattle.clap.specs.Words.{Text, found_of}
 use Rattle.clap.proofs.WalkLemmas.{first_value-rows}
-use Rattle.moves.specs.declared.goal.Goal.{Goal}
-use Rattle.moves.specs.declared.goal.Goal.TheVariants.{Mate, MateOrStale}
+use Rattle.rules.specs.declared.goal.Goal.{Goal}
+use Rattle.rules.specs.declared.goal.Goal.TheVariants.{Mate, MateOrStale}
 use Rattle.command_line.specs.Words.{goal_word}
 use Rattle.command_line.proofs.reading.goal_of.Goals as goal
 

@@ -1,7 +1,7 @@
 use Rattle.std.proofs.Common.{◌<◌, subst}
 use Rattle.board.specs.Board.{PlainBoard}
-use Rattle.moves.specs.Squares.{Ply}
-use Rattle.moves.specs.Moves.{IsLawful}
+use Rattle.rules.specs.Squares.{Ply}
+use Rattle.rules.specs.Moves.{IsLawful}
 use Rattle.slots.specs.Promise.{slots_of, number}
 use Rattle.decision.specs.Calls.{added}
 use Rattle.decision.specs.Questions.{question}

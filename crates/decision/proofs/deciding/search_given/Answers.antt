@@ -1,7 +1,7 @@
 use Rattle.std.proofs.Common.{All, length, sym, ◌∙◌, subst, arith}
 use Rattle.std.proofs.lemmas.Bool.Decides.{Decides-eqb}
 use Rattle.slots.specs.Promise.{slots_of, number}
-use Rattle.moves.specs.Moves.{IsLawful}
+use Rattle.rules.specs.Moves.{IsLawful}
 use Rattle.decision.specs.Callers.{adds}
 use Rattle.decision.specs.Below.{ListsAll}
 use Rattle.decision.proofs.Below.{none_listed, some_listed, all_listed, not_empty, now_for, tells_answer, tells_below, now_zero}

@@ -1,7 +1,7 @@
 use Rattle.std.proofs.Common.{◌-◌, Bool, All, sym, ◌∙◌, subst}
 use Rattle.std.proofs.lemmas.List.{take_all}
 use Rattle.slots.specs.Promise.{slots_of, number}
-use Rattle.moves.specs.Moves.{IsLawful}
+use Rattle.rules.specs.Moves.{IsLawful}
 use Rattle.decision.specs.Callers.{adds}
 use Rattle.decision.specs.Below.{IsPassed, IsAskedAfter}
 use Rattle.decision.proofs.Callers.{goes_more}

@@ -1,5 +1,5 @@
 use Rattle.std.proofs.Common.{sym, subst}
-use Rattle.moves.specs.Moves.{IsLawful}
+use Rattle.rules.specs.Moves.{IsLawful}
 use Rattle.decision.proofs.order.costs_of.Goals as goal
 
 pub cost-requires : goal.cost-requires

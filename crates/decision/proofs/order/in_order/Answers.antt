@@ -1,6 +1,6 @@
 use Rattle.std.proofs.Common.{All, length, ◌≡◌, sym, subst, ◌∙◌, ap}
 use Rattle.std.specs.List.{refill}
-use Rattle.moves.specs.Moves.{IsLawful}
+use Rattle.rules.specs.Moves.{IsLawful}
 use Rattle.decision.specs.Below.{ListsAll}
 use Rattle.decision.proofs.Below.{all_listed, lists_permuted, refilled}
 use Rattle.decision.proofs.order.in_order.Goals as goal

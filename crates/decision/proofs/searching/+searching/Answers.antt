@@ -1,7 +1,7 @@
 use Rattle.std.proofs.Common.{◌-◌, Bool, All, length, sym, ◌∙◌, subst, arith, refl, ◌↔◌, IsTrue}
 use Rattle.std.proofs.lemmas.Bool.Decides.{Decides-eqb}
 use Rattle.std.proofs.lemmas.List.{take_all}
-use Rattle.moves.specs.Moves.{IsLawful}
+use Rattle.rules.specs.Moves.{IsLawful}
 use Rattle.decision.specs.Questions.{IsForced}
 use Rattle.decision.specs.Below.{ListsAll, is_own, IsPassed}
 use Rattle.decision.proofs.Callers.{goes_more}

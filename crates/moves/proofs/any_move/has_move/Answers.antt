@@ -1,12 +1,12 @@
 use Rattle.std.proofs.Common.{◌≡◌, ℕ, true, ap, sym, ◌∙◌, ◌↔◌, subst, arith, refl, inl, inr}
 use Rattle.std.proofs.lemmas.Bool.{false≢true, cases_eq}
 use Rattle.board.specs.Board.{is_of_side}
-use Rattle.moves.specs.Squares.{unit_at}
-use Rattle.moves.specs.Mailbox.{cell_of, place_in, IsCell}
-use Rattle.moves.specs.Targets.{Has}
-use Rattle.moves.proofs.Cells.{IsCell-cell_of, place_in-cell_of, cell_small}
-use Rattle.moves.proofs.Lists.{IsNumbered-lawful}
-use Rattle.moves.proofs.Masks.{Has-zero}
+use Rattle.rules.specs.Squares.{unit_at}
+use Rattle.cells.specs.Mailbox.{cell_of, place_in, IsCell}
+use Rattle.cells.specs.CellSets.{Has}
+use Rattle.cells.proofs.CellNumbers.{IsCell-cell_of, place_in-cell_of, cell_small}
+use Rattle.rules.proofs.Lists.{IsNumbered-lawful}
+use Rattle.cells.proofs.Masks.{Has-zero}
 use Rattle.moves.proofs.AtOnce.{Has-kept}
 use Rattle.moves.proofs.Tallies.{IsOwn, own_left}
 use Rattle.moves.proofs.any_move.has_move.Goals as goal

@@ -1,8 +1,8 @@
 use Rattle.std.proofs.Common.{◌<◌, ◌^◌, ℕ}
-use Rattle.moves.specs.Squares.{Ply}
-use Rattle.moves.specs.Mailbox.{cell_of}
-use Rattle.moves.specs.Targets.{Has}
-use Rattle.moves.specs.Moves.{IsLawful}
+use Rattle.rules.specs.Squares.{Ply}
+use Rattle.cells.specs.Mailbox.{cell_of}
+use Rattle.cells.specs.CellSets.{Has}
+use Rattle.rules.specs.Moves.{IsLawful}
 use Rattle.moves.proofs.Tallies.{IsOwn}
 use Rattle.moves.proofs.any_move.has_move.Given as given
 

@@ -1,5 +1,5 @@
 use Rattle.std.proofs.Common.{arith}
-use Rattle.moves.proofs.Masks.{not-zero}
+use Rattle.cells.proofs.Masks.{not-zero}
 use Rattle.moves.proofs.SafeCells.{some_safe}
 use Rattle.moves.proofs.any_move.has_move_from.Goals as goal
 

@@ -1,12 +1,12 @@
 use Rattle.std.proofs.Common.{◌≡◌, Some, sym, ap, subst, ◌∙◌, arith, inl, inr}
 use Rattle.std.proofs.lemmas.Bool.{cases_eq}
 use Rattle.std.proofs.lemmas.Nat.Bits.{bit_at-zero}
-use Rattle.moves.specs.Squares.{IsOnBoard, unit_at}
-use Rattle.moves.specs.Reach.{Reaches}
-use Rattle.moves.specs.Mailbox.{cell_of, place_in}
-use Rattle.moves.specs.Targets.{Has}
-use Rattle.moves.proofs.Cells.{IsCell-cell_of, place_in-cell_of, cell_small, small_width}
-use Rattle.moves.proofs.Keeps.{to_on_board}
+use Rattle.rules.specs.Squares.{IsOnBoard, unit_at}
+use Rattle.rules.specs.Reach.{Reaches}
+use Rattle.cells.specs.Mailbox.{cell_of, place_in}
+use Rattle.cells.specs.CellSets.{Has}
+use Rattle.cells.proofs.CellNumbers.{IsCell-cell_of, place_in-cell_of, cell_small, small_width}
+use Rattle.rules.proofs.Keeps.{to_on_board}
 use Rattle.moves.proofs.AtOnce.{pseudo_by, Has-kept}
 use Rattle.moves.proofs.any_move.has_tested_move.Goals as goal
 

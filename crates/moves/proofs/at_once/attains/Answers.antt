@@ -1,12 +1,12 @@
 use Rattle.std.proofs.Common.{◌≡◌, ◌↔◌, IsTrue, IsSome, IfSome, sym, ap, subst, ◌∙◌}
 use Rattle.std.proofs.lemmas.Bool.{false≢true}
-use Rattle.moves.specs.Squares.{Ply, unit_at}
-use Rattle.moves.specs.Reach.{IsInCheck}
-use Rattle.moves.specs.Moves.{Promotes, IsPromotion, IsSomeKing, IsPseudoLegal, IsMove}
-use Rattle.moves.specs.Forces.{IsReached}
-use Rattle.moves.specs.Mailbox.{cell_of, place_in}
-use Rattle.moves.proofs.Cells.{place_in-cell_of}
-use Rattle.moves.proofs.Keeps.{one_after}
+use Rattle.rules.specs.Squares.{Ply, unit_at}
+use Rattle.rules.specs.Reach.{IsInCheck}
+use Rattle.rules.specs.Moves.{Promotes, IsPromotion, IsSomeKing, IsPseudoLegal, IsMove}
+use Rattle.rules.specs.Forces.{IsReached}
+use Rattle.cells.specs.Mailbox.{cell_of, place_in}
+use Rattle.cells.proofs.CellNumbers.{place_in-cell_of}
+use Rattle.rules.proofs.Keeps.{one_after}
 use Rattle.moves.proofs.Guarding.{not_onto_king, promotes_well}
 use Rattle.moves.proofs.at_once.attains.Goals as goal
 use Rattle.moves.proofs.at_once.attains.Goals.{then-is_king-via-then-is_king, then-is_king-via-else-is_king+then-not-is_promoted_well}

@@ -1,7 +1,7 @@
 use Rattle.std.proofs.Common.{◌<◌, ◌^◌, ℕ}
-use Rattle.moves.specs.Squares.{Ply}
-use Rattle.moves.specs.Mailbox.{cell_of}
-use Rattle.moves.specs.Targets.{Has}
+use Rattle.rules.specs.Squares.{Ply}
+use Rattle.cells.specs.Mailbox.{cell_of}
+use Rattle.cells.specs.CellSets.{Has}
 use Rattle.moves.specs.Checking.{Attains}
 use Rattle.moves.proofs.Tallies.{IsOwn}
 use Rattle.moves.proofs.at_once.attains_any.Given as given

@@ -1,7 +1,8 @@
 use Rattle.std.proofs.Common.{◌≡◌, ◌<◌, ◌^◌, ℕ}
-use Rattle.moves.specs.Squares.{Ply}
-use Rattle.moves.specs.Mailbox.{cell_of}
-use Rattle.moves.specs.Targets.{Has, IsTarget}
+use Rattle.rules.specs.Squares.{Ply}
+use Rattle.cells.specs.Mailbox.{cell_of}
+use Rattle.cells.specs.CellSets.{Has}
+use Rattle.moves.specs.Targets.{IsTarget}
 use Rattle.moves.specs.Checking.{Attains}
 use Rattle.moves.proofs.at_once.attains_from.Given as given
 

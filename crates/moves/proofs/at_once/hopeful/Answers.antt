@@ -1,15 +1,15 @@
 use Rattle.std.proofs.Common.{◌≡◌, Some, IfSome, sym, ap, subst, ◌∙◌}
 use Rattle.board.specs.Board.{PlainBoard}
 use Rattle.moves.specs.declared.checks.Watch.{Watch}
-use Rattle.moves.specs.declared.goal.Goal.{Goal}
-use Rattle.moves.specs.declared.goal.Goal.TheVariants.{Mate}
-use Rattle.moves.specs.Squares.{unit_at}
-use Rattle.moves.specs.Reach.{IsInCheck}
-use Rattle.moves.specs.Forces.{IsReached}
-use Rattle.moves.specs.Mailbox.{cell_of, place_in}
+use Rattle.rules.specs.declared.goal.Goal.{Goal}
+use Rattle.rules.specs.declared.goal.Goal.TheVariants.{Mate}
+use Rattle.rules.specs.Squares.{unit_at}
+use Rattle.rules.specs.Reach.{IsInCheck}
+use Rattle.rules.specs.Forces.{IsReached}
+use Rattle.cells.specs.Mailbox.{cell_of, place_in}
 use Rattle.moves.specs.Targets.{IsTarget}
-use Rattle.moves.proofs.Cells.{place_in-cell_of}
-use Rattle.moves.proofs.Keeps.{one_after}
+use Rattle.cells.proofs.CellNumbers.{place_in-cell_of}
+use Rattle.rules.proofs.Keeps.{one_after}
 use Rattle.moves.proofs.AtOnce.{pseudo_by, move_by}
 use Rattle.moves.proofs.Checking.{IsTarget-move}
 use Rattle.moves.proofs.at_once.hopeful.Goals as goal

@@ -2,9 +2,9 @@ use Rattle.std.proofs.Common.{◌≡◌, All, take, inl, inr, refl, subst, arith
 use Rattle.std.specs.Int.RustNames.{bit_or}
 use Rattle.std.proofs.lemmas.List.{take_all}
 use Rattle.std.proofs.lemmas.List.Elements.{All-more, All-contains}
-use Rattle.moves.specs.declared.tables.Way.{Way}
-use Rattle.moves.specs.declared.tables.TheConstants.{WAYS}
-use Rattle.moves.proofs.Masks.{Has-or}
+use Rattle.cells.specs.declared.tables.Way.{Way}
+use Rattle.cells.specs.declared.tables.TheConstants.{WAYS}
+use Rattle.cells.proofs.Masks.{Has-or}
 use Rattle.moves.proofs.Pinning.{ways-all}
 use Rattle.moves.proofs.Blocking.{HoldsBetween, HasBlocks-way}
 use Rattle.moves.proofs.blocks.blocks.Goals as goal

@@ -1,6 +1,6 @@
 use Rattle.std.proofs.Common.{All, take}
-use Rattle.moves.specs.declared.tables.Way.{Way}
-use Rattle.moves.specs.Targets.{Has}
+use Rattle.cells.specs.declared.tables.Way.{Way}
+use Rattle.cells.specs.CellSets.{Has}
 use Rattle.moves.proofs.Blocking.{HoldsBetween}
 use Rattle.moves.proofs.blocks.blocks.Given as given
 

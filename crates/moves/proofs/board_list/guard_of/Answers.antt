@@ -1,8 +1,8 @@
 use Rattle.std.proofs.Common.{refl, sym, ap, subst, ◌∙◌}
 use Rattle.std.proofs.lemmas.Bool.{false≢true}
 use Rattle.board.specs.Games.{other_side}
-use Rattle.moves.specs.Reach.{AttacksFrom, IsInCheck}
-use Rattle.moves.specs.Mailbox.{place_in}
+use Rattle.rules.specs.Reach.{AttacksFrom, IsInCheck}
+use Rattle.cells.specs.Mailbox.{place_in}
 use Rattle.moves.specs.Pinned.{IsPinned}
 use Rattle.moves.proofs.Kings.{king_of}
 use Rattle.moves.proofs.Guarding.{no_kingless}

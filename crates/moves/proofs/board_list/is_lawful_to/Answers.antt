@@ -1,6 +1,6 @@
 use Rattle.std.proofs.Common.{sym, subst, ◌∙◌, ◌↔◌, IsSome, IfSome}
 use Rattle.std.proofs.lemmas.Bool.{false≢true}
-use Rattle.moves.specs.Moves.{Promotes, IsPromotion, IsSomeKing, IsPseudoLegal}
+use Rattle.rules.specs.Moves.{Promotes, IsPromotion, IsSomeKing, IsPseudoLegal}
 use Rattle.moves.proofs.Guarding.{lawful_if_safe, promotes_well}
 use Rattle.moves.proofs.board_list.is_lawful_to.Goals as goal
 

@@ -2,13 +2,13 @@ use Rattle.std.proofs.Common.{◌≡◌, refl, sym, ap, subst, ◌∙◌, ◌↔
 use Rattle.std.proofs.lemmas.Bool.{false≢true, not_from_true, not-true}
 use Rattle.board.specs.declared.game.Kind.TheVariants.{King}
 use Rattle.board.specs.Board.{PlainBoard}
-use Rattle.moves.specs.Squares.{Ply, unit_at}
-use Rattle.moves.specs.Reach.{IsInCheck}
-use Rattle.moves.specs.Moves.{after}
-use Rattle.moves.specs.Mailbox.{cell_of, place_in, IsCell}
+use Rattle.rules.specs.Squares.{Ply, unit_at}
+use Rattle.rules.specs.Reach.{IsInCheck}
+use Rattle.rules.specs.Moves.{after}
+use Rattle.cells.specs.Mailbox.{cell_of, place_in, IsCell}
 use Rattle.moves.specs.Pinned.{IsPinned}
-use Rattle.moves.specs.Targets.{Has}
-use Rattle.moves.proofs.Cells.{IsCell-cell_of, place_in-cell_of}
+use Rattle.cells.specs.CellSets.{Has}
+use Rattle.cells.proofs.CellNumbers.{IsCell-cell_of, place_in-cell_of}
 use Rattle.moves.proofs.Pins.{stays_safe}
 use Rattle.moves.proofs.Guarding.{not_attacked_safe}
 use Rattle.moves.proofs.board_list.is_safe.Goals as goal

@@ -1,10 +1,10 @@
 use Rattle.std.proofs.Common.{◌≡◌, IsTrue, ◌↔◌, sym, ap, subst, ◌∙◌}
 use Rattle.board.specs.Games.{other_side}
-use Rattle.moves.specs.Squares.{Ply}
-use Rattle.moves.specs.Reach.{IsAttacked}
-use Rattle.moves.specs.Mailbox.{cell_of, place_in, IsCell}
-use Rattle.moves.proofs.Cells.{IsCell-cell_of, place_in-cell_of}
-use Rattle.moves.proofs.Keeps.{to_on_board}
+use Rattle.rules.specs.Squares.{Ply}
+use Rattle.rules.specs.Reach.{IsAttacked}
+use Rattle.cells.specs.Mailbox.{cell_of, place_in, IsCell}
+use Rattle.cells.proofs.CellNumbers.{IsCell-cell_of, place_in-cell_of}
+use Rattle.rules.proofs.Keeps.{to_on_board}
 use Rattle.moves.proofs.KingSteps.{steps_safely}
 use Rattle.moves.proofs.board_list.is_safe_step.Goals as goal
 

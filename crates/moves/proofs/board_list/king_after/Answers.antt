@@ -1,10 +1,10 @@
 use Rattle.std.proofs.Common.{◌≡◌, sym, ap, subst, ◌∙◌}
 use Rattle.std.proofs.lemmas.Bool.{false≢true}
-use Rattle.moves.specs.Squares.{Ply, unit_at}
-use Rattle.moves.specs.Moves.{after}
-use Rattle.moves.specs.Mailbox.{cell_of, place_in, IsCell}
-use Rattle.moves.proofs.Cells.{IsCell-cell_of, place_in-cell_of}
-use Rattle.moves.proofs.Keeps.{to_on_board}
+use Rattle.rules.specs.Squares.{Ply, unit_at}
+use Rattle.rules.specs.Moves.{after}
+use Rattle.cells.specs.Mailbox.{cell_of, place_in, IsCell}
+use Rattle.cells.proofs.CellNumbers.{IsCell-cell_of, place_in-cell_of}
+use Rattle.rules.proofs.Keeps.{to_on_board}
 use Rattle.moves.proofs.Guarding.{king_moved, king_stays}
 use Rattle.moves.proofs.board_list.king_after.Goals as goal
 

@@ -1,8 +1,8 @@
 use Rattle.std.proofs.Common.{rules, ◌≡◌, ℕ, ◌↔◌, true, sym, subst, []}
 use Rattle.board.specs.Board.{is_of_side}
-use Rattle.moves.specs.Squares.{unit_at}
-use Rattle.moves.specs.Mailbox.{place_in, IsCell}
-use Rattle.moves.specs.Targets.{Has}
+use Rattle.rules.specs.Squares.{unit_at}
+use Rattle.cells.specs.Mailbox.{place_in, IsCell}
+use Rattle.cells.specs.CellSets.{Has}
 use Rattle.moves.proofs.Tallies.{IsOwn}
 use Rattle.moves.proofs.Gathering.{IsGathered, gathered_start, gathered_end, gathered_more, next_unit, next_from}
 use Rattle.moves.proofs.board_list.list_lawful.Goals as goal

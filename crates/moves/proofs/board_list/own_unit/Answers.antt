@@ -1,6 +1,6 @@
 use Rattle.std.proofs.Common.{◌≡◌, sym, subst, ◌∙◌, Some, MatchOption, true, false}
 use Rattle.board.specs.Board.{is_of_side}
-use Rattle.moves.specs.Squares.{unit_at}
+use Rattle.rules.specs.Squares.{unit_at}
 use Rattle.moves.specs.Words.{man_of}
 use Rattle.moves.proofs.Guarding.{own_some}
 use Rattle.moves.proofs.board_list.own_unit.Goals as goal

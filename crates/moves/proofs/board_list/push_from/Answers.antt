@@ -1,8 +1,8 @@
 use Rattle.std.proofs.Common.{◌+◌, ◌*◌, sym, subst, ◌∙◌, arith}
-use Rattle.moves.specs.Squares.{IsOnBoard, square_number}
-use Rattle.moves.specs.Listing.{ListsBelow}
-use Rattle.moves.specs.Mailbox.{place_in}
-use Rattle.moves.proofs.Cells.{small_width}
+use Rattle.rules.specs.Squares.{IsOnBoard, square_number}
+use Rattle.rules.specs.Listing.{ListsBelow}
+use Rattle.cells.specs.Mailbox.{place_in}
+use Rattle.cells.proofs.CellNumbers.{small_width}
 use Rattle.moves.proofs.Scanning.{IsScanned-start, next_has, next_target, next_lists, next_room, IsScanned-more, IsScanned-end}
 use Rattle.moves.proofs.board_list.push_from.Goals as goal
 

@@ -1,9 +1,9 @@
 use Rattle.std.proofs.Common.{◌+◌, ◌*◌, ◌<◌, sym, subst, arith}
-use Rattle.moves.specs.Squares.{square_number}
-use Rattle.moves.specs.Listing.{ListsBelow}
-use Rattle.moves.specs.Mailbox.{place_in}
-use Rattle.moves.proofs.Listed.{number_within}
-use Rattle.moves.proofs.Room.{squares_36}
+use Rattle.rules.specs.Squares.{square_number}
+use Rattle.rules.specs.Listing.{ListsBelow}
+use Rattle.cells.specs.Mailbox.{place_in}
+use Rattle.rules.proofs.Listed.{number_within}
+use Rattle.rules.proofs.Room.{squares_36}
 use Rattle.moves.proofs.Gathering.{ListsFrom-room, ListsFrom-own}
 use Rattle.moves.proofs.board_list.push_in.Goals as goal
 

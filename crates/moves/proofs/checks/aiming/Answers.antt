@@ -1,5 +1,5 @@
 use Rattle.board.specs.declared.game.Kind.TheVariants.{King, Queen, Rook, Bishop, Knight}
-use Rattle.moves.specs.Mailbox.{cell_of, place_in}
+use Rattle.cells.specs.Mailbox.{cell_of, place_in}
 use Rattle.moves.proofs.Checking.{Aims-pawn, as_kind, as_mover}
 use Rattle.moves.proofs.checks.aiming.Goals as goal
 

@@ -1,12 +1,12 @@
 use Rattle.std.proofs.Common.{◌≡◌, inl, inr, sym, ap, subst, ◌∙◌}
 use Rattle.std.proofs.lemmas.Bool.{false≢true}
 use Rattle.board.specs.Games.{other_side}
-use Rattle.moves.specs.Squares.{unit_at}
-use Rattle.moves.specs.Reach.{Reaches}
-use Rattle.moves.specs.Mailbox.{cell_of, place_in, IsCell}
+use Rattle.rules.specs.Squares.{unit_at}
+use Rattle.rules.specs.Reach.{Reaches}
+use Rattle.cells.specs.Mailbox.{cell_of, place_in, IsCell}
 use Rattle.moves.specs.Pinned.{IsPinned}
 use Rattle.moves.specs.Targets.{IsTarget}
-use Rattle.moves.proofs.Cells.{IsCell-cell_of, place_in-cell_of}
+use Rattle.cells.proofs.CellNumbers.{IsCell-cell_of, place_in-cell_of}
 use Rattle.moves.proofs.Checking.{who_checks, IsTarget-move}
 use Rattle.moves.proofs.checks.checking.Goals as goal
 

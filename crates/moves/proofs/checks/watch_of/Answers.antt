@@ -2,11 +2,11 @@ use Rattle.std.proofs.Common.{◌≡◌, ℕ, Some, sym, ap, subst, ◌∙◌}
 use Rattle.std.proofs.lemmas.Bool.{false≢true}
 use Rattle.board.specs.declared.game.Kind.TheVariants.{King}
 use Rattle.board.specs.Games.{other_side}
-use Rattle.moves.specs.Squares.{unit_at}
-use Rattle.moves.specs.Reach.{IsInCheck}
-use Rattle.moves.specs.Mailbox.{place_in, IsCell}
+use Rattle.rules.specs.Squares.{unit_at}
+use Rattle.rules.specs.Reach.{IsInCheck}
+use Rattle.cells.specs.Mailbox.{place_in, IsCell}
 use Rattle.moves.specs.Pinned.{IsPinned}
-use Rattle.moves.specs.Targets.{Has}
+use Rattle.cells.specs.CellSets.{Has}
 use Rattle.moves.proofs.checks.watch_of.Goals as goal
 
 pub returns : goal.returns

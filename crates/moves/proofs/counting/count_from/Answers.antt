@@ -1,6 +1,6 @@
 use Rattle.std.proofs.Common.{◌≡◌, ◌*◌, ◌≤◌, sym, ap, subst, ◌∙◌, arith, Some, count_ones, rules}
-use Rattle.moves.specs.Squares.{IsOnBoard, square_number, unit_at}
-use Rattle.moves.specs.Mailbox.{place_in}
+use Rattle.rules.specs.Squares.{IsOnBoard, square_number, unit_at}
+use Rattle.cells.specs.Mailbox.{place_in}
 use Rattle.moves.specs.Safe.{CountsFrom}
 use Rattle.moves.proofs.Counts.{counted_all, few_ones, product_most}
 use Rattle.moves.proofs.counting.count_from.Goals as goal

@@ -1,8 +1,8 @@
 use Rattle.std.proofs.Common.{◌≡◌, ℕ, ◌↔◌, true, subst, arith}
 use Rattle.board.specs.Board.{is_of_side}
-use Rattle.moves.specs.Squares.{unit_at}
-use Rattle.moves.specs.Mailbox.{place_in, IsCell}
-use Rattle.moves.specs.Targets.{Has}
+use Rattle.rules.specs.Squares.{unit_at}
+use Rattle.cells.specs.Mailbox.{place_in, IsCell}
+use Rattle.cells.specs.CellSets.{Has}
 use Rattle.moves.proofs.Tallies.{tallied_start, tallied_end, next_own, tallied_few, tallied_more}
 use Rattle.moves.proofs.counting.count_lawful.Goals as goal
 

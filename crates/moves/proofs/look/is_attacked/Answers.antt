@@ -1,4 +1,4 @@
-use Rattle.moves.proofs.Masks.{not-zero}
+use Rattle.cells.proofs.Masks.{not-zero}
 use Rattle.moves.proofs.Attacking.{none-attacks, some-attacks}
 use Rattle.moves.proofs.look.is_attacked.Goals as goal
 

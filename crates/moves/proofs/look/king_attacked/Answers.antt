@@ -1,4 +1,4 @@
-use Rattle.moves.specs.Mailbox.{place_in}
+use Rattle.cells.specs.Mailbox.{place_in}
 use Rattle.moves.proofs.Kings.{check_at, check_from}
 use Rattle.moves.proofs.look.king_attacked.Goals as goal
 

@@ -2,8 +2,8 @@ use Rattle.std.proofs.Common.{Some, sym, ap, subst, ◌∙◌}
 use Rattle.board.specs.declared.game.Kind.TheVariants.{King}
 use Rattle.board.specs.declared.game.Unit.{Unit as Man}
 use Rattle.board.specs.Board.{is_of_side}
-use Rattle.moves.specs.Targets.{Has}
-use Rattle.moves.proofs.Masks.{Has-and, Has-zero}
+use Rattle.cells.specs.CellSets.{Has}
+use Rattle.cells.proofs.Masks.{Has-and, Has-zero}
 use Rattle.moves.proofs.Guarding.{own_king, own_unit_side}
 use Rattle.moves.proofs.look.king_cell.Goals as goal
 

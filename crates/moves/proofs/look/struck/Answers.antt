@@ -1,6 +1,6 @@
-use Rattle.moves.proofs.Masks.{Has-and, Has-zero}
+use Rattle.cells.proofs.Masks.{Has-and, Has-zero}
 use Rattle.std.proofs.Common.{subst}
-use Rattle.moves.specs.Targets.{Has}
+use Rattle.cells.specs.CellSets.{Has}
 use Rattle.moves.proofs.look.struck.Goals as goal
 
 pub returns-then-among-eq0 : goal.returns-then-among-eq0

@@ -1,12 +1,12 @@
 use Rattle.std.proofs.Common.{◌≡◌, Some, sym, ap, subst, ◌∙◌}
 use Rattle.std.proofs.lemmas.Bool.{false≢true}
 use Rattle.board.specs.Board.{is_of_side}
-use Rattle.moves.specs.Squares.{Ply, unit_at}
-use Rattle.moves.specs.Reach.{Reaches}
-use Rattle.moves.specs.Mailbox.{cell_of, place_in}
+use Rattle.rules.specs.Squares.{Ply, unit_at}
+use Rattle.rules.specs.Reach.{Reaches}
+use Rattle.cells.specs.Mailbox.{cell_of, place_in}
 use Rattle.moves.specs.Targets.{IsTarget}
-use Rattle.moves.proofs.Cells.{place_in-cell_of}
-use Rattle.moves.proofs.Lists.{own_from}
+use Rattle.cells.proofs.CellNumbers.{place_in-cell_of}
+use Rattle.rules.proofs.Lists.{own_from}
 use Rattle.moves.proofs.AtOnce.{pseudo_by}
 use Rattle.moves.proofs.Checking.{IsTarget-move}
 use Rattle.moves.proofs.one_move.is_lawful_in.Goals as goal

@@ -1,6 +1,6 @@
 use Rattle.std.proofs.Common.{sym, ◌∙◌}
 use Rattle.std.proofs.lemmas.Bool.{false≢true}
-use Rattle.moves.proofs.Keeps.{to_on_board}
+use Rattle.rules.proofs.Keeps.{to_on_board}
 use Rattle.moves.proofs.one_move.is_lawful_on.Goals as goal
 
 pub returns-else-has_squares : goal.returns-else-has_squares

@@ -4,12 +4,12 @@ use Rattle.std.proofs.lemmas.List.{take_all}
 use Rattle.std.proofs.lemmas.List.Elements.{All-more, All-contains}
 use Rattle.board.specs.Games.{other_side}
 use Rattle.board.specs.Board.{is_of_side}
-use Rattle.moves.specs.declared.tables.Way.{Way}
-use Rattle.moves.specs.declared.tables.TheConstants.{WAYS}
-use Rattle.moves.specs.Squares.{unit_at}
-use Rattle.moves.specs.Mailbox.{place_in, IsCell}
-use Rattle.moves.specs.Targets.{Has}
-use Rattle.moves.proofs.Masks.{Has-or, Has-zero}
+use Rattle.cells.specs.declared.tables.Way.{Way}
+use Rattle.cells.specs.declared.tables.TheConstants.{WAYS}
+use Rattle.rules.specs.Squares.{unit_at}
+use Rattle.cells.specs.Mailbox.{place_in, IsCell}
+use Rattle.cells.specs.CellSets.{Has}
+use Rattle.cells.proofs.Masks.{Has-or, Has-zero}
 use Rattle.moves.proofs.Pinning.{HoldsPins, pins-along, ways-all}
 use Rattle.moves.proofs.pinned.pinned.Goals as goal
 

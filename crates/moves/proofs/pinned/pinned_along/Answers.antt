@@ -1,7 +1,7 @@
 use Rattle.std.proofs.Common.{subst}
-use Rattle.moves.specs.Targets.{Has}
-use Rattle.moves.specs.Ways.{Rides}
-use Rattle.moves.proofs.Masks.{Has-and, Has-zero}
+use Rattle.cells.specs.CellSets.{Has}
+use Rattle.cells.specs.Ways.{Rides}
+use Rattle.cells.proofs.Masks.{Has-and, Has-zero}
 use Rattle.moves.proofs.Riding.{cell-rides}
 use Rattle.moves.proofs.Pinning.{one_unit}
 use Rattle.moves.proofs.pinned.pinned_along.Goals as goal

@@ -1,10 +1,11 @@
 use Rattle.std.proofs.Common.{◌≡◌, ℕ, sym, ap, subst, ◌∙◌, ◌↔◌}
 use Rattle.std.proofs.lemmas.Bool.{false≢true}
 use Rattle.board.specs.declared.game.Kind.TheVariants.{King}
-use Rattle.moves.specs.Mailbox.{place_in, IsCell}
+use Rattle.cells.specs.Mailbox.{place_in, IsCell}
 use Rattle.moves.specs.Pinned.{IsPinned}
-use Rattle.moves.specs.Targets.{Has, IsTarget}
-use Rattle.moves.proofs.Cells.{IsCell-cell_of, place_in-cell_of}
+use Rattle.cells.specs.CellSets.{Has}
+use Rattle.moves.specs.Targets.{IsTarget}
+use Rattle.cells.proofs.CellNumbers.{IsCell-cell_of, place_in-cell_of}
 use Rattle.moves.proofs.SafeCells.{free_safe, some_crowned, crowned_king}
 use Rattle.moves.proofs.safe.free_cells.Goals as goal
 

@@ -1,10 +1,10 @@
 use Rattle.std.proofs.Common.{◌≡◌, ◌↔◌, IsTrue, Some, sym, ap, subst, ◌∙◌}
 use Rattle.std.proofs.lemmas.Bool.{false≢true, not-true}
-use Rattle.moves.specs.Squares.{unit_at}
-use Rattle.moves.specs.Reach.{IsInCheck}
-use Rattle.moves.specs.Mailbox.{place_in}
+use Rattle.rules.specs.Squares.{unit_at}
+use Rattle.rules.specs.Reach.{IsInCheck}
+use Rattle.cells.specs.Mailbox.{place_in}
 use Rattle.moves.specs.Safe.{IsNamed, IsCalm}
-use Rattle.moves.proofs.Cells.{place_in-cell_of}
+use Rattle.cells.proofs.CellNumbers.{place_in-cell_of}
 use Rattle.moves.proofs.SafeCells.{lawful_too, named_move, calm_lawful, lawful_calm}
 use Rattle.moves.proofs.safe.may_go.Goals as goal
 

@@ -1,12 +1,13 @@
 use Rattle.std.proofs.Common.{◌≡◌, Some, sym, ap, subst, ◌∙◌, arith, inl, inr}
 use Rattle.std.proofs.lemmas.Bool.{cases_eq, cases_Bool}
-use Rattle.moves.specs.Squares.{IsOnBoard, unit_at}
-use Rattle.moves.specs.Reach.{Reaches}
-use Rattle.moves.specs.Mailbox.{cell_of, place_in}
-use Rattle.moves.specs.Targets.{Has, IsTarget}
-use Rattle.moves.proofs.Cells.{IsCell-cell_of, place_in-cell_of, cell_small, small_width}
-use Rattle.moves.proofs.Keeps.{to_on_board}
-use Rattle.moves.proofs.Masks.{Has-zero}
+use Rattle.rules.specs.Squares.{IsOnBoard, unit_at}
+use Rattle.rules.specs.Reach.{Reaches}
+use Rattle.cells.specs.Mailbox.{cell_of, place_in}
+use Rattle.cells.specs.CellSets.{Has}
+use Rattle.moves.specs.Targets.{IsTarget}
+use Rattle.cells.proofs.CellNumbers.{IsCell-cell_of, place_in-cell_of, cell_small, small_width}
+use Rattle.rules.proofs.Keeps.{to_on_board}
+use Rattle.cells.proofs.Masks.{Has-zero}
 use Rattle.moves.proofs.AtOnce.{pseudo_by, Has-kept}
 use Rattle.moves.proofs.safe.sifted.Goals as goal
 

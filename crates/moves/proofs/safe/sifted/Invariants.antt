@@ -1,8 +1,9 @@
 use Rattle.std.proofs.Common.{◌≡◌, ◌<◌, ◌^◌, ◌⊎◌, ℕ}
-use Rattle.moves.specs.Squares.{Ply}
-use Rattle.moves.specs.Mailbox.{cell_of, place_in}
-use Rattle.moves.specs.Targets.{Has, IsTarget}
-use Rattle.moves.specs.Moves.{IsLawful}
+use Rattle.rules.specs.Squares.{Ply}
+use Rattle.cells.specs.Mailbox.{cell_of, place_in}
+use Rattle.cells.specs.CellSets.{Has}
+use Rattle.moves.specs.Targets.{IsTarget}
+use Rattle.rules.specs.Moves.{IsLawful}
 use Rattle.moves.specs.Safe.{IsNamed}
 use Rattle.moves.proofs.safe.sifted.Given as given
 

@@ -1,10 +1,10 @@
 use Rattle.std.proofs.Common.{◌≡◌, Some, sym, ap, subst, ◌∙◌}
 use Rattle.std.proofs.lemmas.Bool.{false≢true}
 use Rattle.board.specs.declared.game.Kind.TheVariants.{King}
-use Rattle.moves.specs.Squares.{unit_at}
-use Rattle.moves.specs.Mailbox.{cell_of, place_in}
+use Rattle.rules.specs.Squares.{unit_at}
+use Rattle.cells.specs.Mailbox.{cell_of, place_in}
 use Rattle.moves.specs.Targets.{IsTarget}
-use Rattle.moves.proofs.Cells.{place_in-cell_of}
+use Rattle.cells.proofs.CellNumbers.{place_in-cell_of}
 use Rattle.moves.proofs.AtOnce.{pseudo_by, move_by}
 use Rattle.moves.proofs.Checking.{IsTarget-move}
 use Rattle.moves.proofs.safe.tried.Goals as goal

@@ -1,6 +1,6 @@
-use Rattle.moves.specs.declared.tables.Way.TheVariants.{North, South, East, West}
-use Rattle.moves.specs.Ways.{Rides}
-use Rattle.moves.proofs.Masks.{four-are}
+use Rattle.cells.specs.declared.tables.Way.TheVariants.{North, South, East, West}
+use Rattle.cells.specs.Ways.{Rides}
+use Rattle.cells.proofs.Masks.{four-are}
 use Rattle.moves.proofs.seen.straight.Goals as goal
 
 pub returns : goal.returns

@@ -1,8 +1,8 @@
 use Rattle.std.proofs.Common.{◌≡◌, ℕ, ◌+◌, ◌↔◌, ◌⊎◌, IsTrue, sym, ap, subst, ◌∙◌, arith}
 use Rattle.board.specs.Games.{squares_of}
-use Rattle.moves.specs.Squares.{IsOnBoard, square_number}
-use Rattle.moves.specs.Targets.{Has}
-use Rattle.moves.specs.Mailbox.{cell_of}
+use Rattle.rules.specs.Squares.{IsOnBoard, square_number}
+use Rattle.cells.specs.CellSets.{Has}
+use Rattle.cells.specs.Mailbox.{cell_of}
 use Rattle.moves.proofs.Shown.{HeldBelow, HeldBelow-none, HeldBelow-unit, HeldBelow-all}
 use Rattle.moves.proofs.sets.cells_of.Goals as goal
 use Rattle.moves.proofs.sets.cells_of.Goals.{in-Some, in_default}

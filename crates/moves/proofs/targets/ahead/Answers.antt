@@ -1,7 +1,7 @@
 use Rattle.std.proofs.Common.{◌+◌, ◌-◌, sym, subst}
-use Rattle.moves.specs.Ways.{IsNext, ahead_way}
-use Rattle.moves.specs.declared.tables.Way.TheVariants.{North, South}
-use Rattle.moves.proofs.OnRays.{is-next}
+use Rattle.cells.specs.Ways.{IsNext, ahead_way}
+use Rattle.cells.specs.declared.tables.Way.TheVariants.{North, South}
+use Rattle.cells.proofs.OnRays.{is-next}
 use Rattle.moves.proofs.targets.ahead.Goals as goal
 
 pub returns-in-White : goal.returns-in-White

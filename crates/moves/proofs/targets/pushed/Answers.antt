@@ -1,7 +1,7 @@
 use Rattle.std.proofs.Common.{sym}
-use Rattle.moves.specs.Ways.{ahead_way}
-use Rattle.moves.proofs.OnRays.{next-is}
-use Rattle.moves.proofs.Cells.{cell_small}
+use Rattle.cells.specs.Ways.{ahead_way}
+use Rattle.cells.proofs.OnRays.{next-is}
+use Rattle.cells.proofs.CellNumbers.{cell_small}
 use Rattle.moves.proofs.Reaching.{pushed-next}
 use Rattle.moves.proofs.targets.pushed.Goals as goal
 

@@ -1,9 +1,9 @@
 use Rattle.std.proofs.Common.{◌≡◌, ℕ, ◌↔◌, true, subst}
 use Rattle.board.specs.Games.{other_side}
 use Rattle.board.specs.Board.{is_of_side}
-use Rattle.moves.specs.Squares.{unit_at}
-use Rattle.moves.specs.Mailbox.{place_in, IsCell}
-use Rattle.moves.specs.Targets.{Has}
+use Rattle.rules.specs.Squares.{unit_at}
+use Rattle.cells.specs.Mailbox.{place_in, IsCell}
+use Rattle.cells.specs.CellSets.{Has}
 use Rattle.moves.proofs.Reaching.{IsTarget-seen, IsTarget-pawn}
 use Rattle.moves.proofs.targets.targets.Goals as goal
 

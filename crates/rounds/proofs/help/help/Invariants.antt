@@ -1,6 +1,6 @@
 use Rattle.slots.specs.Promise.{IsSeatOf}
 use Rattle.std.proofs.Common.{◌≡◌, All}
-use Rattle.moves.specs.Moves.{IsLawful}
+use Rattle.rules.specs.Moves.{IsLawful}
 use Rattle.decision.specs.Calls.{Continues}
 use Rattle.rounds.specs.Shares.{IsBench}
 use Rattle.rounds.proofs.help.help.Given as goal

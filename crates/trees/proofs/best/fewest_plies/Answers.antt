@@ -2,7 +2,7 @@ use Rattle.std.proofs.Common.{◌+◌, ◌*◌, ◌↔◌, ◌∙◌, IsTrue, sy
 use Rattle.std.proofs.lemmas.Bool.{false≢true}
 use Rattle.board.specs.declared.game.Side.{Side}
 use Rattle.board.specs.Board.{PlainBoard}
-use Rattle.moves.specs.Forces.{Forces}
+use Rattle.rules.specs.Forces.{Forces}
 use Rattle.decision.proofs.Calls.{continues_none, continues_more}
 use Rattle.decision.proofs.Winning.{forced_by, next_round, nothing_at_once}
 use Rattle.trees.proofs.best.fewest_plies.Goals as goal

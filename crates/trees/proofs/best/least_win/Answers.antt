@@ -2,8 +2,8 @@ use Rattle.std.proofs.Common.{arith, ◌↔◌, ◌-◌, All, IsTrue, sym, ◌�
 use Rattle.std.proofs.lemmas.Bool.{false≢true}
 use Rattle.std.proofs.lemmas.List.{take_all}
 use Rattle.board.specs.declared.game.Side.{Side}
-use Rattle.moves.specs.Forces.{Forces}
-use Rattle.moves.specs.Order.{ListsLawful}
+use Rattle.rules.specs.Forces.{Forces}
+use Rattle.rules.specs.Order.{ListsLawful}
 use Rattle.decision.specs.Answer.{Wins}
 use Rattle.decision.proofs.Calls.{continues_none, continues_more}
 use Rattle.decision.proofs.Winning.{wins_by, answer_at, none_next, none_wins}

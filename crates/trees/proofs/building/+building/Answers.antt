@@ -2,9 +2,9 @@ use Rattle.std.proofs.lemmas.Result.{IfOk-weaker}
 use Rattle.std.proofs.Common.{◌≤◌, ◌*◌, ◌+◌, ◌-◌, sym, ap, ◌∙◌, subst, arith}
 use Rattle.std.proofs.lemmas.Bool.{false≢true}
 use Rattle.std.proofs.lemmas.List.{take_all}
-use Rattle.moves.specs.Order.{ListsLawful}
+use Rattle.rules.specs.Order.{ListsLawful}
 use Rattle.wintree.specs.Plan.{depth}
-use Rattle.moves.proofs.Forcing.{same_side-self}
+use Rattle.rules.proofs.Forcing.{same_side-self}
 use Rattle.decision.proofs.Calls.{continues_none, continues_more}
 use Rattle.trees.specs.Best.{IsBest}
 use Rattle.trees.proofs.Forcing.{some_ply, best_reached, two_plies, best_forces}

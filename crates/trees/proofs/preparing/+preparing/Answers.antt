@@ -1,5 +1,5 @@
 use Rattle.std.proofs.Common.{sym, subst, arith}
-use Rattle.moves.specs.Order.{ListsLawful}
+use Rattle.rules.specs.Order.{ListsLawful}
 use Rattle.decision.proofs.Calls.{continues_more}
 use Rattle.trees.proofs.Forcing.{best_forces}
 use Rattle.trees.proofs.preparing.+preparing.Goals as goal

@@ -2,7 +2,7 @@ use Rattle.std.proofs.Common.{ℕ, All, get_or, rules, sym, ◌∙◌, ap, subst
 use Rattle.atomic_table.specs.declared.shared.Seat.{Seat}
 use Rattle.slots.specs.declared.views.View.{View}
 use Rattle.board.specs.Board.{PlainBoard}
-use Rattle.moves.specs.Forces.{Forces}
+use Rattle.rules.specs.Forces.{Forces}
 use Rattle.slots.specs.Promise.{IsSeatOf}
 use Rattle.decision.specs.Calls.{Continues}
 use Rattle.decision.proofs.Calls.{continues_none}

@@ -1,5 +1,5 @@
 use Rattle.std.proofs.Common.{◌≡◌, ◌<◌, length, sym, ◌∙◌, ap, subst, arith, refl, SomeIff}
-use Rattle.moves.specs.Order.{ListsLawful}
+use Rattle.rules.specs.Order.{ListsLawful}
 use Rattle.wintree.specs.Plan.{ends, depth, plan_of}
 use Rattle.wintree.specs.View.{plan_after}
 use Rattle.wintree.specs.Wins.{Wins, height}

@@ -1,7 +1,7 @@
 use Rattle.std.proofs.Common.{ℕ, Option, None, Some, IfSome, SomeIff, subst, sym}
 use Rattle.board.specs.Board.{PlainBoard}
-use Rattle.moves.specs.declared.goal.Goal.{Goal}
-use Rattle.moves.specs.Forces.{Forces}
+use Rattle.rules.specs.declared.goal.Goal.{Goal}
+use Rattle.rules.specs.Forces.{Forces}
 use Rattle.wintree.specs.Plan.{Plan}
 use Rattle.wintree.specs.Wins.{Wins, height}
 use Rattle.wintree.proofs.Forced.{forced_for_mover}

@@ -1,6 +1,6 @@
 use Rattle.std.proofs.Common.{sym, ap, ◌∙◌}
 use Rattle.board.specs.Board.{unit_on}
-use Rattle.moves.specs.Squares.{square_number}
+use Rattle.rules.specs.Squares.{square_number}
 use Rattle.moves.proofs.packed.Board.code.Goals as goal
 
 pub returns-clause-value : goal.returns-clause-value

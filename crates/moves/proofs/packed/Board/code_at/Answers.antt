@@ -1,9 +1,9 @@
 use Rattle.std.proofs.Common.{◌≡◌, ◌<◌, sym, ap, subst, ◌∙◌}
 use Rattle.board.specs.Board.{PlainBoard, unit_on}
 use Rattle.board.specs.Games.{squares_of}
-use Rattle.moves.specs.Squares.{square_number}
+use Rattle.rules.specs.Squares.{square_number}
 use Rattle.moves.specs.Words.{code_on, man_of, game_of}
-use Rattle.moves.proofs.Listed.{number_within}
+use Rattle.rules.proofs.Listed.{number_within}
 use Rattle.moves.proofs.Packing.{units_in-at, within_36}
 use Rattle.moves.proofs.packed.Board.code_at.Goals as goal
 

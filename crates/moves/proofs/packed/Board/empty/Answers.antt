@@ -1,6 +1,6 @@
 use Rattle.std.proofs.Common.{ℕ, ◌↔◌, subst}
-use Rattle.moves.specs.Mailbox.{IsCell}
-use Rattle.moves.specs.Targets.{Has}
+use Rattle.cells.specs.Mailbox.{IsCell}
+use Rattle.cells.specs.CellSets.{Has}
 use Rattle.moves.proofs.Shown.{empty-shown}
 use Rattle.moves.proofs.packed.Board.empty.Goals as goal
 

@@ -2,13 +2,13 @@ use Rattle.std.proofs.Common.{◌≡◌, ◌≢◌, ◌<◌, ℕ, set, Some, unw
 use Rattle.board.specs.Board.{PlainBoard, IsPosition}
 use Rattle.board.specs.Games.{squares_of}
 use Rattle.board.specs.declared.game.Unit.{Unit as Man}
-use Rattle.moves.specs.Squares.{Ply, square_number}
-use Rattle.moves.specs.Mailbox.{cell_of}
+use Rattle.rules.specs.Squares.{Ply, square_number}
+use Rattle.cells.specs.Mailbox.{cell_of}
 use Rattle.moves.specs.Sets.{Shows, AreMoved}
 use Rattle.moves.proofs.Shown.{Shows-after}
-use Rattle.moves.proofs.Listed.{number_within}
-use Rattle.moves.specs.Moves.{placed, after}
-use Rattle.moves.proofs.Keeps.{to_on_board, other_square, IsPosition-after}
+use Rattle.rules.proofs.Listed.{number_within}
+use Rattle.rules.specs.Moves.{placed, after}
+use Rattle.rules.proofs.Keeps.{to_on_board, other_square, IsPosition-after}
 use Rattle.moves.specs.Words.{man_of, game_of, unpacked, IsPacked}
 use Rattle.moves.proofs.Packing.{IsPut, made, unpacked_end, IsPacked-end}
 use Rattle.moves.proofs.packed.Board.moved.Goals as goal

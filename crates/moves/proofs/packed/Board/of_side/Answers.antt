@@ -1,8 +1,8 @@
 use Rattle.std.proofs.Common.{◌≡◌, ◌↔◌, true, sym, subst}
 use Rattle.board.specs.Board.{is_of_side}
-use Rattle.moves.specs.Squares.{unit_at}
-use Rattle.moves.specs.Mailbox.{place_in, IsCell}
-use Rattle.moves.specs.Targets.{Has}
+use Rattle.rules.specs.Squares.{unit_at}
+use Rattle.cells.specs.Mailbox.{place_in, IsCell}
+use Rattle.cells.specs.CellSets.{Has}
 use Rattle.moves.proofs.Shown.{white-shown, black-shown}
 use Rattle.moves.proofs.packed.Board.of_side.Goals as goal
 

@@ -1,7 +1,7 @@
 use Rattle.std.proofs.Common.{◌≡◌, ◌<◌, sym, ap, subst, ◌∙◌, arith}
 use Rattle.board.specs.Games.{squares_of}
 use Rattle.board.specs.Board.{IsPosition}
-use Rattle.moves.proofs.Keeps.{made_from}
+use Rattle.rules.proofs.Keeps.{made_from}
 use Rattle.moves.proofs.Packing.{IsCopied-start, IsCopied-more, IsCopied-whole, within_36}
 use Rattle.moves.proofs.packed.Board.position.Goals as goal
 

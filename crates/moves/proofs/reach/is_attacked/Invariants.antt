@@ -1,8 +1,0 @@
-use Rattle.std.proofs.Common.{◌<◌}
-use Rattle.moves.specs.Squares.{Place, IsOnBoard, square_number}
-use Rattle.moves.specs.Reach.{AttacksFrom}
-use Rattle.moves.proofs.reach.is_attacked.Given as goal
-
--- no square so far attacks this one
-abbrev pub invariant-loop-number : goal.invariant-loop-number
-invariant-loop-number l = (s : Place) → IsOnBoard l.game s → square_number l.game s < l.number → AttacksFrom l.position l.side s l.square → ⊥

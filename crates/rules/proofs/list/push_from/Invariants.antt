@@ -1,0 +1,12 @@
+use Rattle.std.proofs.Common.{◌+◌, ◌*◌, ◌≤◌}
+use Rattle.arrayvec.specs.ArrayVec.{array_vec_len}
+use Rattle.rules.specs.Squares.{square_number}
+use Rattle.rules.specs.Listing.{ListsBelow}
+use Rattle.rules.proofs.Room.{share}
+use Rattle.rules.proofs.list.push_from.Given as goal
+
+abbrev pub invariant-loop-number : goal.invariant-loop-number
+invariant-loop-number l = record {
+  lists : ListsBelow l.position ((square_number l.position.game l.from * 36 + l.number) * 5) l.moves.items;
+  few : array_vec_len l.moves ≤ array_vec_len l.fn.moves + share l.position.game l.unit l.from l.number;
+}

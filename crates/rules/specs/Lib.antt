@@ -1,0 +1,10 @@
+pub mod Squares
+pub mod MoveText
+pub mod Reach
+pub mod Moves
+pub mod Order
+pub mod Listing
+pub mod Forces
+pub mod Laws
+pub mod Reading
+pub mod Rays
