@@ -6,7 +6,7 @@ use base.Stored.{Gv, gnil, gnum, gcons}
 use Rattle.board.specs.declared.game.Game.TheVariants.{LosAlamos}
 use Rattle.rules.specs.Squares.{Ply, IsOnBoard}
 use Rattle.rules.specs.Moves.{IsPromoted}
-use Rattle.moves.specs.contracts.plies.Move.{the_row as move_row}
+use Rattle.rules.specs.contracts.plies.Move.{the_row as move_row}
 use Rattle.wintree.specs.declared.tree.End.{End}
 use Rattle.wintree.specs.declared.tree.End.TheVariants.{Mate}
 use Rattle.wintree.specs.contracts.tree.End.{the_row as end_row}
