@@ -1,5 +1,5 @@
 -- Ways along ranks, files and diagonals, and the cells that lie each way.
-use Rattle.std.specs.Prelude.{◌≡◌, ℕ, ℤ, pos, neg_ℤ, Bool, true, false, None, List, [], slice_index_or}
+use Rattle.std.specs.Prelude.{◌≡◌, ◌⊎◌, ℕ, ℤ, pos, neg_ℤ, Bool, true, false, None, List, [], slice_index_or}
 use Rattle.board.specs.declared.game.Game.{Game}
 use Rattle.board.specs.declared.game.Game.TheVariants.{LosAlamos, Gardner}
 use Rattle.board.specs.declared.game.Side.{Side}
@@ -45,6 +45,14 @@ IsNext way i j = IsAway (files_of way) (ranks_of way) i j
 pub data IsOnRay (g : Game) (way : Way) : ℕ → ℕ → Type 0 where
   next : {i j : ℕ} → IsNext way i j → IsCell g j → IsOnRay g way i j
   beyond : {i k j : ℕ} → IsNext way i k → IsCell g k → IsOnRay g way k j → IsOnRay g way i j
+
+-- j lies on the same rank or file as i
+abbrev pub IsOnStraight : Game → ℕ → ℕ → Type 0
+IsOnStraight g i j = IsOnRay g North i j ⊎ (IsOnRay g South i j ⊎ (IsOnRay g East i j ⊎ IsOnRay g West i j))
+
+-- or on the same diagonal
+abbrev pub IsOnSlanted : Game → ℕ → ℕ → Type 0
+IsOnSlanted g i j = IsOnRay g NorthEast i j ⊎ (IsOnRay g SouthWest i j ⊎ (IsOnRay g NorthWest i j ⊎ IsOnRay g SouthEast i j))
 
 -- a rider comes that way from i to j, over empty squares
 pub data Rides (b : PlainBoard) (way : Way) : ℕ → ℕ → Type 0 where

@@ -1,6 +1,33 @@
-//! How far a line of cells goes before something stands on it.
+//! The lines of cells that go through a cell, and how far one goes before something stands on it.
 ghost use Rattle.std.specs.Prelude.{◌<◌, ◌↔◌, ℕ};
+ghost use Rattle.cells.specs.Mailbox.{IsCell};
 ghost use Rattle.cells.specs.CellSets.{Has};
+ghost use Rattle.cells.specs.Ways.{IsOnStraight, IsOnSlanted};
+
+use crate::tables::{Way, ray};
+use board::Game;
+
+/// The other cells of the cell's rank and file.
+pub fn straight_lines(game: Game, cell: u8) -> u64
+    requires { IsCell game cell }
+    ensures { (j : ℕ) → Has result j ↔ IsOnStraight game cell j }
+{
+    ray(game, Way::North, cell)
+        | ray(game, Way::South, cell)
+        | ray(game, Way::East, cell)
+        | ray(game, Way::West, cell)
+}
+
+/// The other cells of the cell's diagonals.
+pub fn slanted_lines(game: Game, cell: u8) -> u64
+    requires { IsCell game cell }
+    ensures { (j : ℕ) → Has result j ↔ IsOnSlanted game cell j }
+{
+    ray(game, Way::NorthEast, cell)
+        | ray(game, Way::SouthWest, cell)
+        | ray(game, Way::NorthWest, cell)
+        | ray(game, Way::SouthEast, cell)
+}
 
 /// The cells up to the lowest of the set, which may be empty.
 pub fn up_to_lowest(stops: u64) -> u64

@@ -26,7 +26,7 @@ use Rattle.rules.proofs.Forcing.{on_own, to_own, on_other, to_other, same_side-s
 -- ---- the goal, by check and by whether a move is lawful
 
 -- in check, mate is want of a lawful move
-mated_exactly : (b : PlainBoard) (some : Bool) → IsInCheck b b.mover → (IsTrue some ↔ ((m : Ply) × IsLawful b m)) → IsTrue (not some) ↔ IsMated b
+pub mated_exactly : (b : PlainBoard) (some : Bool) → IsInCheck b b.mover → (IsTrue some ↔ ((m : Ply) × IsLawful b m)) → IsTrue (not some) ↔ IsMated b
 mated_exactly b true check h = (λ is. absurd (false≢true is), λ mated. absurd (let w = h.0 refl in mated.no_move w.0 w.1))
 mated_exactly b false check h = (λ _. record { check = check; no_move = λ m lawful. false≢true (h.1 (m, lawful)) }, λ _. refl)
 

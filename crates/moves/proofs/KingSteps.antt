@@ -1,4 +1,4 @@
--- A king that isn't in check steps into check exactly where the square is attacked already.
+-- A king steps into check exactly where the square is attacked already, if no rider comes there through the king's square.
 use Rattle.std.proofs.Common.{◌≡◌, ◌+◌, ◌<◌, refl, sym, ap, ◌∙◌, arith, inl, inr, IsTrue, ◌↔◌, Bool, true, false, not, Some}
 use Rattle.std.specs.Int.RustNames.{unsigned_abs}
 use Rattle.std.proofs.lemmas.Bool.{false≢true}
@@ -20,7 +20,9 @@ use Rattle.rules.proofs.Keeps.{to_on_board, IsPosition-after}
 use Rattle.moves.proofs.Laying.{unit_at-from, unit_at-other}
 use Rattle.moves.proofs.Kings.{king_of, check_at, check_from}
 use Rattle.moves.proofs.Guarding.{king_moved}
-use Rattle.moves.proofs.Pins.{own_or_other, place_cases, stood, walked}
+use Rattle.moves.specs.Pinned.{IsPinned}
+use Rattle.moves.proofs.Looking.{captures_from}
+use Rattle.moves.proofs.Pins.{own_or_other, no_unit, place_cases, stood, walked}
 
 -- a walk ends where there is less room
 less_room : (b : PlainBoard) (side : Side) (step : Step) (s t : Place) → IsOnBoard b.game s → 0 < unsigned_abs step.dx + unsigned_abs step.dy → Leads b side step s t → room_of side step t < room_of side step s
@@ -53,7 +55,7 @@ module _ (b : PlainBoard) (m : Ply) (u : Man) (is : IsPosition b) (p : IsPseudoL
         | inr apart ↦ unit_at-other b m u is p v on apart (elsewhere b side step v m.to on goes l) ∙ e
       ]) (walks side step v goes l)
 
-  attacked_then : IsAttacked b m.to (other_side b.mover) → IsInCheck (after b m u) b.mover
+  pub attacked_then : IsAttacked b m.to (other_side b.mover) → IsInCheck (after b m u) b.mover
   attacked_then (s, a) =
       let r = a.reaches in
       let goes = goes_somewhere (terms_of a.unit.kind) r.step r.denoted in
@@ -70,7 +72,7 @@ module _ (b : PlainBoard) (m : Ply) (u : Man) (is : IsPosition b) (p : IsPseudoL
         },
       )
 
-  module _ (unchecked : IsInCheck b b.mover → ⊥) where
+  module _ (free : IsPinned b b.mover m.to m.from → ⊥) where
     attacked_now : IsAttacked (after b m u) m.to (other_side b.mover) → IsAttacked b m.to (other_side b.mover)
     attacked_now (s, a) =
         let r = a.reaches in
@@ -87,7 +89,20 @@ module _ (b : PlainBoard) (m : Ply) (u : Man) (is : IsPosition b) (p : IsPseudoL
         ) in
         elim (walked b m u is p a.unit.side r.step s m.to r.reaches.leads) [
           | inl l ↦ by m.to l
-          | inr w ↦ absurd (unchecked (check_from b b.mover m.from p.on_board before (by m.from w.1)))
+          | inr w ↦ absurd (free (record {
+            rider = a.unit;
+            from = s;
+            step = r.step;
+            on_board = a.on_board;
+            stands = stands;
+            owner = a.owner;
+            denoted = r.denoted;
+            rides = w.0;
+            captures = captures_from r.step.mode a.unit.side _ r.reaches.allows;
+            taken = λ none. no_unit (sym none ∙ p.stands);
+            to_unit = w.1;
+            to_king = w.2;
+          }))
         ]
 
     check_now : IsInCheck (after b m u) b.mover → IsAttacked b m.to (other_side b.mover)

@@ -30,7 +30,7 @@ some_same {x = x} e = ap (λ o. unwrap_or o x) e
 no_Some : {X : Type 0} {x : X} → None ≡ Some x → ⊥
 no_Some e = cc
 
-other_twice : (side : Side) → other_side (other_side side) ≡ side
+pub other_twice : (side : Side) → other_side (other_side side) ≡ side
 other_twice White = refl
 other_twice Black = refl
 
@@ -82,7 +82,7 @@ pub Denotes-mirror : (terms : List Term) (s : Step) → Denotes terms s → Deno
 unfolding mirror
 Denotes-mirror terms s (k, t, q, e, ts) = (k, t, q, e, record { leap = record { atom = atom_back t.atom s.dx s.dy ts.leap.atom; ahead = ts.leap.ahead }; rider = ts.rider; mode = ts.mode })
 
-allows_capture : (mode : Mode) (side : Side) → (mode ≡ Move → ⊥) → Allows mode side (Some (record { side = other_side side; kind = King }))
+pub allows_capture : (mode : Mode) (side : Side) → (mode ≡ Move → ⊥) → Allows mode side (Some (record { side = other_side side; kind = King }))
 allows_capture Move side h = absurd (h refl)
 allows_capture Capture side h = refl
 allows_capture Both side h = refl
@@ -167,9 +167,19 @@ both_back b side u step r s t owner denoted on on' first then =
       subst (λ x. Leads b x (mirror step) t s) turned (Leads-back b u.side step s t on' then),
     )
 
+-- what would take from a square on another would be taken from there
+pub Aims-back : (b : PlainBoard) (side : Side) (kind : Kind) (s k : Place) → IsOnBoard b.game s → Aims b (record { side = side; kind = kind }) s k → Aims b (record { side = other_side side; kind = kind }) k s
+unfolding mirror
+Aims-back b side kind s k on a = record {
+  step = mirror a.step;
+  denoted = Denotes-mirror (terms_of kind) a.step a.denoted;
+  captures = a.captures;
+  leads = Leads-back b side a.step s k on a.leads;
+}
+
 -- ---- a kind that stands on the board is played
 
-stands_played : (g : Game) (n : ℕ) (o : Option Man) (u : Man) → IfSome o (MayStandOn g n) → o ≡ Some u → IsPlayed g u.kind
+pub stands_played : (g : Game) (n : ℕ) (o : Option Man) (u : Man) → IfSome o (MayStandOn g n) → o ≡ Some u → IsPlayed g u.kind
 stands_played g n None u m e = cc
 stands_played g n (Some v) u m e = subst (λ x. IsPlayed g x) (ap (λ (x : Man). x.kind) (same_Some v u e)) m.played
 

@@ -55,13 +55,17 @@ pub cell-ray : (g : Game) (way : Way) (i j : ℕ) → IsOnRay g way i j → IsCe
 cell-ray g way i j (next a c) = c
 cell-ray g way i j (beyond {k = k} a c r) = cell-ray g way k j r
 
+pub ray-beyond : (g : Game) (way : Way) (i k j : ℕ) → IsOnRay g way i k → IsOnRay g way k j → IsOnRay g way i j
+ray-beyond g way i k j (next a c) r = beyond a c r
+ray-beyond g way i k j (beyond {k = l} a c s) r = beyond a c (ray-beyond g way l k j s r)
+
 -- ---- a rider comes to the cells of the ray with no unit before them
 
 -- all cells of the ray before j are empty
 abbrev pub IsClear : PlainBoard → Way → ℕ → ℕ → Type 0
 IsClear b way i j = (k : ℕ) → IsOnRay b.game way i k → IsSooner (rises way) k j → unit_at b (place_in k) ≡ None
 
-rides-ray : (b : PlainBoard) (way : Way) (i j : ℕ) → Rides b way i j → IsOnRay b.game way i j
+pub rides-ray : (b : PlainBoard) (way : Way) (i j : ℕ) → Rides b way i j → IsOnRay b.game way i j
 rides-ray b way i j (once a c) = next a c
 rides-ray b way i j (again {k = k} a c e r) = beyond a c (rides-ray b way k j r)
 

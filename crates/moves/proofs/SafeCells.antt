@@ -24,7 +24,7 @@ use Rattle.moves.specs.Sets.{StandsAs}
 use Rattle.moves.specs.declared.sets.Class.TheVariants.{Crowned}
 use Rattle.moves.specs.Safe.{IsNamed, HasSafe, IsCalm}
 use Rattle.cells.proofs.CellNumbers.{IsCell-cell_of, place_in-cell_of}
-use Rattle.moves.proofs.KingSteps.{steps_safely}
+use Rattle.moves.proofs.KingSteps.{attacked_then, steps_safely}
 use Rattle.cells.proofs.Masks.{lowest-has}
 use Rattle.moves.proofs.Laying.{unit_at-to, unit_at-from, unit_at-other}
 use Rattle.rules.proofs.Keeps.{IsRankAhead, to_on_board}
@@ -210,16 +210,17 @@ some_safe b u s set safe fits some =
     let (m, from, to, named) = named_move b.game u s (place_in i) in
     (m, safe.lawful i m h from to named)
 
--- ---- a step of the king, which isn't in check
+-- ---- a step of the king
 
-module _ (b : PlainBoard) (u : Man) (s t : Place) (is : IsPosition b) (king : u.kind ≡ King) (owner : u.side ≡ b.mover) (unchecked : IsInCheck b b.mover → ⊥) (stands : unit_at b s ≡ Some u) where
-  pub calm_lawful : IsOnBoard b.game s → IsOnBoard b.game t → Reaches b u s t (unit_at b t) → IsCalm b t u.side → (m : Ply) → m.from ≡ s → m.to ≡ t → IsNamed b.game u m → IsLawful b m
-  calm_lawful on on_to reaches calm m from to named =
+module _ (b : PlainBoard) (u : Man) (s t : Place) (is : IsPosition b) (king : u.kind ≡ King) (owner : u.side ≡ b.mover) (stands : unit_at b s ≡ Some u) where
+  pub calm_lawful : (IsPinned b b.mover t s → ⊥) → IsOnBoard b.game s → IsOnBoard b.game t → Reaches b u s t (unit_at b t) → IsCalm b t u.side → (m : Ply) → m.from ≡ s → m.to ≡ t → IsNamed b.game u m → IsLawful b m
+  calm_lawful free on on_to reaches calm m from to named =
       let at : place_in (cell_of t) ≡ t = place_in-cell_of b.game t on_to in
       let target : IsTarget b u s (cell_of t) = (IsCell-cell_of b.game t on_to, subst (λ x. Reaches b u s x (unit_at b x)) (sym at) reaches) in
       let p = pseudo_named b m u s (cell_of t) on stands owner target (λ there. calm.no_king (subst (λ x. IsSomeKing (unit_at b x)) at there)) from (to ∙ sym at) named in
       let none : IsAttacked b m.to (other_side b.mover) → ⊥ = λ a. calm.safe (subst (λ x. IsAttacked b x (other_side u.side)) to (subst (λ x. IsAttacked b m.to (other_side x)) (sym owner) a)) in
-      (after b m u, record { unit = u; pseudo = p; leads = refl; safe = (steps_safely b m u is p king unchecked false ((λ e. absurd (false≢true e)), λ a. absurd (none a))).0 refl })
+      let loose : IsPinned b b.mover m.to m.from → ⊥ = λ w. free (subst (λ x. IsPinned b b.mover x s) to (subst (IsPinned b b.mover m.to) from w)) in
+      (after b m u, record { unit = u; pseudo = p; leads = refl; safe = (steps_safely b m u is p king loose false ((λ e. absurd (false≢true e)), λ a. absurd (none a))).0 refl })
 
   pub lawful_calm : (m : Ply) → m.from ≡ s → m.to ≡ t → IsLawful b m → IsCalm b t u.side
   lawful_calm m from to l =
@@ -229,5 +230,5 @@ module _ (b : PlainBoard) (u : Man) (s t : Place) (is : IsPosition b) (king : u.
         no_king = λ there. p.no_king (subst (λ x. IsSomeKing (unit_at b x)) (sym to) there);
         safe = λ a.
             let here : IsAttacked b m.to (other_side b.mover) = subst (λ x. IsAttacked b m.to (other_side x)) owner (subst (λ x. IsAttacked b x (other_side u.side)) (sym to) a) in
-            false≢true ((steps_safely b m u is p king unchecked true ((λ _. here), λ _. refl)).1 (move_by b m u at l).safe);
+            (move_by b m u at l).safe (attacked_then b m u is p king here);
       }

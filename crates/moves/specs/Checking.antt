@@ -12,6 +12,7 @@ use Rattle.rules.specs.Reach.{IsInCheck}
 use Rattle.rules.specs.Moves.{IsMove}
 use Rattle.rules.specs.Forces.{IsReached}
 use Rattle.cells.specs.Mailbox.{place_in, IsCell}
+use Rattle.moves.specs.Guard.{Guards}
 use Rattle.moves.specs.Pinned.{IsPinned}
 use Rattle.cells.specs.CellSets.{Has}
 use Rattle.moves.specs.Targets.{IsTarget}
@@ -31,7 +32,8 @@ pub record Attains (goal : Goal) (b : PlainBoard) (m : Ply) : Type 0 where
   pub move : IsMove b m next
   pub reached : IsReached goal next
 
--- a watch serves a mate alone, which is a check
+-- the guard is of the mover's king, and a watch serves a mate alone, which is a check
 pub record Seeks (b : PlainBoard) (quest : Quest) : Type 0 where
+  pub guards : Guards b quest.guard
   pub watches : IfSome quest.watch (Watches b)
   pub mate : IfSome quest.watch (λ _. quest.goal ≡ Mate)

@@ -2,11 +2,12 @@
 ghost use Rattle.std.specs.Prelude.{◌≡◌, ◌↔◌, IsTrue, Some, true, false};
 ghost use Rattle.board.specs.Board.{IsPosition, is_of_side};
 ghost use Rattle.rules.specs.Squares.{Ply, IsOnBoard, unit_at};
-ghost use Rattle.rules.specs.Moves.{IsLawful};
+ghost use Rattle.rules.specs.Moves.{IsLawful, IsMated};
 ghost use Rattle.cells.specs.Mailbox.{place_in, IsCell};
 ghost use Rattle.moves.specs.Guard.{Guards};
 
-use crate::board_list::{Guard, guard_of};
+use crate::board_list::{Guard, blocked, guard_in_check, guard_of};
+use crate::look::{attackers, king_cell};
 use crate::packed::Board;
 use crate::safe::{free_cells, may_go, tried};
 use board::{Kind, Unit};
@@ -96,6 +97,23 @@ pub(crate) fn has_move(board: &Board, guard: Guard) -> bool
         }
     }
     false
+}
+
+/// Whether the mover is mated. Most kings in check can go, so that is asked before where other units must come.
+pub(crate) fn is_mated(board: &Board) -> bool
+    requires { IsPosition board.now }
+    ensures { IsTrue result ↔ IsMated board.now }
+{
+    let side = board.mover();
+    let Some(king) = king_cell(board, side) else {
+        unreachable!()
+    };
+    let checkers = attackers(board, king, side);
+    if checkers == 0 {
+        return false;
+    }
+    let guard = guard_in_check(board, king, checkers);
+    !has_king_move(board, guard) && !has_move(board, blocked(board, guard, checkers))
 }
 
 /// Whether there is a lawful move. Stops at the first, and makes no list.

@@ -4,26 +4,29 @@ ghost use Rattle.board.specs.Board.{IsPosition, is_of_side};
 ghost use Rattle.rules.specs.declared.goal.Goal.TheVariants.{Mate};
 ghost use Rattle.rules.specs.Squares.{Ply, IsOnBoard, unit_at};
 ghost use Rattle.rules.specs.Reach.{Reaches};
+ghost use Rattle.rules.specs.Moves.{IsLawful};
 ghost use Rattle.rules.specs.Forces.{IsReached, Forces};
 ghost use Rattle.cells.specs.Mailbox.{cell_of, place_in, IsCell};
 ghost use Rattle.cells.specs.CellSets.{Has};
 ghost use Rattle.moves.specs.Targets.{IsTarget};
+ghost use Rattle.moves.specs.Safe.{IsNamed};
 ghost use Rattle.moves.specs.Checking.{Attains, Seeks};
 
-use crate::any_move::has_move;
-use crate::board_list::{guard_of, promotion_count};
+use crate::any_move::{has_move, is_mated};
+use crate::board_list::{Guard, guard_of, promotion_count};
 use crate::checks::{Watch, checking, watch_of};
-use crate::look::is_checked;
 use crate::packed::Board;
+use crate::safe::may_go;
 use crate::targets::targets;
 use board::Unit;
-use rules::{PROMOTIONS, Goal, Move, Square, is_king, is_promoted_well};
+use rules::{PROMOTIONS, Goal, Move, Square, is_promoted_well};
 use cells::{cell_of, lowest, square_in, without};
 
-/// The goal, and for a mate, a watch on the other king, if that isn't attacked already.
+/// The goal, what the mover's king asks of each move, and for a mate, a watch on the other king, if that isn't attacked already.
 #[derive(Clone, Copy)]
 pub(crate) struct Quest {
     goal: Goal,
+    guard: Guard,
     watch: Option<Watch>,
 }
 
@@ -32,48 +35,50 @@ fn is_reached(board: &Board, goal: Goal) -> bool
     requires { IsPosition board.now }
     ensures { IsTrue result ↔ IsReached goal board.now }
 {
-    let guard = guard_of(board);
     match goal {
-        Goal::Mate => guard.checked && !has_move(board, guard),
-        Goal::MateOrStale => !has_move(board, guard),
+        Goal::Mate => is_mated(board),
+        Goal::MateOrStale => {
+            let guard = guard_of(board);
+            !has_move(board, guard)
+        }
     }
 }
 
-/// Whether a move to a square that the unit reaches is lawful and brings the other side where the goal wants it.
+/// Whether the move, which is lawful if it names its promotion well, does so and brings the other side where the goal wants it.
 fn attains(board: &Board, goal: Goal, m: Move, unit: Unit) -> bool
-    requires position { IsPosition board.now }
-    requires from_on_board { IsOnBoard board.now.game m.from }
-    requires to_on_board { IsOnBoard board.now.game m.to }
     requires stands { unit_at board.now m.from ≡ Some unit }
-    requires owner { unit.side ≡ board.now.mover }
-    requires reaches { Reaches board.now unit m.from m.to (unit_at board.now m.to) }
+    requires lawful { IsNamed board.now.game unit m → IsLawful board.now m }
     ensures { IsTrue result ↔ Attains goal board.now m }
 {
-    if is_king(board.unit_in(cell_of(m.to))) || !is_promoted_well(board.game(), unit, m) {
+    if !is_promoted_well(board.game(), unit, m) {
         return false;
     }
     let next = board.moved(m, unit);
-    !is_checked(&next, unit.side) && is_reached(&next, goal)
+    is_reached(&next, goal)
 }
 
-/// Whether some move of the unit to a square that it reaches is such.
-fn attains_to(board: &Board, goal: Goal, unit: Unit, from: Square, to: Square) -> bool
+/// Whether some move of the unit to a square that it reaches is lawful and brings the other side where the goal wants it.
+fn attains_to(board: &Board, quest: Quest, unit: Unit, from: Square, to: Square) -> bool
     requires position { IsPosition board.now }
+    requires seeks { Seeks board.now quest }
     requires from_on_board { IsOnBoard board.now.game from }
     requires to_on_board { IsOnBoard board.now.game to }
     requires stands { unit_at board.now from ≡ Some unit }
     requires owner { unit.side ≡ board.now.mover }
     requires reaches { Reaches board.now unit from to (unit_at board.now to) }
-    ensures found { IsTrue result → (m : Ply) × Attains goal board.now m }
-    ensures none { result ≡ false → (m : Ply) → m.from ≡ from → m.to ≡ to → Attains goal board.now m → ⊥ }
+    ensures found { IsTrue result → (m : Ply) × Attains quest.goal board.now m }
+    ensures none { result ≡ false → (m : Ply) → m.from ≡ from → m.to ≡ to → Attains quest.goal board.now m → ⊥ }
 {
+    if !may_go(board, quest.guard, unit, from, to) {
+        return false;
+    }
     for i in 0..promotion_count(board.game(), unit, to) {
         let m = Move {
             from,
             to,
             promotion: PROMOTIONS[i],
         };
-        if attains(board, goal, m, unit) {
+        if attains(board, quest.goal, m, unit) {
             return true;
         }
     }
@@ -110,7 +115,7 @@ fn attains_from(board: &Board, quest: Quest, unit: Unit, from: Square) -> bool
     'cells: while left != 0 {
         let cell = lowest(left);
         left = without(left, cell);
-        if attains_to(board, quest.goal, unit, from, square_in(cell)) {
+        if attains_to(board, quest, unit, from, square_in(cell)) {
             return true;
         }
     }
@@ -156,7 +161,8 @@ pub fn reaches_at_once(board: &Board, goal: Goal) -> bool
         Goal::Mate => watch_of(board),
         Goal::MateOrStale => None,
     };
-    attains_any(board, Quest { goal, watch })
+    let guard = guard_of(board);
+    attains_any(board, Quest { goal, guard, watch })
 }
 
 /// Whether some lawful move of the side to move mates.

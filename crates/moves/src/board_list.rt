@@ -9,13 +9,14 @@ ghost use Rattle.rules.specs.Moves.{Promotes, IsPseudoLegal, IsLawful, after};
 ghost use Rattle.rules.specs.Order.{ListsLawful};
 ghost use Rattle.rules.specs.Listing.{ListsBelow, ListsFrom};
 ghost use Rattle.cells.specs.Mailbox.{place_in, IsCell};
-ghost use Rattle.moves.specs.Guard.{Guards};
+ghost use Rattle.moves.specs.Guard.{Guards, Checkers};
+ghost use Rattle.moves.specs.Pinned.{IsPinned};
 ghost use Rattle.moves.specs.Safe.{IsNamed};
 
 use crate::blocks::blocks;
 use crate::look::{attackers, is_attacked, king_attacked, king_cell};
 use crate::packed::Board;
-use crate::pinned::pinned;
+use crate::pinned::{pinned, shadow};
 use crate::safe::safe_cells;
 use crate::words::{is_of_side, unit_of};
 use arrayvec::ArrayVec;
@@ -24,13 +25,15 @@ use rules::{PROMOTIONS, Move, Square, is_king, is_promoted_well, promotes};
 use cells::{cell_of, has, lowest, square_in, without};
 
 /// What the mover's king asks of each move: the cell where it stands, whether it is in check, where it isn't, the cells of the
-/// units that are pinned to it, and cells to which a unit other than the king must come.
+/// units that are pinned to it, cells to which a unit other than the king must come, and cells to which a rider that gives check
+/// may come once the king has gone.
 #[derive(Clone, Copy)]
 pub(crate) struct Guard {
     pub(crate) king: u8,
     pub(crate) checked: bool,
     pub(crate) pins: u64,
     pub(crate) blocks: u64,
+    pub(crate) shadow: u64,
 }
 
 /// The cell of the mover's king after the move.
@@ -48,12 +51,12 @@ fn king_after(board: &Board, guard: Guard, m: Move, unit: Unit) -> u8
     guard.king
 }
 
-/// Whether the step of the king, which isn't in check, leaves it out of check: what attacks the square after it does so before.
+/// Whether the step of the king out of the shadow leaves it out of check: what attacks the square after it does so before.
 fn is_safe_step(board: &Board, m: Move, king: Unit) -> bool
     requires position { IsPosition board.now }
     requires pseudo { IsPseudoLegal board.now m king }
     requires king { king.kind ≡ King }
-    requires unchecked { IsInCheck board.now board.now.mover → ⊥ }
+    requires free { IsPinned board.now board.now.mover m.to m.from → ⊥ }
     ensures { IsTrue result ↔ (IsInCheck (after board.now m king) board.now.mover → ⊥) }
 {
     !is_attacked(board, cell_of(m.to), king.side)
@@ -73,7 +76,7 @@ fn is_safe(board: &Board, guard: Guard, m: Move, unit: Unit) -> bool
     if is_piece && !guard.checked && !has(guard.pins, cell_of(m.from)) {
         return true;
     }
-    if !is_piece && !guard.checked {
+    if !is_piece && !has(guard.shadow, cell_of(m.to)) {
         return is_safe_step(board, m, unit);
     }
     let king = king_after(board, guard, m, unit);
@@ -226,17 +229,48 @@ pub(crate) fn guard_of(board: &Board) -> Guard
     };
     let checkers = attackers(board, king, side);
     if checkers != 0 {
-        return Guard {
-            king,
-            checked: true,
-            pins: 0,
-            blocks: blocks(board, king, lowest(checkers)),
-        };
+        return blocked(board, guard_in_check(board, king, checkers), checkers);
     }
     Guard {
         king,
         checked: false,
         pins: pinned(board, side, king),
         blocks: u64::MAX,
+        shadow: 0,
+    }
+}
+
+/// The guard of the mover's king, which these units check. Where other units must come isn't told yet.
+pub(crate) fn guard_in_check(board: &Board, king: u8, checkers: u64) -> Guard
+    requires position { IsPosition board.now }
+    requires cell { IsCell board.now.game king }
+    requires king { unit_at board.now (place_in king) ≡ Some (record { side = board.now.mover; kind = King }) }
+    requires some { 0 < checkers }
+    requires checkers { Checkers board.now king checkers }
+    ensures guards { Guards board.now result }
+    ensures checked { result.checked ≡ true }
+    ensures there { result.king ≡ king }
+{
+    Guard {
+        king,
+        checked: true,
+        pins: 0,
+        blocks: u64::MAX,
+        shadow: shadow(board, king, checkers),
+    }
+}
+
+/// The same guard, which tells where other units must come.
+pub(crate) fn blocked(board: &Board, guard: Guard, checkers: u64) -> Guard
+    requires position { IsPosition board.now }
+    requires guards { Guards board.now guard }
+    requires checked { guard.checked ≡ true }
+    requires some { 0 < checkers }
+    requires checkers { Checkers board.now guard.king checkers }
+    ensures { Guards board.now result }
+{
+    Guard {
+        blocks: blocks(board, guard.king, lowest(checkers)),
+        ..guard
     }
 }

@@ -14,6 +14,7 @@ ghost use Rattle.moves.specs.Checking.{Watches};
 use crate::look::{king_attacked, king_cell};
 use crate::packed::Board;
 use crate::pinned::pinned;
+use crate::seen as looks;
 use crate::targets::targets;
 use board::{Kind, Side, Unit};
 use rules::Square;
@@ -60,8 +61,7 @@ fn seen(board: &Board, king: u8, kind: Kind) -> u64
     targets(board, unit, king)
 }
 
-/// Cells among which are all from which the unit would take on the king's, and to which it may move. Of a pawn these are all
-/// next to the king.
+/// Cells among which are all from which the unit would take on the king's, and to which it may move.
 fn aiming(board: &Board, watch: Watch, unit: Unit) -> u64
     requires watches { Watches board.now watch }
     requires played { IsPlayed board.now.game unit.kind }
@@ -69,7 +69,7 @@ fn aiming(board: &Board, watch: Watch, unit: Unit) -> u64
         → Has result (cell_of m.to) }
 {
     match unit.kind {
-        Kind::Pawn => watch.near,
+        Kind::Pawn => looks::seen(board, unit.side.other(), Kind::Pawn, watch.king),
         Kind::King => watch.near,
         Kind::Knight => watch.leaps,
         Kind::Queen => seen(board, watch.king, Kind::Queen),

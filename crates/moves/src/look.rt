@@ -1,7 +1,7 @@
 //! Check as the king sees it: a square is attacked by what a unit of the same kind would take from there.
 ghost use Rattle.std.specs.Prelude.{◌≡◌, ◌<◌, ◌+◌, ◌↔◌, IsTrue, MatchOption, Some, ℕ};
 ghost use Rattle.board.specs.declared.game.Kind.TheVariants.{King};
-ghost use Rattle.board.specs.Board.{IsPosition};
+ghost use Rattle.board.specs.Board.{PlainBoard, IsPosition};
 ghost use Rattle.board.specs.Games.{other_side};
 ghost use Rattle.rules.specs.Squares.{unit_at};
 ghost use Rattle.rules.specs.Reach.{AttacksFrom, IsAttacked, IsInCheck};
@@ -13,9 +13,22 @@ ghost use Rattle.moves.specs.Looking.{Aims};
 use crate::packed::{Board, after};
 use crate::seen::seen;
 use crate::sets::Class;
-use board::{Kind, Side};
+use board::{Game, Kind, Side};
+use cells::{lowest, slanted_lines, straight_lines};
 use rules::Move;
-use cells::lowest;
+
+/// The cells where a rook or a bishop would take from this one on an empty board, and all cells for another kind.
+fn open_lines(game: Game, kind: Kind, cell: u8) -> u64
+    requires { IsCell game cell }
+    ensures { (b : PlainBoard) (side : Side) (j : ℕ) → b.game ≡ game → IsCell game j
+        → Aims b (record { side = side; kind = kind }) (place_in cell) (place_in j) → Has result j }
+{
+    match kind {
+        Kind::Rook => straight_lines(game, cell),
+        Kind::Bishop => slanted_lines(game, cell),
+        _ => u64::MAX,
+    }
+}
 
 /// Those of the cells where a unit of the kind would take from this one.
 fn struck(board: &Board, side: Side, kind: Kind, cell: u8, among: u64) -> u64
@@ -23,7 +36,7 @@ fn struck(board: &Board, side: Side, kind: Kind, cell: u8, among: u64) -> u64
     ensures { (i : ℕ) → Has result i ↔ (Has among i × IsCell board.now.game i
         × Aims board.now (record { side = side; kind = kind }) (place_in cell) (place_in i)) }
 {
-    if among == 0 {
+    if among & open_lines(board.game(), kind, cell) == 0 {
         return 0;
     }
     among & seen(board, side, kind, cell)

@@ -2,7 +2,9 @@
 ghost use Rattle.std.specs.Prelude.{◌≡◌, ℕ, None};
 ghost use Rattle.rules.specs.Squares.{unit_at};
 ghost use Rattle.cells.specs.Mailbox.{place_in, IsCell};
+ghost use Rattle.board.specs.Board.{IsPosition};
 ghost use Rattle.moves.specs.Pinned.{IsPinned};
+ghost use Rattle.moves.specs.Guard.{Checkers};
 ghost use Rattle.cells.specs.CellSets.{Has};
 ghost use Rattle.cells.specs.Ways.{Rides};
 
@@ -10,7 +12,7 @@ use crate::packed::Board;
 use crate::seen::along;
 use crate::sets::Class;
 use board::Side;
-use cells::{WAYS, Way, lowest};
+use cells::{WAYS, Way, lowest, slanted_lines, straight_lines, without};
 
 /// The cell of the first unit that way from the king, if one of the riders stands next behind it.
 fn pinned_along(board: &Board, way: Way, cell: u8, riders: u64) -> u64
@@ -23,6 +25,26 @@ fn pinned_along(board: &Board, way: Way, cell: u8, riders: u64) -> u64
         return 0;
     }
     first
+}
+
+/// The cells to which a rider may come once the king that it checks has gone from its cell: those on its lines. Where two riders
+/// check, all cells.
+pub(crate) fn shadow(board: &Board, king: u8, checkers: u64) -> u64
+    requires position { IsPosition board.now }
+    requires cell { IsCell board.now.game king }
+    requires checkers { Checkers board.now king checkers }
+    ensures { (i : ℕ) → IsCell board.now.game i → IsPinned board.now board.now.mover (place_in i) (place_in king)
+        → Has result i }
+{
+    let riders = checkers & (board.set(Class::Straight) | board.set(Class::Slanted));
+    if riders == 0 {
+        return 0;
+    }
+    let cell = lowest(riders);
+    if without(riders, cell) != 0 {
+        return u64::MAX;
+    }
+    straight_lines(board.game(), cell) | slanted_lines(board.game(), cell)
 }
 
 /// The cells of the units that are pinned to the side's king, which stands in the cell; of enemies too, which are no matter.

@@ -60,8 +60,14 @@ pub(crate) fn may_go(board: &Board, guard: Guard, unit: Unit, from: Square, to: 
     ensures found { IsTrue result → (m : Ply) × IsLawful board.now m }
     ensures none { result ≡ false → (m : Ply) → m.from ≡ from → m.to ≡ to → IsLawful board.now m → ⊥ }
 {
-    if is_king(Some(unit)) && !guard.checked {
-        return is_calm(board, cell_of(to), unit.side);
+    if is_king(Some(unit)) {
+        let cell = cell_of(to);
+        if !is_calm(board, cell, unit.side) {
+            return false;
+        }
+        if !has(guard.shadow, cell) {
+            return true;
+        }
     }
     let m = queening(board.game(), unit, from, to);
     is_lawful_to(board, guard, m, unit, board.unit_in(cell_of(to)))

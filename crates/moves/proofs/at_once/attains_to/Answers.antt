@@ -1,4 +1,4 @@
-use Rattle.std.proofs.Common.{◌≡◌, get_or, None, Some, sym, ap, ◌∙◌, arith, subst, inl, inr}
+use Rattle.std.proofs.Common.{◌≡◌, get_or, None, Some, refl, sym, ap, ◌∙◌, arith, subst, inl, inr}
 use Rattle.std.proofs.lemmas.Bool.{false≢true, cases_lt}
 use Rattle.rules.specs.declared.list.TheConstants.{PROMOTIONS}
 use Rattle.rules.specs.Squares.{unit_at}
@@ -13,7 +13,7 @@ loop-i-preserved c = λ j low w. elim (cases_lt j c.loop-i.i) [
   | inl less ↦ c.loop-i.invariant j less w
   | inr more ↦
       let same : j ≡ c.loop-i.i = omega (arith, low, more) in
-      false≢true (sym c.if-attains.false ∙ c.attains.ensures.1 (subst (λ k. Attains c.args.goal c.args.board.now (record { from = c.args.from; to = c.args.to; promotion = get_or PROMOTIONS k None })) same w))
+      false≢true (sym c.if-attains.false ∙ c.attains.ensures.1 (subst (λ k. Attains c.args.quest.goal c.args.board.now (record { from = c.args.from; to = c.args.to; promotion = get_or PROMOTIONS k None })) same w))
 ]
 
 pub returns-clause-none : goal.returns-clause-none
@@ -29,4 +29,13 @@ returns-clause-none c = λ _ m from to w.
     let tried = promotion_tried b m u stands (w.next, w.move) i five (omega (arith, one, end)) in
     let named : get_or PROMOTIONS (promotion_number m.promotion) None ≡ m.promotion = promotion_at m.promotion (omega (arith, tried, end, five_most)) in
     let same : m ≡ record { from = c.args.from; to = c.args.to; promotion = get_or PROMOTIONS (promotion_number m.promotion) None } = λ k. record { from = from k; to = to k; promotion = sym named k } in
-    c.loop-i.invariant (promotion_number m.promotion) tried (subst (Attains c.args.goal b) same w)
+    c.loop-i.invariant (promotion_number m.promotion) tried (subst (Attains c.args.quest.goal b) same w)
+
+pub returns-then-not-may_go-clause-none : goal.returns-then-not-may_go-clause-none
+returns-then-not-may_go-clause-none c = λ _ m from to w. c.may_go.ensures.none c.if-not-may_go.true m from to (w.next, w.move)
+
+pub attains-requires-clause-lawful : goal.attains-requires-clause-lawful
+attains-requires-clause-lawful c = λ named. c.may_go.ensures.all c.if-not-may_go.false _ refl refl named
+
+pub returns-then-attains-clause-found : goal.returns-then-attains-clause-found
+returns-then-attains-clause-found c = λ _. (_, c.attains.ensures.0 c.if-attains.true)

@@ -11,6 +11,8 @@ use Rattle.cells.specs.CellSets.{Has}
 use Rattle.cells.proofs.CellNumbers.{IsCell-cell_of, place_in-cell_of}
 use Rattle.moves.proofs.Pins.{stays_safe}
 use Rattle.moves.proofs.Guarding.{not_attacked_safe}
+use Rattle.rules.proofs.Keeps.{to_on_board}
+use Rattle.moves.proofs.Shadows.{in_shadow}
 use Rattle.moves.proofs.board_list.is_safe.Goals as goal
 
 pub returns-then-not-has : goal.returns-then-not-has
@@ -35,6 +37,16 @@ returns-then-not-has-2 c =
           (place_in c.args.guard.king) c.requires.guards.cell.on_board c.requires.guards.king free check))) ∙ c.if-not-guard.true),
       λ _. refl,
     )
+
+pub is_safe_step-requires-clause-free : goal.is_safe_step-requires-clause-free
+is_safe_step-requires-clause-free c = λ w.
+    let b = c.args.board.now in
+    let m = c.args.m in
+    let p = c.requires.pseudo in
+    let on = to_on_board b m c.args.unit p in
+    let to : c.cell_of-then-not-is_piece.result ≡ cell_of m.to = c.cell_of-then-not-is_piece.ensures.value ∙ ap (λ (x : Ply). cell_of x.to) c.m-then-not-is_piece.view_is in
+    let king : c.args.unit.kind ≡ King = c.is_king-is_piece.ensures.0 c.if-not-is_piece.true in
+    false≢true (sym c.if-not-has-3.true ∙ c.has-then-not-is_piece.ensures.1 (subst (Has c.args.guard.shadow) (sym to) (in_shadow b c.args.guard c.args.unit m.from m.to c.requires.position c.requires.guards p.on_board on p.stands p.owner king w)))
 
 pub king_attacked-requires-clause-cell : goal.king_attacked-requires-clause-cell
 king_attacked-requires-clause-cell c = subst (λ g. IsCell g c.king_after-king.result) (sym (ap (λ (x : PlainBoard). x.game) c.moved.ensures)) c.king_after-king.ensures.cell

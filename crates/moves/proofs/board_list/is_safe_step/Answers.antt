@@ -23,4 +23,4 @@ returns c =
     let to : c.cell_of.result ≡ cell_of m.to = c.cell_of.ensures.value ∙ ap (λ (x : Ply). cell_of x.to) c.m.view_is in
     let at : place_in c.cell_of.result ≡ m.to = ap place_in to ∙ place_in-cell_of b.game m.to (to_on_board b m u p) in
     let attacked = subst (λ s. IsTrue c.is_attacked.result ↔ IsAttacked b m.to (other_side s)) p.owner (subst (λ t. IsTrue c.is_attacked.result ↔ IsAttacked b t (other_side u.side)) at c.is_attacked.ensures) in
-    steps_safely b m u c.requires.position p c.requires.king c.requires.unchecked c.is_attacked.result attacked
+    steps_safely b m u c.requires.position p c.requires.king c.requires.free c.is_attacked.result attacked
