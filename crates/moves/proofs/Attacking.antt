@@ -73,6 +73,30 @@ module _ (b : PlainBoard) (is : IsPosition b) (side : Side) (i : ℕ) (c : IsCel
     at_foe class set holds u j d stands owner of =
         (Has-and foes set j).1 ((owns j).1 (d, ap (is_of_side (other_side side)) stands ∙ foe_own side u owner), (holds j).1 (d, record { unit = u; stands = stands; is = of }))
 
+    -- a foe of the class that is seen as the kind attacks
+    pub struck-attacks : (class : Class) (q : Kind) (set r : ℕ) → Holds b class set → ((u : Man) → IsOf class u → (j : ℕ) → Aims b (record { side = side; kind = q }) (place_in i) (place_in j) → Aims b (record { side = side; kind = u.kind }) (place_in i) (place_in j))
+        → r < 2 ^ 64 → ((j : ℕ) → Has r j ↔ Struck q (bit_and foes set) j) → (r ≡ 0 → ⊥) → IsAttacked b (place_in i) (other_side side)
+    struck-attacks class q set r holds too fits are some =
+        let (j, h) = lowest-has r fits some in
+        let (seen, d, a) = (are j).0 h in
+        let (u, stands, owner, of) = foe_at class set holds j seen in
+        (place_in j, (attack u j d stands owner (too u of j a)).1)
+
+    pub line_too : (u : Man) → IsOf Straight u → (j : ℕ) → Aims b (record { side = side; kind = Rook }) (place_in i) (place_in j) → Aims b (record { side = side; kind = u.kind }) (place_in i) (place_in j)
+    line_too u of j a = elim of [
+      | inl queen ↦ subst (λ q. Aims b (record { side = side; kind = q }) (place_in i) (place_in j)) (sym queen) (as_kind Rook Queen j (λ step e. (queen_step b side i j c step).1 (inl ((rook_step b side i j c step).0 e))) a)
+      | inr rook ↦ subst (λ q. Aims b (record { side = side; kind = q }) (place_in i) (place_in j)) (sym rook) a
+    ]
+
+    pub slant_too : (u : Man) → IsOf Slanted u → (j : ℕ) → Aims b (record { side = side; kind = Bishop }) (place_in i) (place_in j) → Aims b (record { side = side; kind = u.kind }) (place_in i) (place_in j)
+    slant_too u of j a = elim of [
+      | inl queen ↦ subst (λ q. Aims b (record { side = side; kind = q }) (place_in i) (place_in j)) (sym queen) (as_kind Bishop Queen j (λ step e. (queen_step b side i j c step).1 (inr ((bishop_step b side i j c step).0 e))) a)
+      | inr bishop ↦ subst (λ q. Aims b (record { side = side; kind = q }) (place_in i) (place_in j)) (sym bishop) a
+    ]
+
+    pub kind_too : (class : Class) (q : Kind) → ((u : Man) → IsOf class u → u.kind ≡ q) → (u : Man) → IsOf class u → (j : ℕ) → Aims b (record { side = side; kind = q }) (place_in i) (place_in j) → Aims b (record { side = side; kind = u.kind }) (place_in i) (place_in j)
+    kind_too class q only u of j a = subst (λ x. Aims b (record { side = side; kind = x }) (place_in i) (place_in j)) (sym (only u of)) a
+
     module _ (straight slanted knights kings pawns : ℕ) (hs : Holds b Straight straight) (hl : Holds b Slanted slanted) (hn : Holds b Horsed knights) (hk : Holds b Crowned kings) (hp : Holds b Foot pawns)
         (r s n k p : ℕ)
         (er : (j : ℕ) → Has r j ↔ Struck Rook (bit_and foes straight) j) (es : (j : ℕ) → Has s j ↔ Struck Bishop (bit_and foes slanted) j) (en : (j : ℕ) → Has n j ↔ Struck Knight (bit_and foes knights) j)
@@ -83,20 +107,10 @@ module _ (b : PlainBoard) (is : IsPosition b) (side : Side) (i : ℕ) (c : IsCel
           attack u j d stands owner (subst (λ x. Aims b (record { side = side; kind = x }) (place_in i) (place_in j)) (sym (only u of)) a)
 
       by_line : (j : ℕ) → Struck Rook (bit_and foes straight) j → Attacks j
-      by_line j (h, d, a) =
-          let (u, stands, owner, of) = foe_at Straight straight hs j h in
-          attack u j d stands owner (elim of [
-            | inl queen ↦ subst (λ q. Aims b (record { side = side; kind = q }) (place_in i) (place_in j)) (sym queen) (as_kind Rook Queen j (λ step e. (queen_step b side i j c step).1 (inl ((rook_step b side i j c step).0 e))) a)
-            | inr rook ↦ subst (λ q. Aims b (record { side = side; kind = q }) (place_in i) (place_in j)) (sym rook) a
-          ])
+      by_line j (h, d, a) = let (u, stands, owner, of) = foe_at Straight straight hs j h in attack u j d stands owner (line_too u of j a)
 
       by_slant : (j : ℕ) → Struck Bishop (bit_and foes slanted) j → Attacks j
-      by_slant j (h, d, a) =
-          let (u, stands, owner, of) = foe_at Slanted slanted hl j h in
-          attack u j d stands owner (elim of [
-            | inl queen ↦ subst (λ q. Aims b (record { side = side; kind = q }) (place_in i) (place_in j)) (sym queen) (as_kind Bishop Queen j (λ step e. (queen_step b side i j c step).1 (inr ((bishop_step b side i j c step).0 e))) a)
-            | inr bishop ↦ subst (λ q. Aims b (record { side = side; kind = q }) (place_in i) (place_in j)) (sym bishop) a
-          ])
+      by_slant j (h, d, a) = let (u, stands, owner, of) = foe_at Slanted slanted hl j h in attack u j d stands owner (slant_too u of j a)
 
       seen_as : (j : ℕ) → (a : AttacksFrom b (other_side side) (place_in j) (place_in i)) → IsCell b.game j → (q : Kind) → a.unit.kind ≡ q → Has r j ⊎ (Has s j ⊎ (Has n j ⊎ (Has k j ⊎ Has p j)))
       seen_as j a d King e = inr (inr (inr (inl ((ek j).1 (at_foe Crowned kings hk a.unit j d a.stands a.owner e, d, subst (λ q. Aims b (record { side = side; kind = q }) (place_in i) (place_in j)) e (aims j a))))))

@@ -22,6 +22,8 @@ use Rattle.moves.specs.Targets.{IsTarget}
 use Rattle.moves.specs.Pinned.{IsPinned}
 use Rattle.moves.specs.Sets.{StandsAs}
 use Rattle.moves.specs.declared.sets.Class.TheVariants.{Crowned}
+use Rattle.moves.specs.declared.board_list.Guard.{Guard}
+use Rattle.moves.specs.Guard.{Guards}
 use Rattle.moves.specs.Safe.{IsNamed, HasSafe, IsCalm}
 use Rattle.cells.proofs.CellNumbers.{IsCell-cell_of, place_in-cell_of}
 use Rattle.moves.proofs.KingSteps.{attacked_then, steps_safely}
@@ -170,6 +172,21 @@ free_safe b u s k set is on stands owner piece on_k king unchecked free has = re
         λ there. p.no_king (subst (λ x. IsSomeKing (unit_at b x)) (place_in-cell_of b.game m.to (to_on_board b m u p)) there),
       );
 }
+
+-- what the guard doesn't name isn't pinned
+pub unpinned : (b : PlainBoard) (guard : Guard) (s : Place) → IsOnBoard b.game s → Guards b guard → guard.checked ≡ false → (Has guard.pins (cell_of s) → ⊥) → IsPinned b b.mover (place_in guard.king) s → ⊥
+unpinned b guard s on g out none pin = none (g.pins out (cell_of s) (IsCell-cell_of b.game s on) (subst (IsPinned b b.mover (place_in guard.king)) (sym (place_in-cell_of b.game s on)) pin))
+
+-- one move of such a unit
+pub free_lawful : (b : PlainBoard) (u : Man) (s t k : Place) → IsPosition b → IsOnBoard b.game s → IsOnBoard b.game t → unit_at b s ≡ Some u → u.side ≡ b.mover → (u.kind ≡ King → ⊥)
+    → IsOnBoard b.game k → unit_at b k ≡ king_of b.mover → (IsInCheck b b.mover → ⊥) → (IsPinned b b.mover k s → ⊥)
+    → Reaches b u s t (unit_at b t) → (IsSomeKing (unit_at b t) → ⊥) → (m : Ply) → m.from ≡ s → m.to ≡ t → IsNamed b.game u m → IsLawful b m
+free_lawful b u s t k is on on_to stands owner piece on_k king unchecked free reaches no_king m from to named =
+    let at : place_in (cell_of t) ≡ t = place_in-cell_of b.game t on_to in
+    let target : IsTarget b u s (cell_of t) = (IsCell-cell_of b.game t on_to, subst (λ x. Reaches b u s x (unit_at b x)) (sym at) reaches) in
+    let p = pseudo_named b m u s (cell_of t) on stands owner target (λ there. no_king (subst (λ x. IsSomeKing (unit_at b x)) at there)) from (to ∙ sym at) named in
+    let loose : IsPinned b b.mover k m.from → ⊥ = λ pin. free (subst (IsPinned b b.mover k) from pin) in
+    (after b m u, record { unit = u; pseudo = p; leads = refl; safe = λ check. unchecked (stays_safe b m u is p piece k on_k king loose check) })
 
 -- a pawn comes to its last rank from the one before it
 pub last_next : (g : Game) (side : Side) (from to : ℕ) → IsRankAhead side from to → IsLastRank g side to ↔ IsBeforeLast g side from

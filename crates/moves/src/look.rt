@@ -77,13 +77,31 @@ pub(crate) fn attackers(board: &Board, cell: u8, side: Side) -> u64
     ) | struck(board, side, Kind::Pawn, cell, foes & board.set(Class::Foot))
 }
 
-/// Whether some unit of the other side attacks the cell.
+/// Whether some unit of the other side attacks the cell. Stops at the first kind that does.
 pub(crate) fn is_attacked(board: &Board, cell: u8, side: Side) -> bool
     requires cell { IsCell board.now.game cell }
     requires position { IsPosition board.now }
     ensures { IsTrue result ↔ IsAttacked board.now (place_in cell) (other_side side) }
 {
-    attackers(board, cell, side) != 0
+    let foes = board.of_side(side.other());
+    let straight = foes & board.set(Class::Straight);
+    if struck(board, side, Kind::Rook, cell, straight) != 0 {
+        return true;
+    }
+    let slanted = foes & board.set(Class::Slanted);
+    if struck(board, side, Kind::Bishop, cell, slanted) != 0 {
+        return true;
+    }
+    let knights = foes & board.set(Class::Horsed);
+    if struck(board, side, Kind::Knight, cell, knights) != 0 {
+        return true;
+    }
+    let kings = foes & board.set(Class::Crowned);
+    if struck(board, side, Kind::King, cell, kings) != 0 {
+        return true;
+    }
+    let pawns = foes & board.set(Class::Foot);
+    struck(board, side, Kind::Pawn, cell, pawns) != 0
 }
 
 /// The cell of the side's king.

@@ -1,5 +1,6 @@
 //! The cells to which a unit moves lawfully.
 ghost use Rattle.std.specs.Prelude.{◌≡◌, ◌↔◌, IsTrue, IfSome, Some, ℕ, false};
+ghost use Rattle.board.specs.declared.game.Kind.TheVariants.{King};
 ghost use Rattle.board.specs.Board.{IsPosition};
 ghost use Rattle.rules.specs.Squares.{Ply, IsOnBoard, unit_at};
 ghost use Rattle.rules.specs.Reach.{Reaches};
@@ -46,6 +47,15 @@ fn is_calm(board: &Board, cell: u8, side: Side) -> bool
     !has(board.set(Class::Crowned), cell) && !is_attacked(board, cell, side)
 }
 
+/// Whether a move of the unit may leave its king in check: it is the king, which may be in check, or it may be pinned.
+fn is_bound(guard: Guard, unit: Unit, from: Square) -> bool
+    ensures piece { result ≡ false → unit.kind ≡ King → ⊥ }
+    ensures unchecked { result ≡ false → guard.checked ≡ false }
+    ensures unpinned { result ≡ false → Has guard.pins (cell_of from) → ⊥ }
+{
+    is_king(Some(unit)) || guard.checked || has(guard.pins, cell_of(from))
+}
+
 /// Whether the unit's moves to a square that it reaches are lawful: all are, or none.
 pub(crate) fn may_go(board: &Board, guard: Guard, unit: Unit, from: Square, to: Square) -> bool
     requires position { IsPosition board.now }
@@ -68,6 +78,9 @@ pub(crate) fn may_go(board: &Board, guard: Guard, unit: Unit, from: Square, to: 
         if !has(guard.shadow, cell) {
             return true;
         }
+    }
+    if !is_bound(guard, unit, from) {
+        return !has(board.set(Class::Crowned), cell_of(to));
     }
     let m = queening(board.game(), unit, from, to);
     is_lawful_to(board, guard, m, unit, board.unit_in(cell_of(to)))
@@ -119,11 +132,11 @@ pub(crate) fn free_cells(board: &Board, guard: Guard, unit: Unit, from: Square) 
     requires owner { unit.side ≡ board.now.mover }
     ensures { IfSome result (HasSafe board.now unit from) }
 {
-    let cell = cell_of(from);
-    if is_king(Some(unit)) || guard.checked || has(guard.pins, cell) {
+    if is_bound(guard, unit, from) {
         return None;
     }
-    Some(except(targets(board, unit, cell), board.set(Class::Crowned)))
+    let reached = targets(board, unit, cell_of(from));
+    Some(except(reached, board.set(Class::Crowned)))
 }
 
 /// The cells to which the unit moves lawfully.
