@@ -1,5 +1,5 @@
 -- Where a rider comes through a king's square.
-use Rattle.std.proofs.Common.{◌≡◌, ℕ, sym, ap, subst, ◌∙◌, ◌⊎◌, inl, inr, true, false, Some}
+use Rattle.std.proofs.Common.{◌≡◌, ℕ, sym, ap, subst, ◌∙◌, ◌⊎◌, inl, inr, Some}
 use Rattle.std.proofs.lemmas.Bool.{false≢true}
 use Rattle.board.specs.declared.game.Game.{Game}
 use Rattle.board.specs.declared.game.Side.{Side}

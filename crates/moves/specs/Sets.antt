@@ -1,21 +1,14 @@
 -- The units of a board as sets of cells, and what a unit sees.
 use Rattle.std.specs.Prelude.{◌≡◌, ◌≢◌, ℕ, ◌↔◌, ◌⊎◌, List, Some}
-use Rattle.board.specs.declared.game.Game.{Game}
-use Rattle.board.specs.declared.game.Side.{Side}
 use Rattle.board.specs.declared.game.Side.TheVariants as side
-use Rattle.board.specs.declared.game.Kind.{Kind}
 use Rattle.board.specs.declared.game.Kind.TheVariants.{King, Queen, Rook, Bishop, Knight, Pawn}
 use Rattle.board.specs.declared.game.Unit.{Unit as Man}
-use Rattle.board.specs.declared.step.Mode.TheVariants.{Move}
-use Rattle.board.specs.declared.step.Step.{Step}
-use Rattle.board.specs.Denotation.{terms_of, Denotes}
 use Rattle.board.specs.Board.{PlainBoard}
 use Rattle.moves.specs.declared.sets.Class.{Class}
 use Rattle.moves.specs.declared.sets.Class.TheVariants.{White, Black, Crowned, Straight, Slanted, Horsed, Foot}
 use Rattle.moves.specs.declared.sets.Sets.{Sets}
 use Rattle.rules.specs.Squares.{Place, unit_at}
-use Rattle.rules.specs.Reach.{ahead_of}
-use Rattle.cells.specs.Mailbox.{place_in, IsAway, IsCell}
+use Rattle.cells.specs.Mailbox.{place_in, IsCell}
 use Rattle.cells.specs.Ways.{Rides}
 use Rattle.cells.specs.declared.tables.Way.TheVariants.{North, South, East, West, NorthEast, SouthWest, NorthWest, SouthEast}
 use Rattle.cells.specs.CellSets.{Has}

@@ -11,8 +11,8 @@ use crate::look::{attackers, king_cell};
 use crate::packed::Board;
 use crate::safe::{free_cells, may_go, tried};
 use board::{Kind, Unit};
-use rules::Square;
 use cells::{lowest, square_in, without};
+use rules::Square;
 
 /// Whether one of the unit's moves is lawful, each of which is tested.
 fn has_tested_move(board: &Board, guard: Guard, unit: Unit, from: Square) -> bool

@@ -19,8 +19,8 @@ use crate::packed::Board;
 use crate::safe::may_go;
 use crate::targets::targets;
 use board::Unit;
-use rules::{PROMOTIONS, Goal, Move, Square, is_promoted_well};
 use cells::{cell_of, lowest, square_in, without};
+use rules::{Goal, Move, PROMOTIONS, Square, is_promoted_well};
 
 /// The goal, what the mover's king asks of each move, and for a mate, a watch on the other king, if that isn't attacked already.
 #[derive(Clone, Copy)]

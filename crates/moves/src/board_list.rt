@@ -21,8 +21,8 @@ use crate::safe::safe_cells;
 use crate::words::{is_of_side, unit_of};
 use arrayvec::ArrayVec;
 use board::{Game, Kind, Unit};
-use rules::{PROMOTIONS, Move, Square, is_king, is_promoted_well, promotes};
 use cells::{cell_of, has, lowest, square_in, without};
+use rules::{Move, PROMOTIONS, Square, is_king, is_promoted_well, promotes};
 
 /// What the mover's king asks of each move: the cell where it stands, whether it is in check, where it isn't, the cells of the
 /// units that are pinned to it, cells to which a unit other than the king must come, and cells to which a rider that gives check

@@ -17,8 +17,8 @@ use crate::pinned::pinned;
 use crate::seen as looks;
 use crate::targets::targets;
 use board::{Kind, Side, Unit};
-use rules::Square;
 use cells::{cell_of, common, has};
+use rules::Square;
 
 /// The cell of the king that isn't the mover's, the cells of the units that alone keep a rider of the mover from it, and the
 /// cells that a king and a knight of the mover would reach from it.

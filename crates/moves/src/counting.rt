@@ -13,8 +13,8 @@ use crate::checks::may_promote;
 use crate::packed::Board;
 use crate::safe::safe_cells;
 use board::{Game, Unit};
-use rules::Square;
 use cells::{lowest, square_in, without};
+use rules::Square;
 
 /// How many moves the unit has to each square that it reaches.
 fn moves_to_each(board: &Board, unit: Unit, from: Square) -> u16

@@ -8,8 +8,8 @@ use crate::board_list::{guard_of, is_lawful_to, own_unit};
 use crate::packed::Board;
 use crate::targets::targets;
 use board::Game;
-use rules::Move;
 use cells::{cell_of, has};
+use rules::Move;
 
 /// Whether the board has both squares of the move.
 fn has_squares(game: Game, m: Move) -> bool

@@ -12,9 +12,9 @@ ghost use Rattle.rules.specs.Moves.{IsPseudoLegal, IsMove, IsLawful, after};
 use crate::sets::{Class, Sets};
 use crate::words::{code_of, code_on, put, turned, unit_of, with_digit};
 use board::{Game, Position, Side, Unit};
-use std::marker::Model;
-use rules::{Move, Square};
 use cells::{cell_of, cells, square_in};
+use rules::{Move, Square};
+use std::marker::Model;
 
 /// A position: four bits a square, two ranks a word, and the side to move and the game in word 0; and its units as sets.
 #[derive(Drop)]

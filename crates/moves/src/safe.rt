@@ -17,8 +17,8 @@ use crate::packed::Board;
 use crate::sets::Class;
 use crate::targets::targets;
 use board::{Game, Kind, Side, Unit};
-use rules::{Move, Square, is_king, promotes};
 use cells::{cell_of, common, except, has, lowest, square_in, with_cell, without};
+use rules::{Move, Square, is_king, promotes};
 
 /// A move between the squares: a pawn that comes to its last rank becomes a queen.
 fn queening(game: Game, unit: Unit, from: Square, to: Square) -> Move

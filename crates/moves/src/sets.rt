@@ -8,8 +8,8 @@ ghost use Rattle.cells.specs.CellSets.{Has};
 ghost use Rattle.moves.specs.Sets.{IsOf, Holds, Shows, HasMoved, AreMoved};
 
 use board::{Kind, Position, Side, Unit};
-use rules::Square;
 use cells::{cell_of, with_cell};
+use rules::Square;
 
 /// What the units of a set have in common. A queen goes both straight and slanted.
 #[derive(Clone, Copy)]

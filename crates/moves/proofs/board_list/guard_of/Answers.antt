@@ -1,4 +1,4 @@
-use Rattle.std.proofs.Common.{refl, sym, ap, subst, ◌∙◌, ◌↔◌, ℕ}
+use Rattle.std.proofs.Common.{sym, ap, subst, ◌∙◌, ◌↔◌, ℕ}
 use Rattle.std.proofs.lemmas.Bool.{false≢true}
 use Rattle.board.specs.Games.{other_side}
 use Rattle.rules.specs.Reach.{AttacksFrom, IsInCheck}

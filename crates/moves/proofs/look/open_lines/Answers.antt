@@ -1,8 +1,5 @@
 use Rattle.std.proofs.Common.{ℕ, inl, inr, subst, sym, arith}
 use Rattle.std.proofs.lemmas.Nat.Bits.{bit_at_ones}
-use Rattle.board.specs.declared.game.Game.{Game}
-use Rattle.board.specs.declared.game.Side.{Side}
-use Rattle.board.specs.declared.game.Kind.TheVariants.{Rook, Bishop}
 use Rattle.board.specs.Board.{PlainBoard}
 use Rattle.cells.specs.declared.tables.Way.TheVariants.{North, South, East, West, NorthEast, SouthWest, NorthWest, SouthEast}
 use Rattle.cells.specs.Mailbox.{place_in, IsCell}

@@ -34,7 +34,7 @@ returns-then-not-has-clause-all c = λ _.
     let king = c.is_king.ensures.0 c.if-is_king.true in
     let calm = calm_at c.is_calm.result b c.cell_of-cell.result t u.side c.requires.to_on_board c.cell_of-cell.ensures.value c.is_calm.ensures in
     let free : IsPinned b b.mover t s → ⊥ = λ w. false≢true (sym c.if-not-has.true ∙ c.has.ensures.1 (subst (Has c.args.guard.shadow) (sym c.cell_of-cell.ensures.value)
-        (in_shadow b c.args.guard u s t c.requires.position c.requires.guards c.requires.from_on_board c.requires.to_on_board c.requires.stands c.requires.owner king w))) in
+    (in_shadow b c.args.guard u s t c.requires.position c.requires.guards c.requires.from_on_board c.requires.to_on_board c.requires.stands c.requires.owner king w))) in
     calm_lawful b u s t c.requires.position king c.requires.owner c.requires.stands free c.requires.from_on_board c.requires.to_on_board c.requires.reaches (calm.0 c.if-not-is_calm.false)
 
 pub returns-then-not-has-clause-found : goal.returns-then-not-has-clause-found
@@ -46,7 +46,7 @@ returns-then-not-has-clause-found c = λ _.
     let king = c.is_king.ensures.0 c.if-is_king.true in
     let calm = calm_at c.is_calm.result b c.cell_of-cell.result t u.side c.requires.to_on_board c.cell_of-cell.ensures.value c.is_calm.ensures in
     let free : IsPinned b b.mover t s → ⊥ = λ w. false≢true (sym c.if-not-has.true ∙ c.has.ensures.1 (subst (Has c.args.guard.shadow) (sym c.cell_of-cell.ensures.value)
-        (in_shadow b c.args.guard u s t c.requires.position c.requires.guards c.requires.from_on_board c.requires.to_on_board c.requires.stands c.requires.owner king w))) in
+    (in_shadow b c.args.guard u s t c.requires.position c.requires.guards c.requires.from_on_board c.requires.to_on_board c.requires.stands c.requires.owner king w))) in
     let (m, from, to, named) = named_move b.game u s t in
     (m, calm_lawful b u s t c.requires.position king c.requires.owner c.requires.stands free c.requires.from_on_board c.requires.to_on_board c.requires.reaches (calm.0 c.if-not-is_calm.false) m from to named)
 
