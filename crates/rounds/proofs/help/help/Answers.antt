@@ -1,4 +1,4 @@
-use Rattle.std.proofs.Common.{arith, sym, subst, length, ap, ◌∙◌}
+use Rattle.std.proofs.Common.{arith, sym, subst, length, ap}
 use Rattle.decision.specs.Below.{ListsAll}
 use Rattle.decision.proofs.Calls.{continues_more}
 use Rattle.rounds.proofs.Jobs.{listed_move}

@@ -1,8 +1,5 @@
 use Rattle.slots.specs.Promise.{IsSeatOf}
-use Rattle.std.proofs.Common.{◌≡◌, All}
-use Rattle.rules.specs.Moves.{IsLawful}
 use Rattle.decision.specs.Calls.{Continues}
-use Rattle.rounds.specs.Shares.{IsBench}
 use Rattle.rounds.proofs.help.help.Given as goal
 
 abbrev pub invariant-loop : goal.invariant-loop

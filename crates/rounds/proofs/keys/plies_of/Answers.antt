@@ -1,4 +1,4 @@
-use Rattle.std.proofs.Common.{◌+◌, ◌*◌, arith, rules, sym, ◌∙◌}
+use Rattle.std.proofs.Common.{◌+◌, ◌*◌, arith, sym, ◌∙◌}
 use Rattle.std.proofs.lemmas.Bool.{false≢true}
 use Rattle.rounds.proofs.Going.{goes_more, goes_decided}
 use Rattle.rounds.proofs.Jobs.{job_after}
