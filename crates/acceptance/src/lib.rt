@@ -14,7 +14,7 @@ mod mates;
 #[cfg(test)]
 mod perft;
 #[cfg(test)]
-mod rules;
+mod rules_of_play;
 #[cfg(test)]
 mod solving;
 #[cfg(test)]
