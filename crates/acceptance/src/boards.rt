@@ -1,5 +1,9 @@
 //! Calls on boards of three words, on positions worked out by hand.
-use moves::{Board, Move, Square, gives_check, has_lawful_move, is_lawful, read_sound};
+use board::{Game, Side, fen_text};
+use moves::{
+    Board, Move, Square, gives_check, has_lawful_move, is_lawful, read_sound, read_words,
+    write_words,
+};
 use std::process::Abort;
 
 fn board(rt: &impl Abort, text: &str) -> Board {
@@ -20,6 +24,19 @@ fn shows_words(rt: HostRuntime) {
         gardner.words(),
         [0x0005_0066_6661_2453, 0x0000_00CC_CCC0_0000, 0x7_8AB9]
     );
+}
+
+#[test]
+fn reads_and_writes_words(rt: HostRuntime) {
+    let text = "rnbqk/ppppp/5/PPPPP/RNBQK b";
+    let words = [0x0005_0066_6661_2453, 0x0000_00CC_CCC0_0000, 0x7_8AB9];
+    let position = read_sound(text.as_bytes()).expect(&rt, "a position");
+    assert_eq!(rt; write_words(&position), words);
+    let read = read_words(Game::Gardner, Side::Black, &words).expect(&rt, "a position");
+    assert_eq!(rt; fen_text(&read).as_str(), text);
+    // no kings, and a pawn on the last rank
+    assert!(rt; read_words(Game::Gardner, Side::Black, &[0, 0, 0]).is_none());
+    assert!(rt; read_words(Game::LosAlamos, Side::White, &[0x0010_0000, 0, 0x6700_0000]).is_none());
 }
 
 #[test]

@@ -16,6 +16,8 @@ mod perft;
 #[cfg(test)]
 mod rules_of_play;
 #[cfg(test)]
+mod sets_of_cells;
+#[cfg(test)]
 mod solving;
 #[cfg(test)]
 mod tables;

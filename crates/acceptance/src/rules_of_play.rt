@@ -1,7 +1,9 @@
 //! Squares, checks and lawful moves: each call once, with lists worked out by hand.
+use arrayvec::ArrayVec;
 use board::{FenFault, Game, Position, Side, fen_text};
 use moves::{
-    Move, Square, apply, forced_mate_laws, in_check, is_lawful, lawful, ray, read_sound, sound,
+    Board, Move, Square, apply, forced_mate_laws, in_check, is_lawful, lawful, list_checks, ray,
+    read_sound, sound,
 };
 use std::alloc::{AllocError, Global};
 use std::process::Abort;
@@ -11,10 +13,10 @@ fn position(rt: &impl Abort, text: &str) -> Position {
     read_sound(text.as_bytes()).expect(rt, "a position")
 }
 
-/// The lawful moves, with a space behind each.
-fn list(alloc: Global, position: &Position) -> Result<String, AllocError> {
+/// The moves, with a space behind each.
+fn list(alloc: Global, moves: &[Move]) -> Result<String, AllocError> {
     let mut text = String::new(alloc);
-    for m in lawful(position).as_slice() {
+    for m in moves {
         let m = *m;
         text.push_str(format!(in alloc; "{m} ")?.as_str())?;
     }
@@ -43,8 +45,28 @@ fn lists_lawful_moves(rt: HostRuntime) -> Result<(), Fail> {
         ("k5/2Q3/6/6/6/5K b", ""),
         ("k4R/6/1K4/6/6/6 b", ""),
     ] {
+        let listed = lawful(&position(&rt, text));
         assert_eq!(rt;
-            list(rt.alloc(), &position(&rt, text))?.as_str(),
+            list(rt.alloc(), listed.as_slice())?.as_str(),
+            moves,
+            "{text}"
+        );
+    }
+    Ok(())
+}
+
+#[test]
+fn lists_the_moves_that_give_check(rt: HostRuntime) -> Result<(), Fail> {
+    let mut checks = ArrayVec::new();
+    for (text, moves) in [
+        ("k5/6/1K4/6/6/5R w", "f1a1 f1f6 "),
+        // wherever the knight goes, the rook behind it checks
+        ("k5/1p4/1P4/N1K3/6/R5 w", "a3b1 a3c2 a3c4 a3b5 "),
+        ("rnqknr/pppppp/6/6/PPPPPP/RNQKNR w", ""),
+    ] {
+        list_checks(&Board::of(&position(&rt, text)), &mut checks);
+        assert_eq!(rt;
+            list(rt.alloc(), checks.as_slice())?.as_str(),
             moves,
             "{text}"
         );

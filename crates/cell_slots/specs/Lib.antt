@@ -1,3 +1,4 @@
+-- to be believed
 pub mod OneHistory
 pub mod Table
 pub mod Cell

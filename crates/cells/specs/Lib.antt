@@ -1,5 +1,7 @@
+-- to be believed
 pub mod Mailbox
 pub mod CellSets
-pub mod StepTables
 pub mod Leaps
 pub mod Ways
+-- inside
+pub mod StepTables

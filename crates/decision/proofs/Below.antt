@@ -29,7 +29,8 @@ use Rattle.decision.specs.declared.question.Question.{Question}
 use Rattle.decision.specs.Questions.{question, IsForced, LeadsTo}
 use Rattle.decision.specs.Decisions.{Asks, IsAsked, RestsOnOne, AsksBelow}
 use Rattle.decision.specs.Decisions.Asks.{first_decides, one_slot, second_decides, neither_decides}
-use Rattle.decision.specs.Below.{ListsAll, is_own, Goes, Ends, IsPassed, IsCut, Tells, IsAskedAfter, Asked as AskedBelow}
+use Rattle.decision.specs.Orders.{ListsAll}
+use Rattle.decision.specs.Below.{is_own, Goes, Ends, IsPassed, IsCut, Tells, IsAskedAfter, Asked as AskedBelow}
 
 -- ---- an answer below
 

@@ -9,10 +9,6 @@ use Rattle.decision.specs.declared.question.Question.{Question}
 use Rattle.decision.specs.Questions.{question, IsForced}
 use Rattle.decision.specs.Decisions.{IsAsked}
 
--- the list has each lawful move, and no other
-abbrev pub ListsAll : PlainBoard → List Ply → Type 0
-ListsAll b moves = (m : Ply) → Contains moves m ↔ IsLawful b m
-
 -- whether the attacker is to move
 abbrev pub is_own : Question → Bool
 is_own q = is_same_side q.attacker q.position.mover

@@ -1,7 +1,10 @@
+-- to be believed
 pub mod Answer
 pub mod Calls
-pub mod Callers
 pub mod Questions
 pub mod Decisions
-pub mod Below
 pub mod Memories
+pub mod Orders
+-- inside
+pub mod Callers
+pub mod Below

@@ -2,7 +2,7 @@
 ghost use Rattle.std.specs.Prelude.{◌<◌, All, IfSome, length};
 ghost use Rattle.std.specs.List.Sorted.{IsPermutation};
 ghost use Rattle.rules.specs.Moves.{IsLawful};
-ghost use Rattle.decision.specs.Below.{ListsAll};
+ghost use Rattle.decision.specs.Orders.{ListsAll};
 
 use crate::memory::{Memory, pair_of};
 use crate::question::Question;

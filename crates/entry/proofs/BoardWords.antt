@@ -52,10 +52,10 @@ flags_bits (suc (suc (suc (suc (suc (suc (suc (suc n)))))))) h k = absurd (omega
 
 -- ---- digits of a word
 
-digit_first : (w : ℕ) → digit w 0 ≡ w % 16
+pub digit_first : (w : ℕ) → digit w 0 ≡ w % 16
 digit_first w = omega arith
 
-digit_rest : (w i : ℕ) → digit (w / 16) i ≡ digit w (suc i)
+pub digit_rest : (w i : ℕ) → digit (w / 16) i ≡ digit w (suc i)
 digit_rest w i = let at : 1 + i ≡ suc i = omega arith in digit_shifted w 1 i ∙ ap (digit w) at
 
 -- a word is so many squares, and what stands above them
@@ -171,12 +171,11 @@ module _ (words : List ℕ) (is : IsBoard words) where
       omega (arith, low, later_at 2 (omega arith) (omega arith) fits)
 
   -- the words with more bits above are the packing
-  pub board_packing : (b : PlainBoard) (attacker : Side) (goal : Goal) (i : Bounds) (marks upto : ℕ) → unpacked words ≡ b → IsBounds i → get_or words 0 0 < 2 ^ 64 → get_or words 1 0 < 2 ^ 64 → get_or words 2 0 < 2 ^ 64 → marks ≡ 2 * side_bit attacker + 8 * goal_bit goal + 32768 → upto ≡ upto_byte i.upto → upto < 256 → Packing (entry_of b attacker goal i) ((get_or words 0 0 + marks * 2 ^ 48 % 2 ^ 64) ∷ (get_or words 1 0 + i.below * 2 ^ 48 % 2 ^ 64) ∷ (get_or words 2 0 + upto * 2 ^ 48 % 2 ^ 64) ∷ [])
-  board_packing b attacker goal i marks upto same bounds f0 f1 f2 m u ul =
+  pub board_packing : (attacker : Side) (goal : Goal) (i : Bounds) (marks upto : ℕ) → IsBounds i → get_or words 0 0 < 2 ^ 64 → get_or words 1 0 < 2 ^ 64 → get_or words 2 0 < 2 ^ 64 → marks ≡ 2 * side_bit attacker + 8 * goal_bit goal + 32768 → upto ≡ upto_byte i.upto → upto < 256 → Packing (entry_of board attacker goal i) ((get_or words 0 0 + marks * 2 ^ 48 % 2 ^ 64) ∷ (get_or words 1 0 + i.below * 2 ^ 48 % 2 ^ 64) ∷ (get_or words 2 0 + upto * 2 ^ 48 % 2 ^ 64) ∷ [])
+  board_packing attacker goal i marks upto bounds f0 f1 f2 m u ul =
       let e = entry_of board attacker goal i in
       let limit = bounds.below in
       let w0 : get_or words 0 0 + marks * 2 ^ 48 % 2 ^ 64 ≡ first_word e = omega (arith, first_at f0, m, side_bit_le attacker, goal_bit_le goal) in
       let w1 : get_or words 1 0 + i.below * 2 ^ 48 % 2 ^ 64 ≡ second_word e = omega (arith, later_at 1 (omega arith) (omega arith) f1, limit) in
       let w2 : get_or words 2 0 + upto * 2 ^ 48 % 2 ^ 64 ≡ third_word e = omega (arith, later_at 2 (omega arith) (omega arith) f2, u, ul) in
-      subst (λ (x : PlainBoard). Packing (entry_of x attacker goal i) ((get_or words 0 0 + marks * 2 ^ 48 % 2 ^ 64) ∷ (get_or words 1 0 + i.below * 2 ^ 48 % 2 ^ 64) ∷ (get_or words 2 0 + upto * 2 ^ 48 % 2 ^ 64) ∷ [])) same
-      (record { position = is.position; interval = bounds; words = λ t. w0 t ∷ w1 t ∷ w2 t ∷ [] })
+      record { position = is.position; interval = bounds; words = λ t. w0 t ∷ w1 t ∷ w2 t ∷ [] }

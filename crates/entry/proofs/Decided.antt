@@ -127,7 +127,7 @@ man_of-man Black Bishop = refl
 man_of-man Black Knight = refl
 man_of-man Black Pawn = refl
 
-man_of-code : (p : Option Man) → man_of (code_of p) ≡ p
+pub man_of-code : (p : Option Man) → man_of (code_of p) ≡ p
 man_of-code None = refl
 man_of-code (Some u) = man_of-man u.side u.kind
 

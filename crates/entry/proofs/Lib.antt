@@ -3,6 +3,7 @@ pub mod Digits
 pub mod Ranks
 pub mod Words
 pub mod Decided
+pub mod WordUnits
 pub mod Questions
 pub mod Truths
 pub mod Preferred

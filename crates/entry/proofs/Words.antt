@@ -14,9 +14,8 @@ use Rattle.entry.specs.declared.entries.Entry.{Entry}
 use Rattle.entry.specs.declared.marks.Marks.{Marks}
 use Rattle.entry.specs.Packing.{side_bit, game_bit, goal_bit, upto_byte, squares_word, rank_pair, first_word, second_word, third_word, Packing}
 use Rattle.entry.specs.Marks.{marks_number}
-use Rattle.entry.specs.Squares.{IsPacked}
 use Rattle.entry.proofs.Digits.{squares_small}
-use Rattle.entry.proofs.Ranks.{Places, whole_position}
+use Rattle.entry.proofs.Ranks.{IsPacked, whole_position}
 
 -- ---- marks
 
@@ -106,22 +105,3 @@ one_end (Some m) (Some n) h k e = ap Some e
 
 pub one_interval : (i j : Bounds) → IsBounds i → IsBounds j → i.below ≡ j.below → upto_byte i.upto ≡ upto_byte j.upto → i ≡ j
 one_interval i j p q a b = let c = one_end i.upto j.upto p.upto q.upto b in λ k. record { below = a k; upto = c k }
-
--- ---- an entry's words made
-
--- the three words of these fields are a packing
-pub packing_made : (e : Entry) → IsPosition e.position → IsBounds e.interval → (n : ℕ) (us : Places) (s0 s1 s2 marks upto : ℕ) → n ≡ width_of e.position.game → us ≡ e.position.units → s0 ≡ squares_word (take (2 * n) us) → s1 ≡ squares_word (take (2 * (2 * n) - 2 * n) (drop (2 * n) us)) → s2 ≡ squares_word (take (3 * (2 * n) - 2 * (2 * n)) (drop (2 * (2 * n)) us)) → marks ≡ marks_number (marks_of e) → upto ≡ upto_byte e.interval.upto → marks < 65536 → upto < 256 → Packing e ((s0 + marks * 2 ^ 48 % 2 ^ 64) ∷ (s1 + e.interval.below * 2 ^ 48 % 2 ^ 64) ∷ (s2 + upto * 2 ^ 48 % 2 ^ 64) ∷ [])
-packing_made e position interval n us s0 s1 s2 marks upto wide units a b c m u ml ul =
-    let two : 2 * (2 * n) - 2 * n ≡ 2 * width_of e.position.game = omega arith in
-    let three : 3 * (2 * n) - 2 * (2 * n) ≡ 2 * width_of e.position.game = omega arith in
-    let from0 : 0 ≡ 0 * (2 * width_of e.position.game) = omega arith in
-    let from1 : 2 * n ≡ 1 * (2 * width_of e.position.game) = omega arith in
-    let from2 : 2 * (2 * n) ≡ 2 * (2 * width_of e.position.game) = omega arith in
-    let at0 : s0 ≡ squares_word (rank_pair 0 e.position) = a ∙ (λ i. squares_word (take (2 * wide i) (units i))) ∙ ap (λ k. squares_word (take (2 * width_of e.position.game) (drop k e.position.units))) from0 in
-    let at1 : s1 ≡ squares_word (rank_pair 1 e.position) = b ∙ (λ i. squares_word (take (two i) (drop (from1 i) (units i)))) in
-    let at2 : s2 ≡ squares_word (rank_pair 2 e.position) = c ∙ (λ i. squares_word (take (three i) (drop (from2 i) (units i)))) in
-    let limit = interval.below in
-    let w0 : s0 + marks * 2 ^ 48 % 2 ^ 64 ≡ first_word e = omega arith in
-    let w1 : s1 + e.interval.below * 2 ^ 48 % 2 ^ 64 ≡ second_word e = omega arith in
-    let w2 : s2 + upto * 2 ^ 48 % 2 ^ 64 ≡ third_word e = omega arith in
-    record { position = position; interval = interval; words = λ i. w0 i ∷ w1 i ∷ w2 i ∷ [] }

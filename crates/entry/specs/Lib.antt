@@ -1,10 +1,11 @@
+-- to be believed
 pub mod Bounds
 pub mod Packing
-pub mod Squares
-pub mod Marks
 pub mod Keys
 pub mod Truth
 pub mod Laws
 pub mod Prefers
 pub mod Preference
 pub mod NoZeros
+-- inside
+pub mod Marks

@@ -1,7 +1,6 @@
 //! Entries of the shared table: what is known of a position, its three words, their key and their slot.
 #![tactic(auto)]
 
-mod boards;
 mod entries;
 mod interval;
 mod keys;
@@ -13,18 +12,16 @@ mod marks;
 mod packing;
 #[cfg(test)]
 mod row_tests;
-mod squares;
 #[cfg(test)]
 mod table_tests;
 #[cfg(test)]
 mod tests;
 mod worth;
 
-pub use boards::pack_board;
 pub use entries::Entry;
 pub use interval::{Interval, meet};
 pub use keys::{key_of, slot_of};
 pub use laws::{interval_laws, key_laws, packing_laws, preference_laws};
 pub use lore::MateLore;
-pub use packing::{interval_of, pack, unpack};
+pub use packing::{interval_of, pack, pack_board, unpack};
 pub use worth::prefers;

@@ -1,3 +1,4 @@
+-- to be believed
 pub mod JobBoard
 pub mod Rule
 pub mod Promise

@@ -1,6 +1,8 @@
-pub mod Lines
+-- to be believed
 pub mod Run
 pub mod Batch
-pub mod Desk
 pub mod Order
 pub mod Program
+-- inside
+pub mod Lines
+pub mod Desk

@@ -6,14 +6,14 @@ ghost use Rattle.minimate.specs.Batch.{IsReplyText, said_in};
 ghost use Rattle.minimate.specs.Desk.{GivesNext, GivesSaid, IsDesk, IsSolver, OpensDesk, SameSolver, TakesLines, TakesStep, step_of, stop_of};
 ghost use Rattle.minimate.specs.declared.batch.Stop.TheVariants.{NoMemory, WriteFailed};
 
-use crate::ending::refused_text;
 use crate::lines::{Next, Unread, is_remark, said_in};
 use board::Position;
 use command_line::Limits;
 use entry::MateLore;
 use moves::{Goal, read_sound};
 use replies::{
-    Failed, InputFault, Refusal, Refused, Sink, Source, advise, answer_text, search_of, write_all,
+    Failed, InputFault, Refusal, Refused, Sink, Source, advise, answer_text, refused_text,
+    search_of, write_all,
 };
 use rounds::{NoGate, SolveFault, Task, make_table, solve_over};
 use slots::{Seat, Slots};

@@ -1,10 +1,9 @@
 //! How a run ends: what is written last, and the status.
-ghost use Rattle.std.specs.Prelude.{◌≡◌, ◌↔◌, ◌<◌, IfOk, IsTrue, string_bytes};
-ghost use Rattle.replies.specs.Output.{refused};
+ghost use Rattle.std.specs.Prelude.{◌↔◌, ◌<◌, IsTrue};
 ghost use Rattle.minimate.specs.Run.{ending_of, Finishes, MayTell, Refuses, no_memory};
 
-use replies::{Refusal, Sink, write_all};
-use std::alloc::{AllocError, Global};
+use replies::{Refusal, Sink, refused_text, write_all};
+use std::alloc::Global;
 
 pub const ANSWERED: u8 = 0;
 
@@ -54,10 +53,4 @@ pub fn give_up_for_memory<K: Sink>(writer: &mut K) -> u8
     ensures { Finishes (ending_of K.contents K.failures writer.old writer.new result) no_memory 3 }
 {
     finish(writer, NO_MEMORY, OUT_OF_MEMORY)
-}
-
-pub fn refused_text(alloc: Global, refusal: Refusal) -> Result<String, AllocError>
-    ensures { IfOk result (λ text. string_bytes text ≡ (refused refusal).text) }
-{
-    format!(in alloc; "refused: {refusal}\n")
 }

@@ -7,19 +7,25 @@ use Rattle.std.proofs.lemmas.Bool.{cases_lt, cases_eq}
 use Rattle.std.proofs.lemmas.Nat.Bits.{bit_at_above}
 use Rattle.board.specs.declared.game.Kind.{Kind}
 use Rattle.board.specs.declared.game.Kind.TheVariants.{King, Queen, Rook, Bishop, Knight, Pawn}
+use Rattle.board.specs.declared.game.Side.{Side}
+use Rattle.board.specs.declared.game.Side.TheVariants.{White, Black}
 use Rattle.board.specs.declared.game.Unit.{Unit as Man}
-use Rattle.board.specs.Games.{is_same_side}
+use Rattle.board.specs.declared.step.Mode.{Mode}
+use Rattle.board.specs.declared.step.Mode.TheVariants.{Move, Capture, Both}
+use Rattle.board.specs.Games.{is_same_side, other_side}
 use Rattle.board.specs.Board.{PlainBoard}
 use Rattle.rules.specs.declared.goal.Goal.{Goal}
 use Rattle.rules.specs.declared.goal.Goal.TheVariants.{Mate, MateOrStale}
-use Rattle.rules.specs.Squares.{Ply, unit_at}
-use Rattle.rules.specs.Reach.{IsInCheck}
-use Rattle.rules.specs.Moves.{Promotes, IsPseudoLegal, IsMove, IsLawful, IsMated, after}
+use Rattle.rules.specs.Squares.{Place, Ply, IsOnBoard, unit_at}
+use Rattle.rules.specs.Reach.{Allows, Reaches, IsInCheck}
+use Rattle.rules.specs.Moves.{Promotes, IsSomeKing, IsPseudoLegal, IsMove, IsLawful, IsMated, after}
 use Rattle.rules.specs.Order.{promotion_number}
 use Rattle.rules.specs.declared.list.TheConstants.{PROMOTIONS}
 use Rattle.rules.specs.Forces.{IsReached, Forces}
 use Rattle.cells.specs.CellSets.{Has}
 use Rattle.moves.specs.Checking.{Attains}
+use Rattle.moves.specs.Safe.{IsNamed}
+use Rattle.moves.proofs.Kings.{check_from}
 use Rattle.rules.proofs.Lists.{HasParts-lawful, promotes_to}
 use Rattle.rules.proofs.Forcing.{on_own, to_own, on_other, to_other, same_side-self, turn-own}
 
@@ -106,3 +112,36 @@ module _ (b : PlainBoard) (m : Ply) (u : Man) (stands : unit_at b m.from ≡ Som
         leads = refl;
         safe = λ check. move.safe (subst (λ x. IsInCheck x b.mover) (ap (after b m) (sym same) ∙ sym move.leads) check);
       }
+
+-- ---- moves that are lawful but for their own king's safety
+
+enemy_on : (mode : Mode) (side : Side) (v : Man) → Allows mode side (Some v) → v.side ≡ other_side side
+enemy_on Move side v h = absurd h
+enemy_on Capture side v h = h
+enemy_on Both side v h = h
+
+-- where the other king isn't attacked, no unit of the mover comes to a king
+takes_no_king : (b : PlainBoard) (u : Man) (s t : Place) (o : Option Man) → o ≡ unit_at b t → (IsInCheck b (other_side b.mover) → ⊥) → IsOnBoard b.game s → IsOnBoard b.game t → unit_at b s ≡ Some u → u.side ≡ b.mover → Reaches b u s t o → IsSomeKing o → ⊥
+takes_no_king b u s t None at safe from to stands owner r king = king
+takes_no_king b u s t (Some v) at safe from to stands owner r king =
+    let foe : v.side ≡ other_side b.mover = enemy_on r.step.mode u.side v r.reaches.allows ∙ ap other_side owner in
+    let there : v ≡ record { side = other_side b.mover; kind = King } = λ i. record { side = foe i; kind = king i } in
+    let again : b.mover ≡ other_side (other_side b.mover) = twice_other b.mover in
+    let target : v ≡ record { side = other_side (other_side (other_side b.mover)); kind = King } = there ∙ ap (λ x. record { side = other_side x; kind = King }) again in
+    safe (check_from b (other_side b.mover) t to (sym at ∙ ap Some there)
+    (s, record { unit = u; on_board = from; stands = stands; owner = owner ∙ again; reaches = subst (λ (x : Man). Reaches b u s t (Some x)) target r }))
+  where
+    twice_other : (side : Side) → side ≡ other_side (other_side side)
+    twice_other White = refl
+    twice_other Black = refl
+
+pub pseudo_of : (b : PlainBoard) (m : Ply) (u : Man) (s t : Place) → (IsInCheck b (other_side b.mover) → ⊥) → IsOnBoard b.game s → IsOnBoard b.game t → unit_at b s ≡ Some u → u.side ≡ b.mover → Reaches b u s t (unit_at b t) → m.from ≡ s → m.to ≡ t → IsNamed b.game u m → IsPseudoLegal b m u
+pseudo_of b m u s t safe on to stands owner r from at named = record {
+  on_board = subst (IsOnBoard b.game) (sym from) on;
+  stands = ap (unit_at b) from ∙ stands;
+  owner = owner;
+  reaches = subst (λ x. Reaches b u x m.to (unit_at b m.to)) (sym from) (subst (λ x. Reaches b u s x (unit_at b x)) (sym at) r);
+  no_king = λ there. takes_no_king b u s t (unit_at b t) refl safe on to stands owner r (subst (λ x. IsSomeKing (unit_at b x)) at there);
+  named = named.named;
+  allowed = named.allowed;
+}

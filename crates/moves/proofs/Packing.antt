@@ -1,5 +1,5 @@
 -- What words stand for, and what a move does to them.
-use Rattle.std.proofs.Common.{◌≡◌, ◌≢◌, ℕ, ◌+◌, ◌*◌, ◌%◌, ◌<◌, ◌≤◌, zero, suc, refl, sym, ap, subst, ◌∙◌, arith, ◌⊎◌, inl, inr, List, [], ◌∷◌, length, get_or, set, IfSome, Option, Some, None, replicate}
+use Rattle.std.proofs.Common.{◌≡◌, ◌≢◌, ℕ, ◌+◌, ◌*◌, ◌/◌, ◌%◌, ◌<◌, ◌≤◌, zero, suc, refl, sym, ap, subst, ◌∙◌, arith, ◌⊎◌, inl, inr, List, [], ◌∷◌, length, get_or, set, IfSome, Option, Some, None, replicate}
 use Rattle.std.specs.Int.RustNames.{bit_xor}
 use Rattle.std.proofs.lemmas.Nat.{shr_le}
 use Rattle.std.proofs.lemmas.Bool.{cases_eq, cases_lt}
@@ -11,7 +11,7 @@ use Rattle.board.specs.declared.game.Side.{Side}
 use Rattle.board.specs.declared.game.Unit.{Unit as Man}
 use Rattle.board.specs.Games.{squares_of, other_side}
 use Rattle.board.specs.Board.{PlainBoard, unit_on, board_of, IsPosition, MayStandOn}
-use Rattle.moves.specs.Words.{digit, man_of, word_of, place_of, code_on, flags_of, game_of, game_of_flags, mover_of_flags, units_in, unpacked, IsUnused, IsPacked, IsFlags}
+use Rattle.moves.specs.Words.{digit, man_of, word_of, place_of, code_on, flags_of, game_of, game_of_flags, mover_of_flags, units_in, unpacked, Spells, IsUnused, IsPacked, IsFlags}
 
 pub within_36 : (g : Game) (n : ℕ) → n < squares_of g → n < 36
 within_36 LosAlamos n h = omega (arith, h)
@@ -243,12 +243,24 @@ module _ (b : PlainBoard) (is : IsPosition b) (f : ℕ) (words : List ℕ) (flag
     unused = λ k i free. unused_0 k i (subst (λ x. IsUnused x k i) game_is free);
   }
 
--- ---- the units of a board, copied square by square
+-- ---- the units of words, read square by square
 
--- the places below n hold what stands there, and the others nothing
-pub record IsCopied (b : PlainBoard) (units : List (Option Man)) (n : ℕ) : Type 0 where
+-- a position's units are those of its squares and none on the other places
+pub one_spelled : (b q : PlainBoard) (words : List ℕ) → IsPosition b → IsPosition q → Spells b words → Spells q words → b.game ≡ q.game → b.mover ≡ q.mover → b ≡ q
+one_spelled b q words p r s t game mover =
+    let units : b.units ≡ q.units = fill_by_all (unit_on q) b.units 36 None p.places same ∙ sym (fill_by_all (unit_on q) q.units 36 None r.places (λ k h. refl)) in
+    λ i. record { game = game i; mover = mover i; units = units i }
+  where
+    same : (k : ℕ) → k < 36 → get_or b.units k None ≡ unit_on q k
+    same k h = elim (cases_lt k (squares_of b.game)) [
+      | inl less ↦ s k less ∙ ap (λ g. man_of (code_on g words k)) game ∙ sym (t k (subst (λ g. k < squares_of g) game less))
+      | inr more ↦ off_board b p k more ∙ sym (off_board q r k (subst (λ g. squares_of g ≤ k) game more))
+    ]
+
+-- the places below n hold what the words say, and the others nothing
+pub record IsRead (g : Game) (words : List ℕ) (units : List (Option Man)) (n : ℕ) : Type 0 where
   pub long : length units ≡ 36
-  pub below : (k : ℕ) → k < n → get_or units k None ≡ unit_on b k
+  pub below : (k : ℕ) → k < n → get_or units k None ≡ man_of (code_on g words k)
   pub above : (k : ℕ) → n ≤ k → get_or units k None ≡ None
 
 abbrev nothing : Option Man
@@ -259,29 +271,25 @@ replicate_none zero k = refl
 replicate_none (suc n) zero = refl
 replicate_none (suc n) (suc k) = replicate_none n k
 
-pub IsCopied-start : (b : PlainBoard) → IsCopied b (replicate 36 nothing) 0
-IsCopied-start b = record { long = refl; below = λ k h. absurd (omega (arith, h)); above = λ k h. replicate_none 36 k }
+pub IsRead-start : (g : Game) (words : List ℕ) → IsRead g words (replicate 36 nothing) 0
+IsRead-start g words = record { long = refl; below = λ k h. absurd (omega (arith, h)); above = λ k h. replicate_none 36 k }
 
-pub IsCopied-more : (b : PlainBoard) (units : List (Option Man)) (n : ℕ) (place : Option Man) → n < 36 → place ≡ unit_on b n → IsCopied b units n → IsCopied b (set units n place) (n + 1)
-IsCopied-more b units n place h e c = record {
+pub IsRead-more : (g : Game) (words : List ℕ) (units : List (Option Man)) (n : ℕ) (place : Option Man) → n < 36 → place ≡ man_of (code_on g words n) → IsRead g words units n → IsRead g words (set units n place) (n + 1)
+IsRead-more g words units n place h e c = record {
   long = length-set units n place ∙ c.long;
   below = λ k less. elim (cases_eq k n) [
-    | inl same ↦ subst (λ x. get_or (set units n place) x None ≡ unit_on b x) (sym same) (get_or-set_same units n place None (omega (arith, c.long)) ∙ e)
+    | inl same ↦ subst (λ x. get_or (set units n place) x None ≡ man_of (code_on g words x)) (sym same) (get_or-set_same units n place None (omega (arith, c.long)) ∙ e)
     | inr other ↦ get_or-set_other units n k place None other ∙ c.below k (omega (arith, less, other))
   ];
   above = λ k more. let other : k ≢ n = omega (arith, more) in get_or-set_other units n k place None other ∙ c.above k (omega (arith, more));
 }
 
--- a whole copy is the board's own list
-pub IsCopied-end : (b : PlainBoard) → IsPosition b → (units : List (Option Man)) → IsCopied b units (squares_of b.game) → units ≡ b.units
-IsCopied-end b is units c = fill_by_all (unit_on b) units 36 None c.long same ∙ sym (fill_by_all (unit_on b) b.units 36 None is.places (λ k h. refl))
+-- what is read of a position's words is the position
+pub IsRead-whole : (b : PlainBoard) (words : List ℕ) (units : List (Option Man)) → IsPosition b → Spells b words → IsRead b.game words units (squares_of b.game) → units ≡ b.units
+IsRead-whole b words units is s c = fill_by_all (unit_on b) units 36 None c.long same ∙ sym (fill_by_all (unit_on b) b.units 36 None is.places (λ k h. refl))
   where
     same : (k : ℕ) → k < 36 → get_or units k None ≡ unit_on b k
     same k h = elim (cases_lt k (squares_of b.game)) [
-      | inl less ↦ c.below k less
+      | inl less ↦ c.below k less ∙ sym (s k less)
       | inr more ↦ c.above k more ∙ sym (off_board b is k more)
     ]
-
--- its parts make the board again
-pub IsCopied-whole : (b : PlainBoard) → IsPosition b → (g : Game) (mover : Side) (units : List (Option Man)) (n : ℕ) → g ≡ b.game → mover ≡ b.mover → n ≡ squares_of b.game → IsCopied b units n → board_of g mover units ≡ b
-IsCopied-whole b is g mover units n e f h c = λ i. board_of (e i) (f i) (IsCopied-end b is units (subst (IsCopied b units) h c) i)

@@ -1,5 +1,5 @@
 -- Which moves may give check, and what a move brings about at once.
-use Rattle.std.specs.Prelude.{◌≡◌, ℕ, Some, IfSome}
+use Rattle.std.specs.Prelude.{◌≡◌, ℕ, Some, IfSome, MatchOption}
 use Rattle.board.specs.declared.game.Kind.TheVariants.{King, Knight}
 use Rattle.board.specs.Games.{other_side}
 use Rattle.board.specs.Board.{PlainBoard}
@@ -32,8 +32,8 @@ pub record Attains (goal : Goal) (b : PlainBoard) (m : Ply) : Type 0 where
   pub move : IsMove b m next
   pub reached : IsReached goal next
 
--- the guard is of the mover's king, and a watch serves a mate alone, which is a check
+-- a guard is of the mover's king, and where there is none, the other king isn't attacked; a watch serves a mate alone, which is a check
 pub record Seeks (b : PlainBoard) (quest : Quest) : Type 0 where
-  pub guards : Guards b quest.guard
+  pub guards : MatchOption quest.guard (IsInCheck b (other_side b.mover) → ⊥) (Guards b)
   pub watches : IfSome quest.watch (Watches b)
   pub mate : IfSome quest.watch (λ _. quest.goal ≡ Mate)

@@ -9,7 +9,7 @@ use Rattle.board.specs.declared.game.Kind.{Kind}
 use Rattle.board.specs.declared.game.Kind.TheVariants.{King, Queen, Rook, Bishop, Knight, Pawn}
 use Rattle.board.specs.declared.game.Unit.{Unit as Man}
 use Rattle.board.specs.Games.{width_of, squares_of}
-use Rattle.board.specs.Board.{PlainBoard, IsPosition, board_of}
+use Rattle.board.specs.Board.{PlainBoard, IsPosition, board_of, unit_on}
 
 -- the four bits of a word that begin at bit 4 i
 abbrev pub digit : ℕ → ℕ → ℕ
@@ -51,6 +51,10 @@ units_in g words = map (λ n. man_of (code_on g words n)) (range_with_len 0 36)
 -- the board that the words stand for
 abbrev pub unpacked : List ℕ → PlainBoard
 unpacked words = board_of (game_of words) (mover_of_flags (flags_of words)) (units_in (game_of words) words)
+
+-- on each square of the board stands the unit whose code the words have there; what else they hold is no matter
+abbrev pub Spells : PlainBoard → List ℕ → Type 0
+Spells b words = (n : ℕ) → n < squares_of b.game → unit_on b n ≡ man_of (code_on b.game words n)
 
 -- the flags of a game and a side: the bits 0 and 2
 pub record IsFlags (f : ℕ) : Type 0 where

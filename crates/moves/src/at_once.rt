@@ -1,32 +1,35 @@
 //! What the side to move can reach with its next move.
-ghost use Rattle.std.specs.Prelude.{◌≡◌, ◌↔◌, IsTrue, Some, true, false, ℕ};
+ghost use Rattle.std.specs.Prelude.{◌≡◌, ◌↔◌, IsTrue, IfSome, Some, true, false, ℕ};
 ghost use Rattle.board.specs.Board.{IsPosition, is_of_side};
 ghost use Rattle.rules.specs.declared.goal.Goal.TheVariants.{Mate};
 ghost use Rattle.rules.specs.Squares.{Ply, IsOnBoard, unit_at};
 ghost use Rattle.rules.specs.Reach.{Reaches};
-ghost use Rattle.rules.specs.Moves.{IsLawful};
+ghost use Rattle.rules.specs.Moves.{IsPseudoLegal, IsLawful};
 ghost use Rattle.rules.specs.Forces.{IsReached, Forces};
 ghost use Rattle.cells.specs.Mailbox.{cell_of, place_in, IsCell};
 ghost use Rattle.cells.specs.CellSets.{Has};
 ghost use Rattle.moves.specs.Targets.{IsTarget};
 ghost use Rattle.moves.specs.Safe.{IsNamed};
+ghost use Rattle.moves.specs.Guard.{Guards};
 ghost use Rattle.moves.specs.Checking.{Attains, Seeks};
 
 use crate::any_move::{has_move, is_mated};
 use crate::board_list::{Guard, guard_of, promotion_count};
 use crate::checks::{Watch, checking, watch_of};
+use crate::look::{is_checked, mover_in_check};
 use crate::packed::Board;
-use crate::safe::may_go;
+use crate::safe::{is_calm, may_go};
 use crate::targets::targets;
 use board::Unit;
 use cells::{cell_of, lowest, square_in, without};
-use rules::{Goal, Move, PROMOTIONS, Square, is_promoted_well};
+use rules::{Goal, Move, PROMOTIONS, Square, is_king, is_promoted_well};
 
-/// The goal, what the mover's king asks of each move, and for a mate, a watch on the other king, if that isn't attacked already.
+/// The goal, for a mate a watch on the other king, if that isn't attacked already, and else what the mover's king asks of each move:
+/// mates are so few that one is asked last whether it leaves the own king attacked.
 #[derive(Clone, Copy)]
 pub(crate) struct Quest {
     goal: Goal,
-    guard: Guard,
+    guard: Option<Guard>,
     watch: Option<Watch>,
 }
 
@@ -44,17 +47,38 @@ fn is_reached(board: &Board, goal: Goal) -> bool
     }
 }
 
-/// Whether the move, which is lawful if it names its promotion well, does so and brings the other side where the goal wants it.
+/// Whether the move, which but for its own king's safety is lawful if it names its promotion well, is lawful and brings the other
+/// side where the goal wants it.
 fn attains(board: &Board, goal: Goal, m: Move, unit: Unit) -> bool
     requires stands { unit_at board.now m.from ≡ Some unit }
-    requires lawful { IsNamed board.now.game unit m → IsLawful board.now m }
+    requires pseudo { IsNamed board.now.game unit m → IsPseudoLegal board.now m unit }
     ensures { IsTrue result ↔ Attains goal board.now m }
 {
     if !is_promoted_well(board.game(), unit, m) {
         return false;
     }
     let next = board.moved(m, unit);
-    is_reached(&next, goal)
+    is_reached(&next, goal) && !is_checked(&next, unit.side)
+}
+
+/// Whether moves of the unit to a square that it reaches are to be tried: where there is a guard, those that it lets go, and else
+/// those of a king to squares that aren't attacked, and all others.
+fn is_open(board: &Board, quest: Quest, unit: Unit, from: Square, to: Square) -> bool
+    requires position { IsPosition board.now }
+    requires seeks { Seeks board.now quest }
+    requires from_on_board { IsOnBoard board.now.game from }
+    requires to_on_board { IsOnBoard board.now.game to }
+    requires stands { unit_at board.now from ≡ Some unit }
+    requires owner { unit.side ≡ board.now.mover }
+    requires reaches { Reaches board.now unit from to (unit_at board.now to) }
+    ensures pseudo { IsTrue result → (m : Ply) → m.from ≡ from → m.to ≡ to → IsNamed board.now.game unit m
+        → IsPseudoLegal board.now m unit }
+    ensures none { result ≡ false → (m : Ply) → m.from ≡ from → m.to ≡ to → IsLawful board.now m → ⊥ }
+{
+    match quest.guard {
+        Some(guard) => may_go(board, guard, unit, from, to),
+        None => !is_king(Some(unit)) || is_calm(board, cell_of(to), unit.side),
+    }
 }
 
 /// Whether some move of the unit to a square that it reaches is lawful and brings the other side where the goal wants it.
@@ -69,7 +93,7 @@ fn attains_to(board: &Board, quest: Quest, unit: Unit, from: Square, to: Square)
     ensures found { IsTrue result → (m : Ply) × Attains quest.goal board.now m }
     ensures none { result ≡ false → (m : Ply) → m.from ≡ from → m.to ≡ to → Attains quest.goal board.now m → ⊥ }
 {
-    if !may_go(board, quest.guard, unit, from, to) {
+    if !is_open(board, quest, unit, from, to) {
         return false;
     }
     for i in 0..promotion_count(board.game(), unit, to) {
@@ -153,6 +177,17 @@ fn attains_any(board: &Board, quest: Quest) -> bool
     false
 }
 
+/// What the mover's king asks of each move, if it is in check.
+fn guard_if_checked(board: &Board) -> Option<Guard>
+    ensures { IfSome result (Guards board.now) }
+{
+    if mover_in_check(board) {
+        Some(guard_of(board))
+    } else {
+        None
+    }
+}
+
 /// Whether some lawful move of the side to move brings the other side where the goal wants it.
 pub fn reaches_at_once(board: &Board, goal: Goal) -> bool
     ensures { IsTrue result ↔ Forces goal board.now.mover board.now 1 }
@@ -161,7 +196,10 @@ pub fn reaches_at_once(board: &Board, goal: Goal) -> bool
         Goal::Mate => watch_of(board),
         Goal::MateOrStale => None,
     };
-    let guard = guard_of(board);
+    let guard = match watch {
+        Some(_) => guard_if_checked(board),
+        None => Some(guard_of(board)),
+    };
     attains_any(board, Quest { goal, guard, watch })
 }
 

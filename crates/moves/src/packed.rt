@@ -1,16 +1,17 @@
 //! A position in three words.
 ghost use Rattle.std.specs.Prelude.{◌≡◌, ◌<◌, ◌+◌, ◌*◌, ◌↔◌, ℕ, Some, None, true};
 ghost use Rattle.board.specs.Board.{unit_on, is_of_side, IsPosition};
-ghost use Rattle.board.specs.Games.{width_of, squares_of};
-ghost use Rattle.moves.specs.Words.{digit, man_of, game_of_flags, mover_of_flags, IsFlags, unpacked, IsPacked};
+ghost use Rattle.board.specs.Games.{squares_of};
+ghost use Rattle.moves.specs.Words.{man_of, unpacked, IsPacked};
 ghost use Rattle.rules.specs.Squares.{IsOnBoard, unit_at};
 ghost use Rattle.cells.specs.Mailbox.{place_in, IsCell};
 ghost use Rattle.cells.specs.CellSets.{Has};
 ghost use Rattle.moves.specs.Sets.{Holds};
 ghost use Rattle.rules.specs.Moves.{IsPseudoLegal, IsMove, IsLawful, after};
 
+use crate::codec::{read_words, write_words};
 use crate::sets::{Class, Sets};
-use crate::words::{code_of, code_on, put, turned, unit_of, with_digit};
+use crate::words::{code_of, code_on, put, turned, unit_of};
 use board::{Game, Position, Side, Unit};
 use cells::{cell_of, cells, square_in};
 use rules::{Move, Square};
@@ -35,46 +36,12 @@ impl Model for Board {
     ghost invariant = { λ b. IsKept b.words b.sets };
 }
 
-/// The code of what stands on a square.
-fn code_in(position: &Position, square: u8) -> u8
-    requires { square < squares_of position.now.game }
-    ensures value { man_of result ≡ unit_on position.now square }
-    ensures code { result < 13 }
-{
-    match position.unit(square) {
-        Some(unit) => code_of(unit),
-        None => 0,
-    }
-}
-
-/// The flags of a game and a side to move.
-fn flags_of(game: Game, mover: Side) -> u8
-    ensures flags { IsFlags result }
-    ensures game { game_of_flags result ≡ game }
-    ensures mover { mover_of_flags result ≡ mover }
-{
-    let side = match mover {
-        Side::White => 0,
-        Side::Black => 1,
-    };
-    match game {
-        Game::LosAlamos => side,
-        Game::Gardner => side + 4,
-    }
-}
-
 impl Board {
     /// The board of a position.
     pub fn of(position: &Position) -> Board
         ensures { result ≡ position.now }
     {
-        let game = position.game();
-        let flags = flags_of(game, position.mover());
-        let mut words = [with_digit(0, 12, flags), 0, 0];
-        for square in 0..game.squares() {
-            let at = Square::of_number(game, square);
-            put(&mut words, game, at, code_in(position, square));
-        }
+        let words = write_words(position);
         let sets = Sets::of(position);
         Board { words, sets }
     }
@@ -83,12 +50,7 @@ impl Board {
     pub fn position(&self) -> Position
         ensures { result ≡ self.now }
     {
-        let game = self.game();
-        let mut units = [None; 36];
-        for square in 0..game.squares() {
-            units[square as usize] = self.unit(square);
-        }
-        Position::of(game, self.mover(), &units).unwrap()
+        read_words(self.game(), self.mover(), &self.words).unwrap()
     }
 
     /// The game that is played.

@@ -39,7 +39,7 @@ fn queening(game: Game, unit: Unit, from: Square, to: Square) -> Move
 }
 
 /// Whether no king stands in the cell, and no unit of the other side attacks it.
-fn is_calm(board: &Board, cell: u8, side: Side) -> bool
+pub(crate) fn is_calm(board: &Board, cell: u8, side: Side) -> bool
     requires position { IsPosition board.now }
     requires cell { IsCell board.now.game cell }
     ensures { IsTrue result ↔ IsCalm board.now (place_in cell) side }

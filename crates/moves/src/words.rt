@@ -72,7 +72,7 @@ pub(crate) fn turned(word: u64) -> u64
     with_digit(word, 12, digit(word, 12) ^ 1)
 }
 
-static MEN: [Option<Unit>; 13] = [
+static MEN: [Option<Unit>; 16] = [
     None,
     Some(Unit {
         side: Side::White,
@@ -122,11 +122,14 @@ static MEN: [Option<Unit>; 13] = [
         side: Side::Black,
         kind: Kind::Pawn,
     }),
+    None,
+    None,
+    None,
 ];
 
-/// The unit of a code.
+/// The unit of a code, if it is a unit's.
 pub(crate) fn unit_of(code: u8) -> Option<Unit>
-    requires { code < 13 }
+    requires { code < 16 }
     ensures { result ≡ man_of code }
 {
     MEN[code as usize]

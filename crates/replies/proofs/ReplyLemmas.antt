@@ -1,5 +1,5 @@
 -- A reply, from what its parts give.
-use Rattle.std.proofs.Common.{◌≡◌, ◌≤◌, ◌⊎◌, ℕ, List, Option, None, Some, Result, Ok, Err, IfSome, IsErr, IsErrAnd, length, inl, inr, refl, sym, subst}
+use Rattle.std.proofs.Common.{◌≡◌, ◌≤◌, ◌⊎◌, ℕ, List, Option, None, Some, Result, Ok, Err, IfSome, IsErr, IsErrAnd, length, inl, inr, refl, sym, ap, subst}
 use Rattle.std.proofs.lemmas.Bool.{le-ltb}
 use Rattle.std.proofs.lemmas.Option.{IfSome_then}
 use Rattle.board.specs.Board.{PlainBoard}
@@ -7,7 +7,7 @@ use Rattle.board.specs.declared.fault.FenFault.{FenFault}
 use Rattle.rules.specs.Reading.{IsSoundFault}
 use Rattle.rules.specs.declared.goal.Goal.{Goal}
 use Rattle.replies.specs.Input.{IsInput, without_line_feed}
-use Rattle.replies.specs.Outcome.{GivesIfRead, GivesReply}
+use Rattle.replies.specs.Outcome.{Gives, GivesIfRead, GivesReply}
 use Rattle.replies.specs.Output.{Reply, refused, IsSoundText, IsOutput, Shows, ShowsTree, ShowsCheck, input_of}
 use Rattle.replies.specs.Refusal.{refusal_of_fen}
 use Rattle.command_line.specs.declared.line.Line.{Line}
@@ -57,6 +57,20 @@ pub gives_reply : {B : Type 0} (bytes : B → List ℕ) (line : Line) (known : O
 gives_reply {B} bytes line known b action r sound is gives =
     subst (λ a. IfSome (input_of a known) (λ input. GivesIfRead bytes (IsOutput line input) r)) (sym is)
     (IfSome_then (input_of action known) gives (λ input one. gives_at bytes line input b action r sound is one))
+
+-- the same where no read is to fail
+pub gives_output : {B : Type 0} (bytes : B → List ℕ) (line : Line) (input : List ℕ) (b : PlainBoard) (action : Action) (r : Result B Refusal)
+    → IsSoundText line.fen.now b → line.action ≡ action → Gives bytes (Shows b action input) r → Gives bytes (IsOutput line input) r
+gives_output bytes line input b action (Ok text) sound is gives = output_at line input b action _ sound is gives
+gives_output bytes line input b action (Err refusal) sound is (inl none) = inl none
+gives_output bytes line input b action (Err refusal) sound is (inr shows) = inr (output_at line input b action _ sound is shows)
+
+-- a text of a fault is refused by that fault
+pub fault_output : {B : Type 0} (bytes : B → List ℕ) (line : Line) (input : List ℕ) (r : Result B Refusal) (fault : FenFault)
+    → IsSoundFault line.fen.now fault → IsErr r × IsErrAnd r (λ refusal. refusal ≡ refusal_of_fen fault) → Gives bytes (IsOutput line input) r
+fault_output bytes line input (Ok text) fault is err = absurd err.1
+fault_output bytes line input (Err refusal) fault is err =
+    let same : refusal ≡ refusal_of_fen fault = cc in inr (inr (fault, is, ap refused same))
 
 -- ---- a check
 

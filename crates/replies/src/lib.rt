@@ -5,6 +5,7 @@ mod advice;
 mod board_text;
 mod device;
 mod drawing;
+mod one_thread;
 mod refusal;
 mod replying;
 mod transfer;
@@ -12,7 +13,8 @@ mod trouble;
 
 pub use advice::{Refused, advise, advise_words};
 pub use device::{Counted, Failed, Sink, Source};
-pub use refusal::Refusal;
+pub use one_thread::{check_reply, moves_reply, solve_reply, tree_reply};
+pub use refusal::{Refusal, refused_text};
 pub use replying::{Search, answer_text, reply, search_of};
 pub use transfer::{InputFault, write_all};
 pub use trouble::Trouble;

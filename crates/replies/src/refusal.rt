@@ -1,11 +1,12 @@
 //! What stands after `refused: `.
-ghost use Rattle.std.specs.Prelude.{◌≡◌, Some};
+ghost use Rattle.std.specs.Prelude.{◌≡◌, IfOk, Some, string_bytes};
+ghost use Rattle.replies.specs.Output.{refused};
 ghost use Rattle.replies.specs.Refusal.{refusal_status, refusal_text, refusal_of_fen, refusal_of_solve, refusal_of_tree};
 ghost use Rattle.replies.specs.declared.refusal.Refusal.TheVariants.{NoMemory as no_memory};
 
 use board::FenFault;
 use rounds::SolveFault;
-use std::alloc::AllocError;
+use std::alloc::{AllocError, Global};
 use std::fmt;
 use wintree::{NoMemory, TreeFault};
 
@@ -46,6 +47,13 @@ impl Refusal {
             _ => 1,
         }
     }
+}
+
+/// The line that says why a line was not answered.
+pub fn refused_text(alloc: Global, refusal: Refusal) -> Result<String, AllocError>
+    ensures { IfOk result (λ text. string_bytes text ≡ (refused refusal).text) }
+{
+    format!(in alloc; "refused: {refusal}\n")
 }
 
 impl fmt::Display for Refusal {

@@ -139,7 +139,7 @@ pub fn answer_text(alloc: Global, goal: Goal, answer: Answer) -> Result<String, 
     }
 }
 
-fn none_text(alloc: Global, limit: u32) -> Result<String, AllocError>
+pub(crate) fn none_text(alloc: Global, limit: u32) -> Result<String, AllocError>
     ensures { IfOk result (λ text. string_bytes text ≡ none_text limit) }
 {
     format!(in alloc; "none within {limit}\n")
@@ -165,7 +165,7 @@ fn key_lines(alloc: Global, keys: &[Key]) -> Result<String, AllocError>
     Ok(text)
 }
 
-fn moves_text(alloc: Global, moves: &[Move]) -> Result<String, AllocError>
+pub(crate) fn moves_text(alloc: Global, moves: &[Move]) -> Result<String, AllocError>
     ensures { IfOk result (λ text. string_bytes text ≡ moves_text moves.now) }
 {
     let mut text = String::new(alloc);
@@ -237,7 +237,7 @@ fn plan_text<R: Threads + Wait + Sync>(
     }
 }
 
-fn tree_line(alloc: Global, tree: &Tree) -> Result<Vec<u8>, NoMemory>
+pub(crate) fn tree_line(alloc: Global, tree: &Tree) -> Result<Vec<u8>, NoMemory>
     ensures { IfOk result (λ line. line.items ≡ line_of (tree_words tree.now)) }
 {
     let mut line = tree_text(alloc, tree)?;
@@ -246,7 +246,7 @@ fn tree_line(alloc: Global, tree: &Tree) -> Result<Vec<u8>, NoMemory>
 }
 
 /// In how many plies the tree of a text wins, if it wins.
-fn verdict_text(
+pub(crate) fn verdict_text(
     alloc: Global,
     position: &Position,
     goal: Goal,

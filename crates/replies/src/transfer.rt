@@ -26,7 +26,7 @@ pub fn write_all<K: Sink>(writer: &mut K, bytes: &[u8]) -> Result<(), Failed>
 }
 
 /// The most bytes of an input, with the line feed at its end.
-const MOST_INPUT: usize = 1_048_576;
+pub(crate) const MOST_INPUT: usize = 1_048_576;
 
 const CHUNK: usize = 4096;
 

@@ -11,7 +11,7 @@ use Rattle.decision.specs.Questions.{IsForced}
 use Rattle.decision.specs.Answer.{Wins, IsLeastWin, ForcesNothing, IsAnswer}
 use Rattle.decision.specs.declared.answer.Answer.TheVariants.{Mate}
 use Rattle.decision.proofs.Winning.{wins_by, forced_by, next_round}
-use Rattle.decision.specs.Below.{ListsAll}
+use Rattle.decision.specs.Orders.{ListsAll}
 use Rattle.rounds.specs.declared.bench.Root.{Root}
 use Rattle.rounds.specs.Jobs.{JobWins}
 use Rattle.rounds.specs.Roots.{LeadsTo, WinsIn}

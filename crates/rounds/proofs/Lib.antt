@@ -5,4 +5,3 @@ pub mod Lists
 pub mod Rows
 pub mod Shares
 pub mod Taking
-pub mod Picking

@@ -15,7 +15,7 @@ use Rattle.rounds.specs.declared.bench.Root.{Root}
 use Rattle.rounds.specs.declared.keys.Key.{Key}
 use Rattle.rounds.specs.Roots.{IsRoot, WinsIn, TakesIn}
 use Rattle.rounds.specs.Keys.{Takes, ListsKeys}
-use Rattle.rounds.proofs.Picking.{InOrder, Picks, keep, skip}
+use Rattle.moves.proofs.Picking.{InOrder, Picks, keep, skip}
 
 -- with the defender to move, 2 r + 1 plies are no better than 2 r
 last_ply : (r : ℕ) (goal : Goal) (side : Side) (q : PlainBoard) → is_same_side side q.mover ≡ false → Forces goal side q (suc (twice r)) → Forces goal side q (twice r)

@@ -1,10 +1,12 @@
+-- to be believed
 pub mod Squares
 pub mod MoveText
 pub mod Reach
 pub mod Moves
 pub mod Order
-pub mod Listing
 pub mod Forces
 pub mod Laws
 pub mod Reading
 pub mod Rays
+-- inside
+pub mod Listing

@@ -1,6 +1,8 @@
+-- to be believed
 pub mod Machine
 pub mod Rule
 pub mod Steps
 pub mod Promise
+-- inside
 pub mod Triples
 pub mod Bounded

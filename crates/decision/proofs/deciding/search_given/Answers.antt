@@ -3,7 +3,7 @@ use Rattle.std.proofs.lemmas.Bool.Decides.{Decides-eqb}
 use Rattle.slots.specs.Promise.{slots_of, number}
 use Rattle.rules.specs.Moves.{IsLawful}
 use Rattle.decision.specs.Callers.{adds}
-use Rattle.decision.specs.Below.{ListsAll}
+use Rattle.decision.specs.Orders.{ListsAll}
 use Rattle.decision.proofs.Below.{none_listed, some_listed, all_listed, not_empty, now_for, tells_answer, tells_below, now_zero}
 use Rattle.decision.proofs.deciding.search_given.Goals as goal
 

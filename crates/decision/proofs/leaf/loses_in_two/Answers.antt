@@ -2,7 +2,8 @@ use Rattle.std.proofs.Common.{All, sym, ◌∙◌, subst, arith, false, length}
 use Rattle.std.proofs.lemmas.Bool.{false≢true}
 use Rattle.std.proofs.lemmas.Bool.Decides.{Decides-eqb}
 use Rattle.std.proofs.lemmas.List.{take_all}
-use Rattle.decision.specs.Below.{ListsAll, IsPassed}
+use Rattle.decision.specs.Orders.{ListsAll}
+use Rattle.decision.specs.Below.{IsPassed}
 use Rattle.decision.proofs.Below.{ended_answer, gone_answer, none_listed, some_listed, not_empty, passes_other, passed_after, cut_after, All-listed}
 use Rattle.decision.proofs.LastPlies.{other_stuck}
 use Rattle.decision.proofs.leaf.loses_in_two.Goals as goal

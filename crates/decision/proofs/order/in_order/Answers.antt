@@ -1,7 +1,7 @@
 use Rattle.std.proofs.Common.{All, length, ◌≡◌, sym, subst, ◌∙◌, ap}
 use Rattle.std.specs.List.{refill}
 use Rattle.rules.specs.Moves.{IsLawful}
-use Rattle.decision.specs.Below.{ListsAll}
+use Rattle.decision.specs.Orders.{ListsAll}
 use Rattle.decision.proofs.Below.{all_listed, lists_permuted, refilled}
 use Rattle.decision.proofs.order.in_order.Goals as goal
 

@@ -3,7 +3,8 @@ use Rattle.std.proofs.lemmas.Bool.Decides.{Decides-eqb}
 use Rattle.std.proofs.lemmas.List.{take_all}
 use Rattle.rules.specs.Moves.{IsLawful}
 use Rattle.decision.specs.Questions.{IsForced}
-use Rattle.decision.specs.Below.{ListsAll, is_own, IsPassed}
+use Rattle.decision.specs.Orders.{ListsAll}
+use Rattle.decision.specs.Below.{is_own, IsPassed}
 use Rattle.decision.proofs.Callers.{goes_more}
 use Rattle.decision.proofs.Replies.{known_is_right, forced_later}
 use Rattle.decision.proofs.Decided.{asked_then}

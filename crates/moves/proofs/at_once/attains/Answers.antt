@@ -1,11 +1,12 @@
 use Rattle.std.proofs.Common.{◌↔◌, IsSome, IfSome, sym, subst, ◌∙◌}
 use Rattle.std.proofs.lemmas.Bool.{false≢true}
 use Rattle.board.specs.Board.{PlainBoard}
-use Rattle.rules.specs.Moves.{Promotes, IsPromotion, IsMove}
+use Rattle.rules.specs.Reach.{IsInCheck}
+use Rattle.rules.specs.Moves.{Promotes, IsPromotion, after}
 use Rattle.rules.specs.Forces.{IsReached}
 use Rattle.rules.proofs.Keeps.{one_after}
-use Rattle.moves.proofs.AtOnce.{pseudo_by, move_by}
-use Rattle.moves.proofs.Guarding.{promotes_well}
+use Rattle.moves.proofs.AtOnce.{move_by}
+use Rattle.moves.proofs.Guarding.{promotes_well, not_attacked_safe}
 use Rattle.moves.proofs.at_once.attains.Goals as goal
 
 pub returns-then-not-is_promoted_well : goal.returns-then-not-is_promoted_well
@@ -23,16 +24,32 @@ moved-next-requires c =
     let m = c.args.m in
     let u = c.args.unit in
     let well = subst (λ g. (IsSome m.promotion ↔ Promotes g u m.to) × IfSome m.promotion (IsPromotion g)) c.game.ensures.value (c.is_promoted_well.ensures.0 c.if-not-is_promoted_well.false) in
-    pseudo_by c.args.board.now m u c.requires.stands (c.requires.lawful (record { named = well.0; allowed = well.1 }))
+    c.requires.pseudo (record { named = well.0; allowed = well.1 })
 
-pub returns : goal.returns
-returns c =
+pub returns-then-is_reached : goal.returns-then-is_reached
+returns-then-is_reached c =
     let b = c.args.board.now in
     let m = c.args.m in
     let u = c.args.unit in
     let well = subst (λ g. (IsSome m.promotion ↔ Promotes g u m.to) × IfSome m.promotion (IsPromotion g)) c.game.ensures.value (c.is_promoted_well.ensures.0 c.if-not-is_promoted_well.false) in
+    let p = c.requires.pseudo (record { named = well.0; allowed = well.1 }) in
     let next = c.moved-next.result in
-    let move : IsMove b m next = subst (λ (x : PlainBoard). IsMove b m x) (sym c.moved-next.ensures) (move_by b m u c.requires.stands (c.requires.lawful (record { named = well.0; allowed = well.1 }))) in (
-      λ e. record { next = next; move = move; reached = c.is_reached.ensures.0 e },
-      λ w. c.is_reached.ensures.1 (subst (IsReached c.args.goal) (one_after b m w.next next w.move move) w.reached),
+    let own = not_attacked_safe c.is_checked.result next u.side c.is_checked.ensures in (
+      λ yes. record {
+        next = next;
+        move = record { unit = u; pseudo = p; leads = c.moved-next.ensures; safe = λ check. own.0 yes (subst (IsInCheck next) (sym p.owner) check) };
+        reached = c.is_reached.ensures.0 c.if-is_reached.true;
+      },
+      λ w. own.1 (λ check. (move_by b m u c.requires.stands (w.next, w.move)).safe (subst (IsInCheck (after b m u)) p.owner (subst (λ (x : PlainBoard). IsInCheck x u.side) c.moved-next.ensures check))),
     )
+
+pub returns-else-is_reached : goal.returns-else-is_reached
+returns-else-is_reached c = (
+  λ yes. absurd (false≢true (sym c.if-is_reached.false ∙ yes)),
+  λ w.
+      let b = c.args.board.now in
+      let m = c.args.m in
+      let u = c.args.unit in
+      let move = move_by b m u c.requires.stands (w.next, w.move) in
+      absurd (false≢true (sym c.if-is_reached.false ∙ c.is_reached.ensures.1 (subst (IsReached c.args.goal) (one_after b m w.next _ w.move move ∙ sym c.moved-next.ensures) w.reached))),
+)

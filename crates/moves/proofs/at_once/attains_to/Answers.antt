@@ -31,11 +31,11 @@ returns-clause-none c = λ _ m from to w.
     let same : m ≡ record { from = c.args.from; to = c.args.to; promotion = get_or PROMOTIONS (promotion_number m.promotion) None } = λ k. record { from = from k; to = to k; promotion = sym named k } in
     c.loop-i.invariant (promotion_number m.promotion) tried (subst (Attains c.args.quest.goal b) same w)
 
-pub returns-then-not-may_go-clause-none : goal.returns-then-not-may_go-clause-none
-returns-then-not-may_go-clause-none c = λ _ m from to w. c.may_go.ensures.none c.if-not-may_go.true m from to (w.next, w.move)
+pub returns-then-not-is_open-clause-none : goal.returns-then-not-is_open-clause-none
+returns-then-not-is_open-clause-none c = λ _ m from to w. c.is_open.ensures.none c.if-not-is_open.true m from to (w.next, w.move)
 
-pub attains-requires-clause-lawful : goal.attains-requires-clause-lawful
-attains-requires-clause-lawful c = λ named. c.may_go.ensures.all c.if-not-may_go.false _ refl refl named
+pub attains-requires-clause-pseudo : goal.attains-requires-clause-pseudo
+attains-requires-clause-pseudo c = λ named. c.is_open.ensures.pseudo c.if-not-is_open.false _ refl refl named
 
 pub returns-then-attains-clause-found : goal.returns-then-attains-clause-found
 returns-then-attains-clause-found c = λ _. (_, c.attains.ensures.0 c.if-attains.true)

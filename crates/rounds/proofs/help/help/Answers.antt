@@ -1,5 +1,5 @@
 use Rattle.std.proofs.Common.{arith, sym, subst, length, ap}
-use Rattle.decision.specs.Below.{ListsAll}
+use Rattle.decision.specs.Orders.{ListsAll}
 use Rattle.decision.proofs.Calls.{continues_more}
 use Rattle.rounds.proofs.Jobs.{listed_move}
 use Rattle.rounds.proofs.help.help.Goals as goal

@@ -1,7 +1,7 @@
 use Rattle.std.proofs.Common.{take}
 use Rattle.slots.specs.Promise.{IsSeatOf}
 use Rattle.rounds.specs.Going.{GoesOn}
-use Rattle.rounds.proofs.Picking.{InOrder, Picks}
+use Rattle.moves.proofs.Picking.{InOrder, Picks}
 use Rattle.rounds.proofs.Taking.{Before, IsKey, first_of}
 use Rattle.rounds.proofs.keys.keys_of.Given as goal
 

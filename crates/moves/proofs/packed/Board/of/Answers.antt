@@ -1,32 +1,12 @@
-use Rattle.std.proofs.Common.{◌≡◌, sym, ap, subst, ◌∙◌, arith}
-use Rattle.board.specs.Games.{squares_of}
-use Rattle.moves.specs.Words.{unpacked}
+use Rattle.std.proofs.Common.{sym, subst}
 use Rattle.moves.specs.Sets.{Shows}
-use Rattle.moves.proofs.Packing.{IsPut, IsFilled, IsFilled-more, IsPacked-of, unpacked_of}
 use Rattle.moves.proofs.packed.Board.of.Goals as goal
-
-pub loop-square-preserved : goal.loop-square-preserved
-loop-square-preserved c =
-    let put : IsPut c.args.position.now.game c.loop-square.words c.put.new.words c.loop-square.square c.code_in.result =
-    subst (λ g. IsPut g c.loop-square.words c.put.new.words c.loop-square.square c.code_in.result) c.game-game.ensures.value
-    (subst (λ n. IsPut c.game-game.result c.loop-square.words c.put.new.words n c.code_in.result) c.of_number-at.ensures.number (record { there = c.put.ensures.there; elsewhere = c.put.ensures.elsewhere })) in
-    IsFilled-more _ _ _ _ _ _ c.code_in.result put c.code_in.ensures.value c.code_in.ensures.code c.loop-square.invariant
-
-module _ (c : goal.After-of-sets) where
-  at_end : c.loop-square.square ≡ squares_of c.args.position.now.game
-  at_end = let end : c.squares-square-end.result ≡ squares_of c.args.position.now.game = c.squares-square-end.ensures ∙ ap squares_of c.game-game.ensures.value in omega arith
-
-  filled : IsFilled c.args.position.now.game c.flags_of-flags.result c.args.position.now.units c.loop-square.words (squares_of c.args.position.now.game)
-  filled = subst (IsFilled c.args.position.now.game c.flags_of-flags.result c.args.position.now.units c.loop-square.words) at_end c.loop-square.invariant
-
-  view : unpacked c.loop-square.words ≡ c.args.position.now
-  view = unpacked_of c.args.position.now c.game-game.ensures.position c.flags_of-flags.result _ c.flags_of-flags.ensures.flags (c.flags_of-flags.ensures.game ∙ c.game-game.ensures.value) (c.flags_of-flags.ensures.mover ∙ c.mover.ensures) filled
 
 pub invariant_of-result : goal.invariant_of-result
 invariant_of-result c = record {
-  packed = IsPacked-of c.args.position.now c.game-game.ensures.position c.flags_of-flags.result _ c.flags_of-flags.ensures.flags (c.flags_of-flags.ensures.game ∙ c.game-game.ensures.value) (c.flags_of-flags.ensures.mover ∙ c.mover.ensures) (filled c);
-  shows = subst (λ b. Shows b c.of-sets.result) (sym (view c)) c.of-sets.ensures;
+  packed = c.write_words-words.ensures.packed;
+  shows = subst (λ b. Shows b c.of-sets.result) (sym c.write_words-words.ensures.value) c.of-sets.ensures;
 }
 
 pub returns : goal.returns
-returns c = view c
+returns c = c.write_words-words.ensures.value

@@ -1,26 +1,24 @@
-use Rattle.std.proofs.Common.{◌≡◌, ◌<◌, sym, ap, subst, ◌∙◌, arith}
+use Rattle.std.proofs.Common.{◌≡◌, ◌<◌, ℕ, List, Option, Some, None, IfSome, IfNone, IsSome, refl, sym, ap, subst, ◌∙◌}
+use Rattle.board.specs.declared.game.Game.{Game}
+use Rattle.board.specs.declared.game.Side.{Side}
+use Rattle.board.specs.Board.{PlainBoard, unit_on, IsPosition}
 use Rattle.board.specs.Games.{squares_of}
-use Rattle.board.specs.Board.{IsPosition}
-use Rattle.rules.proofs.Keeps.{made_from}
-use Rattle.moves.proofs.Packing.{IsCopied-start, IsCopied-more, IsCopied-whole, within_36}
+use Rattle.moves.specs.Words.{Spells, man_of, code_on, units_in, unpacked}
+use Rattle.moves.proofs.Packing.{units_in-at, within_36, one_spelled}
 use Rattle.moves.proofs.packed.Board.position.Goals as goal
 
-pub loop-square-init : goal.loop-square-init
-loop-square-init c = IsCopied-start c.args.self.now
+-- a board's own words spell it
+spelled : (words : List ℕ) (b : PlainBoard) → unpacked words ≡ b → Spells b words
+spelled words b view = subst (λ (x : PlainBoard). Spells x words) view (λ n h. units_in-at _ words n (within_36 _ n h))
 
-pub loop-square-preserved : goal.loop-square-preserved
-loop-square-preserved c =
-    let within : c.loop-square.square < squares_of c.game-game.result = subst (λ n. c.loop-square.square < n) c.squares-square-end.ensures c.loop-square-test.true in
-    IsCopied-more c.args.self.now c.loop-square.units c.loop-square.square c.unit.result (within_36 c.game-game.result c.loop-square.square within) c.unit.ensures c.loop-square.invariant
+some_read : (o : Option PlainBoard) (b : PlainBoard) (g : Game) (mover : Side) (words : List ℕ) → IfNone o ((x : PlainBoard) → IsPosition x → x.game ≡ g → x.mover ≡ mover → Spells x words → ⊥) → IsPosition b → b.game ≡ g → b.mover ≡ mover → Spells b words → IsSome o
+some_read None b g mover words none is game side s = absurd (none b is game side s)
+some_read (Some p) b g mover words none is game side s = refl
 
 pub unwrap-requires : goal.unwrap-requires
-unwrap-requires c =
-    let end : c.squares-square-end.result ≡ squares_of c.args.self.now.game = c.squares-square-end.ensures ∙ ap squares_of c.game-game.ensures.value in
-    let whole = IsCopied-whole c.args.self.now c.game-game.ensures.position c.game-game.result c.mover.result c.loop-square.units c.loop-square.square c.game-game.ensures.value c.mover.ensures.value (omega arith) c.loop-square.invariant in
-    made_from c.of.result _ c.of.ensures.refused (subst IsPosition (sym whole) c.game-game.ensures.position)
+unwrap-requires c = some_read c.read_words.result c.args.self.now c.game.result c.mover.result c.self.inside.words c.read_words.ensures.refused c.game.ensures.position (sym c.game.ensures.value) (sym c.mover.ensures.value) (spelled c.self.inside.words c.args.self.now c.self.view_is)
 
 pub returns : goal.returns
 returns c =
-    let end : c.squares-square-end.result ≡ squares_of c.args.self.now.game = c.squares-square-end.ensures ∙ ap squares_of c.game-game.ensures.value in
-    rw c.unwrap.ensures at c.of.ensures.made
-    ∙ IsCopied-whole c.args.self.now c.game-game.ensures.position c.game-game.result c.mover.result c.loop-square.units c.loop-square.square c.game-game.ensures.value c.mover.ensures.value (omega arith) c.loop-square.invariant
+    let read = rw c.unwrap.ensures at c.read_words.ensures.made in
+    one_spelled c.unwrap.result c.args.self.now c.self.inside.words (rw c.unwrap.ensures at c.read_words.ensures.position) c.game.ensures.position read.2 (spelled c.self.inside.words c.args.self.now c.self.view_is) (read.0 ∙ c.game.ensures.value) (read.1 ∙ c.mover.ensures.value)

@@ -1,0 +1,7 @@
+use Rattle.std.proofs.Common.{subst}
+use Rattle.board.specs.Board.{PlainBoard}
+use Rattle.entry.specs.Packing.{entry_of, Packing}
+use Rattle.entry.proofs.packing.pack_board.Goals as goal
+
+pub returns : goal.returns
+returns c = subst (λ (b : PlainBoard). Packing (entry_of b c.args.attacker c.args.goal c.args.interval) c.with_marks.result) c.words.ensures.value c.with_marks.ensures

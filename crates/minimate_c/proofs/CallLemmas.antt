@@ -1,0 +1,17 @@
+-- What a call answers, from the work on its reply.
+use Rattle.std.proofs.Common.{◌≡◌, ◌⊎◌, ℕ, List, Result, Ok, Err, Vec, vec_items, inl, inr, refl, ap}
+use Rattle.std.specs.declared.alloc.Global.{Global}
+use Rattle.command_line.specs.declared.line.Line.{Line}
+use Rattle.replies.specs.Outcome.{Gives}
+use Rattle.replies.specs.Output.{answered, refused, IsOutput}
+use Rattle.replies.specs.declared.refusal.Refusal.{Refusal}
+use Rattle.replies.specs.declared.refusal.Refusal.TheVariants.{NoMemory}
+use Rattle.minimate_c.specs.Calls.{Answers, PutsReply}
+
+-- a reply that is the line's is answered where it is put
+pub answers : (line : Line) (input : List ℕ) (r : Result (Vec ℕ Global) Refusal) (old new : List ℕ) (number : ℕ)
+    → Gives vec_items (IsOutput line input) r → PutsReply r old new number → Answers line input old new number
+answers line input (Ok text) old new number gives put = (answered text.items, inl gives, put)
+answers line input (Err refusal) old new number (inl none) (inl put) = (refused refusal, inr (ap refused none), put)
+answers line input (Err refusal) old new number (inr right) (inl put) = (refused refusal, inl right, put)
+answers line input (Err refusal) old new number gives (inr put) = (refused NoMemory, inr refl, put)

@@ -1,0 +1,30 @@
+-- What a call of the library answers.
+use Rattle.std.specs.Prelude.{◌≡◌, ◌⊎◌, ℕ, Bool, true, false, List, Result, Ok, Err, Vec}
+use Rattle.std.specs.declared.alloc.Global.{Global}
+use Rattle.rules.specs.declared.goal.Goal.{Goal}
+use Rattle.rules.specs.declared.goal.Goal.TheVariants.{Mate, MateOrStale}
+use Rattle.command_line.specs.declared.line.Line.{Line}
+use Rattle.command_line.specs.declared.line.Limits.{Limits}
+use Rattle.replies.specs.Output.{Reply, refused, IsOutput}
+use Rattle.replies.specs.declared.refusal.Refusal.{Refusal}
+use Rattle.replies.specs.declared.refusal.Refusal.TheVariants.{NoMemory}
+use Rattle.minimate_c.specs.Room.{IsPut}
+
+-- the goal that a caller names: mate, or stalemate too
+abbrev pub goal_of : Bool → Goal
+goal_of false = Mate
+goal_of true = MateOrStale
+
+-- the limits of a search with one worker
+abbrev pub limits_of : ℕ → ℕ → Limits
+limits_of limit slots = record { limit = limit; workers = 1; slots = slots }
+
+-- the room and the number are those of the program's reply to the line with this input, or of the refusal for want of memory
+abbrev pub Answers : Line → List ℕ → List ℕ → List ℕ → ℕ → Type 0
+Answers line input old new number =
+    (reply : Reply) × (IsOutput line input reply ⊎ (reply ≡ refused NoMemory)) × IsPut reply.text old new number
+
+-- what is put of the work on a reply: its text, or why there is none, where that itself may want memory
+abbrev pub PutsReply : Result (Vec ℕ Global) Refusal → List ℕ → List ℕ → ℕ → Type 0
+PutsReply (Ok text) old new number = IsPut text.items old new number
+PutsReply (Err refusal) old new number = IsPut (refused refusal).text old new number ⊎ IsPut (refused NoMemory).text old new number

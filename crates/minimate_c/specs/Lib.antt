@@ -1,0 +1,3 @@
+-- to be believed
+pub mod Room
+pub mod Calls

@@ -1,0 +1,70 @@
+//! The library for other languages: each call's text goes into room that its caller lends. include/minimate.h says what a caller owes.
+#![tactic(auto)]
+
+ghost use Rattle.std.specs.Prelude.{[]};
+ghost use Rattle.command_line.specs.declared.line.Action.TheVariants.{Solve, Moves, Tree, Check};
+ghost use Rattle.minimate_c.specs.Calls.{Answers, goal_of, limits_of};
+
+mod answering;
+mod room;
+#[cfg(test)]
+mod tests;
+
+use crate::answering::{goal_of, limits_of, put_reply};
+use replies::{check_reply, moves_reply, solve_reply, tree_reply};
+use std::alloc::Global;
+
+/// What `minimate moves` writes of the position.
+#[unsafe(no_mangle)]
+pub extern "C" fn minimate_moves(alloc: Global, fen: &[u8], room: &mut [u8]) -> usize
+    ensures { Answers (record { fen = fen.entry; action = Moves }) [] room.old room.new result }
+{
+    put_reply(alloc, moves_reply(alloc, fen), room)
+}
+
+/// What `minimate check` writes of the position and this input, which is a tree's text.
+#[unsafe(no_mangle)]
+pub extern "C" fn minimate_check(
+    alloc: Global,
+    fen: &[u8],
+    stale: bool,
+    tree: &[u8],
+    room: &mut [u8],
+) -> usize
+    ensures { Answers (record { fen = fen.entry; action = Check (goal_of stale) }) tree.now room.old room.new result }
+{
+    let reply = check_reply(alloc, fen, goal_of(stale), tree);
+    put_reply(alloc, reply, room)
+}
+
+/// What `minimate solve` writes of the position, found by the caller's own thread alone.
+#[unsafe(no_mangle)]
+pub extern "C" fn minimate_solve(
+    alloc: Global,
+    fen: &[u8],
+    stale: bool,
+    limit: u32,
+    slots: u32,
+    room: &mut [u8],
+) -> usize
+    ensures { Answers (record { fen = fen.entry; action = Solve (goal_of stale) (limits_of limit slots) }) [] room.old room.new result }
+{
+    let reply = solve_reply(alloc, fen, goal_of(stale), limits_of(limit, slots));
+    put_reply(alloc, reply, room)
+}
+
+/// What `minimate tree` writes of the position, found by the caller's own thread alone.
+#[unsafe(no_mangle)]
+pub extern "C" fn minimate_tree(
+    alloc: Global,
+    fen: &[u8],
+    stale: bool,
+    limit: u32,
+    slots: u32,
+    room: &mut [u8],
+) -> usize
+    ensures { Answers (record { fen = fen.entry; action = Tree (goal_of stale) (limits_of limit slots) }) [] room.old room.new result }
+{
+    let reply = tree_reply(alloc, fen, goal_of(stale), limits_of(limit, slots));
+    put_reply(alloc, reply, room)
+}

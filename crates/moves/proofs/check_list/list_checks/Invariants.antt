@@ -1,0 +1,15 @@
+use Rattle.std.proofs.Common.{◌≤◌, take, length}
+use Rattle.rules.specs.Squares.{Ply}
+use Rattle.rules.specs.Moves.{GivesCheck}
+use Rattle.rules.specs.Order.{IsPlyBefore}
+use Rattle.moves.proofs.Picking.{InOrder, Picks}
+use Rattle.moves.proofs.check_list.list_checks.Given as goal
+
+-- the checks among the moves so far
+abbrev pub invariant-loop-m : goal.invariant-loop-m
+invariant-loop-m l =
+    record {
+      few : length l.moves.items ≤ l.m-index;
+      ordered : InOrder (IsPlyBefore l.board.game) (λ (m : Ply). m) (GivesCheck l.board) l.moves.items;
+      exact : Picks (IsPlyBefore l.board.game) (λ (m : Ply). m) (GivesCheck l.board) (take l.m-index l.m-items) l.moves.items;
+    }

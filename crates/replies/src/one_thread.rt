@@ -1,0 +1,132 @@
+//! The replies that one thread gives, from the text of a position: those of the program, for whoever can start no thread.
+ghost use Rattle.std.specs.Prelude.{◌≤◌, [], All, IfErr, IfOk, Ok, Err, vec_items};
+ghost use Rattle.slots.specs.Promise.{IsSeatOf};
+ghost use Rattle.command_line.specs.declared.line.Action.TheVariants.{Solve, Moves, Tree, Check};
+ghost use Rattle.replies.specs.Outcome.{Gives, Solves};
+ghost use Rattle.replies.specs.Output.{IsOutput, ShowsAnswer, ShowsPlanFound, ShowsMoves, ShowsCheck};
+
+use crate::refusal::Refusal;
+use crate::replying::{
+    Search, answer_text, moves_text, none_text, search_of, tree_line, verdict_text,
+};
+use crate::transfer::{MOST_INPUT, without_line_feed};
+use alone::solve_alone;
+use board::Position;
+use command_line::Limits;
+use decision::Answer;
+use entry::MateLore;
+use moves::{Board, Goal, lawful, read_sound};
+use rounds::{SolveFault, make_table};
+use slots::{Seat, Slots};
+use std::alloc::Global;
+use trees::build_tree;
+
+/// The answer within the limits, with the table that it was found over and a seat there.
+fn searched_alone(
+    alloc: Global,
+    position: &Position,
+    goal: Goal,
+    limits: Limits,
+) -> Result<(Answer, Slots<MateLore>, Seat), SolveFault>
+    ensures answer { IfOk result (λ found. Solves goal position.now limits (Ok found.0)) }
+    ensures seat { IfOk result (λ found. IsSeatOf found.1 found.2) }
+    ensures fault { IfErr result (λ fault. Solves goal position.now limits (Err fault)) }
+{
+    let Search {
+        limit,
+        workers,
+        slots,
+    } = search_of(limits);
+    let (table, mut seats) = make_table(alloc, limit, workers, slots)?;
+    let mut seat = seats.take_last();
+    let answer = solve_alone(&table, &mut seat, &Board::of(position), goal, limit);
+    Ok((answer, table, seat))
+}
+
+fn answer_shown(
+    alloc: Global,
+    position: &Position,
+    goal: Goal,
+    limits: Limits,
+) -> Result<Vec<u8>, Refusal>
+    ensures { Gives vec_items (ShowsAnswer goal position.now limits) result }
+{
+    let (answer, _, _) = searched_alone(alloc, position, goal, limits)?;
+    Ok(answer_text(alloc, goal, answer)?.into_bytes())
+}
+
+fn plan_shown(
+    alloc: Global,
+    position: &Position,
+    goal: Goal,
+    limits: Limits,
+) -> Result<Vec<u8>, Refusal>
+    ensures { Gives vec_items (ShowsPlanFound goal position.now limits) result }
+{
+    let (answer, table, mut seat) = searched_alone(alloc, position, goal, limits)?;
+    match answer {
+        Answer::Mate { plies, .. } => {
+            let tree = build_tree(alloc, &table, &mut seat, position, goal, plies)?;
+            Ok(tree_line(alloc, &tree)?)
+        }
+        Answer::NoneWithin(limit) => Ok(none_text(alloc, u32::from(limit))?.into_bytes()),
+    }
+}
+
+fn moves_shown(alloc: Global, position: &Position) -> Result<Vec<u8>, Refusal>
+    ensures { Gives vec_items (ShowsMoves position.now) result }
+{
+    let moves = lawful(position);
+    Ok(moves_text(alloc, moves.as_slice())?.into_bytes())
+}
+
+fn check_shown(
+    alloc: Global,
+    position: &Position,
+    goal: Goal,
+    input: &[u8],
+) -> Result<Vec<u8>, Refusal>
+    ensures { Gives vec_items (ShowsCheck goal position.now input.now) result }
+{
+    if MOST_INPUT < input.len() {
+        return Err(Refusal::TooLong);
+    }
+    verdict_text(alloc, position, goal, without_line_feed(input))
+}
+
+/// The reply of `moves`: the lawful moves, or why there are none to tell.
+pub fn moves_reply(alloc: Global, fen: &[u8]) -> Result<Vec<u8>, Refusal>
+    ensures { Gives vec_items (IsOutput (record { fen = fen.entry; action = Moves }) []) result }
+{
+    let position = read_sound(fen)?;
+    moves_shown(alloc, &position)
+}
+
+/// The reply of `check` to the tree of this input.
+pub fn check_reply(alloc: Global, fen: &[u8], goal: Goal, input: &[u8]) -> Result<Vec<u8>, Refusal>
+    ensures { Gives vec_items (IsOutput (record { fen = fen.entry; action = Check goal }) input.now) result }
+{
+    let position = read_sound(fen)?;
+    check_shown(alloc, &position, goal, input)
+}
+
+/// The reply of `solve`, searched by the caller's own thread alone.
+pub fn solve_reply(
+    alloc: Global,
+    fen: &[u8],
+    goal: Goal,
+    limits: Limits,
+) -> Result<Vec<u8>, Refusal>
+    ensures { Gives vec_items (IsOutput (record { fen = fen.entry; action = Solve goal limits }) []) result }
+{
+    let position = read_sound(fen)?;
+    answer_shown(alloc, &position, goal, limits)
+}
+
+/// The reply of `tree`, searched by the caller's own thread alone.
+pub fn tree_reply(alloc: Global, fen: &[u8], goal: Goal, limits: Limits) -> Result<Vec<u8>, Refusal>
+    ensures { Gives vec_items (IsOutput (record { fen = fen.entry; action = Tree goal limits }) []) result }
+{
+    let position = read_sound(fen)?;
+    plan_shown(alloc, &position, goal, limits)
+}
