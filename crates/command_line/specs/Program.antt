@@ -1,6 +1,7 @@
 -- The commands, as `clap` reads them.
 use Rattle.std.specs.Prelude.{[], ◌∷◌, Some, true, codes, pos}
 use Rattle.clap.specs.Words.{App, Rule, Text, new_app, new_rule, with_rule, with_subcommand}
+use Rattle.clap.specs.declared.builder.action.ArgAction.TheVariants.{SetTrue}
 use Rattle.clap.specs.declared.builder.value_parser.ValueParser.TheVariants as parser
 
 -- one word that must be there
@@ -35,9 +36,13 @@ goal_rule = record (new_rule (codes "goal")) {
   defaults = codes "mate" ∷ [];
 }
 
--- with the options of a search: `--limit N [--workers K] [--slots S] [--goal GOAL]`
+-- `--progress`, which takes no value
+abbrev pub progress_rule : Rule
+progress_rule = record (new_rule (codes "progress")) { long = Some (codes "progress"); action = Some SetTrue }
+
+-- with the options of a search: `--limit N [--workers K] [--slots S] [--goal GOAL] [--progress]`
 abbrev pub limits_app : App → App
-limits_app app = with_rule (with_rule (with_rule (with_rule app limit_rule) workers_rule) slots_rule) goal_rule
+limits_app app = with_rule (with_rule (with_rule (with_rule (with_rule app limit_rule) workers_rule) slots_rule) goal_rule) progress_rule
 
 -- a command of this name with the options of a search, and a position
 abbrev pub search_app : Text → App

@@ -66,3 +66,7 @@ pub record MeansOrder (words : List Text) (order : Order) : Type 0 where
 -- the words mean no order: `clap` finds a fault in them, or what it finds is none
 abbrev pub MeansNoOrder : List Text → Type 0
 MeansNoOrder words = (fault_of program words ≢ []) ⊎ ((order : Order) → MeansOrder words order → ⊥)
+
+-- the word that asks for a sign of life
+abbrev pub progress_word : Text
+progress_word = codes "--progress"

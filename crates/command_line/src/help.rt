@@ -187,3 +187,11 @@ pub const SLOTS_MORE: &str = "\
 How many slots the table of decided positions has, 1 to 1048576. It
 changes how long the search takes and how much memory (some 65 bytes
 a slot), and never the answer. Give a prime, as 1048573.";
+
+pub const PROGRESS: &str = "Show on standard error how far the search is";
+
+pub const PROGRESS_MORE: &str = "\
+Shows on standard error how far the search is: one line, drawn anew at
+least each second, as `12 s, none within 9, round 11: move 14 of 31,
+c4c5`, the least first move that isn't decided yet. Each round that
+ends with nothing leaves `none within 9` behind.";

@@ -8,4 +8,4 @@ mod reading;
 mod tests;
 
 pub use line::{Action, Limits, Line, Order};
-pub use reading::{LineFault, matches, read_order};
+pub use reading::{LineFault, asks_progress, matches, read_order};

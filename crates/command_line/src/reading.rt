@@ -1,5 +1,5 @@
 //! Reading the words of a command line.
-ghost use Rattle.std.specs.Prelude.{◌≡◌, ◌↔◌, false, IfErr, IfNone, IfOk, IfSome, None, OnErr, Some, ℕ, codes, map};
+ghost use Rattle.std.specs.Prelude.{◌≡◌, ◌≢◌, ◌↔◌, All, Any, false, IfErr, IfNone, IfOk, IfSome, MatchBool, None, OnErr, Some, ℕ, codes, map};
 ghost use Rattle.rules.specs.declared.goal.Goal.{Goal as TheGoal};
 ghost use Rattle.clap.specs.declared.error.kind.ErrorKind.TheVariants.{OutOfMemory};
 ghost use Rattle.command_line.specs.declared.reading.LineFault.TheVariants.{NoMemory, Words};
@@ -8,17 +8,19 @@ ghost use Rattle.command_line.specs.declared.line.Order.{Order as TheOrder};
 ghost use Rattle.command_line.specs.declared.line.Limits.{Limits as TheLimits};
 ghost use Rattle.command_line.specs.declared.line.Action.{Action as TheAction};
 ghost use Rattle.clap.specs.Words.{FailsBy, app_of, fault_of, first_of, found_of, kind_of, new_app, rows_of, rule_of, subcommand_of, subcommand_rows_of};
-ghost use Rattle.command_line.specs.Words.{HasGoal, HasLimits, HasLine, HasNumber, HasOrder, MeansAction, MeansFound, MeansOrder, MeansNoOrder};
+ghost use Rattle.command_line.specs.Words.{HasGoal, HasLimits, HasLine, HasNumber, HasOrder, MeansAction, MeansFound, MeansOrder, MeansNoOrder, progress_word};
 ghost use Rattle.clap.specs.declared.builder.command.Command.TheViews.{out-Command as fields_of};
-ghost use Rattle.command_line.specs.Program.{fen_rule, goal_rule, number_rule, limit_rule, workers_rule, slots_rule, limits_app, search_app, solve_app, keys_app, tree_app, check_app, moves_app, show_app, batch_app, program};
+ghost use Rattle.command_line.specs.Program.{fen_rule, goal_rule, number_rule, limit_rule, workers_rule, slots_rule, progress_rule, limits_app, search_app, solve_app, keys_app, tree_app, check_app, moves_app, show_app, batch_app, program};
 
 use crate::help;
 use crate::line::{Action, Limits, Line, Order};
 use clap::error::ErrorKind;
-use clap::{Arg, ArgMatches, Command, Error, value_parser};
+use clap::{Arg, ArgAction, ArgMatches, Command, Error, value_parser};
 use moves::Goal;
 use std::alloc::{AllocError, Global};
 use std::convert::AsStr;
+
+const PROGRESS_WORD: &str = "--progress";
 
 /// Why the words are no line.
 #[derive(Clone, Copy)]
@@ -101,6 +103,17 @@ fn slots<'a>(alloc: Global) -> Arg<'a>
         .long_help(help::SLOTS_MORE)
 }
 
+fn progress<'a>(alloc: Global) -> Arg<'a>
+    ensures rule { rule_of result ≡ progress_rule }
+    ensures local { result.global ≡ false }
+{
+    Arg::new(alloc, "progress")
+        .long("progress")
+        .action(ArgAction::SetTrue)
+        .help(help::PROGRESS)
+        .long_help(help::PROGRESS_MORE)
+}
+
 /// A command without its arguments: what it does, and what its short and its long help say below.
 fn named<'a>(
     alloc: Global,
@@ -127,7 +140,8 @@ fn with_limits<'a>(alloc: Global, command: Command<'a>) -> Result<Command<'a>, A
         .arg(limit(alloc))?
         .arg(workers(alloc))?
         .arg(slots(alloc))?
-        .arg(goal(alloc))
+        .arg(goal(alloc))?
+        .arg(progress(alloc))
 }
 
 /// A command that searches at a position.
@@ -340,6 +354,19 @@ fn found_order<'a>(matches: &ArgMatches<'a>) -> Result<Order<'a>, LineFault>
     ensures words { IfErr result (λ fault. fault ≡ Words) }
 {
     order_of(matches).ok_or(LineFault::Words)
+}
+
+/// Whether a sign of life is asked for, by words that mean an order which searches.
+pub fn asks_progress<W: AsStr>(words: &[W]) -> bool
+    ensures { MatchBool result (Any (λ word. W.text word ≡ progress_word) words.now)
+        (All (λ word. W.text word ≢ progress_word) words.now) }
+{
+    for word in words {
+        if word.as_str() == PROGRESS_WORD {
+            return true;
+        }
+    }
+    false
 }
 
 /// The order that the words mean. The first word is the program's name.

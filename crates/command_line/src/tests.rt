@@ -1,5 +1,5 @@
 //! The line of some words, and words that mean none.
-use crate::{Action, Limits, LineFault, Order, matches, read_order};
+use crate::{Action, Limits, LineFault, Order, asks_progress, matches, read_order};
 use moves::Goal;
 use std::process::Abort;
 
@@ -85,6 +85,10 @@ fn refuses_what_is_no_line(rt: HostRuntime) {
     expect_none(&rt, &["minimate", "batch"]);
     expect_none(&rt, &["minimate", "batch", "--limit", "1", FEN]);
     expect_none(&rt, &["minimate", "moves", "--progress", FEN]);
+    expect_none(&rt, &["minimate", "show", "--progress", FEN]);
+    expect_none(&rt, &["minimate", "check", FEN, "--progress"]);
+    let twice = ["minimate", "batch", "--progress", "--limit=1", "--progress"];
+    expect_none(&rt, &twice);
     expect_none(
         &rt,
         &["minimate", "solve", "--progress=yes", "--limit=1", FEN],
@@ -103,4 +107,21 @@ fn tells_what_the_parser_refuses(rt: HostRuntime) {
     assert!(rt; matches(rt.alloc(), any_goal.as_slice()).is_ok());
     let foreign = ["minimate", "moves", "--goal", "mate", FEN];
     assert!(rt; matches(rt.alloc(), foreign.as_slice()).is_err());
+}
+
+#[test]
+fn hears_of_a_sign_of_life(rt: HostRuntime) {
+    let least = Limits {
+        limit: 1,
+        workers: 2,
+        slots: 64,
+    };
+    let asked = ["minimate", "solve", FEN, "--progress", "--limit", "1"];
+    expect_action(&rt, &asked, Action::Solve(Goal::Mate, least));
+    assert!(rt; asks_progress(asked.as_slice()));
+    let first = ["minimate", "keys", "--progress", "--limit", "1", FEN];
+    expect_action(&rt, &first, Action::Keys(Goal::Mate, least));
+    assert!(rt; asks_progress(first.as_slice()));
+    let unasked = ["minimate", "tree", "--limit", "1", FEN];
+    assert!(rt; !asks_progress(unasked.as_slice()));
 }

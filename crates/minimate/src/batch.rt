@@ -1,14 +1,17 @@
 //! A batch: a solve of each position of the input, over one table.
 ghost use Rattle.std.specs.Prelude.{◌≡◌, ◌<◌, IfOk, vec_items};
-ghost use Rattle.replies.specs.Outcome.{Gives};
+ghost use Rattle.replies.specs.Outcome.{Gives, Solves};
 ghost use Rattle.replies.specs.Output.{ShowsAnswer, refused};
 ghost use Rattle.minimate.specs.Batch.{IsReplyText, said_in};
 ghost use Rattle.minimate.specs.Desk.{GivesNext, GivesSaid, IsDesk, IsSolver, OpensDesk, SameSolver, TakesLines, TakesStep, step_of, stop_of};
 ghost use Rattle.minimate.specs.declared.batch.Stop.TheVariants.{NoMemory, WriteFailed};
 
+use crate::beside::{Host, solve_beside};
 use crate::lines::{Next, Unread, is_remark, said_in};
+use crate::watch::Course;
 use board::Position;
 use command_line::Limits;
+use decision::Answer;
 use entry::MateLore;
 use moves::{Goal, read_sound};
 use replies::{
@@ -19,8 +22,11 @@ use rounds::{NoGate, SolveFault, Task, make_table, solve_over};
 use slots::{Seat, Slots};
 use std::alloc::{AllocError, Global};
 use std::io::Write;
+use std::mem;
 use std::sync::Wait;
+use std::sync::atomic::Ordering;
 use std::thread::Threads;
+use std::time::Clock;
 
 /// What a batch is asked of each position.
 #[derive(Clone, Copy)]
@@ -102,9 +108,44 @@ impl Desk {
     }
 }
 
+/// The answer at a position, by the table of the batch.
+fn position_answer<R: Threads + Wait + Eprint + Clock + Sync + AllocGlobal>(
+    host: &Host<'_, R>,
+    solver: &mut Solver,
+    position: &Position,
+) -> Result<Answer, SolveFault>
+    requires { IsSolver solver.old }
+    ensures solver { IsSolver solver.new }
+    ensures same { SameSolver solver.old solver.new }
+    ensures solves { Solves solver.old.goal position.now solver.old.limits result }
+{
+    let alloc = host.rt.alloc();
+    let wanted = solver.goal;
+    let limit = search_of(solver.limits).limit;
+    let Some(watch) = host.watch(position, Course::Rounds) else {
+        let task = Task {
+            position,
+            goal: wanted,
+            limit,
+            gate: &NoGate,
+        };
+        return solve_over(host.rt, alloc, &task, &solver.slots, &mut solver.seats);
+    };
+    let task = Task {
+        position,
+        goal: wanted,
+        limit,
+        gate: &watch,
+    };
+    let seats = mem::replace(&mut solver.seats, Vec::new(alloc));
+    let (answer, seats) = solve_beside(host.rt, &task, &solver.slots, seats);
+    solver.seats = seats;
+    answer
+}
+
 /// The answer at a position.
-fn position_text<R: Threads + Wait + Sync + AllocGlobal>(
-    rt: &R,
+fn position_text<R: Threads + Wait + Eprint + Clock + Sync + AllocGlobal>(
+    host: &Host<'_, R>,
     solver: &mut Solver,
     position: &Position,
 ) -> Result<Vec<u8>, Refusal>
@@ -113,21 +154,15 @@ fn position_text<R: Threads + Wait + Sync + AllocGlobal>(
     ensures same { SameSolver solver.old solver.new }
     ensures gives { Gives vec_items (ShowsAnswer solver.old.goal position.now solver.old.limits) result }
 {
-    let alloc = rt.alloc();
+    let alloc = host.rt.alloc();
     let goal = solver.goal;
-    let task = Task {
-        position,
-        goal,
-        limit: search_of(solver.limits).limit,
-        gate: &NoGate,
-    };
-    let answer = solve_over(rt, alloc, &task, &solver.slots, &mut solver.seats)?;
+    let answer = position_answer(host, solver, position)?;
     Ok(answer_text(alloc, goal, answer)?.into_bytes())
 }
 
 /// What is written for what a line says, or why it is refused.
-fn said_text<R: Threads + Wait + Sync + AllocGlobal>(
-    rt: &R,
+fn said_text<R: Threads + Wait + Eprint + Clock + Sync + AllocGlobal>(
+    host: &Host<'_, R>,
     solver: &mut Solver,
     said: &[u8],
 ) -> Result<Vec<u8>, Refusal>
@@ -137,13 +172,13 @@ fn said_text<R: Threads + Wait + Sync + AllocGlobal>(
     ensures gives { GivesSaid solver.old.goal solver.old.limits said.now result }
 {
     if is_remark(said) {
-        let mut text = Vec::new(rt.alloc());
+        let mut text = Vec::new(host.rt.alloc());
         text.extend_from_slice(said)?;
         text.extend_from_slice(b"\n")?;
         return Ok(text);
     }
     let position = read_sound(said)?;
-    position_text(rt, solver, &position)
+    position_text(host, solver, &position)
 }
 
 /// The line that says why a line of the input is refused, which standard error is told too.
@@ -159,8 +194,8 @@ fn refusal_line<E: Write>(
 }
 
 /// What is written for a line.
-fn line_text<R: Threads + Wait + Sync + AllocGlobal, E: Write>(
-    rt: &R,
+fn line_text<R: Threads + Wait + Eprint + Clock + Sync + AllocGlobal, E: Write>(
+    host: &Host<'_, R>,
     solver: &mut Solver,
     line: &[u8],
     number: u64,
@@ -173,20 +208,20 @@ fn line_text<R: Threads + Wait + Sync + AllocGlobal, E: Write>(
 {
     let fen = said_in(line);
     let line = Some(number);
-    match said_text(rt, solver, fen) {
+    match said_text(host, solver, fen) {
         Ok(text) => Ok(text),
         Err(refusal) => {
             if refusal.status() == 3 {
                 return Err(AllocError);
             }
-            refusal_line(rt.alloc(), errors, &Refused { refusal, fen, line })
+            refusal_line(host.rt.alloc(), errors, &Refused { refusal, fen, line })
         }
     }
 }
 
 /// What is written for what comes next of the input, or nothing at its end.
-fn next_text<R: Threads + Wait + Sync + AllocGlobal, E: Write>(
-    rt: &R,
+fn next_text<R: Threads + Wait + Eprint + Clock + Sync + AllocGlobal, E: Write>(
+    host: &Host<'_, R>,
     solver: &mut Solver,
     next: Next,
     number: u64,
@@ -205,15 +240,20 @@ fn next_text<R: Threads + Wait + Sync + AllocGlobal, E: Write>(
                 fen: b"",
                 line: Some(number),
             };
-            Ok(Some(refusal_line(rt.alloc(), errors, &refused)?))
+            Ok(Some(refusal_line(host.rt.alloc(), errors, &refused)?))
         }
-        Next::Line(line) => Ok(Some(line_text(rt, solver, line.as_slice(), number, errors)?)),
+        Next::Line(line) => Ok(Some(line_text(host, solver, line.as_slice(), number, errors)?)),
     }
 }
 
 /// Reads a line, and writes the reply to it. Answers whether there was one.
-fn answer_next<R: Threads + Wait + Sync + AllocGlobal, S: Source, K: Sink, E: Write>(
-    rt: &R,
+fn answer_next<
+    R: Threads + Wait + Eprint + Clock + Sync + AllocGlobal,
+    S: Source,
+    K: Sink,
+    E: Write,
+>(
+    host: &Host<'_, R>,
     desk: &mut Desk,
     reader: &mut S,
     writer: &mut K,
@@ -228,8 +268,9 @@ fn answer_next<R: Threads + Wait + Sync + AllocGlobal, S: Source, K: Sink, E: Wr
         K.contents K.failures writer.old writer.new) result }
 {
     desk.number = desk.number.saturating_add(1);
-    let next = desk.unread.next_line(rt, rt.alloc(), reader)?;
-    let Some(text) = next_text(rt, &mut desk.solver, next, desk.number, errors)? else {
+    host.line.store(desk.number, Ordering::SeqCst);
+    let next = desk.unread.next_line(host.rt, host.rt.alloc(), reader)?;
+    let Some(text) = next_text(host, &mut desk.solver, next, desk.number, errors)? else {
         return Ok(false);
     };
     write_all(writer, text.as_slice())?;
@@ -237,8 +278,13 @@ fn answer_next<R: Threads + Wait + Sync + AllocGlobal, S: Source, K: Sink, E: Wr
 }
 
 /// Reads line after line and writes the replies, to the end of the input or until something stops it.
-pub fn answer_lines<R: Threads + Wait + Sync + AllocGlobal, S: Source, K: Sink, E: Write>(
-    rt: &R,
+pub fn answer_lines<
+    R: Threads + Wait + Eprint + Clock + Sync + AllocGlobal,
+    S: Source,
+    K: Sink,
+    E: Write,
+>(
+    host: &Host<'_, R>,
     desk: &mut Desk,
     reader: &mut S,
     writer: &mut K,
@@ -250,8 +296,8 @@ pub fn answer_lines<R: Threads + Wait + Sync + AllocGlobal, S: Source, K: Sink, 
     ensures lines { TakesLines desk.old.solver (step_of desk.old desk.new S.remaining S.failures reader.old reader.new
         K.contents K.failures writer.old writer.new) result }
 {
-    for _ in rt.forever() {
-        match answer_next(rt, desk, reader, writer, errors) {
+    for _ in host.rt.forever() {
+        match answer_next(host, desk, reader, writer, errors) {
             Ok(true) => {}
             Ok(false) => return None,
             Err(stop) => return Some(stop),

@@ -2,6 +2,7 @@
 #![tactic(auto)]
 
 mod batch;
+mod beside;
 #[cfg(test)]
 mod device_tests;
 mod ending;
@@ -12,6 +13,7 @@ mod program_tests;
 mod run;
 #[cfg(test)]
 mod tests;
+mod watch;
 
 use crate::program::run_program;
 use replies::Counted;

@@ -11,6 +11,7 @@ use std::alloc::Global;
 use std::io::{self, Write};
 use std::sync::Wait;
 use std::thread::Threads;
+use std::time::Clock;
 
 /// Says that a word is no text.
 fn say_no_text<E: Write>(errors: &mut E) -> io::Result<()>
@@ -40,13 +41,12 @@ fn explain<E: Write>(alloc: Global, words: &[String], errors: &mut E) -> io::Res
 
 /// Runs the words, or answers why there are none. What is to be said of words that are no line goes to
 /// `errors`, and why a line was refused; whether they take it changes nothing.
-pub fn run_program<R: Threads + Wait + Sync + AllocGlobal, S: Source, K: Sink, E: Write>(
-    rt: &R,
-    words: io::Result<Vec<String>>,
-    reader: &mut S,
-    writer: &mut K,
-    errors: &mut E,
-) -> u8
+pub fn run_program<
+    R: Threads + Wait + Eprint + Clock + Sync + AllocGlobal,
+    S: Source,
+    K: Sink,
+    E: Write,
+>(rt: &R, words: io::Result<Vec<String>>, reader: &mut S, writer: &mut K, errors: &mut E) -> u8
     requires reads { S.failures reader.old < u64.MAX }
     requires writes { K.failures writer.old < u64.MAX }
     ensures runs { RunsProgram words (run_of S.remaining S.failures reader.old reader.new

@@ -7,6 +7,7 @@ use std::process::Abort;
 use std::sync::Wait;
 use std::test::Fail;
 use std::thread::Threads;
+use std::time::Clock;
 
 const FEN: &str = "k5/6/2K3/6/6/1R4 w";
 
@@ -28,7 +29,7 @@ fn owned<R: AllocGlobal>(rt: &R, words: &[&str]) -> Result<Vec<String>, AllocErr
 }
 
 /// Runs the words, with a tree for an input.
-fn tell<R: Threads + Wait + Abort + AllocGlobal + Sync>(
+fn tell<R: Threads + Wait + Abort + AllocGlobal + Eprint + Clock + Sync>(
     rt: &R,
     words: io::Result<Vec<String>>,
 ) -> Told {
@@ -44,7 +45,7 @@ fn tell<R: Threads + Wait + Abort + AllocGlobal + Sync>(
 }
 
 /// Runs the words, and expects a status, an output and what is told.
-fn expect<R: Threads + Wait + Abort + AllocGlobal + Sync>(
+fn expect<R: Threads + Wait + Abort + AllocGlobal + Eprint + Clock + Sync>(
     rt: &R,
     words: io::Result<Vec<String>>,
     status: u8,
@@ -67,7 +68,7 @@ fn runs_the_words(rt: HostRuntime) -> Result<(), Fail> {
 }
 
 /// Expects a sentence about the position, whatever the command.
-fn expect_sentence<R: Threads + Wait + Abort + AllocGlobal + Sync>(
+fn expect_sentence<R: Threads + Wait + Abort + AllocGlobal + Eprint + Clock + Sync>(
     rt: &R,
     fen: &str,
     sentence: &str,
@@ -157,7 +158,7 @@ fn explains_boards(rt: HostRuntime) -> Result<(), Fail> {
 }
 
 /// Expects a sentence about the words, over an input.
-fn expect_advice<R: Threads + Wait + Abort + AllocGlobal + Sync>(
+fn expect_advice<R: Threads + Wait + Abort + AllocGlobal + Eprint + Clock + Sync>(
     rt: &R,
     words: &[&str],
     output: &str,

@@ -6,26 +6,28 @@ ghost use Rattle.minimate.specs.Order.{MayReadFor, MeansBatch, RunsWords};
 ghost use Rattle.minimate.specs.Run.{ending_of, run_of, MayTell, Refuses, RunsLine};
 
 use crate::batch::{Batch, Desk, Stop, answer_lines};
+use crate::beside::{Host, reply_shown};
 use crate::ending::{
     ANSWERED, FAILED, REFUSED_WORDS, finish, give_up_for_memory, may_tell, refuse,
 };
-use command_line::{Line, LineFault, Order, read_order};
-use replies::{Refusal, Refused, Sink, Source, Trouble, advise, reply};
+use command_line::{Line, LineFault, Order, asks_progress, read_order};
+use replies::{Refusal, Refused, Sink, Source, Trouble, advise};
 use std::convert::AsStr;
 use std::io::Write;
 use std::sync::Wait;
+use std::sync::atomic::AtomicU64;
 use std::thread::Threads;
+use std::time::{Clock, Instant};
 
 /// Answers a line: writes its output, and gives its status. No line but a `check` at a sound
 /// position asks the reader for anything. `errors` is told why a line was refused; whether it takes
 /// that changes nothing.
-pub fn run_line<R: Threads + Wait + Sync + AllocGlobal, S: Source, K: Sink, E: Write>(
-    rt: &R,
-    line: &Line<'_>,
-    reader: &mut S,
-    writer: &mut K,
-    errors: &mut E,
-) -> u8
+pub fn run_line<
+    R: Threads + Wait + Eprint + Clock + Sync + AllocGlobal,
+    S: Source,
+    K: Sink,
+    E: Write,
+>(host: &Host<'_, R>, line: &Line<'_>, reader: &mut S, writer: &mut K, errors: &mut E) -> u8
     requires reads { S.failures reader.old < u64.MAX }
     requires writes { K.failures writer.old < u64.MAX }
     ensures unread { MayRead line.now ⊎ (reader.new ≡ reader.old) }
@@ -33,10 +35,11 @@ pub fn run_line<R: Threads + Wait + Sync + AllocGlobal, S: Source, K: Sink, E: W
         (ending_of K.contents K.failures writer.old writer.new result)) }
     ensures silent { MayTell result ⊎ (errors.new ≡ errors.old) }
 {
-    let alloc = rt.alloc();
-    match reply(rt, alloc, line, reader) {
+    match reply_shown(host, line, reader) {
         Ok(text) => finish(writer, text.as_slice(), ANSWERED),
-        Err(Trouble::Refused(refusal)) => refuse_and_tell(rt, writer, errors, line.fen, refusal),
+        Err(Trouble::Refused(refusal)) => {
+            refuse_and_tell(host.rt, writer, errors, line.fen, refusal)
+        }
         Err(Trouble::ReadFailed) => FAILED,
     }
 }
@@ -66,38 +69,51 @@ fn refuse_and_tell<R: AllocGlobal, K: Sink, E: Write>(
 }
 
 /// Answers the lines of a batch, or refuses its limits.
-pub fn run_batch<R: Threads + Wait + Sync + AllocGlobal, S: Source, K: Sink, E: Write>(
-    rt: &R,
-    batch: Batch,
-    reader: &mut S,
-    writer: &mut K,
-    errors: &mut E,
-) -> u8
+pub fn run_batch<
+    R: Threads + Wait + Eprint + Clock + Sync + AllocGlobal,
+    S: Source,
+    K: Sink,
+    E: Write,
+>(host: &Host<'_, R>, batch: Batch, reader: &mut S, writer: &mut K, errors: &mut E) -> u8
     requires reads { S.failures reader.old < u64.MAX }
     requires writes { K.failures writer.old < u64.MAX }
     ensures unread { (fault_of batch.limits ≡ None) ⊎ (reader.new ≡ reader.old) }
     ensures runs { RunsBatch batch.goal batch.limits (run_of S.remaining S.failures reader.old reader.new
         (ending_of K.contents K.failures writer.old writer.new result)) }
 {
-    match Desk::open(rt.alloc(), batch.goal, batch.limits) {
-        Ok(mut desk) => match answer_lines(rt, &mut desk, reader, writer, errors) {
+    match Desk::open(host.rt.alloc(), batch.goal, batch.limits) {
+        Ok(mut desk) => match answer_lines(host, &mut desk, reader, writer, errors) {
             None => ANSWERED,
             Some(Stop::NoMemory) => give_up_for_memory(writer),
             Some(Stop::ReadFailed) => FAILED,
             Some(Stop::WriteFailed) => FAILED,
         },
-        Err(fault) => refuse_and_tell(rt, writer, errors, b"", Refusal::from(fault)),
+        Err(fault) => refuse_and_tell(host.rt, writer, errors, b"", Refusal::from(fault)),
+    }
+}
+
+/// The host, and since when a sign of life is shown, if the words ask for one.
+fn host_of<'a, R: Clock, W: AsStr>(rt: &'a R, words: &[W]) -> Host<'a, R> {
+    let start = if asks_progress(words) {
+        Instant::now(rt).ok()
+    } else {
+        None
+    };
+    Host {
+        rt,
+        start,
+        line: AtomicU64::new(0),
     }
 }
 
 /// Answers what the words ask for. The first word is the program's name.
-pub fn run<R: Threads + Wait + Sync + AllocGlobal, W: AsStr, S: Source, K: Sink, E: Write>(
-    rt: &R,
-    words: &[W],
-    reader: &mut S,
-    writer: &mut K,
-    errors: &mut E,
-) -> u8
+pub fn run<
+    R: Threads + Wait + Eprint + Clock + Sync + AllocGlobal,
+    W: AsStr,
+    S: Source,
+    K: Sink,
+    E: Write,
+>(rt: &R, words: &[W], reader: &mut S, writer: &mut K, errors: &mut E) -> u8
     requires reads { S.failures reader.old < u64.MAX }
     requires writes { K.failures writer.old < u64.MAX }
     ensures unread { MayReadFor (map W.text words.now) ⊎ (reader.new ≡ reader.old) }
@@ -106,9 +122,15 @@ pub fn run<R: Threads + Wait + Sync + AllocGlobal, W: AsStr, S: Source, K: Sink,
     ensures silent { MayTell result ⊎ MeansBatch (map W.text words.now) ⊎ (errors.new ≡ errors.old) }
 {
     match read_order(rt.alloc(), words) {
-        Ok(Order::One(line)) => run_line(rt, &line, reader, writer, errors),
+        Ok(Order::One(line)) => run_line(&host_of(rt, words), &line, reader, writer, errors),
         Ok(Order::Batch(goal, limits)) => {
-            run_batch(rt, Batch { goal, limits }, reader, writer, errors)
+            run_batch(
+                &host_of(rt, words),
+                Batch { goal, limits },
+                reader,
+                writer,
+                errors,
+            )
         }
         Err(LineFault::Words) => REFUSED_WORDS,
         Err(LineFault::NoMemory) => give_up_for_memory(writer),

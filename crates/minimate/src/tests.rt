@@ -8,6 +8,7 @@ use std::process::Abort;
 use std::sync::Wait;
 use std::test::Fail;
 use std::thread::Threads;
+use std::time::Clock;
 
 const START: &str = "rnqknr/pppppp/6/6/PPPPPP/RNQKNR w";
 
@@ -115,7 +116,7 @@ impl std::io::Write for Deaf {
 }
 
 /// Runs the words, whatever standard error is told.
-pub fn run_quietly<R: Threads + Wait + AllocGlobal + Sync, S: Source, K: Sink>(
+pub fn run_quietly<R: Threads + Wait + AllocGlobal + Eprint + Clock + Sync, S: Source, K: Sink>(
     rt: &R,
     words: &[&str],
     reader: &mut S,
@@ -128,7 +129,7 @@ pub fn run_quietly<R: Threads + Wait + AllocGlobal + Sync, S: Source, K: Sink>(
 }
 
 /// Runs the words over an input, and expects a status and an output.
-fn expect_with<R: Threads + Wait + Abort + AllocGlobal + Sync>(
+fn expect_with<R: Threads + Wait + Abort + AllocGlobal + Eprint + Clock + Sync>(
     rt: &R,
     words: &[&str],
     input: &[u8],
@@ -143,7 +144,7 @@ fn expect_with<R: Threads + Wait + Abort + AllocGlobal + Sync>(
 }
 
 /// Runs the words with no input, and expects a status and an output.
-fn expect<R: Threads + Wait + Abort + AllocGlobal + Sync>(
+fn expect<R: Threads + Wait + Abort + AllocGlobal + Eprint + Clock + Sync>(
     rt: &R,
     words: &[&str],
     status: u8,
@@ -153,7 +154,7 @@ fn expect<R: Threads + Wait + Abort + AllocGlobal + Sync>(
 }
 
 /// Checks a tree, and expects a status and an output.
-fn expect_check<R: Threads + Wait + Abort + AllocGlobal + Sync>(
+fn expect_check<R: Threads + Wait + Abort + AllocGlobal + Eprint + Clock + Sync>(
     rt: &R,
     fen: &str,
     tree: &str,
@@ -165,7 +166,7 @@ fn expect_check<R: Threads + Wait + Abort + AllocGlobal + Sync>(
 }
 
 /// Checks a tree for a goal, and expects an output with status 0.
-fn expect_check_for<R: Threads + Wait + Abort + AllocGlobal + Sync>(
+fn expect_check_for<R: Threads + Wait + Abort + AllocGlobal + Eprint + Clock + Sync>(
     rt: &R,
     goal: &str,
     tree: &str,
@@ -176,7 +177,7 @@ fn expect_check_for<R: Threads + Wait + Abort + AllocGlobal + Sync>(
 }
 
 /// Solves within a limit, and expects an output with status 0.
-fn expect_answer<R: Threads + Wait + Abort + AllocGlobal + Sync>(
+fn expect_answer<R: Threads + Wait + Abort + AllocGlobal + Eprint + Clock + Sync>(
     rt: &R,
     limit: &str,
     fen: &str,
@@ -186,12 +187,20 @@ fn expect_answer<R: Threads + Wait + Abort + AllocGlobal + Sync>(
 }
 
 /// Lists the moves, and expects an output with status 0.
-fn expect_moves<R: Threads + Wait + Abort + AllocGlobal + Sync>(rt: &R, fen: &str, output: &str) {
+fn expect_moves<R: Threads + Wait + Abort + AllocGlobal + Eprint + Clock + Sync>(
+    rt: &R,
+    fen: &str,
+    output: &str,
+) {
     expect(rt, &["minimate", "moves", fen], 0, output);
 }
 
 /// Expects each command to refuse the position, whatever the limit and the input.
-fn expect_refused<R: Threads + Wait + Abort + AllocGlobal + Sync>(rt: &R, fen: &str, output: &str) {
+fn expect_refused<R: Threads + Wait + Abort + AllocGlobal + Eprint + Clock + Sync>(
+    rt: &R,
+    fen: &str,
+    output: &str,
+) {
     expect(rt, &["minimate", "moves", fen], 1, output);
     expect(rt, &["minimate", "show", fen], 1, output);
     expect(rt, &["minimate", "solve", "--limit", "0", fen], 1, output);
@@ -201,7 +210,10 @@ fn expect_refused<R: Threads + Wait + Abort + AllocGlobal + Sync>(rt: &R, fen: &
 }
 
 /// Expects the words to mean no line: nothing is written.
-fn expect_no_line<R: Threads + Wait + Abort + AllocGlobal + Sync>(rt: &R, words: &[&str]) {
+fn expect_no_line<R: Threads + Wait + Abort + AllocGlobal + Eprint + Clock + Sync>(
+    rt: &R,
+    words: &[&str],
+) {
     expect(rt, words, 2, "");
 }
 
@@ -280,7 +292,7 @@ fn answers_the_same_with_any_workers(rt: HostRuntime) -> Result<(), Fail> {
 }
 
 /// Lists the keys for a goal within a limit, and expects an output with status 0.
-fn expect_keys<R: Threads + Wait + Abort + AllocGlobal + Sync>(
+fn expect_keys<R: Threads + Wait + Abort + AllocGlobal + Eprint + Clock + Sync>(
     rt: &R,
     goal: &str,
     limit: &str,
@@ -307,7 +319,7 @@ fn lists_keys(rt: HostRuntime) {
 }
 
 /// Writes the tree for a goal within a limit, and expects an output with status 0.
-fn expect_tree<R: Threads + Wait + Abort + AllocGlobal + Sync>(
+fn expect_tree<R: Threads + Wait + Abort + AllocGlobal + Eprint + Clock + Sync>(
     rt: &R,
     goal: &str,
     limit: &str,
@@ -336,7 +348,7 @@ fn writes_trees(rt: HostRuntime) {
 }
 
 /// Writes the tree of a line to the input of a `check`, and gives the second run's output.
-fn checked_tree<R: Threads + Wait + Abort + AllocGlobal + Sync>(
+fn checked_tree<R: Threads + Wait + Abort + AllocGlobal + Eprint + Clock + Sync>(
     rt: &R,
     limit: &str,
     fen: &str,
@@ -445,7 +457,7 @@ fn draws_the_board(rt: HostRuntime) {
 }
 
 /// Runs a batch within a limit over an input, and expects a status and an output.
-fn expect_batch<R: Threads + Wait + Abort + AllocGlobal + Sync>(
+fn expect_batch<R: Threads + Wait + Abort + AllocGlobal + Eprint + Clock + Sync>(
     rt: &R,
     limit: &str,
     input: &str,
@@ -760,7 +772,7 @@ fn stops_at_a_failed_read(rt: HostRuntime) {
 }
 
 /// Runs the words over a reader that fails at once, and expects that it isn't asked.
-fn expect_unread<R: Threads + Wait + Abort + AllocGlobal + Sync>(
+fn expect_unread<R: Threads + Wait + Abort + AllocGlobal + Eprint + Clock + Sync>(
     rt: &R,
     words: &[&str],
     status: u8,
@@ -790,4 +802,19 @@ fn asks_the_reader_for_nothing(rt: HostRuntime) {
     expect_unread(&rt, &check, 1, "refused: OtherInCheck\n");
     let no_goal = ["minimate", "check", "--goal", "x", ROOK_MATES];
     expect_unread(&rt, &no_goal, 2, "");
+}
+
+// Each command that searches answers as it does without a sign of life.
+#[test]
+fn answers_beside_a_sign(rt: HostRuntime) {
+    let fen = ROOK_MATES_IN_THREE;
+    let solve = ["minimate", "solve", "--progress", "--limit", "3", fen];
+    expect(&rt, &solve, 0, "mate 3 c4c5\n");
+    let keys = ["minimate", "keys", "--limit", "1", PAWN_MATES, "--progress"];
+    expect(&rt, &keys, 0, "c4c5q 1\nc4c5r 1\n");
+    let tree = ["minimate", "tree", "--limit", "3", "--progress", fen];
+    expect(&rt, &tree, 0, "c4c5{a6a5:b1a1#}\n");
+    let batch = ["minimate", "batch", "--progress", "--limit", "2"];
+    let input = b"k5/6/2K3/6/6/1R4 w\n# two\nk5/6/1K4/6/6/5R w";
+    expect_with(&rt, &batch, input, 0, "none within 2\n# two\nmate 1 f1f6\n");
 }

@@ -15,6 +15,6 @@ pub use advice::{Refused, advise, advise_words};
 pub use device::{Counted, Failed, Sink, Source};
 pub use one_thread::{check_reply, moves_reply, solve_reply, tree_reply};
 pub use refusal::{Refusal, refused_text};
-pub use replying::{Search, answer_text, reply, search_of};
+pub use replying::{Search, Told, answer_text, reply, reply_told, search_of};
 pub use transfer::{InputFault, write_all};
 pub use trouble::Trouble;

@@ -17,7 +17,7 @@ use command_line::{Action, Limits, Line};
 use decision::Answer;
 use entry::MateLore;
 use moves::{Goal, Move, lawful, read_sound};
-use rounds::{Key, NoGate, SolveFault, Task, keys_over, make_table, solve, solve_over};
+use rounds::{Gate, Key, NoGate, SolveFault, Task, keys_over, make_table, solve, solve_over};
 use slots::{Seat, Slots};
 use std::alloc::{AllocError, Global};
 use std::fmt::Write;
@@ -32,6 +32,13 @@ pub struct Search {
     pub limit: u8,
     pub workers: u8,
     pub slots: usize,
+}
+
+/// What is told of a search while it lasts, and where its memory comes from.
+#[derive(Drop)]
+pub struct Told<'a, T: Gate> {
+    pub alloc: Global,
+    pub gate: &'a T,
 }
 
 /// The number as a byte. One that is too great is outside what is searched with, and stays so as 255.
@@ -55,9 +62,9 @@ pub fn search_of(limits: Limits) -> Search
 }
 
 /// The answer within the limits.
-fn answer_within<R: Threads + Wait + Sync>(
+fn answer_within<R: Threads + Wait + Sync, T: Gate>(
     rt: &R,
-    alloc: Global,
+    told: &Told<'_, T>,
     position: &Position,
     goal: Goal,
     limits: Limits,
@@ -69,13 +76,14 @@ fn answer_within<R: Threads + Wait + Sync>(
         workers,
         slots,
     } = search_of(limits);
-    solve(rt, alloc, position, goal, limit, workers, slots, &NoGate)
+    let Told { alloc, gate } = *told;
+    solve(rt, alloc, position, goal, limit, workers, slots, gate)
 }
 
 /// The same, with the table that it was found over and its seats there.
-fn searched_within<R: Threads + Wait + Sync>(
+fn searched_within<R: Threads + Wait + Sync, T: Gate>(
     rt: &R,
-    alloc: Global,
+    told: &Told<'_, T>,
     position: &Position,
     goal: Goal,
     limits: Limits,
@@ -90,21 +98,21 @@ fn searched_within<R: Threads + Wait + Sync>(
         workers,
         slots,
     } = search_of(limits);
-    let (table, mut seats) = make_table(alloc, limit, workers, slots)?;
+    let (table, mut seats) = make_table(told.alloc, limit, workers, slots)?;
     let task = Task {
         position,
         goal,
         limit,
-        gate: &NoGate,
+        gate: told.gate,
     };
-    let answer = solve_over(rt, alloc, &task, &table, &mut seats)?;
+    let answer = solve_over(rt, told.alloc, &task, &table, &mut seats)?;
     Ok((answer, table, seats))
 }
 
 /// The first moves that force the goal within the limits.
-fn keys_within<R: Threads + Wait + Sync>(
+fn keys_within<R: Threads + Wait + Sync, T: Gate>(
     rt: &R,
-    alloc: Global,
+    told: &Told<'_, T>,
     position: &Position,
     goal: Goal,
     limits: Limits,
@@ -116,14 +124,14 @@ fn keys_within<R: Threads + Wait + Sync>(
         workers,
         slots,
     } = search_of(limits);
-    let (table, mut seats) = make_table(alloc, limit, workers, slots)?;
+    let (table, mut seats) = make_table(told.alloc, limit, workers, slots)?;
     let task = Task {
         position,
         goal,
         limit,
-        gate: &NoGate,
+        gate: told.gate,
     };
-    keys_over(rt, alloc, &task, &table, &mut seats)
+    keys_over(rt, told.alloc, &task, &table, &mut seats)
 }
 
 /// What is printed of an answer.
@@ -185,44 +193,45 @@ fn checked_text(alloc: Global, plies: Option<u8>) -> Result<String, AllocError>
 }
 
 /// The fewest plies to the goal and the first move.
-fn solve_text<R: Threads + Wait + Sync>(
+fn solve_text<R: Threads + Wait + Sync, T: Gate>(
     rt: &R,
-    alloc: Global,
+    told: &Told<'_, T>,
     position: &Position,
     goal: Goal,
     limits: Limits,
 ) -> Result<Vec<u8>, Refusal>
     ensures { Gives vec_items (ShowsAnswer goal position.now limits) result }
 {
-    let answer = answer_within(rt, alloc, position, goal, limits)?;
-    Ok(answer_text(alloc, goal, answer)?.into_bytes())
+    let answer = answer_within(rt, told, position, goal, limits)?;
+    Ok(answer_text(told.alloc, goal, answer)?.into_bytes())
 }
 
 /// The first moves that force the goal, each with the plies that it takes.
-fn found_keys<R: Threads + Wait + Sync>(
+fn found_keys<R: Threads + Wait + Sync, T: Gate>(
     rt: &R,
-    alloc: Global,
+    told: &Told<'_, T>,
     position: &Position,
     goal: Goal,
     limits: Limits,
 ) -> Result<Vec<u8>, Refusal>
     ensures { Gives vec_items (ShowsKeys goal position.now limits) result }
 {
-    let keys = keys_within(rt, alloc, position, goal, limits)?;
-    Ok(keys_text(alloc, limits.limit, keys.as_slice())?.into_bytes())
+    let keys = keys_within(rt, told, position, goal, limits)?;
+    Ok(keys_text(told.alloc, limits.limit, keys.as_slice())?.into_bytes())
 }
 
 /// The tree that shows the answer, on one line, or that there is none.
-fn plan_text<R: Threads + Wait + Sync>(
+fn plan_text<R: Threads + Wait + Sync, T: Gate>(
     rt: &R,
-    alloc: Global,
+    told: &Told<'_, T>,
     position: &Position,
     goal: Goal,
     limits: Limits,
 ) -> Result<Vec<u8>, Refusal>
     ensures { Gives vec_items (ShowsPlanFound goal position.now limits) result }
 {
-    let (answer, table, mut seats) = searched_within(rt, alloc, position, goal, limits)?;
+    let alloc = told.alloc;
+    let (answer, table, mut seats) = searched_within(rt, told, position, goal, limits)?;
     match answer {
         Answer::Mate { plies, .. } => {
             let wanted = Wanted {
@@ -297,16 +306,36 @@ pub fn reply<R: Threads + Wait + Sync, S: Source>(
     ensures asked { MayRead line.now ⊎ (reader.new ≡ reader.old) }
     ensures counts { S.failures reader.new ≡ S.failures reader.old + reads_failed result }
 {
+    let told = Told {
+        alloc,
+        gate: &NoGate,
+    };
+    reply_told(rt, &told, line, reader)
+}
+
+/// The same, where a gate is told of each job of a search.
+pub fn reply_told<R: Threads + Wait + Sync, T: Gate, S: Source>(
+    rt: &R,
+    told: &Told<'_, T>,
+    line: &Line<'_>,
+    reader: &mut S,
+) -> Result<Vec<u8>, Trouble>
+    requires { S.failures reader.old < u64.MAX }
+    ensures given { GivesReply vec_items line.now (S.remaining reader.old) result }
+    ensures asked { MayRead line.now ⊎ (reader.new ≡ reader.old) }
+    ensures counts { S.failures reader.new ≡ S.failures reader.old + reads_failed result }
+{
+    let alloc = told.alloc;
     let position = read_sound(line.fen)?;
     match line.action {
-        Action::Solve(goal, limits) => Ok(solve_text(rt, alloc, &position, goal, limits)?),
-        Action::Keys(goal, limits) => Ok(found_keys(rt, alloc, &position, goal, limits)?),
+        Action::Solve(goal, limits) => Ok(solve_text(rt, told, &position, goal, limits)?),
+        Action::Keys(goal, limits) => Ok(found_keys(rt, told, &position, goal, limits)?),
         Action::Moves => {
             let moves = lawful(&position);
             Ok(moves_text(alloc, moves.as_slice())?.into_bytes())
         }
         Action::Show => Ok(board_drawn(alloc, &position)?.into_bytes()),
-        Action::Tree(goal, limits) => Ok(plan_text(rt, alloc, &position, goal, limits)?),
+        Action::Tree(goal, limits) => Ok(plan_text(rt, told, &position, goal, limits)?),
         Action::Check(goal) => check_text(alloc, &position, goal, reader),
     }
 }

@@ -1,13 +1,27 @@
-//! What a caller may do as jobs are begun.
+//! What a caller may do as jobs are begun, and as they end.
+ghost use Rattle.std.specs.Prelude.{◌≡◌, false, IsTrue};
 ghost use Rattle.atomic_table.specs.Seated.{TableId};
 ghost use Rattle.slots.specs.Promise.{IsSeatOf};
 ghost use Rattle.rounds.specs.Going.{KeepsOn};
+ghost use Rattle.rounds.specs.declared.gate.Ended.TheVariants.{Wins, Loses};
 
 use entry::MateLore;
 use slots::{Seat, Slots};
 
+/// What has ended.
+#[derive(Clone, Copy, PartialEq, Eq, Debug)]
+pub enum Ended {
+    /// A job of this number, which wins.
+    Wins(u16),
+    /// A job of this number, which doesn't win within the round's plies.
+    Loses(u16),
+    /// A round in which no job wins.
+    Round,
+}
+
 /// Called before a job is decided, by the thread that decides it, with the solve's table and that thread's
-/// seat. The round is the number of plies, the job the number of a lawful root move.
+/// seat, and again once it is decided. The round is the number of plies, the job the number of a lawful
+/// root move. A round that ends with nothing is told by the caller's own thread, before the next begins.
 pub trait Gate: Sync {
     ghost use Rattle.std.specs.Prelude.{ℕ};
     ghost use Rattle.atomic_table.specs.Seated.{TableId};
@@ -21,6 +35,20 @@ pub trait Gate: Sync {
         requires { IsSeatOf slots.now seat.old }
         ensures seat { IsSeatOf slots.now seat.new }
         ensures keeps { keeps slots.now seat.old seat.new };
+
+    fn end(&self, _round: u8, _ended: Ended) {}
+}
+
+/// That the job is decided.
+pub(crate) fn job_ended(job: u16, wins: bool) -> Ended
+    ensures wins { IsTrue wins → result ≡ Wins job }
+    ensures loses { wins ≡ false → result ≡ Loses job }
+{
+    if wins {
+        Ended::Wins(job)
+    } else {
+        Ended::Loses(job)
+    }
 }
 
 /// The gate that does nothing.

@@ -9,7 +9,7 @@ ghost use Rattle.rounds.specs.Going.{GoesOn, SeatsGoOn};
 
 use crate::bench::{Root, Search};
 use crate::fault::SolveFault;
-use crate::gate::Gate;
+use crate::gate::{Gate, job_ended};
 use crate::solving::look_at;
 use crate::task::Task;
 use decision::decide_on;
@@ -43,7 +43,9 @@ fn plies_of<T: Gate>(search: &Search<'_, T>, seat: &mut Seat, job: u16, limit: u
         let plies = 2 * number + 1;
         search.gate.begin(plies, job, search.slots, seat);
         let q = search.root.question_of(job);
-        if decide_on(search.slots, seat, &q, plies - 1).yes {
+        let yes = decide_on(search.slots, seat, &q, plies - 1).yes;
+        search.gate.end(plies, job_ended(job, yes));
+        if yes {
             return Some(plies);
         }
     }

@@ -26,7 +26,7 @@ mod task;
 mod tests;
 
 pub use fault::SolveFault;
-pub use gate::{Gate, NoGate, no_gate_keeps_on};
+pub use gate::{Ended, Gate, NoGate, no_gate_keeps_on};
 pub use keys::{Key, keys_over};
 pub use solving::{MOST_WORKERS, make_table, solve, solve_over};
 pub use task::Task;

@@ -3,7 +3,7 @@ ghost use Rattle.std.specs.Prelude.{◌≡◌};
 
 use crate::bench::{Bench, JobStop, RootJobs};
 use crate::deal::{Count, Owner, Thief, next_job};
-use crate::gate::Gate;
+use crate::gate::{Gate, job_ended};
 use crate::help::help;
 use crate::outstanding::Out;
 use decision::{Memory, Scout, decide_on, decide_until};
@@ -131,7 +131,9 @@ impl<'a, 'b, J: Count> Share<'a, 'b, J> {
             .gate
             .begin(bench.plies, job, bench.slots, &mut self.seat);
         let q = bench.root.question_of(job);
-        decide_on(bench.slots, &mut self.seat, &q, bench.plies - 1).yes
+        let yes = decide_on(bench.slots, &mut self.seat, &q, bench.plies - 1).yes;
+        bench.gate.end(bench.plies, job_ended(job, yes));
+        yes
     }
 
     /// Decides a job, unless one below it wins by then.
@@ -157,6 +159,7 @@ impl<'a, 'b, J: Count> Share<'a, 'b, J> {
         let Some(decision) = decided else {
             return;
         };
+        bench.gate.end(bench.plies, job_ended(job, decision.yes));
         if decision.yes {
             let stop = &mut self.scout.stop;
             bench.least.lower(&mut stop.seat, job);

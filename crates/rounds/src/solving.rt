@@ -9,7 +9,7 @@ ghost use Rattle.rounds.specs.Going.{SeatsGoOn};
 
 use crate::bench::{Root, Search};
 use crate::fault::SolveFault;
-use crate::gate::Gate;
+use crate::gate::{Ended, Gate};
 use crate::round::round;
 use crate::task::Task;
 use board::Position;
@@ -115,7 +115,7 @@ fn play_rounds<T: Gate, R: Threads + Wait + Sync>(
                     first: search.root.moves[usize::from(job)],
                 });
             }
-            None => {}
+            None => search.gate.end(plies, Ended::Round),
         }
     }
     Ok(Answer::NoneWithin(limit))

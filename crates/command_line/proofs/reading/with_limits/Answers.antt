@@ -9,11 +9,13 @@ returns-clause-app c =
     let one = c.in_ok-arg.ensures.shape c.limit.ensures.local ∙ ap₂ with_rule refl c.limit.ensures.rule in
     let two = c.in_ok-arg-2.ensures.shape c.workers.ensures.local ∙ ap₂ with_rule one c.workers.ensures.rule in
     let three = c.in_ok-arg-3.ensures.shape c.slots.ensures.local ∙ ap₂ with_rule two c.slots.ensures.rule in
-    IfOk-weaker c.arg-4.result _ _ (λ made added. added.shape c.goal.ensures.local ∙ ap₂ with_rule three c.goal.ensures.rule) c.arg-4.ensures
+    let four = c.in_ok-arg-4.ensures.shape c.goal.ensures.local ∙ ap₂ with_rule three c.goal.ensures.rule in
+    IfOk-weaker c.arg-5.result _ _ (λ made added. added.shape c.progress.ensures.local ∙ ap₂ with_rule four c.progress.ensures.rule) c.arg-5.ensures
 
 pub returns-clause-local : goal.returns-clause-local
 returns-clause-local c =
     let one = kept _ _ _ c.in_ok-arg.ensures.globals c.limit.ensures.local in
     let two = kept _ _ _ c.in_ok-arg-2.ensures.globals c.workers.ensures.local ∙ one in
     let three = kept _ _ _ c.in_ok-arg-3.ensures.globals c.slots.ensures.local ∙ two in
-    IfOk-weaker c.arg-4.result _ _ (λ made added. kept _ _ _ added.globals c.goal.ensures.local ∙ three) c.arg-4.ensures
+    let four = kept _ _ _ c.in_ok-arg-4.ensures.globals c.goal.ensures.local ∙ three in
+    IfOk-weaker c.arg-5.result _ _ (λ made added. kept _ _ _ added.globals c.progress.ensures.local ∙ four) c.arg-5.ensures

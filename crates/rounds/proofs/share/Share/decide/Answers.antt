@@ -4,8 +4,8 @@ use Rattle.rounds.proofs.share.Share.decide.Goals as goal
 
 pub returns-clause-goes_on : goal.returns-clause-goes_on
 returns-clause-goes_on g c =
-    goes_decided g.T.Gate.keeps c.args.bench.now.slots.now c.args.self.now.seat c.begin.new.seat c.decide_on.new.seat c.requires.share.seat c.begin.ensures.keeps c.decide_on.ensures.continues
+    goes_decided g.T.Gate.keeps c.args.bench.now.slots.now c.args.self.now.seat c.begin.new.seat c.decide_on-yes.new.seat c.requires.share.seat c.begin.ensures.keeps c.decide_on-yes.ensures.continues
 
 pub returns-clause-wins : goal.returns-clause-wins
 returns-clause-wins g c =
-    job_after c.args.bench.now.root.now c.args.bench.now.plies c.args.job c.question_of-q.result c.decide_on.result.yes c.question_of-q.ensures c.decide_on.ensures.decided.answer
+    job_after c.args.bench.now.root.now c.args.bench.now.plies c.args.job c.question_of-q.result c.decide_on-yes.result.yes c.question_of-q.ensures c.decide_on-yes.ensures.decided.answer

@@ -2,7 +2,7 @@ use Rattle.std.proofs.Common.{◌∙◌, ap, rules, Ok, vec_items}
 use Rattle.replies.specs.Output.{IsSoundText, ShowsAnswer, ShowsKeys, ShowsPlanFound, answered}
 use Rattle.command_line.specs.declared.line.Action.TheVariants.{Solve, Keys, Show, Tree, Check}
 use Rattle.replies.proofs.ReplyLemmas.{fault_gives, gives_reply, refusal_gives}
-use Rattle.replies.proofs.replying.reply.Goals as goal
+use Rattle.replies.proofs.replying.reply_told.Goals as goal
 
 pub returns-in_err-position-clause-given : goal.returns-in_err-position-clause-given
 returns-in_err-position-clause-given g c = fault_gives _ c.args.line.now _ _ c.in_err-position.field-0.0 c.in_err-position.ensures.fault c.from_residual.ensures

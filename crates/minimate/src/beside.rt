@@ -1,0 +1,162 @@
+//! Replies with a sign of life beside them.
+ghost use Rattle.std.specs.Prelude.{◌≡◌, ◌⊎◌, ◌+◌, ◌<◌, ℕ, All, List, [], IfErr, IfOk, IfSome, None, Option, Some, length, vec_items};
+ghost use Rattle.slots.specs.Promise.{IsSeatOf};
+ghost use Rattle.decision.specs.Answer.{IsAnswer};
+ghost use Rattle.rounds.specs.Limits.{task_fault, IsTaskRefusal};
+ghost use Rattle.rounds.specs.Seats.{AreSeats};
+ghost use Rattle.replies.specs.Outcome.{GivesReply, reads_failed};
+ghost use Rattle.replies.specs.Output.{input_of, MayRead};
+
+use crate::watch::{Course, Watch, show};
+use board::Position;
+use command_line::{Action, Limits, Line};
+use decision::Answer;
+use entry::MateLore;
+use moves::read_sound;
+use replies::{Failed, Source, Told, Trouble, reply, reply_told, search_of};
+use rounds::{SolveFault, Task, solve_over};
+use slots::{Seat, Slots};
+use std::sync::Wait;
+use std::sync::atomic::{AtomicU64, Ordering};
+use std::thread;
+use std::thread::Threads;
+use std::time::{Clock, Instant};
+
+/// What a run is given, and since when it shows how far it is, if it is to.
+#[derive(Drop)]
+pub struct Host<'a, R> {
+    pub rt: &'a R,
+    pub start: Option<Instant>,
+    /// The number of a batch's line, and 0 where there is no batch.
+    pub line: AtomicU64,
+}
+
+impl<R: AllocGlobal> Host<'_, R> {
+    /// A watch over the search at a position, if it is to be shown.
+    pub fn watch(&self, position: &Position, course: Course) -> Option<Watch> {
+        let start = self.start?;
+        let line = match self.line.load(Ordering::SeqCst) {
+            0 => None,
+            number => Some(number),
+        };
+        Watch::new(self.rt.alloc(), start, line, position, course).ok()
+    }
+}
+
+/// An input without a byte.
+#[derive(Drop)]
+struct Nothing;
+
+impl Source for Nothing {
+    ghost remaining = { λ _. Some [] };
+
+    ghost failures = { λ _. 0 };
+
+    fn read(&mut self, _buffer: &mut [u8]) -> Result<usize, Failed> {
+        Ok(0)
+    }
+}
+
+/// The last round up to the limit.
+fn last_round(limits: Limits) -> u8 {
+    let limit = search_of(limits).limit;
+    limit - (1 - limit % 2).min(limit)
+}
+
+/// How the action searches, if it does.
+fn course_of(action: Action) -> Option<Course>
+    ensures { IfSome result (λ _. (known : Option (List ℕ)) → input_of action known ≡ Some []) }
+{
+    match action {
+        Action::Solve(..) | Action::Tree(..) => Some(Course::Rounds),
+        Action::Keys(_, limits) => Some(Course::Keys(last_round(limits))),
+        _ => None,
+    }
+}
+
+/// A watch over the line's search, if it is to be shown.
+fn watch_of<R: AllocGlobal>(host: &Host<'_, R>, line: &Line<'_>) -> Option<Watch>
+    ensures { IfSome result (λ _. (known : Option (List ℕ)) → input_of line.now.action known ≡ Some []) }
+{
+    let course = course_of(line.action)?;
+    let position = read_sound(line.fen).ok()?;
+    host.watch(&position, course)
+}
+
+/// The reply to a line that reads no input, with a thread beside it that shows its search.
+fn reply_beside<R: Threads + Wait + Eprint + Clock + Sync + AllocGlobal>(
+    rt: &R,
+    watch: &Watch,
+    line: &Line<'_>,
+) -> Result<Vec<u8>, Trouble>
+    ensures given { GivesReply vec_items line.now (Some []) result }
+    ensures counts { reads_failed result ≡ 0 }
+{
+    let told = Told {
+        alloc: rt.alloc(),
+        gate: watch,
+    };
+    let told = &told;
+    thread::scope(
+        thread::scope_env(),
+        rt,
+        |scope|
+            ensures { GivesReply vec_items line.entry.now (Some []) result × (reads_failed result ≡ 0) }
+        {
+            let _ = scope.spawn(move || show(rt, watch));
+            let text = reply_told(rt, told, line, &mut Nothing);
+            watch.finish();
+            text
+        },
+    )
+}
+
+/// The text that answers a line, as `reply` gives it, with a sign of life where one is asked for.
+pub fn reply_shown<R: Threads + Wait + Eprint + Clock + Sync + AllocGlobal, S: Source>(
+    host: &Host<'_, R>,
+    line: &Line<'_>,
+    reader: &mut S,
+) -> Result<Vec<u8>, Trouble>
+    requires { S.failures reader.old < u64.MAX }
+    ensures given { GivesReply vec_items line.now (S.remaining reader.old) result }
+    ensures asked { MayRead line.now ⊎ (reader.new ≡ reader.old) }
+    ensures counts { S.failures reader.new ≡ S.failures reader.old + reads_failed result }
+{
+    match watch_of(host, line) {
+        Some(watch) => reply_beside(host.rt, &watch, line),
+        None => reply(host.rt, host.rt.alloc(), line, reader),
+    }
+}
+
+/// A solve over a table, with a thread beside it that shows it. The seats come back.
+pub fn solve_beside<R: Threads + Wait + Eprint + Clock + Sync + AllocGlobal>(
+    rt: &R,
+    task: &Task<'_, Watch>,
+    slots: &Slots<MateLore>,
+    seats: Vec<Seat>,
+) -> (Result<Answer, SolveFault>, Vec<Seat>)
+    requires { All (IsSeatOf slots.now) seats.items }
+    ensures answer { IfOk result.0 (IsAnswer task.now.goal task.now.position.now task.now.limit) }
+    ensures accepted { IfOk result.0 (λ _. task_fault task.now.limit (length seats.items) ≡ None) }
+    ensures refused { IfErr result.0 (IsTaskRefusal task.now.limit (length seats.items)) }
+    ensures seats { AreSeats slots.now (length seats.items) result.1.items }
+{
+    let watch = task.gate;
+    thread::scope(
+        thread::scope_env(),
+        rt,
+        |scope|
+            requires { All (IsSeatOf slots.now) seats.items }
+            ensures { IfOk result.0 (IsAnswer task.entry.now.goal task.entry.now.position.now task.entry.now.limit)
+                × IfOk result.0 (λ _. task_fault task.entry.now.limit (length seats.items) ≡ None)
+                × IfErr result.0 (IsTaskRefusal task.entry.now.limit (length seats.items))
+                × AreSeats slots.entry.now (length seats.items) result.1.items }
+        {
+            let mut seats = seats;
+            let _ = scope.spawn(move || show(rt, watch));
+            let answer = solve_over(rt, rt.alloc(), task, slots, &mut seats);
+            watch.finish();
+            (answer, seats)
+        },
+    )
+}

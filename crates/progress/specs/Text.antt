@@ -1,0 +1,43 @@
+-- The text of a sign of life.
+use Rattle.std.specs.Prelude.{ℕ, List, [], ◌∷◌, ◌++◌, Option, None, Some, suc, zero, codes}
+use Rattle.std.specs.Fmt.{decimal}
+use Rattle.rules.specs.MoveText.{move_text}
+use Rattle.progress.specs.declared.sign.Sign.{Sign}
+use Rattle.progress.specs.declared.sign.Work.{Work}
+use Rattle.progress.specs.declared.sign.Work.TheVariants.{Open, Wins}
+
+-- the number of the line in a batch, as `line 7, `
+abbrev pub line_text : Option ℕ → List ℕ
+line_text None = []
+line_text (Some n) = codes "line " ++ (decimal n ++ codes ", ")
+
+-- the plies that hold nothing, as `none within 9`
+abbrev pub none_text : ℕ → List ℕ
+none_text plies = codes "none within " ++ decimal plies
+
+-- the same, where a round has ended so
+abbrev pub held_text : Option ℕ → List ℕ
+held_text None = []
+held_text (Some plies) = none_text plies ++ codes ", "
+
+-- the least job that isn't decided yet, as `move 14 of 31, c4c5`, or that one wins, as `c4c5 wins`
+abbrev pub work_text : Work → List ℕ
+work_text (Open number jobs first) = codes "move " ++ (decimal number ++ (codes " of " ++ (decimal jobs ++ (codes ", " ++ move_text first))))
+work_text (Wins first) = move_text first ++ codes " wins"
+
+-- the whole sign, as `12 s, none within 9, round 11: move 14 of 31, c4c5`
+abbrev pub sign_text : Sign → List ℕ
+sign_text sign = decimal sign.seconds ++ (codes " s, " ++ (line_text sign.line ++ (held_text sign.none
+    ++ (codes "round " ++ (decimal sign.round ++ (codes ": " ++ work_text sign.work))))))
+
+-- the code that clears a line from the cursor to its end
+abbrev pub clear : List ℕ
+clear = 27 ∷ 91 ∷ 75 ∷ []
+
+-- a text drawn over what the line holds: a carriage return, the text, and the rest is cleared
+abbrev pub drawn_text : List ℕ → List ℕ
+drawn_text text = 13 ∷ (text ++ clear)
+
+-- what a round that ended with nothing leaves behind, on a line of its own
+abbrev pub left_text : Option ℕ → ℕ → List ℕ
+left_text line plies = 13 ∷ (line_text line ++ (none_text plies ++ (clear ++ 10 ∷ [])))
