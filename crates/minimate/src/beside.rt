@@ -22,19 +22,22 @@ use std::thread;
 use std::thread::Threads;
 use std::time::{Clock, Instant};
 
-/// What a run is given, and since when it shows how far it is, if it is to.
+/// What a run is given, and whether it shows how far a search is.
 #[derive(Drop)]
 pub struct Host<'a, R> {
     pub rt: &'a R,
-    pub start: Option<Instant>,
+    pub shows: bool,
     /// The number of a batch's line, and 0 where there is no batch.
     pub line: AtomicU64,
 }
 
-impl<R: AllocGlobal> Host<'_, R> {
-    /// A watch over the search at a position, if it is to be shown.
+impl<R: Clock + AllocGlobal> Host<'_, R> {
+    /// A watch over a search at a position that begins now, if it is to be shown.
     pub fn watch(&self, position: &Position, course: Course) -> Option<Watch> {
-        let start = self.start?;
+        if !self.shows {
+            return None;
+        }
+        let start = Instant::now(self.rt).ok()?;
         let line = match self.line.load(Ordering::SeqCst) {
             0 => None,
             number => Some(number),
@@ -75,7 +78,7 @@ fn course_of(action: Action) -> Option<Course>
 }
 
 /// A watch over the line's search, if it is to be shown.
-fn watch_of<R: AllocGlobal>(host: &Host<'_, R>, line: &Line<'_>) -> Option<Watch>
+fn watch_of<R: Clock + AllocGlobal>(host: &Host<'_, R>, line: &Line<'_>) -> Option<Watch>
     ensures { IfSome result (λ _. (known : Option (List ℕ)) → input_of line.now.action known ≡ Some []) }
 {
     let course = course_of(line.action)?;

@@ -17,7 +17,7 @@ use std::io::Write;
 use std::sync::Wait;
 use std::sync::atomic::AtomicU64;
 use std::thread::Threads;
-use std::time::{Clock, Instant};
+use std::time::Clock;
 
 /// Answers a line: writes its output, and gives its status. No line but a `check` at a sound
 /// position asks the reader for anything. `errors` is told why a line was refused; whether it takes
@@ -92,16 +92,11 @@ pub fn run_batch<
     }
 }
 
-/// The host, and since when a sign of life is shown, if the words ask for one.
-fn host_of<'a, R: Clock, W: AsStr>(rt: &'a R, words: &[W]) -> Host<'a, R> {
-    let start = if asks_progress(words) {
-        Instant::now(rt).ok()
-    } else {
-        None
-    };
+/// The host, and whether the words ask for a sign of life.
+fn host_of<'a, R, W: AsStr>(rt: &'a R, words: &[W]) -> Host<'a, R> {
     Host {
         rt,
-        start,
+        shows: asks_progress(words),
         line: AtomicU64::new(0),
     }
 }

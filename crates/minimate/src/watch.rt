@@ -183,31 +183,34 @@ fn leave_rounds<R: Eprint>(rt: &R, watch: &Watch, told: u8) -> u8 {
     none
 }
 
-/// Draws the sign, from the first second on, and answers how long it is to the next.
-fn draw<R: Eprint + Clock>(rt: &R, watch: &Watch) -> Duration {
-    let Ok(passed) = watch.start.elapsed(rt) else {
-        return Duration::from_secs(1);
-    };
-    let seconds = passed.as_secs();
-    if seconds != 0 {
-        if let Some(text) = watch.text(seconds) {
-            let _ = eprint!(rt; "{text}");
-        }
+/// Draws the sign, where there is one.
+fn draw<R: Eprint>(rt: &R, watch: &Watch, seconds: u64) {
+    if let Some(text) = watch.text(seconds) {
+        let _ = eprint!(rt; "{text}");
     }
-    Duration::from_millis(1000 - u64::from(passed.subsec_millis()))
 }
 
-/// Shows a search until it is over. It alone writes on standard error as long as it runs.
+/// Shows a search from its first second on until it is over. It alone writes on standard error as long as it runs.
 pub fn show<R: Wait + Eprint + Clock>(rt: &R, watch: &Watch) {
     let mut told = 0;
+    let mut shows = false;
     for _ in rt.forever() {
         let over = watch.over.load(Ordering::SeqCst) != 0;
-        told = leave_rounds(rt, watch, told);
+        let passed = watch.start.elapsed(rt).unwrap_or(Duration::ZERO);
+        shows = passed.as_secs() != 0;
+        if shows {
+            told = leave_rounds(rt, watch, told);
+        }
         if over {
             break;
         }
-        let rest = draw(rt, watch);
-        watch.parker.park_timeout(rt, rest);
+        if shows {
+            draw(rt, watch, passed.as_secs());
+        }
+        let rest = 1000 - u64::from(passed.subsec_millis());
+        watch.parker.park_timeout(rt, Duration::from_millis(rest));
     }
-    let _ = eprint!(rt; "{CLEARED}");
+    if shows {
+        let _ = eprint!(rt; "{CLEARED}");
+    }
 }

@@ -1,14 +1,18 @@
 //! The texts of the documents' examples.
 use crate::{Sign, WINS, Work, drawn, first_named, left_behind};
-use moves::{lawful, read_sound};
+use moves::{Move, lawful, read_sound};
 use std::process::Abort;
 
-/// The sign of the second move of the position, c4c5.
-fn sign<R: Abort>(rt: &R) -> Sign {
+/// The last of the position's moves, c4d5.
+fn last_move<R: Abort>(rt: &R) -> Move {
     let position = read_sound(b"k5/6/2K3/6/6/1R4 w").expect(rt, "sound");
     let moves = lawful(&position);
-    let first = *moves.as_slice().last().expect(rt, "a move");
-    Sign {
+    *moves.as_slice().last().expect(rt, "a move")
+}
+
+#[test]
+fn draws_over_the_line(rt: HostRuntime) {
+    let sign = Sign {
         seconds: 12,
         line: None,
         none: Some(9),
@@ -16,25 +20,27 @@ fn sign<R: Abort>(rt: &R) -> Sign {
         work: Work::Open {
             number: 14,
             jobs: 31,
-            first,
+            first: last_move(&rt),
         },
-    }
-}
-
-#[test]
-fn draws_over_the_line(rt: HostRuntime) {
-    let mut sign = sign(&rt);
+    };
     let text = drawn(rt.alloc(), &sign).expect(&rt, "memory");
     assert_eq!(rt;
         text.as_str(),
         "\r12 s, none within 9, round 11: move 14 of 31, c4d5\u{1b}[K"
     );
-    sign.line = Some(7);
-    sign.none = None;
-    sign.round = 1;
-    if let Work::Open { first, .. } = sign.work {
-        sign.work = Work::Wins { first };
-    }
+}
+
+#[test]
+fn names_the_line_and_the_move_that_wins(rt: HostRuntime) {
+    let sign = Sign {
+        seconds: 12,
+        line: Some(7),
+        none: None,
+        round: 1,
+        work: Work::Wins {
+            first: last_move(&rt),
+        },
+    };
     let text = drawn(rt.alloc(), &sign).expect(&rt, "memory");
     assert_eq!(rt; text.as_str(), "\r12 s, line 7, round 1: c4d5 wins\u{1b}[K");
 }
