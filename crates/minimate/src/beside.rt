@@ -18,8 +18,7 @@ use rounds::{SolveFault, Task, solve_over};
 use slots::{Seat, Slots};
 use std::sync::Wait;
 use std::sync::atomic::{AtomicU64, Ordering};
-use std::thread;
-use std::thread::Threads;
+use std::thread::{Threads, join};
 use std::time::{Clock, Instant};
 
 /// What a run is given, and whether it shows how far a search is.
@@ -86,8 +85,8 @@ fn watch_of<R: Clock + AllocGlobal>(host: &Host<'_, R>, line: &Line<'_>) -> Opti
     host.watch(&position, course)
 }
 
-/// The reply to a line that reads no input, with a thread beside it that shows its search.
-fn reply_beside<R: Threads + Wait + Eprint + Clock + Sync + AllocGlobal>(
+/// The reply to a line that reads no input, told to the watch.
+fn reply_watched<R: Threads + Wait + Sync + AllocGlobal>(
     rt: &R,
     watch: &Watch,
     line: &Line<'_>,
@@ -99,19 +98,32 @@ fn reply_beside<R: Threads + Wait + Eprint + Clock + Sync + AllocGlobal>(
         alloc: rt.alloc(),
         gate: watch,
     };
-    let told = &told;
-    thread::scope(
-        thread::scope_env(),
+    let text = reply_told(rt, &told, line, &mut Nothing);
+    watch.finish();
+    text
+}
+
+/// The same, with a thread beside it that shows its search.
+fn reply_beside<R: Threads + Wait + Eprint + Clock + Sync + AllocGlobal>(
+    rt: &R,
+    watch: &Watch,
+    line: &Line<'_>,
+) -> Result<Vec<u8>, Trouble>
+    ensures given { GivesReply vec_items line.now (Some []) result }
+    ensures counts { reads_failed result ≡ 0 }
+{
+    // a closure that holds a `Line` has no contract, for its lifetime
+    let Line { fen, action } = *line;
+    let (_, text) = join(
         rt,
-        |scope|
-            ensures { GivesReply vec_items line.entry.now (Some []) result × (reads_failed result ≡ 0) }
-        {
-            let _ = scope.spawn(move || show(rt, watch));
-            let text = reply_told(rt, told, line, &mut Nothing);
-            watch.finish();
-            text
-        },
-    )
+        || show(rt, watch),
+        move || -> Result<Vec<u8>, Trouble>
+            requires { 0 < 1 }
+            ensures { GivesReply vec_items (record { fen = fen.entry; action = action }) (Some []) result
+                × (reads_failed result ≡ 0) }
+        { reply_watched(rt, watch, &Line { fen, action }) },
+    );
+    text
 }
 
 /// The text that answers a line, as `reply` gives it, with a sign of life where one is asked for.
@@ -131,7 +143,25 @@ pub fn reply_shown<R: Threads + Wait + Eprint + Clock + Sync + AllocGlobal, S: S
     }
 }
 
-/// A solve over a table, with a thread beside it that shows it. The seats come back.
+/// A solve over a table, told to its gate. The seats come back.
+fn solve_watched<R: Threads + Wait + Sync + AllocGlobal>(
+    rt: &R,
+    task: &Task<'_, Watch>,
+    slots: &Slots<MateLore>,
+    mut seats: Vec<Seat>,
+) -> (Result<Answer, SolveFault>, Vec<Seat>)
+    requires { All (IsSeatOf slots.now) seats.items }
+    ensures answer { IfOk result.0 (IsAnswer task.now.goal task.now.position.now task.now.limit) }
+    ensures accepted { IfOk result.0 (λ _. task_fault task.now.limit (length seats.items) ≡ None) }
+    ensures refused { IfErr result.0 (IsTaskRefusal task.now.limit (length seats.items)) }
+    ensures seats { AreSeats slots.now (length seats.items) result.1.items }
+{
+    let answer = solve_over(rt, rt.alloc(), task, slots, &mut seats);
+    task.gate.finish();
+    (answer, seats)
+}
+
+/// The same, with a thread beside it that shows it.
 pub fn solve_beside<R: Threads + Wait + Eprint + Clock + Sync + AllocGlobal>(
     rt: &R,
     task: &Task<'_, Watch>,
@@ -144,22 +174,30 @@ pub fn solve_beside<R: Threads + Wait + Eprint + Clock + Sync + AllocGlobal>(
     ensures refused { IfErr result.0 (IsTaskRefusal task.now.limit (length seats.items)) }
     ensures seats { AreSeats slots.now (length seats.items) result.1.items }
 {
-    let watch = task.gate;
-    thread::scope(
-        thread::scope_env(),
+    let Task {
+        position,
+        goal,
+        limit,
+        gate,
+    } = *task;
+    let (_, answered) = join(
         rt,
-        |scope|
+        || show(rt, gate),
+        move || -> (Result<Answer, SolveFault>, Vec<Seat>)
             requires { All (IsSeatOf slots.now) seats.items }
-            ensures { IfOk result.0 (IsAnswer task.entry.now.goal task.entry.now.position.now task.entry.now.limit)
-                × IfOk result.0 (λ _. task_fault task.entry.now.limit (length seats.items) ≡ None)
-                × IfErr result.0 (IsTaskRefusal task.entry.now.limit (length seats.items))
+            ensures { IfOk result.0 (IsAnswer goal position.entry.now limit)
+                × IfOk result.0 (λ _. task_fault limit (length seats.items) ≡ None)
+                × IfErr result.0 (IsTaskRefusal limit (length seats.items))
                 × AreSeats slots.entry.now (length seats.items) result.1.items }
         {
-            let mut seats = seats;
-            let _ = scope.spawn(move || show(rt, watch));
-            let answer = solve_over(rt, rt.alloc(), task, slots, &mut seats);
-            watch.finish();
-            (answer, seats)
+            let task = Task {
+                position,
+                goal,
+                limit,
+                gate,
+            };
+            solve_watched(rt, &task, slots, seats)
         },
-    )
+    );
+    answered
 }
