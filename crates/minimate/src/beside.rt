@@ -118,7 +118,6 @@ fn reply_beside<R: Threads + Wait + Eprint + Clock + Sync + AllocGlobal>(
         rt,
         || show(rt, watch),
         move || -> Result<Vec<u8>, Trouble>
-            requires { 0 < 1 }
             ensures { GivesReply vec_items (record { fen = fen.entry; action = action }) (Some []) result
                 × (reads_failed result ≡ 0) }
         { reply_watched(rt, watch, &Line { fen, action }) },
