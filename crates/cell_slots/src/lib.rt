@@ -4,8 +4,6 @@
 mod cell;
 mod rule;
 mod table;
-#[cfg(test)]
-mod tests;
 mod views;
 
 pub use rule::{Cell, Hear, InOneOrder, Probed, Put, Token, Told};

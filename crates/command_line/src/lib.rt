@@ -4,8 +4,6 @@
 mod help;
 mod line;
 mod reading;
-#[cfg(test)]
-mod tests;
 
 pub use line::{Action, Limits, Line, Order};
 pub use reading::{LineFault, asks_progress, matches, read_order};

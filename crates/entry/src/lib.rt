@@ -6,16 +6,8 @@ mod interval;
 mod keys;
 mod laws;
 mod lore;
-#[cfg(test)]
-mod made_rows;
 mod marks;
 mod packing;
-#[cfg(test)]
-mod row_tests;
-#[cfg(test)]
-mod table_tests;
-#[cfg(test)]
-mod tests;
 mod worth;
 
 pub use entries::Entry;

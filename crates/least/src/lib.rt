@@ -5,8 +5,6 @@ mod fault;
 mod job_board;
 mod rule;
 mod steps;
-#[cfg(test)]
-mod tests;
 mod views;
 mod wins;
 

@@ -3,8 +3,6 @@
 
 mod place;
 mod sign;
-#[cfg(test)]
-mod tests;
 
 pub use place::{WINS, first_named};
 pub use sign::{CLEARED, Sign, Work, drawn, left_behind};

@@ -3,6 +3,3 @@ pub mod Machine
 pub mod Rule
 pub mod Steps
 pub mod Promise
--- inside
-pub mod Triples
-pub mod Bounded

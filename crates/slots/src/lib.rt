@@ -11,8 +11,6 @@ mod rule;
 mod steps;
 mod storing;
 mod table;
-#[cfg(test)]
-mod tests;
 mod views;
 
 pub use calls::{Act, Call, Probe, Store};

@@ -4,8 +4,6 @@
 mod fault;
 mod laws;
 mod read;
-#[cfg(test)]
-mod tests;
 mod tree;
 mod wins;
 mod written;

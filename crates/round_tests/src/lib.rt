@@ -1,0 +1,15 @@
+//! Tests of a solve by several workers.
+#![tactic(auto)]
+
+#[cfg(test)]
+mod all_keys;
+#[cfg(test)]
+mod beginnings;
+#[cfg(test)]
+mod helping;
+#[cfg(test)]
+mod kept_entries;
+#[cfg(test)]
+mod lent_tables;
+#[cfg(test)]
+mod solves;

@@ -1,0 +1,3 @@
+-- inside
+pub mod Triples
+pub mod Bounded

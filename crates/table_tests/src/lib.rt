@@ -1,0 +1,23 @@
+//! Tests of the tables: of the free one, its plain form and the job board.
+#![tactic(auto)]
+
+#[cfg(test)]
+mod bounded;
+#[cfg(test)]
+mod held;
+#[cfg(test)]
+mod job_boards;
+#[cfg(test)]
+mod pauses;
+#[cfg(test)]
+mod plain_form;
+#[cfg(test)]
+mod replay;
+#[cfg(test)]
+mod sequences;
+#[cfg(test)]
+mod sizes;
+#[cfg(test)]
+mod threads;
+#[cfg(test)]
+mod triples;

@@ -1,0 +1,19 @@
+//! Tests of what is read and written: positions, entries, trees, lines and signs of life.
+#![tactic(auto)]
+
+#[cfg(test)]
+mod entries;
+#[cfg(test)]
+mod entries_kept;
+#[cfg(test)]
+mod lines;
+#[cfg(test)]
+mod made_rows;
+#[cfg(test)]
+mod packings;
+#[cfg(test)]
+mod positions;
+#[cfg(test)]
+mod signs;
+#[cfg(test)]
+mod winning_lines;

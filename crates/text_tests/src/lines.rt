@@ -1,0 +1,127 @@
+//! The line of some words, and words that mean none.
+use command_line::{Action, Limits, LineFault, Order, asks_progress, matches, read_order};
+use moves::Goal;
+use std::process::Abort;
+
+const FEN: &str = "k5/6/1K4/6/6/5R w";
+
+/// Expects the words to mean a command at the position of `FEN`.
+fn expect_action<R: Abort + AllocGlobal>(rt: &R, words: &[&str], action: Action) {
+    match read_order(rt.alloc(), words) {
+        Ok(Order::One(line)) => {
+            assert_eq!(rt; line.fen, FEN.as_bytes());
+            assert!(rt; line.action == action);
+        }
+        _ => panic!(rt; "no command at a position"),
+    }
+}
+
+/// Expects the words to mean no line.
+fn expect_none<R: Abort + AllocGlobal>(rt: &R, words: &[&str]) {
+    match read_order(rt.alloc(), words) {
+        Err(LineFault::Words) => {}
+        _ => panic!(rt; "a line, or no memory"),
+    }
+}
+
+#[test]
+fn reads_each_command(rt: HostRuntime) {
+    let least = Limits {
+        limit: 1,
+        workers: 2,
+        slots: 64,
+    };
+    let solve = ["minimate", "solve", "--limit", "1", FEN];
+    expect_action(&rt, &solve, Action::Solve(Goal::Mate, least));
+    let all = [
+        "minimate",
+        "solve",
+        "--workers",
+        "0",
+        FEN,
+        "--slots",
+        "7",
+        "--goal=stale",
+        "--limit=4294967295",
+    ];
+    let greatest = Limits {
+        limit: 4_294_967_295,
+        workers: 0,
+        slots: 7,
+    };
+    expect_action(&rt, &all, Action::Solve(Goal::MateOrStale, greatest));
+    expect_action(&rt, &["minimate", "moves", FEN], Action::Moves);
+    expect_action(&rt, &["minimate", "show", FEN], Action::Show);
+    let tree = ["minimate", "tree", "--limit", "1", FEN];
+    expect_action(&rt, &tree, Action::Tree(Goal::Mate, least));
+    let keys = ["minimate", "keys", "--goal", "stale", "--limit", "1", FEN];
+    expect_action(&rt, &keys, Action::Keys(Goal::MateOrStale, least));
+    expect_action(&rt, &["minimate", "check", FEN], Action::Check(Goal::Mate));
+    let stale = ["minimate", "check", "--goal", "stale", FEN];
+    expect_action(&rt, &stale, Action::Check(Goal::MateOrStale));
+}
+
+#[test]
+fn reads_a_batch(rt: HostRuntime) {
+    let words = ["minimate", "batch", "--goal", "stale", "--limit", "5"];
+    match read_order(rt.alloc(), &words) {
+        Ok(Order::Batch(goal, limits)) => {
+            assert!(rt; goal == Goal::MateOrStale);
+            assert_eq!(rt; limits.limit, 5);
+            assert_eq!(rt; limits.slots, 64);
+        }
+        _ => panic!(rt; "no batch"),
+    }
+}
+
+#[test]
+fn refuses_what_is_no_line(rt: HostRuntime) {
+    expect_none(&rt, &["minimate", "solve", FEN]);
+    expect_none(&rt, &["minimate", "solve", "--limit", "4294967296", FEN]);
+    expect_none(&rt, &["minimate", "keys", FEN]);
+    expect_none(&rt, &["minimate", "check", "--goal", "Mate", FEN]);
+    expect_none(&rt, &["minimate", "moves"]);
+    expect_none(&rt, &["minimate", "show"]);
+    expect_none(&rt, &["minimate", "batch"]);
+    expect_none(&rt, &["minimate", "batch", "--limit", "1", FEN]);
+    expect_none(&rt, &["minimate", "moves", "--progress", FEN]);
+    expect_none(&rt, &["minimate", "show", "--progress", FEN]);
+    expect_none(&rt, &["minimate", "check", FEN, "--progress"]);
+    let twice = ["minimate", "batch", "--progress", "--limit=1", "--progress"];
+    expect_none(&rt, &twice);
+    expect_none(
+        &rt,
+        &["minimate", "solve", "--progress=yes", "--limit=1", FEN],
+    );
+    expect_none(&rt, &["minimate", "show", "--goal", "mate", FEN]);
+    expect_none(&rt, &["minimate", "moves", FEN, "x"]);
+    expect_none(&rt, &["minimate", "--version"]);
+    expect_none(&rt, &["minimate", "--help"]);
+    expect_none(&rt, &["minimate", "moves", "--help"]);
+}
+
+// The parser takes any word for a goal, and refuses an option that a command doesn't have.
+#[test]
+fn tells_what_the_parser_refuses(rt: HostRuntime) {
+    let any_goal = ["minimate", "check", "--goal", "x", FEN];
+    assert!(rt; matches(rt.alloc(), any_goal.as_slice()).is_ok());
+    let foreign = ["minimate", "moves", "--goal", "mate", FEN];
+    assert!(rt; matches(rt.alloc(), foreign.as_slice()).is_err());
+}
+
+#[test]
+fn hears_of_a_sign_of_life(rt: HostRuntime) {
+    let least = Limits {
+        limit: 1,
+        workers: 2,
+        slots: 64,
+    };
+    let asked = ["minimate", "solve", FEN, "--progress", "--limit", "1"];
+    expect_action(&rt, &asked, Action::Solve(Goal::Mate, least));
+    assert!(rt; asks_progress(asked.as_slice()));
+    let first = ["minimate", "keys", "--progress", "--limit", "1", FEN];
+    expect_action(&rt, &first, Action::Keys(Goal::Mate, least));
+    assert!(rt; asks_progress(first.as_slice()));
+    let unasked = ["minimate", "tree", "--limit", "1", FEN];
+    assert!(rt; !asks_progress(unasked.as_slice()));
+}
