@@ -12,13 +12,13 @@ line_text None = []
 line_text (Some n) = codes "line " ++ (decimal n ++ codes ", ")
 
 -- the plies that hold nothing, as `none within 9`
-abbrev pub none_text : ℕ → List ℕ
-none_text plies = codes "none within " ++ decimal plies
+abbrev pub nothing_text : ℕ → List ℕ
+nothing_text plies = codes "none within " ++ decimal plies
 
 -- the same, where a round has ended so
 abbrev pub held_text : Option ℕ → List ℕ
 held_text None = []
-held_text (Some plies) = none_text plies ++ codes ", "
+held_text (Some plies) = nothing_text plies ++ codes ", "
 
 -- the least job that isn't decided yet, as `move 14 of 31, c4c5`, or that one wins, as `c4c5 wins`
 abbrev pub work_text : Work → List ℕ
@@ -40,4 +40,4 @@ drawn_text text = 13 ∷ (text ++ clear)
 
 -- what a round that ended with nothing leaves behind, on a line of its own
 abbrev pub left_text : Option ℕ → ℕ → List ℕ
-left_text line plies = 13 ∷ (line_text line ++ (none_text plies ++ (clear ++ 10 ∷ [])))
+left_text line plies = 13 ∷ (line_text line ++ (nothing_text plies ++ (clear ++ 10 ∷ [])))
