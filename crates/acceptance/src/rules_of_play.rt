@@ -23,47 +23,50 @@ fn list(alloc: Global, moves: &[Move]) -> Result<String, AllocError> {
     Ok(text)
 }
 
+/// Positions, their lawful moves, and which of them give check.
+const LISTED: [(&str, &str, &str); 8] = [
+    // the two starting positions
+    (
+        "rnqknr/pppppp/6/6/PPPPPP/RNQKNR w",
+        "b1a3 b1c3 e1d3 e1f3 a2a3 b2b3 c2c3 d2d3 e2e3 f2f3 ",
+        "",
+    ),
+    (
+        "rnbqk/ppppp/5/PPPPP/RNBQK w",
+        "b1a3 b1c3 a2a3 b2b3 c2c3 d2d3 e2e3 ",
+        "",
+    ),
+    // promotions, with and without a bishop
+    (
+        "k4/2P2/1K3/5/5 w",
+        "b3a2 b3b2 b3c2 b3a3 b3c3 c4c5q c4c5r c4c5b c4c5n ",
+        "c4c5q c4c5r ",
+    ),
+    (
+        "k5/2P3/6/6/6/5K w",
+        "f1e1 f1e2 f1f2 c5c6q c5c6r c5c6n ",
+        "c5c6q c5c6r ",
+    ),
+    // stalemate, and mate
+    ("k5/2Q3/6/6/6/5K b", "", ""),
+    ("k4R/6/1K4/6/6/6 b", "", ""),
+    (
+        "k5/6/1K4/6/6/5R w",
+        "f1a1 f1b1 f1c1 f1d1 f1e1 f1f2 f1f3 f1f4 f1f5 f1f6 b4a3 b4b3 b4c3 b4a4 b4c4 b4c5 ",
+        "f1a1 f1f6 ",
+    ),
+    // wherever the knight goes, the rook behind it checks
+    (
+        "k5/1p4/1P4/N1K3/6/R5 w",
+        "a1b1 a1c1 a1d1 a1e1 a1f1 a1a2 a3b1 a3c2 a3c4 a3b5 c3b2 c3c2 c3d2 c3b3 c3d3 c3d4 ",
+        "a3b1 a3c2 a3c4 a3b5 ",
+    ),
+];
+
 #[test]
 fn lists_lawful_moves_and_checks(rt: HostRuntime) -> Result<(), Fail> {
     let mut checks = ArrayVec::new();
-    for (text, moves, those_that_check) in [
-        // the two starting positions
-        (
-            "rnqknr/pppppp/6/6/PPPPPP/RNQKNR w",
-            "b1a3 b1c3 e1d3 e1f3 a2a3 b2b3 c2c3 d2d3 e2e3 f2f3 ",
-            "",
-        ),
-        (
-            "rnbqk/ppppp/5/PPPPP/RNBQK w",
-            "b1a3 b1c3 a2a3 b2b3 c2c3 d2d3 e2e3 ",
-            "",
-        ),
-        // promotions, with and without a bishop
-        (
-            "k4/2P2/1K3/5/5 w",
-            "b3a2 b3b2 b3c2 b3a3 b3c3 c4c5q c4c5r c4c5b c4c5n ",
-            "c4c5q c4c5r ",
-        ),
-        (
-            "k5/2P3/6/6/6/5K w",
-            "f1e1 f1e2 f1f2 c5c6q c5c6r c5c6n ",
-            "c5c6q c5c6r ",
-        ),
-        // stalemate, and mate
-        ("k5/2Q3/6/6/6/5K b", "", ""),
-        ("k4R/6/1K4/6/6/6 b", "", ""),
-        (
-            "k5/6/1K4/6/6/5R w",
-            "f1a1 f1b1 f1c1 f1d1 f1e1 f1f2 f1f3 f1f4 f1f5 f1f6 b4a3 b4b3 b4c3 b4a4 b4c4 b4c5 ",
-            "f1a1 f1f6 ",
-        ),
-        // wherever the knight goes, the rook behind it checks
-        (
-            "k5/1p4/1P4/N1K3/6/R5 w",
-            "a1b1 a1c1 a1d1 a1e1 a1f1 a1a2 a3b1 a3c2 a3c4 a3b5 c3b2 c3c2 c3d2 c3b3 c3d3 c3d4 ",
-            "a3b1 a3c2 a3c4 a3b5 ",
-        ),
-    ] {
+    for (text, moves, those_that_check) in LISTED {
         let position = position(&rt, text);
         let listed = lawful(&position);
         assert_eq!(rt;
