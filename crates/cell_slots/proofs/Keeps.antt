@@ -7,7 +7,7 @@ use Rattle.slots.specs.declared.calls.Store.TheVariants.{Stored}
 use Rattle.slots.specs.declared.calls.Act.TheVariants.{Asked, Offered}
 use Rattle.slots.specs.Machine.{Way, Machine, call, fresh, after, MayReply, run, StoresMeet}
 use Rattle.slots.specs.Rule.{words_of}
-use Rattle.slots.specs.Steps.{IsAnswer, HitFits}
+use Rattle.slots.specs.Steps.{IsProbeReply, HitFits}
 use Rattle.slots.proofs.Histories as calls
 use Rattle.slots.proofs.ReadSteps.{answer_may}
 use Rattle.cell_slots.specs.declared.views.View.{View}
@@ -16,10 +16,10 @@ use Rattle.cell_slots.specs.Cell.{newcomer, spent, hearer, told, CellHolds, repl
 use Rattle.cell_slots.proofs.Histories as histories
 
 -- the reply is the answer that the words give
-answers : (key : List ℕ → List ℕ) (k x : List ℕ) → IsAnswer key x (Asked k (reply key k x))
+answers : (key : List ℕ → List ℕ) (k x : List ℕ) → IsProbeReply key x (Asked k (reply key k x))
 answers key k x = go (pointwise nat_eq x (0 ∷ 0 ∷ 0 ∷ [])) (pointwise nat_eq (key x) k) refl refl
   where
-    go : (b c : Bool) → pointwise nat_eq x (0 ∷ 0 ∷ 0 ∷ []) ≡ b → pointwise nat_eq (key x) k ≡ c → IsAnswer key x (Asked k (if b then Vacant else (if c then Hit x else Other)))
+    go : (b c : Bool) → pointwise nat_eq x (0 ∷ 0 ∷ 0 ∷ []) ≡ b → pointwise nat_eq (key x) k ≡ c → IsProbeReply key x (Asked k (if b then Vacant else (if c then Hit x else Other)))
     go true c e f = (bytes_decides x (0 ∷ 0 ∷ 0 ∷ [])).0 e
     go false true e f = (refl, (λ is. true≢false (sym ((bytes_decides x (0 ∷ 0 ∷ 0 ∷ [])).1 is) ∙ e)), (bytes_decides (key x) k).0 f)
     go false false e f = ((λ is. true≢false (sym ((bytes_decides x (0 ∷ 0 ∷ 0 ∷ [])).1 is) ∙ e)), λ is. true≢false (sym ((bytes_decides (key x) k).1 is) ∙ f))

@@ -11,8 +11,8 @@ use lib.Seq.{map-set}
 use Rattle.slots.specs.declared.calls.Act.{Act}
 use Rattle.cell_slots.specs.declared.views.View.{View}
 use Rattle.crossbeam_utils.specs.Seq.{cell_view}
-use Rattle.cell_slots.specs.Cell.{part, told, Token, token_table, token_part, tokens_part, IsSeated, IsNew, Fresh}
-use Rattle.cell_slots.specs.Table.{Part, Adds, Name, Seated, nobody, told_part, Calls}
+use Rattle.cell_slots.specs.Cell.{part_by, told, Token, token_table, token_part, tokens_part, IsSeated, IsFresh, Fresh}
+use Rattle.cell_slots.specs.Table.{Part, Adds, Name, Seated, nobody_yet, told_part, Calls}
 
 module _ {A B C : Type 0} (f : A → C) (g : B → C) where
   pub same_at : (xs : List A) (ys : List B) (i : ℕ) (a : A) (b : B) → map f xs ≡ map g ys → i < length xs → a ≡ get_or xs i a → b ≡ get_or ys i b → f a ≡ g b
@@ -34,20 +34,20 @@ module _ {A B C : Type 0} (f : A → C) (g : B → C) where
 
 set_part : (ts : List Token) (i : ℕ) (u : Token) → i < length ts → tokens_part (set ts i u) i ≡ token_part u
 set_part ts i u inside = let long = length-map ts token_part in
-    ap (λ ps. get_or ps i nobody) (map-set token_part ts i u) ∙ get_or-set_same (map token_part ts) i (token_part u) nobody (omega arith)
+    ap (λ ps. get_or ps i nobody_yet) (map-set token_part ts i u) ∙ get_or-set_same (map token_part ts) i (token_part u) nobody_yet (omega arith)
 
 set_part_else : (ts : List Token) (i k : ℕ) (u : Token) → k ≢ i → tokens_part (set ts i u) k ≡ tokens_part ts k
-set_part_else ts i k u apart = ap (λ ps. get_or ps k nobody) (map-set token_part ts i u) ∙ get_or-set_other (map token_part ts) i k (token_part u) nobody apart
+set_part_else ts i k u apart = ap (λ ps. get_or ps k nobody_yet) (map-set token_part ts i u) ∙ get_or-set_other (map token_part ts) i k (token_part u) nobody_yet apart
 
 -- the seat of these tokens
 abbrev pub seat_of : Name → List Token → Seated
 seat_of name tokens = record { table = name; parts = map token_part tokens }
 
 pub calls_of : (key : List ℕ → List ℕ) (tokens : List Token) (slot : ℕ) (t u : Token) (act : Act) (a b : Name) → slot < length tokens → t ≡ get_or tokens slot t → u.id ≡ t.id
-    → Adds key slot act (part t.id (cell_view t)) (part t.id (cell_view u)) → Calls key slot act (seat_of a tokens) (seat_of b (set tokens slot u))
+    → Adds key slot act (part_by t.id (cell_view t)) (part_by t.id (cell_view u)) → Calls key slot act (seat_of a tokens) (seat_of b (set tokens slot u))
 calls_of key tokens slot t u act a b inside is same made =
-    let adds : Adds key slot act (token_part t) (token_part u) = subst (λ (n : ℕ). Adds key slot act (token_part t) (part n (cell_view u))) (sym same) made in
-    let was : tokens_part tokens slot ≡ token_part t = map_at token_part token_part tokens slot t nobody inside is in
+    let adds : Adds key slot act (token_part t) (token_part u) = subst (λ (n : ℕ). Adds key slot act (token_part t) (part_by n (cell_view u))) (sym same) made in
+    let was : tokens_part tokens slot ≡ token_part t = map_at token_part token_part tokens slot t nobody_yet inside is in
     let now : tokens_part (set tokens slot u) slot ≡ token_part u = set_part tokens slot u inside in
     record {
       here = subst (λ (v : Part). Adds key slot act v (tokens_part (set tokens slot u) slot)) (sym was) (subst (Adds key slot act (token_part t)) (sym now) adds);
@@ -80,17 +80,17 @@ tables_more cell cells i a tokens t inside is so_far here =
 
 -- one token more, `now` being the tokens with it
 pub fresh_more : {A : Type 0} (cell : A → TableId) (cells : List A) (i : ℕ) (a : A) (tokens now : List Token) (t : Token) → i < length cells → a ≡ get_or cells i a → now ≡ tokens ++ t ∷ []
-    → Fresh (take i (map cell cells)) tokens → t.table_id ≡ cell a → IsSeated t → IsNew (token_part t) → Fresh (take (i + 1) (map cell cells)) now
+    → Fresh (take i (map cell cells)) tokens → t.table_id ≡ cell a → IsSeated t → IsFresh (token_part t) → Fresh (take (i + 1) (map cell cells)) now
 fresh_more cell cells i a tokens now t inside is now_is old here sits new = subst (Fresh (take (i + 1) (map cell cells))) (sym now_is) record {
   line = tables_more cell cells i a tokens t inside is old.line here;
   seated = All-push IsSeated tokens t old.seated sits;
-  new = subst (All IsNew) (sym (map-append token_part tokens (t ∷ []))) (All-push IsNew (map token_part tokens) (token_part t) old.new new);
+  new = subst (All IsFresh) (sym (map-append token_part tokens (t ∷ []))) (All-push IsFresh (map token_part tokens) (token_part t) old.new new);
 }
 
-pub all_new : (tokens : List Token) → All IsNew (map token_part tokens) → (i : ℕ) → IsNew (tokens_part tokens i)
+pub all_new : (tokens : List Token) → All IsFresh (map token_part tokens) → (i : ℕ) → IsFresh (tokens_part tokens i)
 all_new tokens all i = dite (dec_le (length (map token_part tokens)) i)
-    (λ out. subst IsNew (sym (past (map token_part tokens) i nobody out)) (refl, refl))
-    (λ inside. All-get_or IsNew (map token_part tokens) i nobody (lt_of_not-le inside) all)
+    (λ out. subst IsFresh (sym (past (map token_part tokens) i nobody_yet out)) (refl, refl))
+    (λ inside. All-get_or IsFresh (map token_part tokens) i nobody_yet (lt_of_not-le inside) all)
 
 -- ---- The tokens of one seat that are told those of another, one by one
 
@@ -119,10 +119,10 @@ pub telling_on : (i : ℕ) (old others now others_now : List Token) (t o t' o' :
     → t ≡ get_or now i t → o ≡ get_or others_now i o → (t'.table_id ≡ t.table_id) × (t'.id ≡ t.id) → (o'.table_id ≡ o.table_id) × (o'.id ≡ o.id)
     → cell_view t' ≡ told (cell_view t) (cell_view o) → Telling (i + 1) old others (set now i t') (set others_now i o')
 telling_on i old others now others_now t o t' o' so_far inside others_inside t_is o_is t_same o_same heard =
-    let t_part : tokens_part now i ≡ token_part t = map_at token_part token_part now i t nobody inside t_is in
-    let o_part : tokens_part others_now i ≡ token_part o = map_at token_part token_part others_now i o nobody others_inside o_is in
+    let t_part : tokens_part now i ≡ token_part t = map_at token_part token_part now i t nobody_yet inside t_is in
+    let o_part : tokens_part others_now i ≡ token_part o = map_at token_part token_part others_now i o nobody_yet others_inside o_is in
     let sits : IsSeated t = subst IsSeated (sym t_is) (All-get_or IsSeated now i t inside so_far.seated) in
-    let new : token_part t' ≡ told_part (token_part t) (token_part o) = λ j. part (t_same.1 j) (heard j) in
+    let new : token_part t' ≡ told_part (token_part t) (token_part o) = λ j. part_by (t_same.1 j) (heard j) in
     record {
       line = map-set_same token_table now i t' t (t_same.0 ∙ ap token_table t_is) ∙ so_far.line;
       others_line = map-set_same token_table others_now i o' o (o_same.0 ∙ ap token_table o_is) ∙ so_far.others_line;
@@ -145,6 +145,6 @@ telling_done i old others now others_now so_far short others_short k =
     let long = length-map old token_part in
     let others_long = length-map others token_part in
     dite (dec_le i k)
-    (λ from. so_far.same k from ∙ (past (map token_part old) k nobody (omega arith)
-    ∙ sym (λ j. told_part (past (map token_part old) k nobody (omega arith) j) (past (map token_part others) k nobody (omega arith) j))))
+    (λ from. so_far.same k from ∙ (past (map token_part old) k nobody_yet (omega arith)
+    ∙ sym (λ j. told_part (past (map token_part old) k nobody_yet (omega arith) j) (past (map token_part others) k nobody_yet (omega arith) j))))
     (λ less. so_far.done k (lt_of_not-le less))

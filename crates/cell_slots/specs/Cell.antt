@@ -16,7 +16,7 @@ use Rattle.slots.specs.Rule.{words_of, longer}
 use Rattle.slots.specs.Steps.{HitFits}
 use Rattle.cell_slots.specs.declared.views.View.{View}
 use Rattle.cell_slots.specs.OneHistory.{OneHistory}
-use Rattle.cell_slots.specs.Table.{Part, Adds, nobody}
+use Rattle.cell_slots.specs.Table.{Part, Adds, nobody_yet}
 
 -- a caller that has seen nothing yet
 abbrev pub newcomer : View
@@ -35,8 +35,8 @@ abbrev pub told : View → View → View
 told v w = record { seated = v.seated; seen = longer v.seen w.seen; mine = v.mine }
 
 -- a view with its number
-abbrev pub part : ℕ → View → Part
-part by v = record { by = by; seen = v.seen; mine = v.mine }
+abbrev pub part_by : ℕ → View → Part
+part_by by v = record { by = by; seen = v.seen; mine = v.mine }
 
 -- a token stands for a caller at one slot
 abbrev pub Token : Type 0
@@ -48,25 +48,25 @@ token_table t = t.table_id
 
 -- what the token's caller knows
 abbrev pub token_part : Token → Part
-token_part t = part t.id (cell_view t)
+token_part t = part_by t.id (cell_view t)
 
 -- the part of the i-th token
 abbrev pub tokens_part : List Token → ℕ → Part
-tokens_part tokens i = slice_index_or (map token_part tokens) i nobody
+tokens_part tokens i = slice_index_or (map token_part tokens) i nobody_yet
 
 -- the token wasn't spent
 abbrev pub IsSeated : Token → Type 0
 IsSeated t = (cell_view t).seated ≡ true
 
 -- nothing was seen and no call made
-abbrev pub IsNew : Part → Type 0
-IsNew p = (p.seen ≡ []) × (p.mine ≡ [])
+abbrev pub IsFresh : Part → Type 0
+IsFresh p = (p.seen ≡ []) × (p.mine ≡ [])
 
 -- these tokens are of the tables named, and of a caller that has made no call
 pub record Fresh (tables : List TableId) (tokens : List Token) : Type 0 where
   pub line : map token_table tokens ≡ tables
   pub seated : All IsSeated tokens
-  pub new : All IsNew (map token_part tokens)
+  pub new : All IsFresh (map token_part tokens)
 
 -- the rule of a cell: there is one history, and the cell has what it leaves
 pub record CellHolds (key : List ℕ → List ℕ) (meets : List ℕ → Type 0) (words : List ℕ) (views : List View) : Type 0 where
@@ -80,7 +80,7 @@ reply key k x = if pointwise nat_eq x (0 ∷ 0 ∷ 0 ∷ []) then Vacant else (i
 
 -- the caller made this one call more
 abbrev pub Makes : (List ℕ → List ℕ) → ℕ → ℕ → Act → View → View → Type 0
-Makes key slot by act v w = (w.seated ≡ true) × Adds key slot act (part by v) (part by w)
+Makes key slot by act v w = (w.seated ≡ true) × Adds key slot act (part_by by v) (part_by by w)
 
 -- the words are read, and the probe is answered by them
 abbrev pub Probes : (List ℕ → List ℕ) → (List ℕ → Type 0) → ℕ → ℕ → List ℕ → View → List ℕ → List ℕ → View → Type 0

@@ -28,12 +28,12 @@ pub record Seated : Type 0 where
   pub parts : List Part
 
 -- of a slot that isn't there nothing is known
-abbrev pub nobody : Part
-nobody = record { by = 0; seen = []; mine = [] }
+abbrev pub nobody_yet : Part
+nobody_yet = record { by = 0; seen = []; mine = [] }
 
 -- what a caller knows of the slot i
 abbrev pub part_at : Seated → ℕ → Part
-part_at s i = slice_index_or s.parts i nobody
+part_at s i = slice_index_or s.parts i nobody_yet
 
 -- the caller made this one call more
 pub record Adds (key : List ℕ → List ℕ) (slot : ℕ) (act : Act) (v w : Part) : Type 0 where
@@ -58,5 +58,5 @@ abbrev pub IsNewSeat : Slotted → Seated → Type 0
 IsNewSeat t s = (s.table ≡ t.table) × ((i : ℕ) → ((part_at s i).seen ≡ []) × ((part_at s i).mine ≡ []))
 
 -- the numbers of slots and of callers that a table may have
-abbrev pub IsSize : ℕ → ℕ → Type 0
-IsSize slots callers = (1 ≤ slots) × (slots ≤ 64) × (1 ≤ callers) × (callers ≤ 17)
+abbrev pub IsPlainSize : ℕ → ℕ → Type 0
+IsPlainSize slots callers = (1 ≤ slots) × (slots ≤ 64) × (1 ≤ callers) × (callers ≤ 17)

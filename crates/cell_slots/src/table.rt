@@ -2,7 +2,7 @@
 ghost use Rattle.std.specs.Prelude.{◌≡◌, ℕ, ◌<◌, ◌≢◌, ◌↔◌, length, map, All, IfOk, MatchResult};
 ghost use Rattle.slots.specs.declared.calls.Act.TheVariants.{Asked, Offered};
 ghost use Rattle.slots.specs.Steps.{HitFits};
-ghost use Rattle.cell_slots.specs.Table.{Calls, Hears, IsNewSeat, IsSize, told_part};
+ghost use Rattle.cell_slots.specs.Table.{Calls, Hears, IsNewSeat, IsPlainSize, told_part};
 ghost use Rattle.cell_slots.specs.Cell.{token_table, token_part, tokens_part, IsSeated};
 
 use crate::cell;
@@ -71,8 +71,8 @@ impl<L: Lore> CellSlots<L> {
     ) -> Result<(CellSlots<L>, Vec<CellSeat>), MakeFault>
         ensures table { IfOk result (λ r. r.0.len ≡ slots) }
         ensures seats { IfOk result (λ r. (length r.1.items ≡ callers) × All (IsNewSeat r.0) r.1.items) }
-        ensures size { MatchResult result (λ _. IsSize slots callers)
-            (λ e. (e ≡ MakeFault.Size) ↔ (¬ IsSize slots callers)) }
+        ensures size { MatchResult result (λ _. IsPlainSize slots callers)
+            (λ e. (e ≡ MakeFault.Size) ↔ (¬ IsPlainSize slots callers)) }
         ensures limits { (MOST_SLOTS ≡ 64) × (MOST_CALLERS ≡ 17) }
     {
         if slots < 1 || slots > MOST_SLOTS || callers < 1 || callers > MOST_CALLERS {

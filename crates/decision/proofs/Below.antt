@@ -30,7 +30,7 @@ use Rattle.decision.specs.Questions.{question, IsForced, LeadsTo}
 use Rattle.decision.specs.Decisions.{Asks, IsAsked, RestsOnOne, AsksBelow}
 use Rattle.decision.specs.Decisions.Asks.{first_decides, one_slot, second_decides, neither_decides}
 use Rattle.decision.specs.Orders.{ListsAll}
-use Rattle.decision.specs.Below.{is_own, Goes, Ends, IsPassed, IsCut, Tells, IsAskedAfter, Asked as AskedBelow}
+use Rattle.decision.specs.Below.{is_own, Goes, IsAsSaid, IsPassed, IsCut, Tells, IsAskedAfter, Asked as AskedBelow}
 
 -- ---- an answer below
 
@@ -40,7 +40,7 @@ goes_by true false P h apart = λ p. false≢true (h.1 p)
 goes_by false true P h apart = h.0 refl
 goes_by false false P h apart = absurd (apart refl)
 
-pub ends_by : (own answer : Bool) (P : Type 0) → (IsTrue answer ↔ P) → answer ≡ own → Ends own P
+pub ends_by : (own answer : Bool) (P : Type 0) → (IsTrue answer ↔ P) → answer ≡ own → IsAsSaid own P
 ends_by true true P h same = h.0 refl
 ends_by true false P h same = absurd (false≢true same)
 ends_by false true P h same = absurd (false≢true (sym same))
@@ -84,7 +84,7 @@ not_reached MateOrStale b m lawful (inl mated) = mated.no_move m lawful
 not_reached MateOrStale b m lawful (inr stale) = stale.no_move m lawful
 
 module _ (q : Question) (n : ℕ) where
-  ended : (own : Bool) (k : ℕ) → own ≡ is_same_side q.attacker q.position.mover → (m : Ply) (b : PlainBoard) → IsMove q.position m b → Ends own (Forces q.goal q.attacker b k) → IsTrue own ↔ IsForced q (suc k)
+  ended : (own : Bool) (k : ℕ) → own ≡ is_same_side q.attacker q.position.mover → (m : Ply) (b : PlainBoard) → IsMove q.position m b → IsAsSaid own (Forces q.goal q.attacker b k) → IsTrue own ↔ IsForced q (suc k)
   ended true k turn m b move e = (λ _. to_own _ _ _ (sym turn) (m, b, move, e), λ _. refl)
   ended false k turn m b move e = (
     λ is. absurd (false≢true is),
@@ -95,7 +95,7 @@ module _ (q : Question) (n : ℕ) where
   )
 
   -- the answer below ends the search
-  pub ended_answer : (own : Bool) → own ≡ is_same_side q.attacker q.position.mover → 0 < n → (m : Ply) (b : PlainBoard) → IsMove q.position m b → Ends own (Forces q.goal q.attacker b (n - 1)) → IsTrue own ↔ IsForced q n
+  pub ended_answer : (own : Bool) → own ≡ is_same_side q.attacker q.position.mover → 0 < n → (m : Ply) (b : PlainBoard) → IsMove q.position m b → IsAsSaid own (Forces q.goal q.attacker b (n - 1)) → IsTrue own ↔ IsForced q n
   ended_answer own turn some m b move e = let up : suc (n - 1) ≡ n = omega arith in subst (λ k. IsTrue own ↔ IsForced q k) up (ended own (n - 1) turn m b move e)
 
   gone : (own : Bool) (k : ℕ) → own ≡ is_same_side q.attacker q.position.mover → (m : Ply) × IsLawful q.position m → ((m : Ply) → IsLawful q.position m → IsPassed q k own m) → IsTrue (not own) ↔ IsForced q (suc k)
@@ -268,8 +268,8 @@ passed_after q n own ms i m other lt is l before goes =
     passed_next q n own ms i m l.0 lt is l.1 before (subst (λ (o : Question). Goes own (IsForced o n)) l.2 goes)
 
 -- a move that ends it
-pub cut_after : (q : Question) (n : ℕ) (own : Bool) (m : Ply) (other : Question) → LeadsTo q m other → Ends own (IsForced other n) → IsCut q n own
-cut_after q n own m other l ends = (m, l.0, l.1, subst (λ (o : Question). Ends own (IsForced o n)) l.2 ends)
+pub cut_after : (q : Question) (n : ℕ) (own : Bool) (m : Ply) (other : Question) → LeadsTo q m other → IsAsSaid own (IsForced other n) → IsCut q n own
+cut_after q n own m other l ends = (m, l.0, l.1, subst (λ (o : Question). IsAsSaid own (IsForced o n)) l.2 ends)
 
 -- the attacker has no move that wins
 pub lost : (q : Question) (n : ℕ) → is_own q ≡ true → 0 < n → (moves : List Ply) → ListsAll q.position moves → All (IsPassed q (n - 1) true) moves → IsTrue false ↔ IsForced q n

@@ -12,7 +12,7 @@ use Rattle.decision.specs.declared.decision.Decision.{Decision}
 use Rattle.decision.specs.declared.caller.Caller.{Caller}
 use Rattle.decision.specs.Callers.{GoesOn, adds}
 use Rattle.decision.specs.declared.question.Question.{Question}
-use Rattle.decision.specs.Questions.{question, LeadsTo, entry_for, words_of, key_for, first_slot, Settles, said, IsMetWith}
+use Rattle.decision.specs.Questions.{question, LeadsTo, entry_for, entry_words, key_for, first_slot, Settles, said, IsMetWith}
 use Rattle.decision.specs.Decisions.{Asks, IsAsked, IsProbeOf, OffersBoth, AsksBelow, Decides}
 use Rattle.decision.specs.Decisions.Asks.{first_decides, one_slot, second_decides, neither_decides}
 use Rattle.decision.proofs.Callers.{adds_more, goes_more}
@@ -55,8 +55,8 @@ offers_behind slot slots number words xs ys o = record {
 }
 
 -- what is kept in the question's own slots, behind other calls
-pub kept_last : (a b c : Caller) (q : Question) (i : Bounds) (key : List ℕ) (slot : ℕ) (words : List ℕ) → GoesOn a b → GoesOn b c → key ≡ key_for q → slot ≡ first_slot key (slots_of b.slots.now) → words ≡ words_of (entry_for q i)
-    → OffersBoth slot (slots_of b.slots.now) (number b.seat.now) words (adds b c) → OffersBoth (first_slot (key_for q) (slots_of a.slots.now)) (slots_of a.slots.now) (number a.seat.now) (words_of (entry_for q i)) (adds a c)
+pub kept_last : (a b c : Caller) (q : Question) (i : Bounds) (key : List ℕ) (slot : ℕ) (words : List ℕ) → GoesOn a b → GoesOn b c → key ≡ key_for q → slot ≡ first_slot key (slots_of b.slots.now) → words ≡ entry_words (entry_for q i)
+    → OffersBoth slot (slots_of b.slots.now) (number b.seat.now) words (adds b c) → OffersBoth (first_slot (key_for q) (slots_of a.slots.now)) (slots_of a.slots.now) (number a.seat.now) (entry_words (entry_for q i)) (adds a c)
 kept_last a b c q i key slot words ab bc k s is offers =
     let P : List ℕ → ℕ → ℕ → List ℕ → Type 0 = λ z slots n w. OffersBoth (first_slot z slots) slots n w (adds b c) in
     let own = subst (λ z. OffersBoth z (slots_of b.slots.now) (number b.seat.now) words (adds b c)) s offers in
@@ -64,8 +64,8 @@ kept_last a b c q i key slot words ab bc k s is offers =
     let here = subst (λ (t : TableId). P (key_for q) (slots_of t) (number b.seat.now) words) ab.table named in
     let mine = subst (λ n. P (key_for q) (slots_of a.slots.now) n words) ab.calls.number here in
     let right = subst (P (key_for q) (slots_of a.slots.now) (number a.seat.now)) is mine in
-    subst (OffersBoth (first_slot (key_for q) (slots_of a.slots.now)) (slots_of a.slots.now) (number a.seat.now) (words_of (entry_for q i))) (sym (adds_more a b c ab bc))
-    (offers_behind _ (slots_of a.slots.now) (number a.seat.now) (words_of (entry_for q i)) (adds a b) (adds b c) right)
+    subst (OffersBoth (first_slot (key_for q) (slots_of a.slots.now)) (slots_of a.slots.now) (number a.seat.now) (entry_words (entry_for q i))) (sym (adds_more a b c ab bc))
+    (offers_behind _ (slots_of a.slots.now) (number a.seat.now) (entry_words (entry_for q i)) (adds a b) (adds b c) right)
 
 below_within : (q : Question) (slots number : ℕ) (answer : Bool) (xs ys zs : List Call) → AsksBelow q slots number answer ys → AsksBelow q slots number answer ((xs ++ ys) ++ zs)
 below_within q slots number answer xs ys zs a = record {
@@ -79,7 +79,7 @@ below_within q slots number answer xs ys zs a = record {
 -- what was searched, by its calls in three parts
 decided_by_parts : (q : Question) (key : List ℕ) (slot slots n number : ℕ) (d : Decision) (xs ys zs : List Call) (words : List ℕ) (i : Bounds) → key ≡ key_for q → slot ≡ first_slot key slots → Asks key slot slots n number d.first xs
     → (Settles d.first n → ⊥) → 0 < d.expanded
-    → IsMetWith d.first (said d.yes n) i → words ≡ words_of (entry_for q i) → OffersBoth slot slots number words zs → Decides q slots n number d ((xs ++ ys) ++ zs)
+    → IsMetWith d.first (said d.yes n) i → words ≡ entry_words (entry_for q i) → OffersBoth slot slots number words zs → Decides q slots n number d ((xs ++ ys) ++ zs)
 decided_by_parts q key slot slots n number d xs ys zs words i k s a silent some met is offers = record {
   asked = asks_on _ _ _ _ _ _ (xs ++ ys) zs (asks_on _ _ _ _ _ _ xs ys (asks_as q key slot slots n number d.first xs k s a));
   at_once = λ settles. absurd (silent settles);
@@ -100,14 +100,14 @@ module _ (a b c e : Caller) (ab : GoesOn a b) (bc : GoesOn b c) (ce : GoesOn c e
 
   pub decided_searched : (key : List ℕ) (slot n : ℕ) (d : Decision) (i : Bounds) → key ≡ key_for q → slot ≡ first_slot key (slots_of a.slots.now)
       → Asks key slot (slots_of a.slots.now) n (number a.seat.now) d.first (adds a b) → (Settles d.first n → ⊥) → 0 < d.expanded → IsMetWith d.first (said d.yes n) i
-      → OffersBoth (first_slot (key_for q) (slots_of c.slots.now)) (slots_of c.slots.now) (number c.seat.now) (words_of (entry_for q i)) (adds c e) → Decides q (slots_of a.slots.now) n (number a.seat.now) d (adds a e)
+      → OffersBoth (first_slot (key_for q) (slots_of c.slots.now)) (slots_of c.slots.now) (number c.seat.now) (entry_words (entry_for q i)) (adds c e) → Decides q (slots_of a.slots.now) n (number a.seat.now) d (adds a e)
   decided_searched key slot n d i k s asks silent some met kept =
       let ac = goes_more a b c ab bc in
       let slots = slots_of a.slots.now in
-      let here = subst (λ (t : TableId). OffersBoth (first_slot (key_for q) (slots_of t)) (slots_of t) (number c.seat.now) (words_of (entry_for q i)) (adds c e)) ac.table kept in
-      let mine = subst (λ m. OffersBoth (first_slot (key_for q) slots) slots m (words_of (entry_for q i)) (adds c e)) ac.calls.number here in
+      let here = subst (λ (t : TableId). OffersBoth (first_slot (key_for q) (slots_of t)) (slots_of t) (number c.seat.now) (entry_words (entry_for q i)) (adds c e)) ac.table kept in
+      let mine = subst (λ m. OffersBoth (first_slot (key_for q) slots) slots m (entry_words (entry_for q i)) (adds c e)) ac.calls.number here in
       subst (Decides q slots n (number a.seat.now) d) (sym in_parts)
-      (decided_by_parts q (key_for q) (first_slot (key_for q) slots) slots n (number a.seat.now) d (adds a b) (adds b c) (adds c e) (words_of (entry_for q i)) i refl refl
+      (decided_by_parts q (key_for q) (first_slot (key_for q) slots) slots n (number a.seat.now) d (adds a b) (adds b c) (adds c e) (entry_words (entry_for q i)) i refl refl
       (asks_as q key slot slots n (number a.seat.now) d.first (adds a b) k s asks) silent some met refl mine)
 
   -- what is asked below is among the calls of the whole

@@ -17,7 +17,7 @@ use Rattle.entry.specs.Laws.{MeetingIsRight}
 use Rattle.entry.proofs.Questions.{one_entry}
 use Rattle.entry.proofs.Truths.{hit_right, yes_right, no_right, raise}
 use Rattle.decision.specs.declared.question.Question.{Question}
-use Rattle.decision.specs.Questions.{IsForced, IsKnownOf, entry_for, words_of, key_for, EndsBy, Says, RepliesThat, Settles, said, IsMetWith, IsWhole, Tells}
+use Rattle.decision.specs.Questions.{IsForced, IsKnownOf, entry_for, entry_words, key_for, EndsBy, Says, RepliesThat, Settles, said, IsMetWith, IsWhole, Tells}
 
 -- a hit with the key is whole
 pub whole_of : (key : List ℕ) (reply : Probe) → HitFits key_words IsTruePacking (Asked key reply) → IsWhole reply
@@ -78,7 +78,7 @@ silent Busy n t s = s.1
 abbrev pub asked_for : Question → Entry
 asked_for q = entry_for q (bounds_of 0 None)
 
-pub packed_question : (q : Question) → IsPosition q.position → Packing (asked_for q) (words_of (asked_for q))
+pub packed_question : (q : Question) → IsPosition q.position → Packing (asked_for q) (entry_words (asked_for q))
 packed_question q position = record {
   position = position;
   interval = record { below = omega arith; upto = tt; ordered = tt };
@@ -88,7 +88,7 @@ packed_question q position = record {
 -- a hit's interval is right of the question
 pub hit_is_right : (q : Question) → IsPosition q.position → (reply : Probe) → HitFits key_words IsTruePacking (Asked (key_for q) reply) → (i : Bounds) → Tells reply (Some i) → IsRight (asked_for q) i
 hit_is_right q position (Hit words) h i t =
-    subst (IsRight (asked_for q)) (sym t.2) (hit_right (asked_for q) t.0 words (words_of (asked_for q)) (packed_question q position) h.1 h.0 t.1).1
+    subst (IsRight (asked_for q)) (sym t.2) (hit_right (asked_for q) t.0 words (entry_words (asked_for q)) (packed_question q position) h.1 h.0 t.1).1
 hit_is_right q position Vacant h i t = absurd t
 hit_is_right q position Other h i t = absurd t
 hit_is_right q position Busy h i t = absurd t

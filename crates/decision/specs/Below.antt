@@ -19,9 +19,9 @@ Goes true P = P → ⊥
 Goes false P = P
 
 -- what an answer says that ends it
-abbrev pub Ends : Bool → Type 0 → Type 0
-Ends true P = P
-Ends false P = P → ⊥
+abbrev pub IsAsSaid : Bool → Type 0 → Type 0
+IsAsSaid true P = P
+IsAsSaid false P = P → ⊥
 
 -- the position after the move didn't end the search
 abbrev pub IsPassed : Question → ℕ → Bool → Ply → Type 0
@@ -29,7 +29,7 @@ IsPassed q n own m = (b : PlainBoard) → IsMove q.position m b → Goes own (Is
 
 -- the position after some move ended it
 abbrev pub IsCut : Question → ℕ → Bool → Type 0
-IsCut q n own = (m : Ply) × (b : PlainBoard) × IsMove q.position m b × Ends own (IsForced (question b q.attacker q.goal) n)
+IsCut q n own = (m : Ply) × (b : PlainBoard) × IsMove q.position m b × IsAsSaid own (IsForced (question b q.attacker q.goal) n)
 
 -- what the moves that were tried tell of n plies: one ended the search, or none did
 pub record Tells (q : Question) (n : ℕ) (moves : List Ply) (answer : Bool) : Type 0 where

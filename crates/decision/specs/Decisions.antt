@@ -13,7 +13,7 @@ use Rattle.entry.specs.Bounds.{Bounds}
 use Rattle.decision.specs.declared.decision.Decision.{Decision}
 use Rattle.decision.specs.Calls.{BeginsWith, EndsWith}
 use Rattle.decision.specs.declared.question.Question.{Question}
-use Rattle.decision.specs.Questions.{question, IsForced, entry_for, words_of, key_for, first_slot, Settles, said, IsMetWith}
+use Rattle.decision.specs.Questions.{question, IsForced, entry_for, entry_words, key_for, first_slot, Settles, said, IsMetWith}
 
 -- The key is asked in its first slot, and then in its second, if the table has it, where the first reply doesn't decide n. The reply that counts is the one that decides n, else the first slot's
 pub data Asks (key : List ℕ) (slot slots n number : ℕ) (counts : Probe) (calls : List Call) : Type 0 where
@@ -41,7 +41,7 @@ pub record OffersBoth (slot slots number : ℕ) (words : List ℕ) (calls : List
 pub record StoresAnswer (q : Question) (slots n number : ℕ) (d : Decision) (calls : List Call) : Type 0 where
   pub interval : Bounds
   pub met : IsMetWith d.first (said d.yes n) interval
-  pub offers : OffersBoth (first_slot (key_for q) slots) slots number (words_of (entry_for q interval)) calls
+  pub offers : OffersBoth (first_slot (key_for q) slots) slots number (entry_words (entry_for q interval)) calls
 
 -- the question is asked in its first slot
 abbrev pub IsAsked : Question → ℕ → ℕ → List Call → Type 0

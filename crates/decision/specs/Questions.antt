@@ -32,12 +32,12 @@ abbrev pub entry_for : Question → Bounds → Entry
 entry_for q i = entry_of q.position q.attacker q.goal i
 
 -- an entry's three words
-abbrev pub words_of : Entry → List ℕ
-words_of e = first_word e ∷ second_word e ∷ third_word e ∷ []
+abbrev pub entry_words : Entry → List ℕ
+entry_words e = first_word e ∷ second_word e ∷ third_word e ∷ []
 
 -- the key by which the question is asked
 abbrev pub key_for : Question → List ℕ
-key_for q = key_words (words_of (entry_for q (bounds_of 0 None)))
+key_for q = key_words (entry_words (entry_for q (bounds_of 0 None)))
 
 -- the key's first slot: its number, rounded down to an even one. The second is the next one
 abbrev pub first_slot : List ℕ → ℕ → ℕ

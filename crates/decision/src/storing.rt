@@ -9,7 +9,7 @@ ghost use Rattle.entry.specs.Keys.{key_words};
 ghost use Rattle.entry.specs.Truth.{IsTruePacking};
 ghost use Rattle.decision.specs.Calls.{KnowsHistory};
 ghost use Rattle.decision.specs.Callers.{GoesOn, adds};
-ghost use Rattle.decision.specs.Questions.{key_for, entry_for, words_of, first_slot, said, IsForced, IsMetWith, IsWhole, IsKnownOf, Says, Tells};
+ghost use Rattle.decision.specs.Questions.{key_for, entry_for, entry_words, first_slot, said, IsForced, IsMetWith, IsWhole, IsKnownOf, Says, Tells};
 ghost use Rattle.decision.specs.Decisions.{OffersBoth};
 
 use crate::asking::{far_slot, first_slot, known};
@@ -109,7 +109,7 @@ pub(crate) fn keep(caller: &mut Caller<'_>, q: &Question, known: Interval)
     requires { IsKnownOf q.now known }
     ensures goes_on { GoesOn caller.old caller.new }
     ensures kept { OffersBoth (first_slot (key_for q.now) (slots_of caller.old.slots.now))
-        (slots_of caller.old.slots.now) (number caller.old.seat.now) (words_of (entry_for q.now known)) (adds caller.old caller.new) }
+        (slots_of caller.old.slots.now) (number caller.old.seat.now) (entry_words (entry_for q.now known)) (adds caller.old caller.new) }
 {
     let key = q.key();
     let words = pack_board(&q.position, q.attacker, q.goal, known);

@@ -9,8 +9,8 @@ use Rattle.least.specs.JobBoard.{JobBoard}
 use Rattle.least.specs.Rule.{NoneOrWins, BoardHolds}
 
 -- what `make` takes
-abbrev pub IsSize : ℕ → ℕ → Type 0
-IsSize jobs callers = (jobs ≤ 512) × (0 < callers) × (callers ≤ 17)
+abbrev pub IsBoardSize : ℕ → ℕ → Type 0
+IsBoardSize jobs callers = (jobs ≤ 512) × (0 < callers) × (callers ≤ 17)
 
 module _ {W : Type 0} where
   -- the job is one of the board's, and wins

@@ -1,6 +1,6 @@
 // The word, how it is made with its seats, lowered, asked and given up.
 ghost use Rattle.std.specs.Prelude.{◌≡◌, ℕ, ◌+◌, ◌<◌, ◌≤◌, All, IfOk, IsErrOf, IsTrue, ◌↔◌, vec_len};
-ghost use Rattle.least.specs.Promise.{least_known, steps, IsSize, IsJobSeatOf, IsNewJobSeatOf, JobWins, IsBest, GivenUp};
+ghost use Rattle.least.specs.Promise.{least_known, steps, IsBoardSize, IsJobSeatOf, IsNewJobSeatOf, JobWins, IsBest, GivenUp};
 
 use crate::fault::MakeFault;
 use crate::rule::{Deal, Lowest};
@@ -47,7 +47,7 @@ impl<W: Wins> Least<W> {
     ) -> Result<(Least<W>, Vec<JobSeat<W>>), MakeFault>
         ensures ok { IfOk result (λ r. (r.0.wins ≡ wins.now) × (r.0.jobs ≡ jobs) × (vec_len r.1 ≡ callers)) }
         ensures seats { IfOk result (λ r. All (IsNewJobSeatOf r.0) r.1.items) }
-        ensures size { IsErrOf result MakeFault.Size ↔ (¬ IsSize jobs callers) }
+        ensures size { IsErrOf result MakeFault.Size ↔ (¬ IsBoardSize jobs callers) }
         ensures limits { (MOST_JOBS ≡ 512) × (MOST_CALLERS ≡ 17) }
     {
         if jobs > MOST_JOBS || callers < 1 || callers > MOST_CALLERS {

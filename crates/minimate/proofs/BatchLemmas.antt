@@ -24,7 +24,7 @@ use Rattle.replies.specs.declared.refusal.Refusal.{Refusal}
 use Rattle.replies.specs.declared.refusal.Refusal.TheVariants.{TooLong}
 use Rattle.minimate.specs.Batch.{AnswersLines, EndsBatch, IsLineReply, IsReplyText, RunsBatch, is_remark, joined, lines_of, onto, said_in}
 use Rattle.minimate.specs.Desk.{Fails, GivesNext, GivesSaid, RepliesToFirst, SameSolver, Step, TakesLines, TakesStep, WritesUntil, stop_status}
-use Rattle.minimate.specs.Lines.{IsNext, TakesLine, left_of}
+use Rattle.minimate.specs.Lines.{IsNextLine, TakesLine, left_of}
 use Rattle.minimate.specs.Run.{Ending, Finishes, Refuses, Run, no_memory}
 use Rattle.rounds.specs.declared.fault.SolveFault.{SolveFault}
 use Rattle.rounds.specs.declared.fault.SolveFault.TheVariants as solve
@@ -190,7 +190,7 @@ pub too_long_reply : (s : Solver) (text xs : List ℕ) → (0 < length xs) × (2
 too_long_reply s text xs next is = (next.0, rw (lt-ltb 256 (length (without_line_feed (take_through 10 xs))) next.1) is)
 
 -- any other is answered by what it says
-pub line_reply : (s : Solver) (line : Vec ℕ Global) (text xs : List ℕ) → IsNext xs (Line line) → IsReplyText s.goal s.limits (said_in line.items) text → RepliesToFirst s text xs
+pub line_reply : (s : Solver) (line : Vec ℕ Global) (text xs : List ℕ) → IsNextLine xs (Line line) → IsReplyText s.goal s.limits (said_in line.items) text → RepliesToFirst s text xs
 line_reply s line text xs next reply =
     (next.0, subst (λ l. IsLineReply s.goal s.limits l text) next.1 (rw (le-ltb 256 (length (without_line_feed line.items)) next.2) reply))
 

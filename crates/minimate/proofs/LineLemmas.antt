@@ -6,7 +6,7 @@ use Rattle.std.proofs.lemmas.Option.{IfSome_then}
 use Rattle.std.specs.Io.BufRead.{take_through, drop_through}
 use Rattle.std.specs.Io.KnownBytes.{ReadConsumes}
 use Rattle.replies.specs.Input.{without_line_feed}
-use Rattle.minimate.specs.Lines.{HasNoFeed, Holds, IsNext, TakesByte, TakesLine, left_of}
+use Rattle.minimate.specs.Lines.{HasNoFeed, HoldsLine, IsNextLine, TakesByte, TakesLine, left_of}
 use Rattle.minimate.specs.declared.lines.Held.{Held}
 use Rattle.minimate.specs.declared.lines.Next.{Next}
 use Rattle.minimate.specs.declared.lines.Next.TheVariants.{Line, TooLong}
@@ -37,7 +37,7 @@ moved_on u (Some rest) xs byte lt fits is left =
 
 -- these are the bytes so far, without a feed, and then those that are left
 abbrev pub Reads : Option (List ℕ) → Held → List ℕ → Type 0
-Reads now held xs = (raw : List ℕ) × (ys : List ℕ) × (now ≡ Some ys) × (xs ≡ raw ++ ys) × HasNoFeed raw × Holds raw held
+Reads now held xs = (raw : List ℕ) × (ys : List ℕ) × (now ≡ Some ys) × (xs ≡ raw ++ ys) × HasNoFeed raw × HoldsLine raw held
 
 -- without a feed, all of it is the line
 take_all_through : (raw : List ℕ) → HasNoFeed raw → take_through 10 raw ≡ raw
@@ -71,22 +71,22 @@ without_feed raw =
 
 -- ---- what a line was read as
 
-pub last_long : (raw : List ℕ) (held : Held) → HasNoFeed raw → held.is_long ≡ true → Holds raw held → IsNext raw TooLong
+pub last_long : (raw : List ℕ) (held : Held) → HasNoFeed raw → held.is_long ≡ true → HoldsLine raw held → IsNextLine raw TooLong
 last_long raw held none long holds =
     let big : 256 < length raw = rw long at holds in
     (omega (arith, big), rw (take_all_through raw none) (rw (without_none raw none) big))
 
-pub last_line : (raw : List ℕ) (held : Held) → HasNoFeed raw → held.is_long ≡ false → 0 < length held.bytes.items → Holds raw held → IsNext raw (Line held.bytes)
+pub last_line : (raw : List ℕ) (held : Held) → HasNoFeed raw → held.is_long ≡ false → 0 < length held.bytes.items → HoldsLine raw held → IsNextLine raw (Line held.bytes)
 last_line raw held none short some holds =
     let h : (held.bytes.items ≡ raw) × (length raw ≤ 256) = rw short at holds in
     (subst (λ l. 0 < length l) h.0 some, h.0 ∙ sym (take_all_through raw none), subst (λ l. length l ≤ 256) (sym (ap without_line_feed h.0 ∙ without_none raw none)) h.1)
 
-pub long_ended : (raw rest : List ℕ) (held : Held) → HasNoFeed raw → held.is_long ≡ true → Holds raw held → IsNext (raw ++ 10 ∷ rest) TooLong
+pub long_ended : (raw rest : List ℕ) (held : Held) → HasNoFeed raw → held.is_long ≡ true → HoldsLine raw held → IsNextLine (raw ++ 10 ∷ rest) TooLong
 long_ended raw rest held none long holds =
     let big : 256 < length raw = rw long at holds in
     (omega (arith, length-append raw (10 ∷ rest)), rw (take_to_feed raw rest none) (rw (without_feed raw) big))
 
-pub line_ended : (raw rest : List ℕ) (held : Held) (line : List ℕ) → HasNoFeed raw → held.is_long ≡ false → line ≡ held.bytes.items ++ 10 ∷ [] → Holds raw held
+pub line_ended : (raw rest : List ℕ) (held : Held) (line : List ℕ) → HasNoFeed raw → held.is_long ≡ false → line ≡ held.bytes.items ++ 10 ∷ [] → HoldsLine raw held
     → (0 < length (raw ++ 10 ∷ rest)) × (line ≡ take_through 10 (raw ++ 10 ∷ rest)) × (length (without_line_feed line) ≤ 256)
 line_ended raw rest held line none short pushed holds =
     let h : (held.bytes.items ≡ raw) × (length raw ≤ 256) = rw short at holds in
@@ -95,13 +95,13 @@ line_ended raw rest held line none short pushed holds =
 
 -- ---- steps of the reading
 
-pub reads_first : (known : Option (List ℕ)) (held : Held) → Holds [] held → IfSome known (Reads known held)
+pub reads_first : (known : Option (List ℕ)) (held : Held) → HoldsLine [] held → IfSome known (Reads known held)
 reads_first None held holds = tt
 reads_first (Some xs) held holds = ([], xs, refl, refl, All-nil (λ x. x ≢ 10), holds)
 
 -- one byte more of the line
 pub reads_more : (first now after : Option (List ℕ)) (held further : Held) (byte : ℕ) → byte ≢ 10 → IfSome first (Reads now held) → TakesByte now after (Some byte)
-    → ((raw : List ℕ) → Holds raw held → Holds (raw ++ byte ∷ []) further) → IfSome first (Reads after further)
+    → ((raw : List ℕ) → HoldsLine raw held → HoldsLine (raw ++ byte ∷ []) further) → IfSome first (Reads after further)
 reads_more first now after held further byte other so_far takes holds = IfSome_then first so_far (λ xs h.
     let (raw, ys, is, split, none, held_so) = h in
     let (rest, one, left) = subst (λ o. IfSome o (λ zs. (ws : List ℕ) × (zs ≡ byte ∷ ws) × (after ≡ Some ws))) is takes in
@@ -109,18 +109,18 @@ reads_more first now after held further byte other so_far takes holds = IfSome_t
 
 -- the input ends
 pub reads_last : (first now after : Option (List ℕ)) (held : Held) (next : Next) → IfSome first (Reads now held) → TakesByte now after None
-    → ((raw : List ℕ) → HasNoFeed raw → Holds raw held → IsNext raw next) → TakesLine first after next
+    → ((raw : List ℕ) → HasNoFeed raw → HoldsLine raw held → IsNextLine raw next) → TakesLine first after next
 reads_last first now after held next so_far takes last = IfSome_then first so_far (λ xs h.
     let (raw, ys, is, split, none, held_so) = h in
     let (end, left) = subst (λ o. IfSome o (λ zs. (zs ≡ []) × (after ≡ Some []))) is takes in
     let whole : xs ≡ raw = split ∙ ap (λ l. raw ++ l) end ∙ append-nil raw in
-    (subst (λ l. IsNext l next) (sym whole) (last raw none held_so), left ∙ ap Some (sym (ap (drop_through 10) whole ∙ drop_all_through raw none))))
+    (subst (λ l. IsNextLine l next) (sym whole) (last raw none held_so), left ∙ ap Some (sym (ap (drop_through 10) whole ∙ drop_all_through raw none))))
 
 -- a feed ends the line
 pub reads_ended : (first now after : Option (List ℕ)) (held : Held) (byte : ℕ) (next : Next) → byte ≡ 10 → IfSome first (Reads now held) → TakesByte now after (Some byte)
-    → ((raw rest : List ℕ) → HasNoFeed raw → Holds raw held → IsNext (raw ++ 10 ∷ rest) next) → TakesLine first after next
+    → ((raw rest : List ℕ) → HasNoFeed raw → HoldsLine raw held → IsNextLine (raw ++ 10 ∷ rest) next) → TakesLine first after next
 reads_ended first now after held byte next feed so_far takes ended = IfSome_then first so_far (λ xs h.
     let (raw, ys, is, split, none, held_so) = h in
     let (rest, one, left) = subst (λ o. IfSome o (λ zs. (ws : List ℕ) × (zs ≡ byte ∷ ws) × (after ≡ Some ws))) is takes in
     let whole : xs ≡ raw ++ 10 ∷ rest = split ∙ ap (λ l. raw ++ l) (one ∙ ap (λ x. x ∷ rest) feed) in
-    (subst (λ l. IsNext l next) (sym whole) (ended raw rest none held_so), left ∙ ap Some (sym (ap (drop_through 10) whole ∙ drop_to_feed raw rest none))))
+    (subst (λ l. IsNextLine l next) (sym whole) (ended raw rest none held_so), left ∙ ap Some (sym (ap (drop_through 10) whole ∙ drop_to_feed raw rest none))))

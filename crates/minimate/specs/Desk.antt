@@ -15,7 +15,7 @@ use Rattle.replies.specs.declared.refusal.Refusal.TheVariants as refusal
 use Rattle.replies.specs.declared.transfer.InputFault.{InputFault}
 use Rattle.replies.specs.declared.transfer.InputFault.TheVariants as input
 use Rattle.minimate.specs.Batch.{AnswersLines, IsLineReply, IsReplyText, joined}
-use Rattle.minimate.specs.Lines.{IsNext, IsUnread, left_of}
+use Rattle.minimate.specs.Lines.{IsNextLine, IsUnread, left_of}
 use Rattle.minimate.specs.declared.batch.Desk.{Desk}
 use Rattle.minimate.specs.declared.batch.Solver.{Solver}
 use Rattle.minimate.specs.declared.batch.Stop.{Stop}
@@ -81,8 +81,8 @@ RepliesToFirst s text xs = (0 < length xs) × IsLineReply s.goal s.limits (take_
 
 -- the text is the reply to what comes next of the input; none comes at its end
 abbrev pub GivesNext : Solver → Next → Option (Vec ℕ Global) → Type 0
-GivesNext s next None = (xs : List ℕ) → IsNext xs next → xs ≡ []
-GivesNext s next (Some text) = (xs : List ℕ) → IsNext xs next → RepliesToFirst s (vec_items text) xs
+GivesNext s next None = (xs : List ℕ) → IsNextLine xs next → xs ≡ []
+GivesNext s next (Some text) = (xs : List ℕ) → IsNextLine xs next → RepliesToFirst s (vec_items text) xs
 
 -- a line is taken and answered; or there is none; or something stops it
 abbrev pub TakesStep : Solver → Step → Result Bool Stop → Type 0

@@ -34,15 +34,15 @@ abbrev pub HasNoFeed : List ℕ → Type 0
 HasNoFeed bytes = All (λ x. x ≢ 10) bytes
 
 -- what is held of a line whose bytes so far are these
-abbrev pub Holds : List ℕ → Held → Type 0
-Holds raw held = MatchBool held.is_long (256 < length raw) ((held.bytes.items ≡ raw) × (length raw ≤ 256))
+abbrev pub HoldsLine : List ℕ → Held → Type 0
+HoldsLine raw held = MatchBool held.is_long (256 < length raw) ((held.bytes.items ≡ raw) × (length raw ≤ 256))
 
 -- of these bytes this is the first line, of which at most 256 bytes stand before the feed
-abbrev pub IsNext : List ℕ → Next → Type 0
-IsNext xs End = xs ≡ []
-IsNext xs (Line line) = (0 < length xs) × (line.items ≡ take_through 10 xs) × (length (without_line_feed line.items) ≤ 256)
-IsNext xs TooLong = (0 < length xs) × (256 < length (without_line_feed (take_through 10 xs)))
+abbrev pub IsNextLine : List ℕ → Next → Type 0
+IsNextLine xs End = xs ≡ []
+IsNextLine xs (Line line) = (0 < length xs) × (line.items ≡ take_through 10 xs) × (length (without_line_feed line.items) ≤ 256)
+IsNextLine xs TooLong = (0 < length xs) × (256 < length (without_line_feed (take_through 10 xs)))
 
 -- the first line is taken from known bytes
 abbrev pub TakesLine : Option (List ℕ) → Option (List ℕ) → Next → Type 0
-TakesLine before after next = IfSome before (λ xs. IsNext xs next × (after ≡ Some (drop_through 10 xs)))
+TakesLine before after next = IfSome before (λ xs. IsNextLine xs next × (after ≡ Some (drop_through 10 xs)))

@@ -2,7 +2,7 @@
 ghost use Rattle.std.specs.Prelude.{◌≡◌, ◌+◌, ◌<◌, ◌++◌, ◌∷◌, [], ℕ, IfOk, List, OnErr, OnOk};
 ghost use Rattle.replies.specs.Input.{failed_reads};
 ghost use Rattle.minimate.specs.Batch.{is_remark, said_in, without_return};
-ghost use Rattle.minimate.specs.Lines.{Fills, HasNoFeed, Holds, IsNext, IsUnread, TakesByte, TakesLine, left_of};
+ghost use Rattle.minimate.specs.Lines.{Fills, HasNoFeed, HoldsLine, IsNextLine, IsUnread, TakesByte, TakesLine, left_of};
 
 use replies::{Failed, InputFault, Source};
 use std::alloc::{AllocError, Global};
@@ -116,7 +116,7 @@ pub struct Held {
 
 impl Held {
     fn new(alloc: Global) -> Held
-        ensures { Holds [] result }
+        ensures { HoldsLine [] result }
     {
         Held {
             bytes: Vec::new(alloc),
@@ -125,7 +125,7 @@ impl Held {
     }
 
     fn hold(&mut self, byte: u8) -> Result<(), AllocError>
-        ensures { OnOk result ((raw : List ℕ) → Holds raw self.old → Holds (raw ++ byte ∷ []) self.new) }
+        ensures { OnOk result ((raw : List ℕ) → HoldsLine raw self.old → HoldsLine (raw ++ byte ∷ []) self.new) }
     {
         if self.bytes.len() < MOST_LINE {
             self.bytes.extend_from_slice(&[byte])?;
@@ -137,7 +137,7 @@ impl Held {
 
     /// The line at the end of the input, which has no feed.
     fn last(self) -> Next
-        ensures { (raw : List ℕ) → HasNoFeed raw → Holds raw self → IsNext raw result }
+        ensures { (raw : List ℕ) → HasNoFeed raw → HoldsLine raw self → IsNextLine raw result }
     {
         if self.is_long {
             return Next::TooLong;
@@ -150,8 +150,8 @@ impl Held {
 
     /// The line, where a feed comes next.
     fn ended(self) -> Result<Next, AllocError>
-        ensures { IfOk result (λ next. (raw rest : List ℕ) → HasNoFeed raw → Holds raw self
-            → IsNext (raw ++ 10 ∷ rest) next) }
+        ensures { IfOk result (λ next. (raw rest : List ℕ) → HasNoFeed raw → HoldsLine raw self
+            → IsNextLine (raw ++ 10 ∷ rest) next) }
     {
         if self.is_long {
             return Ok(Next::TooLong);

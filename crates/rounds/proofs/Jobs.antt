@@ -14,7 +14,7 @@ use Rattle.decision.proofs.Winning.{wins_by, forced_by, next_round}
 use Rattle.decision.specs.Orders.{ListsAll}
 use Rattle.rounds.specs.declared.bench.Root.{Root}
 use Rattle.rounds.specs.Jobs.{JobWins}
-use Rattle.rounds.specs.Roots.{LeadsTo, WinsIn}
+use Rattle.rounds.specs.Roots.{IsQuestionOf, WinsIn}
 use Rattle.rounds.specs.Verdicts.{IsLeast, NoneWins}
 
 same_some : (l m : Ply) → Some l ≡ Some m → l ≡ m
@@ -74,7 +74,7 @@ module _ (goal : Goal) (b : PlainBoard) (n : ℕ) (xs : List Ply) where
     none_moves none m w = let among = listed m w in none among.0 among.1 (job_of m w among)
 
 -- a job wins where the goal is forced from the position that its move leads to
-pub job_after : (r : Root) (n job : ℕ) (q : Question) (answer : Bool) → LeadsTo r job q → (IsTrue answer ↔ IsForced q (n - 1)) → IsTrue answer ↔ WinsIn r n job
+pub job_after : (r : Root) (n job : ℕ) (q : Question) (answer : Bool) → IsQuestionOf r job q → (IsTrue answer ↔ IsForced q (n - 1)) → IsTrue answer ↔ WinsIn r n job
 job_after r n job q answer (m, at, move, is) h =
     job_by r.goal r.board n r.moves.items job m answer at
     (wins_by r.goal r.board n m q.position answer move (subst (λ (o : Question). IsTrue answer ↔ IsForced o (n - 1)) is h))

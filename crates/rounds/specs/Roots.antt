@@ -19,8 +19,8 @@ abbrev pub IsJobOf : Root → ℕ → Type 0
 IsJobOf r job = IsRoot r × (job < length r.moves.items)
 
 -- what a decision of the job is asked: whether the mover forces the goal from the position after its move
-abbrev pub LeadsTo : Root → ℕ → Question → Type 0
-LeadsTo r job q =
+abbrev pub IsQuestionOf : Root → ℕ → Question → Type 0
+IsQuestionOf r job q =
     (m : Ply) × (slice_get r.moves.items job ≡ Some m) × IsMove r.board m q.position
     × (q ≡ question q.position r.board.mover r.goal)
 

@@ -21,7 +21,7 @@ pub(crate) struct Root {
 
 impl Root {
     ghost use Rattle.std.specs.Prelude.{◌≡◌, ◌≤◌, length};
-    ghost use Rattle.rounds.specs.Roots.{IsRoot, IsJobOf, LeadsTo, root_jobs};
+    ghost use Rattle.rounds.specs.Roots.{IsRoot, IsJobOf, IsQuestionOf, root_jobs};
 
     pub(crate) fn of(position: &Position, goal: Goal) -> Root
         ensures position { result.board ≡ position.now }
@@ -57,7 +57,7 @@ impl Root {
     /// Whether the attacker forces the goal after the job's move.
     pub(crate) fn question_of(&self, job: u16) -> Question
         requires { IsJobOf self.now job }
-        ensures { LeadsTo self.now job result }
+        ensures { IsQuestionOf self.now job result }
     {
         Question {
             position: after(&self.board, self.moves[usize::from(job)]),

@@ -8,7 +8,7 @@ use Rattle.slots.specs.declared.calls.Act.TheVariants.{Asked, Offered}
 use Rattle.slots.specs.declared.calls.Store as store
 use Rattle.slots.specs.declared.views.Half.TheVariants.{Idle, Reading}
 use Rattle.slots.specs.declared.views.View.{View}
-use Rattle.slots.specs.Machine.{Way, Machine, fresh, after, MayReply, run, stores, part, StoresMeet}
+use Rattle.slots.specs.Machine.{Way, Machine, fresh, machine_after, MayReply, run, stores, part, StoresMeet}
 use Rattle.slots.specs.Rule.{way_at, note, gate_at, TableHolds}
 use native.Mathlib.Decide.{dec_le}
 use Rattle.slots.specs.Steps.{halfway, ended, begun, offered, IsBusy, IsWorn}
@@ -33,7 +33,7 @@ module _ (way : Way) (meets : List ℕ → Type 0) (n : ℕ) where
   begins_told slots id me told k busy e lt room seated idle is =
       subst (λ (z : ℕ). Allows Rule slots id me (4 * k) (λ x. x) (begun way z busy me)) (sym e) (begins slots id me k busy lt room seated idle is)
 
-  pub worn_ends : (there : Way) (m : Machine) (a : Act) → IsWorn a → m.stores ≡ 2 ^ 63 - 1 → MayReply there m a × (after m a ≡ m) × StoresMeet meets a
+  pub worn_ends : (there : Way) (m : Machine) (a : Act) → IsWorn a → m.stores ≡ 2 ^ 63 - 1 → MayReply there m a × (machine_after m a ≡ m) × StoresMeet meets a
   worn_ends there m (Offered w store.TheVariants.Worn) h e = (e, refl, tt)
   worn_ends there m (Offered w store.TheVariants.Stored) h e = absurd h
   worn_ends there m (Offered w store.TheVariants.Busy) h e = absurd h

@@ -11,9 +11,9 @@ use Rattle.slots.specs.declared.calls.Store as store
 use Rattle.slots.specs.declared.views.Half.{Half}
 use Rattle.slots.specs.declared.views.Half.TheVariants.{Reading}
 use Rattle.slots.specs.declared.views.View.{View}
-use Rattle.slots.specs.Machine.{Way, Machine, fresh, after, MayReply, run, standing, part, StoresMeet}
+use Rattle.slots.specs.Machine.{Way, Machine, fresh, machine_after, MayReply, run, standing, part, StoresMeet}
 use Rattle.slots.specs.Rule.{way_at, note, gate_at, words_at, TableHolds, words_of}
-use Rattle.slots.specs.Steps.{halfway, ended, Ends, EndsBusy, HitFits, read, looked, IsBusy, IsAnswer, zeros}
+use Rattle.slots.specs.Steps.{halfway, ended, Ends, EndsBusy, HitFits, read, looked, IsBusy, IsProbeReply, zeros}
 use Rattle.slots.proofs.Histories.{standing-meets}
 use Rattle.slots.proofs.ReadsPass.{got_more}
 use Rattle.slots.proofs.SlotKeeps.{HalfDone}
@@ -49,7 +49,7 @@ module _ (way : Way) (meets : List ℕ → Type 0) (n : ℕ) where
 
   -- what three whole words let a call be answered at the slot k
   abbrev pub Answers : ℕ → List ℕ → Act → Type 0
-  Answers k got done = (m : Machine) → got ≡ words_of m.holds → ((w : List ℕ) → m.holds ≡ Some w → meets w) → MayReply (way_at k way) m done × (after m done ≡ m) × StoresMeet meets done × HitFits way.key meets done
+  Answers k got done = (m : Machine) → got ≡ words_of m.holds → ((w : List ℕ) → m.holds ≡ Some w → meets w) → MayReply (way_at k way) m done × (machine_after m done ≡ m) × StoresMeet meets done × HitFits way.key meets done
 
   pub kept_may : (k : ℕ) (got words : List ℕ) → k % 2 ≡ 0 → way.prefers got words ≡ true → way.prefers zeros words ≡ false → (m : Machine) (o : Option (List ℕ)) → m.holds ≡ o → got ≡ words_of o
       → MayReply (way_at k way) m (Offered words (store.TheVariants.Kept got))
@@ -59,8 +59,8 @@ module _ (way : Way) (meets : List ℕ → Type 0) (n : ℕ) where
   pub kept_answers : (k : ℕ) (got words : List ℕ) → k % 2 ≡ 0 → way.prefers got words ≡ true → way.prefers zeros words ≡ false → Answers k got (Offered words (store.TheVariants.Kept got))
   kept_answers k got words even likes never = λ m w _. (kept_may k got words even likes never m m.holds refl w, refl, tt, tt)
 
-  pub answer_may : (j : ℕ) (m : Machine) (got : List ℕ) (act : Act) → IsAnswer way.key got act → (o : Option (List ℕ)) → m.holds ≡ o → got ≡ words_of o → ((w : List ℕ) → m.holds ≡ Some w → meets w) → (meets zeros → ⊥)
-      → MayReply (way_at j way) m act × (after m act ≡ m) × StoresMeet meets act × HitFits way.key meets act
+  pub answer_may : (j : ℕ) (m : Machine) (got : List ℕ) (act : Act) → IsProbeReply way.key got act → (o : Option (List ℕ)) → m.holds ≡ o → got ≡ words_of o → ((w : List ℕ) → m.holds ≡ Some w → meets w) → (meets zeros → ⊥)
+      → MayReply (way_at j way) m act × (machine_after m act ≡ m) × StoresMeet meets act × HitFits way.key meets act
   answer_may j m got (Asked k probe.TheVariants.Vacant) is None e w lore law = (e, refl, tt, tt)
   answer_may j m got (Asked k probe.TheVariants.Vacant) is (Some x) e w lore law = absurd (law (subst meets (sym w ∙ is) (lore x e)))
   answer_may j m got (Asked k (probe.TheVariants.Hit words)) is None e w lore law = absurd (is.1 w)
@@ -100,7 +100,7 @@ module _ (way : Way) (meets : List ℕ → Type 0) (n : ℕ) where
       (t.0, keeps, tt, t.1, tell t.0 ((λ same. absurd (other same)), λ _. (omega arith, t.2))))
 
   pub looks_probe : (slots id : ℕ) (me : Me ℕ View) (k at : ℕ) (got : List ℕ) (busy done : Act) → (meets zeros → ⊥) → k < n → length me.0.notes ≡ n → me.0.seated ≡ true
-      → me.0.half ≡ Reading at got → me.0.slot ≡ k → length got ≡ 3 → IsBusy busy → IsAnswer way.key got done
+      → me.0.half ≡ Reading at got → me.0.slot ≡ k → length got ≡ 3 → IsBusy busy → IsProbeReply way.key got done
       → Allows Rule slots id me (4 * k) (λ x. x) (looked way meets busy done me)
   looks_probe slots id me k at got busy done law lt room seated is there whole isbusy answer =
       looks slots id me k at got busy done (λ m e lore. answer_may k m got done answer m.holds refl e lore law) lt room seated is there whole isbusy

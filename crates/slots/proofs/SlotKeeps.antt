@@ -9,7 +9,7 @@ use Rattle.slots.specs.declared.calls.Act.TheVariants.{Offered}
 use Rattle.slots.specs.declared.calls.Store.TheVariants.{Stored}
 use Rattle.slots.specs.declared.views.Half.{Half}
 use Rattle.slots.specs.declared.views.Half.TheVariants.{Idle, Writing}
-use Rattle.slots.specs.Machine.{Way, Machine, fresh, after, MayReply, run, IsLegal, stores, standing, StoresMeet}
+use Rattle.slots.specs.Machine.{Way, Machine, fresh, machine_after, MayReply, run, IsLegal, stores, standing, StoresMeet}
 use Rattle.slots.specs.Steps.{Yields}
 use Rattle.slots.specs.Rule.{words_of, Glance, Had, Passed, Claims, StillRead, SlotHolds}
 use Rattle.slots.proofs.Histories.{run-snoc, follows-snoc}
@@ -50,7 +50,7 @@ module _ (way : Way) (meets : List ℕ → Type 0) where
 
   -- a call ends, and no word changes
   pub call_kept : (history : List Call) (gate : ℕ) (words : List ℕ) (seats : List Glance) (r : SlotHolds way meets history gate words seats) (id : ℕ) (old : Glance) → get_elem? seats id ≡ option.some old
-      → (c : Call) → MayReply way (run fresh history) c.act → after (run fresh history) c.act ≡ run fresh history → StoresMeet meets c.act → (low high : ℕ) → low ≤ high → high ≤ gate
+      → (c : Call) → MayReply way (run fresh history) c.act → machine_after (run fresh history) c.act ≡ run fresh history → StoresMeet meets c.act → (low high : ℕ) → low ≤ high → high ≤ gate
       → SlotHolds way meets (history ++ c ∷ []) gate words (set seats id record { seated = old.seated; note = record { low = low; high = high }; half = Idle })
   call_kept history gate words seats r id old at c may same ok low high a b =
       let now = run-snoc fresh history c ∙ same in
@@ -86,7 +86,7 @@ module _ (way : Way) (meets : List ℕ → Type 0) where
       → (at : ℕ) (stood put : List ℕ) → HalfDone gate words (words_of (standing history)) r.claim.writer id (Writing at stood put) → Yields way stood put → length put ≡ length words → meets put → (c : Call) → c.act ≡ Offered put Stored → (low high : ℕ) → low ≤ high → high ≤ gate
       → SlotHolds way meets (history ++ c ∷ []) (gate + 1) words (set seats id record { seated = old.seated; note = record { low = low; high = high }; half = Idle })
   end_kept history gate words seats r id old here at stood put mine yields full ok c is low high a b =
-      let now : run fresh (history ++ c ∷ []) ≡ after (run fresh history) (Offered put Stored) = run-snoc fresh history c ∙ ap (after (run fresh history)) is in
+      let now : run fresh (history ++ c ∷ []) ≡ machine_after (run fresh history) (Offered put Stored) = run-snoc fresh history c ∙ ap (machine_after (run fresh history)) is in
       let odd : gate % 2 ≡ 1 = subst (λ (z : ℕ). z % 2 ≡ 1) mine.1.1 mine.1.0 in let count = r.numbers.counted in
       let whole : put ≡ words = mine.1.3 ∙ take_all (length put) words (omega arith) in
       let more : stores (history ++ c ∷ []) ≡ stores history + 1 = ap (λ (m : Machine). m.stores) now in

@@ -16,7 +16,7 @@ use Rattle.slots.specs.declared.views.Note.{Note}
 use Rattle.slots.specs.declared.views.Half.{Half}
 use Rattle.slots.specs.declared.views.Half.TheVariants.{Idle, Reading, Writing}
 use Rattle.slots.specs.declared.views.View.{View}
-use Rattle.slots.specs.Machine.{Way, Machine, fresh, after, MayReply, run, IsLegal, stores, standing, calls_by, part, call, StoresMeet}
+use Rattle.slots.specs.Machine.{Way, Machine, fresh, machine_after, MayReply, run, IsLegal, stores, standing, calls_by, part, call, StoresMeet}
 use Rattle.slots.specs.Rule.{way_at, Glance, Fits, Had, SlotHolds, note, blank, glance, gate_at, words_at, TableHolds, words_of}
 use native.Mathlib.Decide.{dec_le}
 use Rattle.slots.specs.Steps.{Lists, halfway, ended, Adds, EndsBusy, IsBusy}
@@ -186,7 +186,7 @@ module _ (way : Way) (meets : List ℕ → Type 0) (n : ℕ) where
 
   -- a call ends, and no word changes
   pub stops : (s : St) (r : Rule s) (i id k : ℕ) (v : View) (cs : List (ℕ × ℕ)) (lt : k < n) → get_elem? s.views id ≡ option.some v → IsAt k v → v.seated ≡ true → length v.notes ≡ n
-      → (act : Act) → MayReply (way_at k way) (run fresh (part k r.history)) act → after (run fresh (part k r.history)) act ≡ run fresh (part k r.history) → StoresMeet meets act
+      → (act : Act) → MayReply (way_at k way) (run fresh (part k r.history)) act → machine_after (run fresh (part k r.history)) act ≡ run fresh (part k r.history) → StoresMeet meets act
       → (low high : ℕ) → low ≤ high → high ≤ gate_at k s.words
       → (m : Note) × (l : Lists) × (m.low ≡ low) × (m.high ≡ high) × Rule (stepped s i (get_or s.words i 0) id cs (ended k m l v) keeps) × Adds way k v.number act v.seen v.mine l.seen l.mine × (stores (part k l.seen) ≡ gate_at k s.words / 2)
   stops s r i id k v cs lt at there seated room act may same ok low high a b =
@@ -219,7 +219,7 @@ module _ (way : Way) (meets : List ℕ → Type 0) (n : ℕ) where
   busy_may there m (Offered w store.TheVariants.Worn) h = absurd h
   busy_may there m (Offered w (store.TheVariants.Kept r)) h = absurd h
 
-  pub busy_same : (m : Machine) (a : Act) → IsBusy a → after m a ≡ m
+  pub busy_same : (m : Machine) (a : Act) → IsBusy a → machine_after m a ≡ m
   busy_same m (Offered w store.TheVariants.Stored) h = absurd h
   busy_same m _ h = refl
 

@@ -24,9 +24,9 @@ abbrev pub fresh : Machine
 fresh = record { holds = None; stores = 0 }
 
 -- words that were stored stand there; no other reply changes anything
-abbrev pub after : Machine → Act → Machine
-after m (Offered words Stored) = record { holds = Some words; stores = m.stores + 1 }
-after m _ = m
+abbrev pub machine_after : Machine → Act → Machine
+machine_after m (Offered words Stored) = record { holds = Some words; stores = m.stores + 1 }
+machine_after m _ = m
 
 -- The reply may be given where the machine stands. A hit, Vacant and Other say what stands there; Stored comes where nothing preferred stands, Kept where preferred words do; Busy comes at any time, and Worn after the most stores
 abbrev pub MayReply : Way → Machine → Act → Type 0
@@ -42,12 +42,12 @@ MayReply way m (Offered words Worn) = m.stores ≡ 2 ^ 63 - 1
 -- the machine after the calls
 abbrev pub run : Machine → List Call → Machine
 run m [] = m
-run m (c ∷ cs) = run (after m c.act) cs
+run m (c ∷ cs) = run (machine_after m c.act) cs
 
 -- each reply is one that the machine may give there
 abbrev pub Follows : Way → Machine → List Call → Type 0
 Follows way m [] = Unit {0}
-Follows way m (c ∷ cs) = MayReply way m c.act × Follows way (after m c.act) cs
+Follows way m (c ∷ cs) = MayReply way m c.act × Follows way (machine_after m c.act) cs
 
 -- the history is a run of the slot of one thread, from nothing
 abbrev pub IsLegal : Way → List Call → Type 0

@@ -1,7 +1,7 @@
 // Asking a slot for an entry.
 ghost use Rattle.std.specs.Prelude.{◌≡◌, ◌+◌, ◌<◌, ◌≤◌};
 ghost use Rattle.slots.specs.declared.calls.Act.TheVariants.{Asked};
-ghost use Rattle.slots.specs.Steps.{IsAnswer, HitFits};
+ghost use Rattle.slots.specs.Steps.{IsProbeReply, HitFits};
 ghost use Rattle.slots.specs.Promise.{way_of, slots_of, steps, IsSeatOf, Called, HasCause};
 
 use crate::calls::Probe;
@@ -12,7 +12,7 @@ use std::marker::Brand;
 
 // The answer that three whole words give.
 fn reply_to<L: Lore>(key: [u64; 3], got: [u64; 3]) -> Probe
-    ensures { IsAnswer L.key got (Asked key result) }
+    ensures { IsProbeReply L.key got (Asked key result) }
 {
     if got == [0, 0, 0] {
         Probe::Vacant

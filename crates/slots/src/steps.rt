@@ -2,7 +2,7 @@
 ghost use Rattle.std.specs.Prelude.{◌≡◌, ℕ, ◌+◌, ◌^◌, ◌<◌, ◌≤◌, ◌%◌, [], ◌∷◌, length, true, List};
 ghost use Rattle.slots.specs.declared.calls.Act.TheVariants.{Asked, Offered};
 ghost use Rattle.slots.specs.declared.views.Half.TheVariants.{Reading, Writing};
-ghost use Rattle.slots.specs.Steps.{begun, offered, read, looked, claimed, written, published, confirmed, Along, IsAnswer, Yields};
+ghost use Rattle.slots.specs.Steps.{begun, offered, read, looked, claimed, written, published, confirmed, Along, IsProbeReply, Yields};
 ghost use Rattle.slots.specs.Rule.{way_at, after_telling};
 ghost use Rattle.slots.specs.Promise.{way_of, slots_of, IsTaken, IsSeatOf};
 
@@ -56,7 +56,7 @@ impl<L: Lore> Slots<L> {
         requires told { (K.busy ≡ Asked key Probe.Busy) × (K.done ≡ Asked key reply) }
         requires seat { IsTaken self.now seat.old × (slot < slots_of self.now) }
         requires half { (at : ℕ) × (got : List ℕ) × (seat.old.me.0.half ≡ Reading at got)
-            × (seat.old.me.0.slot ≡ slot) × (length got ≡ 3) × IsAnswer L.key got (Asked key reply) }
+            × (seat.old.me.0.slot ≡ slot) × (length got ≡ 3) × IsProbeReply L.key got (Asked key reply) }
         ensures seat { (seat.new.table_id ≡ seat.old.table_id) × (seat.new.id ≡ seat.old.id) }
         ensures step { looked (way_of L.key L.prefers) L.meets (Asked key Probe.Busy)
             (Asked key reply) seat.old.me result seat.new.me }

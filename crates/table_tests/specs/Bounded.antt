@@ -22,12 +22,12 @@ abbrev pub upper : List ℕ → ℕ
 upper words = slice_index words 2 / 2 ^ 48
 
 -- the greater of the bounds that are known
-abbrev pub weight : List ℕ → ℕ
-weight words = if nat_lt (upper words) 255 then (if nat_lt (lower words) (upper words) then upper words else lower words) else lower words
+abbrev pub greater_end : List ℕ → ℕ
+greater_end words = if nat_lt (upper words) 255 then (if nat_lt (lower words) (upper words) then upper words else lower words) else lower words
 
 -- Old words stay where they have another key and more weight, or the same key and bounds that are no worse
 abbrev pub bounded_prefers : List ℕ → List ℕ → Bool
-bounded_prefers old new = if slice_index old 0 == 0 then false else (if same_key old new then (if nat_lt (lower old) (lower new) then false else nat_le (upper old) (upper new)) else nat_lt (weight new) (weight old))
+bounded_prefers old new = if slice_index old 0 == 0 then false else (if same_key old new then (if nat_lt (lower old) (lower new) then false else nat_le (upper old) (upper new)) else nat_lt (greater_end new) (greater_end old))
 
 pub zeros_unbounded : IsBounded (0 ∷ 0 ∷ 0 ∷ []) → ⊥
 zeros_unbounded some = some refl

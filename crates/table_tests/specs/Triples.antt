@@ -10,8 +10,8 @@ IsTriple words = (x : ℕ) × (0 < x) × (x < 2 ^ 32) × (words ≡ x ∷ (x + 1
 abbrev pub triple_key : List ℕ → List ℕ
 triple_key words = (slice_index words 0 % 4) ∷ 0 ∷ 0 ∷ []
 
-pub zeros_apart : IsTriple (0 ∷ 0 ∷ 0 ∷ []) → ⊥
-zeros_apart t = let e : 0 ≡ t.0 = ap (λ (l : List ℕ). get_or l 0 0) t.3 in let p = t.1 in omega arith
+pub zeros_no_triple : IsTriple (0 ∷ 0 ∷ 0 ∷ []) → ⊥
+zeros_no_triple t = let e : 0 ≡ t.0 = ap (λ (l : List ℕ). get_or l 0 0) t.3 in let p = t.1 in omega arith
 
 -- the greater x stays
 abbrev pub triple_prefers : List ℕ → List ℕ → Bool

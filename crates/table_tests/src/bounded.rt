@@ -1,6 +1,6 @@
 // Entries with a key and two bounds.
 ghost use Rattle.std.specs.Prelude.{◌≡◌};
-ghost use Rattle.table_tests.specs.Bounded.{same_key, weight};
+ghost use Rattle.table_tests.specs.Bounded.{same_key, greater_end};
 
 use slots::Lore;
 
@@ -34,7 +34,7 @@ fn has_same_key(v: [u64; 3], w: [u64; 3]) -> bool
 
 // The greater of the bounds that are known.
 fn weight_of(words: [u64; 3]) -> u64
-    ensures { result ≡ weight words }
+    ensures { result ≡ greater_end words }
 {
     let lower = words[1] / KEY;
     let upper = words[2] / KEY;

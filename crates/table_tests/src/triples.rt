@@ -5,7 +5,7 @@ use slots::Lore;
 pub struct Triples;
 
 impl Lore for Triples {
-    ghost use Rattle.table_tests.specs.Triples.{IsTriple, triple_key, triple_prefers, zeros_apart, zeros_never};
+    ghost use Rattle.table_tests.specs.Triples.{IsTriple, triple_key, triple_prefers, zeros_no_triple, zeros_never};
 
     ghost meets = { IsTriple };
 
@@ -23,5 +23,5 @@ impl Lore for Triples {
 
     ghost no_zeros_preferred = { zeros_never };
 
-    ghost no_zeros = { zeros_apart };
+    ghost no_zeros = { zeros_no_triple };
 }

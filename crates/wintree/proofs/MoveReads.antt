@@ -9,7 +9,7 @@ use Rattle.rules.specs.Squares.{Ply}
 use Rattle.wintree.specs.declared.fault.TreeFault.{TreeFault}
 use Rattle.rules.specs.MoveText.{square_text, promotion_text, move_text}
 use Rattle.wintree.specs.Plan.{IsPly}
-use Rattle.wintree.specs.Ahead.{Spans, IsPlain, ReadsMove, ReadsCell, NoCell, NoMove, promotion_of, first_of}
+use Rattle.wintree.specs.Ahead.{Spans, IsPlain, ReadsMove, ReadsCell, NoCell, NoMove, promotion_of, next_byte}
 use Rattle.wintree.proofs.Places.{spans_none, spans_more, count_by-append}
 use Rattle.wintree.proofs.MoveTexts.{kind_of, no_brace, some_move, is_some_move}
 
@@ -40,7 +40,7 @@ reads_more bytes at g k first n xs so_far low cell e =
 
 -- the move's text goes on by a cell, which doesn't stand there
 leaves : (bytes : List ℕ) (at g first : ℕ) (part rest : List ℕ) (m : Ply) (fault : TreeFault) → Reads bytes at g part → part ++ rest ≡ move_text m → IsPly m → NoCell bytes g first fault
-    → ((m : Ply) (x y : List ℕ) → IsPly m → part ++ x ≡ move_text m ++ y → (n : ℕ) × (n ≤ 5) × (first_of x ≡ Some (first + n))) → NoMove bytes at fault
+    → ((m : Ply) (x y : List ℕ) → IsPly m → part ++ x ≡ move_text m ++ y → (n : ℕ) × (n ≤ 5) × (next_byte x ≡ Some (first + n))) → NoMove bytes at fault
 leaves bytes at g first part rest m fault so_far goes_on ply none next =
     subst (NoMove bytes at) (sym none.0)
     (record {
@@ -57,7 +57,7 @@ module _ (bytes : List ℕ) (at : ℕ) (within : at ≤ length bytes) where
   pub leaves_0 : (fault : TreeFault) → NoCell bytes at 97 fault → NoMove bytes at fault
   leaves_0 fault none =
       let m = some_move 0 0 0 0 in
-      leaves bytes at at 97 [] (move_text m) m fault (reads_none bytes at within) refl (is_some_move 0 0 0 0 (omega arith) (omega arith) (omega arith) (omega arith)) none (λ n x y ply e. (n.from.file, omega (arith, ply.from.file), ap first_of e))
+      leaves bytes at at 97 [] (move_text m) m fault (reads_none bytes at within) refl (is_some_move 0 0 0 0 (omega arith) (omega arith) (omega arith) (omega arith)) none (λ n x y ply e. (n.from.file, omega (arith, ply.from.file), ap next_byte e))
 
   module _ (f : ℕ) (cell_f : ReadsCell bytes at 97 f) where
     one : Reads bytes at (at + 1) ((97 + f) ∷ [])
@@ -66,7 +66,7 @@ module _ (bytes : List ℕ) (at : ℕ) (within : at ≤ length bytes) where
     pub leaves_1 : (fault : TreeFault) → NoCell bytes (at + 1) 49 fault → NoMove bytes at fault
     leaves_1 fault none =
         let m = some_move f 0 0 0 in
-        leaves bytes at (at + 1) 49 ((97 + f) ∷ []) (49 ∷ 97 ∷ 49 ∷ []) m fault one refl (is_some_move f 0 0 0 cell_f.0 (omega arith) (omega arith) (omega arith)) none (λ n x y ply e. (n.from.rank, omega (arith, ply.from.rank), ap (λ xs. first_of (drop 1 xs)) e))
+        leaves bytes at (at + 1) 49 ((97 + f) ∷ []) (49 ∷ 97 ∷ 49 ∷ []) m fault one refl (is_some_move f 0 0 0 cell_f.0 (omega arith) (omega arith) (omega arith)) none (λ n x y ply e. (n.from.rank, omega (arith, ply.from.rank), ap (λ xs. next_byte (drop 1 xs)) e))
 
     module _ (r : ℕ) (cell_r : ReadsCell bytes (at + 1) 49 r) where
       two : Reads bytes at (at + 2) ((97 + f) ∷ (49 + r) ∷ [])
@@ -75,7 +75,7 @@ module _ (bytes : List ℕ) (at : ℕ) (within : at ≤ length bytes) where
       pub leaves_2 : (fault : TreeFault) → NoCell bytes (at + 2) 97 fault → NoMove bytes at fault
       leaves_2 fault none =
           let m = some_move f r 0 0 in
-          leaves bytes at (at + 2) 97 ((97 + f) ∷ (49 + r) ∷ []) (97 ∷ 49 ∷ []) m fault two refl (is_some_move f r 0 0 cell_f.0 cell_r.0 (omega arith) (omega arith)) none (λ n x y ply e. (n.to.file, omega (arith, ply.to.file), ap (λ xs. first_of (drop 2 xs)) e))
+          leaves bytes at (at + 2) 97 ((97 + f) ∷ (49 + r) ∷ []) (97 ∷ 49 ∷ []) m fault two refl (is_some_move f r 0 0 cell_f.0 cell_r.0 (omega arith) (omega arith)) none (λ n x y ply e. (n.to.file, omega (arith, ply.to.file), ap (λ xs. next_byte (drop 2 xs)) e))
 
       module _ (f' : ℕ) (cell_f' : ReadsCell bytes (at + 2) 97 f') where
         three : Reads bytes at (at + 3) ((97 + f) ∷ (49 + r) ∷ (97 + f') ∷ [])
@@ -84,7 +84,7 @@ module _ (bytes : List ℕ) (at : ℕ) (within : at ≤ length bytes) where
         pub leaves_3 : (fault : TreeFault) → NoCell bytes (at + 3) 49 fault → NoMove bytes at fault
         leaves_3 fault none =
             let m = some_move f r f' 0 in
-            leaves bytes at (at + 3) 49 ((97 + f) ∷ (49 + r) ∷ (97 + f') ∷ []) (49 ∷ []) m fault three refl (is_some_move f r f' 0 cell_f.0 cell_r.0 cell_f'.0 (omega arith)) none (λ n x y ply e. (n.to.rank, omega (arith, ply.to.rank), ap (λ xs. first_of (drop 3 xs)) e))
+            leaves bytes at (at + 3) 49 ((97 + f) ∷ (49 + r) ∷ (97 + f') ∷ []) (49 ∷ []) m fault three refl (is_some_move f r f' 0 cell_f.0 cell_r.0 cell_f'.0 (omega arith)) none (λ n x y ply e. (n.to.rank, omega (arith, ply.to.rank), ap (λ xs. next_byte (drop 3 xs)) e))
 
         module _ (r' : ℕ) (cell_r' : ReadsCell bytes (at + 3) 49 r') where
           pub four : Reads bytes at (at + 4) ((97 + f) ∷ (49 + r) ∷ (97 + f') ∷ (49 + r') ∷ [])

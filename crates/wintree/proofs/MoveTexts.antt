@@ -8,7 +8,7 @@ use Rattle.board.specs.declared.game.Kind.TheVariants.{King, Queen, Rook, Bishop
 use Rattle.rules.specs.Squares.{Ply}
 use Rattle.wintree.specs.Plan.{IsPly}
 use Rattle.rules.specs.MoveText.{square_text, promotion_text, move_text}
-use Rattle.wintree.specs.Ahead.{promotion_of, first_of, IsPlain}
+use Rattle.wintree.specs.Ahead.{promotion_of, next_byte, IsPlain}
 
 -- the text of a promotion is nothing, or a letter of one
 letter_of : (p : Option Kind) → (promotion_text p ≡ []) ⊎ ((b : ℕ) × (promotion_text p ≡ b ∷ []) × (promotion_of (Some b) ≢ None))
@@ -20,20 +20,20 @@ letter_of (Some Bishop) = inr (98, refl, λ e. cc)
 letter_of (Some Knight) = inr (110, refl, λ e. cc)
 letter_of (Some Pawn) = inl refl
 
-same_after : (p q x y : List ℕ) → (p ≡ []) ⊎ ((b : ℕ) × (p ≡ b ∷ []) × (promotion_of (Some b) ≢ None)) → (q ≡ []) ⊎ ((b : ℕ) × (q ≡ b ∷ []) × (promotion_of (Some b) ≢ None)) → (p ≡ [] → promotion_of (first_of x) ≡ None) → promotion_of (first_of y) ≡ None → p ++ x ≡ q ++ y → x ≡ y
+same_after : (p q x y : List ℕ) → (p ≡ []) ⊎ ((b : ℕ) × (p ≡ b ∷ []) × (promotion_of (Some b) ≢ None)) → (q ≡ []) ⊎ ((b : ℕ) × (q ≡ b ∷ []) × (promotion_of (Some b) ≢ None)) → (p ≡ [] → promotion_of (next_byte x) ≡ None) → promotion_of (next_byte y) ≡ None → p ++ x ≡ q ++ y → x ≡ y
 same_after p q x y (inl none) (inl bare) no_x no_y e = ap (λ r. r ++ x) (sym none) ∙ e ∙ ap (λ r. r ++ y) bare
 same_after p q x y (inl none) (inr letter) no_x no_y e =
     let f : x ≡ letter.0 ∷ y = ap (λ r. r ++ x) (sym none) ∙ e ∙ ap (λ r. r ++ y) letter.1 in
-    absurd (letter.2 (ap (λ r. promotion_of (first_of r)) (sym f) ∙ no_x none))
+    absurd (letter.2 (ap (λ r. promotion_of (next_byte r)) (sym f) ∙ no_x none))
 same_after p q x y (inr letter) (inl bare) no_x no_y e =
     let f : letter.0 ∷ x ≡ y = ap (λ r. r ++ x) (sym letter.1) ∙ e ∙ ap (λ r. r ++ y) bare in
-    absurd (letter.2 (ap (λ r. promotion_of (first_of r)) f ∙ no_y))
+    absurd (letter.2 (ap (λ r. promotion_of (next_byte r)) f ∙ no_y))
 same_after p q x y (inr letter) (inr other) no_x no_y e =
     let f : letter.0 ∷ x ≡ other.0 ∷ y = ap (λ r. r ++ x) (sym letter.1) ∙ e ∙ ap (λ r. r ++ y) other.1 in
     cc
 
 -- what follows two moves is the same where it begins with no letter of a promotion
-pub same_rest : (m n : Ply) (x y : List ℕ) → (promotion_text m.promotion ≡ [] → promotion_of (first_of x) ≡ None) → promotion_of (first_of y) ≡ None → move_text m ++ x ≡ move_text n ++ y → x ≡ y
+pub same_rest : (m n : Ply) (x y : List ℕ) → (promotion_text m.promotion ≡ [] → promotion_of (next_byte x) ≡ None) → promotion_of (next_byte y) ≡ None → move_text m ++ x ≡ move_text n ++ y → x ≡ y
 same_rest m n x y no_x no_y e =
     let f : promotion_text m.promotion ++ x ≡ promotion_text n.promotion ++ y = cc in
     same_after (promotion_text m.promotion) (promotion_text n.promotion) x y (letter_of m.promotion) (letter_of n.promotion) no_x no_y f

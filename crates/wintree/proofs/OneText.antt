@@ -10,7 +10,7 @@ use Rattle.wintree.specs.declared.tree.End.TheVariants.{Mate, Stale}
 use Rattle.wintree.specs.Plan.{Plan, ends, splits, Replies, last, more, IsPly, IsPlan, ArePlans}
 use Rattle.rules.specs.MoveText.{move_text, promotion_text}
 use Rattle.wintree.specs.Text.{text, replies_text, end_text}
-use Rattle.wintree.specs.Ahead.{promotion_of, first_of}
+use Rattle.wintree.specs.Ahead.{promotion_of, next_byte}
 use Rattle.wintree.proofs.MoveTexts.{same_rest}
 use Rattle.wintree.proofs.Turns.{same_head, same_tail, end_no_letter, end_no_brace}
 
@@ -21,7 +21,7 @@ same_move : (m n : Ply) → m.from ≡ n.from → m.to ≡ n.to → m.promotion 
 same_move m n from to promotion = λ i. record { from = from i; to = to i; promotion = promotion i }
 
 -- the letter tells the kind
-letter_back : (p : Option Kind) → IfSome p IsPromoted → promotion_of (first_of (promotion_text p)) ≡ p
+letter_back : (p : Option Kind) → IfSome p IsPromoted → promotion_of (next_byte (promotion_text p)) ≡ p
 letter_back None promotes = refl
 letter_back (Some King) promotes = absurd promotes
 letter_back (Some Queen) promotes = refl
@@ -34,7 +34,7 @@ plus_cancel : (k a b : ℕ) → k + a ≡ k + b → a ≡ b
 plus_cancel k a b e = omega arith
 
 -- two moves and what follows them
-one_move : (m n : Ply) (x y : List ℕ) → IsPly m → IsPly n → promotion_of (first_of x) ≡ None → promotion_of (first_of y) ≡ None → move_text m ++ x ≡ move_text n ++ y → (m ≡ n) × (x ≡ y)
+one_move : (m n : Ply) (x y : List ℕ) → IsPly m → IsPly n → promotion_of (next_byte x) ≡ None → promotion_of (next_byte y) ≡ None → move_text m ++ x ≡ move_text n ++ y → (m ≡ n) × (x ≡ y)
 one_move m n x y ply other no_x no_y e =
     let rest : x ≡ y = same_rest m n x y (λ _. no_x) no_y e in
     let letters : promotion_text m.promotion ++ x ≡ promotion_text n.promotion ++ y = cc in
@@ -44,7 +44,7 @@ one_move m n x y ply other no_x no_y e =
     let tf : 97 + m.to.file ≡ 97 + n.to.file = cc in
     let tr : 49 + m.to.rank ≡ 49 + n.to.rank = cc in (
       same_move m n (same_square m.from n.from (plus_cancel 97 _ _ ff) (plus_cancel 49 _ _ fr)) (same_square m.to n.to (plus_cancel 97 _ _ tf) (plus_cancel 49 _ _ tr))
-          (sym (letter_back m.promotion ply.promotion) ∙ ap (λ xs. promotion_of (first_of xs)) letter ∙ letter_back n.promotion other.promotion),
+          (sym (letter_back m.promotion ply.promotion) ∙ ap (λ xs. promotion_of (next_byte xs)) letter ∙ letter_back n.promotion other.promotion),
       rest,
     )
 

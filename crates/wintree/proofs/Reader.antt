@@ -12,7 +12,7 @@ use Rattle.wintree.specs.Plan.{Plan, ends, depth, deepest_in, plan_of, IsPly}
 use Rattle.rules.specs.MoveText.{move_text}
 use Rattle.wintree.specs.Text.{text, end_text}
 use Rattle.wintree.specs.Offset.{IsFaultOf}
-use Rattle.wintree.specs.Ahead.{Stands, Spans, AfterTree, IsTreeAhead, AreRepliesAhead, ReadsTree, ReadsReplies, ReadsMove, NoMove, listed_text, closed_text, first_of, promotion_of}
+use Rattle.wintree.specs.Ahead.{Stands, Spans, AfterTree, IsTreeAhead, AreRepliesAhead, ReadsTree, ReadsReplies, ReadsMove, NoMove, listed_text, closed_text, next_byte, promotion_of}
 use Rattle.wintree.proofs.Lists.{depth-plan_of, plan-plan_of}
 use Rattle.wintree.proofs.Tails.{text-plan_of, closed_last, listed_more}
 use Rattle.wintree.proofs.Places.{spans_none, spans_more, spans_join}
@@ -39,7 +39,7 @@ module _ (bytes : List ℕ) where
   moved : (at next inside : ℕ) (m : Ply) (A : List ℕ → Type 0) → Stands bytes at inside A → inside < 32 → ReadsMove bytes at m next → Stands bytes next inside (λ x. A (move_text m ++ x))
   moved at next inside m A s low r = stands_along bytes at next inside (move_text m) A s r.spans (omega (arith, r.later)) r.within (plain_move m r.ply) (omega arith)
 
-  follows : (at next : ℕ) (m : Ply) (x : List ℕ) → ReadsMove bytes at m next → first_of x ≡ slice_get bytes next → CanFollow m x
+  follows : (at next : ℕ) (m : Ply) (x : List ℕ) → ReadsMove bytes at m next → next_byte x ≡ slice_get bytes next → CanFollow m x
   follows at next m x r head none = ap promotion_of head ∙ r.whole none
 
   -- ---- where a move goes wrong
@@ -129,7 +129,7 @@ module _ (bytes : List ℕ) where
   no_colon at next (suc outer) m some s low r none =
       let more = some_replies outer m r.ply in
       stops bytes next (suc outer) (λ x. AreRepliesAhead (suc outer) (move_text m ++ x)) (moved at next (suc outer) m (AreRepliesAhead (suc outer)) s low r) more.0 more.1 (λ x head ahead.
-      let colon = after_reply outer m x (follows at next m x r head) ahead in none (sym head ∙ ap first_of colon.1))
+      let colon = after_reply outer m x (follows at next m x r head) ahead in none (sym head ∙ ap next_byte colon.1))
 
   pub read_colon : (at next inside : ℕ) (r : Ply) → 0 < inside → Stands bytes at inside (AreRepliesAhead inside) → inside < 32 → ReadsMove bytes at r next → slice_get bytes next ≡ Some 58 → Stands bytes (next + 1) inside (IsTreeAhead inside)
   read_colon at next zero m some s low r is = absurd (omega arith)
@@ -181,4 +181,4 @@ module _ (bytes : List ℕ) where
 
   pub no_more : (end : ℕ) → Stands bytes end 0 (AfterTree 0) → end < length bytes → IsFaultOf bytes (Grammar end)
   no_more end s before =
-      stops bytes end 0 (AfterTree 0) s [] refl (λ x head ahead. absurd (is_there end before (sym head ∙ ap first_of ahead)))
+      stops bytes end 0 (AfterTree 0) s [] refl (λ x head ahead. absurd (is_there end before (sym head ∙ ap next_byte ahead)))

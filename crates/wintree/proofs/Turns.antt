@@ -6,13 +6,13 @@ use Rattle.wintree.specs.declared.tree.End.TheVariants.{Mate, Stale}
 use Rattle.rules.specs.MoveText.{move_text, promotion_text}
 use Rattle.wintree.specs.Text.{end_text}
 use Rattle.wintree.specs.Plan.{IsPly}
-use Rattle.wintree.specs.Ahead.{AfterTree, IsTreeAhead, AreRepliesAhead, promotion_of, first_of}
+use Rattle.wintree.specs.Ahead.{AfterTree, IsTreeAhead, AreRepliesAhead, promotion_of, next_byte}
 use Rattle.wintree.proofs.MoveTexts.{same_rest}
 use Rattle.wintree.proofs.Texts.{AfterAttack, AfterReply, attack_ahead, tree_ahead, reply_ahead, replies_ahead}
 
 -- no letter of a promotion follows a move that has none
 abbrev pub CanFollow : Ply → List ℕ → Type 0
-CanFollow m x = promotion_text m.promotion ≡ [] → promotion_of (first_of x) ≡ None
+CanFollow m x = promotion_text m.promotion ≡ [] → promotion_of (next_byte x) ≡ None
 
 pub same_head : (a b : ℕ) (x y : List ℕ) → a ∷ x ≡ b ∷ y → a ≡ b
 same_head a b x y e = cc
@@ -30,13 +30,13 @@ pub end_no_brace : (e : End) (x y : List ℕ) → end_text e ++ x ≡ 123 ∷ y 
 end_no_brace Mate x y e = omega (arith, same_head 35 123 x y e)
 end_no_brace Stale x y e = omega (arith, same_head 61 123 x y e)
 
-pub end_no_letter : (e : End) (x : List ℕ) → promotion_of (first_of (end_text e ++ x)) ≡ None
+pub end_no_letter : (e : End) (x : List ℕ) → promotion_of (next_byte (end_text e ++ x)) ≡ None
 end_no_letter Mate x = refl
 end_no_letter Stale x = refl
 
-attack_no_letter : (inside : ℕ) (x : List ℕ) → AfterAttack inside x → promotion_of (first_of x) ≡ None
-attack_no_letter inside x (inl end) = ap (λ y. promotion_of (first_of y)) end.2 ∙ end_no_letter end.0 end.1
-attack_no_letter inside x (inr brace) = ap (λ y. promotion_of (first_of y)) brace.1
+attack_no_letter : (inside : ℕ) (x : List ℕ) → AfterAttack inside x → promotion_of (next_byte x) ≡ None
+attack_no_letter inside x (inl end) = ap (λ y. promotion_of (next_byte y)) end.2 ∙ end_no_letter end.0 end.1
+attack_no_letter inside x (inr brace) = ap (λ y. promotion_of (next_byte y)) brace.1
 
 pub after_attack : (inside : ℕ) (m : Ply) (x : List ℕ) → CanFollow m x → IsTreeAhead inside (move_text m ++ x) → AfterAttack inside x
 after_attack inside m x can ahead =
@@ -47,7 +47,7 @@ pub after_reply : (outer : ℕ) (r : Ply) (x : List ℕ) → CanFollow r x → A
 after_reply outer r x can ahead =
     let parts = reply_ahead outer (move_text r ++ x) ahead in
     let colon = parts.3 in
-    subst (AfterReply (suc outer)) (sym (same_rest r parts.0 x parts.1 can (ap (λ y. promotion_of (first_of y)) colon.1) parts.2)) colon
+    subst (AfterReply (suc outer)) (sym (same_rest r parts.0 x parts.1 can (ap (λ y. promotion_of (next_byte y)) colon.1) parts.2)) colon
 
 end_only : (inside : ℕ) (end : End) (x : List ℕ) → AfterAttack inside (end_text end ++ x) → AfterTree inside x
 end_only inside end x (inl other) = subst (AfterTree inside) (sym (same_end end other.0 x other.1 other.2)) other.3
@@ -93,14 +93,14 @@ at_close outer x = (close_only outer x, λ after. inl (x, refl, after))
 
 -- ---- which bytes can come
 
-pub attack_first : (inside : ℕ) (x : List ℕ) → AfterAttack inside x → (first_of x ≡ Some 35) ⊎ ((first_of x ≡ Some 61) ⊎ (first_of x ≡ Some 123))
+pub attack_first : (inside : ℕ) (x : List ℕ) → AfterAttack inside x → (next_byte x ≡ Some 35) ⊎ ((next_byte x ≡ Some 61) ⊎ (next_byte x ≡ Some 123))
 attack_first inside x (inl end) = end_first end.0 end.1 end.2
   where
-    end_first : (e : End) (y : List ℕ) → x ≡ end_text e ++ y → (first_of x ≡ Some 35) ⊎ ((first_of x ≡ Some 61) ⊎ (first_of x ≡ Some 123))
-    end_first Mate y e = inl (ap first_of e)
-    end_first Stale y e = inr (inl (ap first_of e))
-attack_first inside x (inr brace) = inr (inr (ap first_of brace.1))
+    end_first : (e : End) (y : List ℕ) → x ≡ end_text e ++ y → (next_byte x ≡ Some 35) ⊎ ((next_byte x ≡ Some 61) ⊎ (next_byte x ≡ Some 123))
+    end_first Mate y e = inl (ap next_byte e)
+    end_first Stale y e = inr (inl (ap next_byte e))
+attack_first inside x (inr brace) = inr (inr (ap next_byte brace.1))
 
-pub after_first : (outer : ℕ) (x : List ℕ) → AfterTree (suc outer) x → (first_of x ≡ Some 125) ⊎ (first_of x ≡ Some 44)
-after_first outer x (inl close) = inl (ap first_of close.1)
-after_first outer x (inr comma) = inr (ap first_of comma.2)
+pub after_first : (outer : ℕ) (x : List ℕ) → AfterTree (suc outer) x → (next_byte x ≡ Some 125) ⊎ (next_byte x ≡ Some 44)
+after_first outer x (inl close) = inl (ap next_byte close.1)
+after_first outer x (inr comma) = inr (ap next_byte comma.2)

@@ -92,9 +92,9 @@ abbrev pub NoCell : List ℕ → ℕ → ℕ → TreeFault → Type 0
 NoCell bytes at first fault = (fault ≡ Grammar at) × ((n : ℕ) → n ≤ 5 → slice_get bytes at ≢ Some (first + n))
 
 -- the first byte, if there is one
-abbrev pub first_of : List ℕ → Option ℕ
-first_of [] = None
-first_of (b ∷ xs) = Some b
+abbrev pub next_byte : List ℕ → Option ℕ
+next_byte [] = None
+next_byte (b ∷ xs) = Some b
 
 -- the bytes go along a move's text from one offset to another, and what stands there goes on no move's text
 pub record LeavesMove (bytes : List ℕ) (at g : ℕ) : Type 0 where
@@ -104,7 +104,7 @@ pub record LeavesMove (bytes : List ℕ) (at g : ℕ) : Type 0 where
   pub plain : IsPlain part
   pub spans : Spans bytes at g part
   pub begins : (rest : List ℕ) × (m : Ply) × (part ++ rest ≡ move_text m) × IsPly m
-  pub ends : (m : Ply) (x y : List ℕ) → IsPly m → first_of x ≡ slice_get bytes g → part ++ x ≡ move_text m ++ y → ⊥
+  pub ends : (m : Ply) (x y : List ℕ) → IsPly m → next_byte x ≡ slice_get bytes g → part ++ x ≡ move_text m ++ y → ⊥
 
 -- the fault is where the bytes leave all moves' texts
 abbrev pub NoMove : List ℕ → ℕ → TreeFault → Type 0
