@@ -45,7 +45,8 @@ pinned_attacks b is side t k w = record {
   };
 }
 
-on_lines : (g : Game) (way : Way) (r i : ℕ) → IsOnRay g way r i → IsOnStraight g r i ⊎ IsOnSlanted g r i
+-- a way is one of the lines
+pub on_lines : (g : Game) (way : Way) (r i : ℕ) → IsOnRay g way r i → IsOnStraight g r i ⊎ IsOnSlanted g r i
 on_lines g North r i h = inl (inl h)
 on_lines g South r i h = inl (inr (inl h))
 on_lines g East r i h = inl (inr (inr (inl h)))

@@ -17,13 +17,13 @@ use Rattle.moves.specs.Pinned.{IsPinned}
 use Rattle.cells.specs.CellSets.{Has}
 use Rattle.moves.specs.Targets.{IsTarget}
 
--- the watch tells the cell of the other king, which isn't attacked, which cells have units that alone keep a rider of the mover from it, and which cells a king and a knight of the mover would reach from there
+-- the watch tells the cell of the other king, which isn't attacked, which cells have units that alone keep a rider of the mover from it, cells that it reaches, and which cells a knight of the mover would reach from there
 pub record Watches (b : PlainBoard) (watch : Watch) : Type 0 where
   pub cell : IsCell b.game watch.king
   pub king : unit_at b (place_in watch.king) ≡ Some (record { side = other_side b.mover; kind = King })
   pub safe : IsInCheck b (other_side b.mover) → ⊥
   pub uncovers : (i : ℕ) → IsCell b.game i → IsPinned b (other_side b.mover) (place_in watch.king) (place_in i) → Has watch.uncovers i
-  pub near : (i : ℕ) → IsTarget b (record { side = b.mover; kind = King }) (place_in watch.king) i → Has watch.near i
+  pub steps : (i : ℕ) → Has watch.steps i → IsTarget b (record { side = other_side b.mover; kind = King }) (place_in watch.king) i
   pub leaps : (i : ℕ) → IsTarget b (record { side = b.mover; kind = Knight }) (place_in watch.king) i → Has watch.leaps i
 
 -- the lawful move brings the other side where the goal wants it

@@ -35,22 +35,6 @@ fn has_tested_move(board: &Board, guard: Guard, unit: Unit, from: Square) -> boo
     false
 }
 
-/// Whether the unit on the square has a lawful move.
-fn has_move_from(board: &Board, guard: Guard, unit: Unit, from: Square) -> bool
-    requires position { IsPosition board.now }
-    requires guards { Guards board.now guard }
-    requires on_board { IsOnBoard board.now.game from }
-    requires stands { unit_at board.now from ≡ Some unit }
-    requires owner { unit.side ≡ board.now.mover }
-    ensures found { IsTrue result → (m : Ply) × IsLawful board.now m }
-    ensures none { result ≡ false → (m : Ply) → m.from ≡ from → IsLawful board.now m → ⊥ }
-{
-    match free_cells(board, guard, unit, from) {
-        Some(free) => free != 0,
-        None => has_tested_move(board, guard, unit, from),
-    }
-}
-
 /// Whether the mover's king, which most often can, has a lawful move.
 fn has_king_move(board: &Board, guard: Guard) -> bool
     requires position { IsPosition board.now }
@@ -76,7 +60,11 @@ fn has_move_in(board: &Board, guard: Guard, cell: u8) -> bool
     let Some(unit) = board.unit_in(cell) else {
         unreachable!()
     };
-    has_move_from(board, guard, unit, square_in(cell))
+    let from = square_in(cell);
+    match free_cells(board, guard, unit, from) {
+        Some(free) => free != 0,
+        None => has_tested_move(board, guard, unit, from),
+    }
 }
 
 /// Whether there is a lawful move, on a board laid out: where the king is in check, its own moves are tried first.

@@ -16,6 +16,7 @@ ghost use Rattle.moves.specs.Checking.{Attains, Seeks};
 use crate::any_move::{has_move, is_mated};
 use crate::board_list::{Guard, guard_of, promotion_count};
 use crate::checks::{Watch, checking, watch_of};
+use crate::escapes::escapes;
 use crate::look::{is_checked, mover_in_check};
 use crate::packed::Board;
 use crate::safe::{is_calm, may_go};
@@ -49,16 +50,23 @@ fn is_reached(board: &Board, goal: Goal) -> bool
 
 /// Whether the move, which but for its own king's safety is lawful if it names its promotion well, is lawful and brings the other
 /// side where the goal wants it.
-fn attains(board: &Board, goal: Goal, m: Move, unit: Unit) -> bool
+fn attains(board: &Board, quest: Quest, m: Move, unit: Unit) -> bool
+    requires position { IsPosition board.now }
+    requires seeks { Seeks board.now quest }
     requires stands { unit_at board.now m.from ≡ Some unit }
     requires pseudo { IsNamed board.now.game unit m → IsPseudoLegal board.now m unit }
-    ensures { IsTrue result ↔ Attains goal board.now m }
+    ensures { IsTrue result ↔ Attains quest.goal board.now m }
 {
     if !is_promoted_well(board.game(), unit, m) {
         return false;
     }
+    if let Some(watch) = quest.watch {
+        if escapes(board, watch, m, unit) {
+            return false;
+        }
+    }
     let next = board.moved(m, unit);
-    is_reached(&next, goal) && !is_checked(&next, unit.side)
+    is_reached(&next, quest.goal) && !is_checked(&next, unit.side)
 }
 
 /// Whether moves of the unit to a square that it reaches are to be tried: where there is a guard, those that it lets go, and else
@@ -102,7 +110,7 @@ fn attains_to(board: &Board, quest: Quest, unit: Unit, from: Square, to: Square)
             to,
             promotion: PROMOTIONS[i],
         };
-        if attains(board, quest.goal, m, unit) {
+        if attains(board, quest, m, unit) {
             return true;
         }
     }

@@ -14,51 +14,46 @@ ghost use Rattle.moves.specs.Checking.{Watches};
 use crate::look::{king_attacked, king_cell};
 use crate::packed::Board;
 use crate::pinned::pinned;
-use crate::seen as looks;
+use crate::seen::seen;
 use crate::targets::targets;
 use board::{Kind, Side, Unit};
 use cells::{cell_of, common, has};
 use rules::Square;
 
-/// The cell of the king that isn't the mover's, the cells of the units that alone keep a rider of the mover from it, and the
-/// cells that a king and a knight of the mover would reach from it.
+/// The cell of the king that isn't the mover's, the cells of the units that alone keep a rider of the mover from it, the cells
+/// that it reaches, and those that a knight of the mover would reach from there.
 #[derive(Clone, Copy)]
 pub(crate) struct Watch {
-    king: u8,
-    uncovers: u64,
-    near: u64,
-    leaps: u64,
+    pub(crate) king: u8,
+    pub(crate) uncovers: u64,
+    pub(crate) steps: u64,
+    pub(crate) leaps: u64,
 }
 
 /// A watch on the king that isn't the mover's, if it isn't attacked already.
 pub(crate) fn watch_of(board: &Board) -> Option<Watch>
     ensures { IfSome result (λ watch. Watches board.now watch) }
 {
-    let foe = board.mover().other();
+    let own = board.mover();
+    let foe = own.other();
     let king = king_cell(board, foe)?;
     if king_attacked(board, king, foe) {
         return None;
     }
+    let other_king = Unit {
+        side: foe,
+        kind: Kind::King,
+    };
+    let knight = Unit {
+        side: own,
+        kind: Kind::Knight,
+    };
     Some(Watch {
         king,
         uncovers: pinned(board, foe, king),
-        near: seen(board, king, Kind::King),
-        leaps: seen(board, king, Kind::Knight),
+        steps: targets(board, other_king, king),
+        leaps: targets(board, knight, king),
     })
-}
-
-/// The cells that a unit of the mover of this kind would reach from the king's.
-fn seen(board: &Board, king: u8, kind: Kind) -> u64
-    requires cell { IsCell board.now.game king }
-    requires played { IsPlayed board.now.game kind }
-    ensures { (i : ℕ) → IsTarget board.now (record { side = board.now.mover; kind = kind }) (place_in king) i
-        → Has result i }
-{
-    let unit = Unit {
-        side: board.mover(),
-        kind,
-    };
-    targets(board, unit, king)
 }
 
 /// Cells among which are all from which the unit would take on the king's, and to which it may move.
@@ -69,12 +64,9 @@ fn aiming(board: &Board, watch: Watch, unit: Unit) -> u64
         → Has result (cell_of m.to) }
 {
     match unit.kind {
-        Kind::Pawn => looks::seen(board, unit.side.other(), Kind::Pawn, watch.king),
-        Kind::King => watch.near,
+        Kind::Pawn => seen(board, unit.side.other(), Kind::Pawn, watch.king),
         Kind::Knight => watch.leaps,
-        Kind::Queen => seen(board, watch.king, Kind::Queen),
-        Kind::Rook => seen(board, watch.king, Kind::Rook),
-        Kind::Bishop => seen(board, watch.king, Kind::Bishop),
+        Kind::King | Kind::Queen | Kind::Rook | Kind::Bishop => targets(board, unit, watch.king),
     }
 }
 

@@ -14,19 +14,22 @@ use crate::packed::{Board, after};
 use crate::seen::seen;
 use crate::sets::Class;
 use board::{Game, Kind, Side};
-use cells::{lowest, slanted_lines, straight_lines};
+use cells::{king_leaps, knight_leaps, lowest, pawn_captures, slanted_lines, straight_lines};
 use rules::Move;
 
-/// The cells where a rook or a bishop would take from this one on an empty board, and all cells for another kind.
-fn open_lines(game: Game, kind: Kind, cell: u8) -> u64
+/// The cells where a unit of the kind would take from this one on an empty board.
+pub(crate) fn open_lines(game: Game, side: Side, kind: Kind, cell: u8) -> u64
     requires { IsCell game cell }
-    ensures { (b : PlainBoard) (side : Side) (j : ℕ) → b.game ≡ game → IsCell game j
+    ensures { (b : PlainBoard) (j : ℕ) → b.game ≡ game → IsCell game j
         → Aims b (record { side = side; kind = kind }) (place_in cell) (place_in j) → Has result j }
 {
     match kind {
+        Kind::King => king_leaps(game, cell),
+        Kind::Queen => straight_lines(game, cell) | slanted_lines(game, cell),
         Kind::Rook => straight_lines(game, cell),
         Kind::Bishop => slanted_lines(game, cell),
-        _ => u64::MAX,
+        Kind::Knight => knight_leaps(game, cell),
+        Kind::Pawn => pawn_captures(game, side, cell),
     }
 }
 
@@ -36,7 +39,10 @@ fn struck(board: &Board, side: Side, kind: Kind, cell: u8, among: u64) -> u64
     ensures { (i : ℕ) → Has result i ↔ (Has among i × IsCell board.now.game i
         × Aims board.now (record { side = side; kind = kind }) (place_in cell) (place_in i)) }
 {
-    if among & open_lines(board.game(), kind, cell) == 0 {
+    if among == 0 {
+        return 0;
+    }
+    if among & open_lines(board.game(), side, kind, cell) == 0 {
         return 0;
     }
     among & seen(board, side, kind, cell)

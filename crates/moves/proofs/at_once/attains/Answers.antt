@@ -1,9 +1,12 @@
-use Rattle.std.proofs.Common.{◌↔◌, IsSome, IfSome, sym, subst, ◌∙◌}
+use Rattle.std.proofs.Common.{◌≡◌, ◌↔◌, IsSome, IfSome, sym, subst, ◌∙◌}
 use Rattle.std.proofs.lemmas.Bool.{false≢true}
 use Rattle.board.specs.Board.{PlainBoard}
 use Rattle.rules.specs.Reach.{IsInCheck}
-use Rattle.rules.specs.Moves.{Promotes, IsPromotion, after}
+use Rattle.rules.specs.Moves.{Promotes, IsPromotion, IsLawful, after}
+use Rattle.rules.specs.declared.goal.Goal.{Goal}
+use Rattle.rules.specs.declared.goal.Goal.TheVariants.{Mate}
 use Rattle.rules.specs.Forces.{IsReached}
+use Rattle.moves.specs.declared.checks.Watch.{Watch}
 use Rattle.rules.proofs.Keeps.{one_after}
 use Rattle.moves.proofs.AtOnce.{move_by}
 use Rattle.moves.proofs.Guarding.{promotes_well, not_attacked_safe}
@@ -18,6 +21,27 @@ returns-then-not-is_promoted_well c =
       λ w. absurd (false≢true (sym c.if-not-is_promoted_well.true ∙ c.is_promoted_well.ensures.1
           (subst (λ g. (IsSome m.promotion ↔ Promotes g u m.to) × IfSome m.promotion (IsPromotion g)) (sym c.game.ensures.value) (promotes_well b m u c.requires.stands (w.next, w.move))))),
     )
+
+pub escapes-requires-clause-pseudo : goal.escapes-requires-clause-pseudo
+escapes-requires-clause-pseudo c =
+    let m = c.args.m in
+    let u = c.args.unit in
+    let well = subst (λ g. (IsSome m.promotion ↔ Promotes g u m.to) × IfSome m.promotion (IsPromotion g)) c.game.ensures.value (c.is_promoted_well.ensures.0 c.if-not-is_promoted_well.false) in
+    c.requires.pseudo (record { named = well.0; allowed = well.1 })
+
+pub returns-then-escapes : goal.returns-then-escapes
+returns-then-escapes c = (
+  λ never. absurd (false≢true never),
+  λ w.
+      let b = c.args.board.now in
+      let m = c.args.m in
+      let u = c.args.unit in
+      let mate : c.args.quest.goal ≡ Mate = subst (λ o. IfSome o (λ (_ : Watch). c.args.quest.goal ≡ Mate)) c.in-Some.is c.requires.seeks.mate in
+      let mated = subst (λ (g : Goal). IsReached g w.next) mate w.reached in
+      let same : w.next ≡ after b m u = one_after b m w.next _ w.move (move_by b m u c.requires.stands (w.next, w.move)) in
+      let step = c.escapes.ensures c.if-escapes.true in
+      absurd (mated.no_move step.0 (subst (λ q. IsLawful q step.0) (sym same) step.1)),
+)
 
 pub moved-next-requires : goal.moved-next-requires
 moved-next-requires c =
@@ -51,5 +75,5 @@ returns-else-is_reached c = (
       let m = c.args.m in
       let u = c.args.unit in
       let move = move_by b m u c.requires.stands (w.next, w.move) in
-      absurd (false≢true (sym c.if-is_reached.false ∙ c.is_reached.ensures.1 (subst (IsReached c.args.goal) (one_after b m w.next _ w.move move ∙ sym c.moved-next.ensures) w.reached))),
+      absurd (false≢true (sym c.if-is_reached.false ∙ c.is_reached.ensures.1 (subst (IsReached c.args.quest.goal) (one_after b m w.next _ w.move move ∙ sym c.moved-next.ensures) w.reached))),
 )

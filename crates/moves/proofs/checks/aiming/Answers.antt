@@ -1,4 +1,5 @@
-use Rattle.std.proofs.Common.{sym, subst}
+use Rattle.std.proofs.Common.{◌≡◌, ◌⊎◌, inl, inr, sym, subst, ◌∙◌}
+use Rattle.board.specs.declared.game.Kind.{Kind}
 use Rattle.board.specs.declared.game.Kind.TheVariants.{King, Queen, Rook, Bishop, Knight, Pawn}
 use Rattle.board.specs.Games.{other_side}
 use Rattle.cells.specs.Mailbox.{cell_of, place_in}
@@ -6,7 +7,7 @@ use Rattle.cells.proofs.CellNumbers.{IsCell-cell_of, place_in-cell_of}
 use Rattle.rules.proofs.Keeps.{to_on_board}
 use Rattle.moves.specs.Looking.{Aims}
 use Rattle.moves.proofs.Looking.{Aims-back}
-use Rattle.moves.proofs.Checking.{as_kind, as_mover}
+use Rattle.moves.proofs.Checking.{Aims-piece, as_kind, as_mover}
 use Rattle.moves.proofs.checks.aiming.Goals as goal
 
 pub returns-in-Pawn : goal.returns-in-Pawn
@@ -20,32 +21,19 @@ returns-in-Pawn c = λ m p aims.
     (subst (λ x. Aims b (record { side = x; kind = Pawn }) k m.to) (sym c.other.ensures) (subst (λ q. Aims b (record { side = other_side c.args.unit.side; kind = q }) k m.to) c.in-Pawn.is back)) in
     (c.seen.ensures (cell_of m.to)).1 (IsCell-cell_of b.game m.to on, pawn)
 
+not_pawn : (k : Kind) → (k ≡ King) ⊎ ((k ≡ Queen) ⊎ ((k ≡ Rook) ⊎ (k ≡ Bishop))) → k ≡ Pawn → ⊥
+not_pawn k (inl e) pawn = cc (sym e ∙ pawn)
+not_pawn k (inr (inl e)) pawn = cc (sym e ∙ pawn)
+not_pawn k (inr (inr (inl e))) pawn = cc (sym e ∙ pawn)
+not_pawn k (inr (inr (inr e))) pawn = cc (sym e ∙ pawn)
+
 pub returns-in-King : goal.returns-in-King
 returns-in-King c = λ m p aims.
     let b = c.args.board.now in
-    let k = place_in c.args.watch.king in
-    c.requires.watches.near (cell_of m.to) (as_mover b m c.args.unit p k King (as_kind b m c.args.unit p k King c.in-King.is (λ e. cc) aims))
+    (c.targets.ensures (cell_of m.to)).1 (Aims-piece b m c.args.unit p (place_in c.args.watch.king) (not_pawn c.args.unit.kind c.in-King.is) aims)
 
 pub returns-in-Knight : goal.returns-in-Knight
 returns-in-Knight c = λ m p aims.
     let b = c.args.board.now in
     let k = place_in c.args.watch.king in
     c.requires.watches.leaps (cell_of m.to) (as_mover b m c.args.unit p k Knight (as_kind b m c.args.unit p k Knight c.in-Knight.is (λ e. cc) aims))
-
-pub returns-in-Queen : goal.returns-in-Queen
-returns-in-Queen c = λ m p aims.
-    let b = c.args.board.now in
-    let k = place_in c.args.watch.king in
-    c.seen-in-Queen.ensures (cell_of m.to) (as_mover b m c.args.unit p k Queen (as_kind b m c.args.unit p k Queen c.in-Queen.is (λ e. cc) aims))
-
-pub returns-in-Rook : goal.returns-in-Rook
-returns-in-Rook c = λ m p aims.
-    let b = c.args.board.now in
-    let k = place_in c.args.watch.king in
-    c.seen-in-Rook.ensures (cell_of m.to) (as_mover b m c.args.unit p k Rook (as_kind b m c.args.unit p k Rook c.in-Rook.is (λ e. cc) aims))
-
-pub returns-in-Bishop : goal.returns-in-Bishop
-returns-in-Bishop c = λ m p aims.
-    let b = c.args.board.now in
-    let k = place_in c.args.watch.king in
-    c.seen-in-Bishop.ensures (cell_of m.to) (as_mover b m c.args.unit p k Bishop (as_kind b m c.args.unit p k Bishop c.in-Bishop.is (λ e. cc) aims))

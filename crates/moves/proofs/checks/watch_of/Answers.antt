@@ -1,11 +1,12 @@
 use Rattle.std.proofs.Common.{◌≡◌, ℕ, Some, sym, ap, subst, ◌∙◌}
 use Rattle.std.proofs.lemmas.Bool.{false≢true}
-use Rattle.board.specs.declared.game.Kind.TheVariants.{King}
+use Rattle.board.specs.declared.game.Kind.TheVariants.{King, Knight}
 use Rattle.board.specs.Games.{other_side}
 use Rattle.rules.specs.Squares.{unit_at}
 use Rattle.rules.specs.Reach.{IsInCheck}
 use Rattle.cells.specs.Mailbox.{place_in, IsCell}
 use Rattle.moves.specs.Pinned.{IsPinned}
+use Rattle.moves.specs.Targets.{IsTarget}
 use Rattle.cells.specs.CellSets.{Has}
 use Rattle.moves.proofs.checks.watch_of.Goals as goal
 
@@ -13,12 +14,12 @@ pub returns : goal.returns
 returns c =
     let b = c.args.board.now in
     let k = c.in_ok-king.king in
-    let foe : c.other-foe.result ≡ other_side b.mover = c.other-foe.ensures ∙ ap other_side c.mover.ensures.value in
+    let foe : c.other-foe.result ≡ other_side b.mover = c.other-foe.ensures ∙ ap other_side c.mover-own.ensures.value in
     record {
       cell = c.in_ok-king.ensures.0;
       king = subst (λ s. unit_at b (place_in k) ≡ Some (record { side = s; kind = King })) foe c.in_ok-king.ensures.1;
       safe = λ check. false≢true (sym c.if-king_attacked.false ∙ c.king_attacked.ensures.1 (subst (IsInCheck b) (sym foe) check));
       uncovers = subst (λ s. (i : ℕ) → IsCell b.game i → IsPinned b s (place_in k) (place_in i) → Has c.pinned.result i) foe c.pinned.ensures;
-      near = c.seen.ensures;
-      leaps = c.seen-2.ensures;
+      steps = λ i h. subst (λ s. IsTarget b (record { side = s; kind = King }) (place_in k) i) foe ((c.targets.ensures i).0 h);
+      leaps = λ i t. (c.targets-2.ensures i).1 (subst (λ s. IsTarget b (record { side = s; kind = Knight }) (place_in k) i) (sym c.mover-own.ensures.value) t);
     }

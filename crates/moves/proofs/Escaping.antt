@@ -1,0 +1,177 @@
+-- Steps of a king that are lawful after a move of the other side.
+use Rattle.std.proofs.Common.{◌≡◌, ℕ, refl, sym, ap, subst, ◌∙◌, ◌⊎◌, inl, inr, true, false, Some, None}
+use Rattle.std.proofs.lemmas.Bool.{false≢true}
+use Rattle.std.proofs.lemmas.Option.{same_Some}
+use Rattle.board.specs.declared.game.Kind.TheVariants.{King, Queen, Rook, Bishop, Pawn}
+use Rattle.board.specs.declared.game.Unit.{Unit as Man}
+use Rattle.board.specs.declared.game.Side.{Side}
+use Rattle.board.specs.declared.step.Step.{Step}
+use Rattle.board.specs.Denotation.{terms_of, Denotes}
+use Rattle.board.specs.Games.{other_side}
+use Rattle.board.specs.Board.{PlainBoard, IsPosition}
+use Rattle.rules.specs.Squares.{Place, Ply, IsOnBoard, unit_at}
+use Rattle.rules.specs.Reach.{Leads, Allows, Reaches, AttacksFrom, IsAttacked, IsInCheck}
+use Rattle.rules.specs.Reach.Leads.{once, again}
+use Rattle.rules.specs.Moves.{IsSomeKing, IsPseudoLegal, IsLawful, placed, after}
+use Rattle.rules.proofs.Keeps.{to_on_board, IsPosition-after}
+use Rattle.cells.specs.Mailbox.{place_in, IsCell}
+use Rattle.cells.specs.Ways.{IsOnStraight, IsOnSlanted}
+use Rattle.moves.specs.Looking.{Aims}
+use Rattle.moves.specs.Pinned.{IsPinned}
+use Rattle.moves.specs.Safe.{IsCalm}
+use Rattle.moves.specs.Targets.{IsTarget}
+use Rattle.moves.proofs.Laying.{unit_at-to, unit_at-from, unit_at-other}
+use Rattle.moves.proofs.Kings.{king_of, check_at, check_from}
+use Rattle.moves.proofs.Guarding.{king_moved}
+use Rattle.moves.proofs.Looking.{captures_from}
+use Rattle.moves.proofs.Pins.{place_cases, own_or_other, no_unit, stood, walked}
+use Rattle.moves.proofs.Riding.{Rides-leads, rides-ray}
+use Rattle.moves.proofs.Seeing.{rides_as}
+use Rattle.moves.proofs.Shadows.{on_lines}
+
+-- what a rider would come to over a cell lies on the lines of that cell
+pub over_lines : (b : PlainBoard) (side : Side) (k i : ℕ) → IsCell b.game k → IsCell b.game i → IsPinned b side (place_in i) (place_in k) → IsOnStraight b.game k i ⊎ IsOnSlanted b.game k i
+over_lines b side k i on cell w = elim (rides_as w.rider.side w.rider.kind w.step w.denoted) [
+  | inl single ↦ absurd (false≢true (sym single ∙ w.rides))
+  | inr way ↦ on_lines b.game way.way k i (rides-ray b way.way k i (Rides-leads b w.rider.side way.way w.step way.goes k i on cell w.to_king))
+]
+
+-- a cell to which the other king steps, which the move leaves as it was, and which no unit of the mover comes to attack by it
+pub record StaysOpen (b : PlainBoard) (m : Ply) (u : Man) (k i : ℕ) : Type 0 where
+  pub target : IsTarget b (record { side = other_side b.mover; kind = King }) (place_in k) i
+  pub away : place_in i ≡ m.from → ⊥
+  pub apart : place_in i ≡ m.to → ⊥
+  pub unseen : (c : PlainBoard) → c.game ≡ b.game → Aims c (placed u m) m.to (place_in i) → ⊥
+  pub shut : IsPinned b (other_side b.mover) (place_in i) m.from → ⊥
+
+no_ride : ((King ≡ Queen) ⊎ (King ≡ Rook)) ⊎ ((King ≡ Queen) ⊎ (King ≡ Bishop)) → ⊥
+no_ride (inl (inl e)) = cc
+no_ride (inl (inr e)) = cc
+no_ride (inr (inl e)) = cc
+no_ride (inr (inr e)) = cc
+
+no_pawn : King ≡ Pawn → ⊥
+no_pawn e = cc
+
+module _ (b : PlainBoard) (m : Ply) (u : Man) (is : IsPosition b) (p : IsPseudoLegal b m u) where
+  -- a step at once is one on any board
+  single_after : (side : Side) (step : Step) (s t : Place) → step.rider ≡ false → Leads b side step s t → Leads (after b m u) side step s t
+  single_after side step s t r (once o a) = once o a
+  single_after side step s t r (again r' o a e l) = absurd (false≢true (sym r ∙ r'))
+
+  module _ (k f : Place) (on : IsOnBoard b.game k) (king : unit_at b k ≡ king_of (other_side b.mover)) (to : IsOnBoard b.game f)
+      (reach : Reaches b (record { side = other_side b.mover; kind = King }) k f (unit_at b f)) (away : f ≡ m.from → ⊥) (apart : f ≡ m.to → ⊥) (calm : IsCalm b f (other_side b.mover)) where
+    foe : Man
+    foe = record { side = other_side b.mover; kind = King }
+
+    step_to : Ply
+    step_to = record { from = k; to = f; promotion = None }
+
+    not_from : k ≡ m.from → ⊥
+    not_from e = own_or_other b.mover (sym p.owner ∙ ap (λ (x : Man). x.side) (same_Some u (record { side = other_side b.mover; kind = King }) (sym p.stands ∙ ap (unit_at b) (sym e) ∙ king)))
+
+    not_to : k ≡ m.to → ⊥
+    not_to e = p.no_king (subst IsSomeKing (sym (ap (unit_at b) (sym e) ∙ king)) refl)
+
+    same_target : unit_at (after b m u) f ≡ unit_at b f
+    same_target = unit_at-other b m u is p f to away apart
+
+    pub steps : IsPseudoLegal (after b m u) (record { from = k; to = f; promotion = None }) (record { side = other_side b.mover; kind = King })
+    steps = record {
+      on_board = on;
+      stands = unit_at-other b m u is p k on not_from not_to ∙ king;
+      owner = refl;
+      reaches = record {
+        step = reach.step;
+        played = reach.played;
+        denoted = reach.denoted;
+        reaches = record {
+          allows = subst (Allows reach.step.mode (other_side b.mover)) (sym same_target) reach.reaches.allows;
+          leads = elim (rides_as (other_side b.mover) King reach.step reach.denoted) [
+            | inl single ↦ single_after (other_side b.mover) reach.step k f single reach.reaches.leads
+            | inr way ↦ absurd (no_ride way.class)
+          ];
+        };
+      };
+      no_king = λ w. calm.no_king (subst IsSomeKing same_target w);
+      named = (λ never. absurd (false≢true never), λ w. absurd (no_pawn w.0));
+      allowed = tt;
+    }
+
+    module _ (unseen : (c : PlainBoard) → c.game ≡ b.game → Aims c (placed u m) m.to f → ⊥) (shut : IsPinned b (other_side b.mover) f m.from → ⊥)
+        (safe : IsInCheck b (other_side b.mover) → ⊥) (kept : IsPinned b (other_side b.mover) k m.from → ⊥) where
+      -- the king isn't attacked where it comes to
+      still_safe : IsAttacked (after (after b m u) (record { from = k; to = f; promotion = None }) (record { side = other_side b.mover; kind = King })) f (other_side (other_side b.mover)) → ⊥
+      still_safe (s, a) =
+          let next = after b m u in
+          let is_next = IsPosition-after b m u is p in
+          let n : Ply = record { from = k; to = f; promotion = None } in
+          let v : Man = record { side = other_side b.mover; kind = King } in
+          let fin = after next n v in
+          let r = a.reaches in
+          let there : unit_at next s ≡ Some a.unit = stood next n v is_next steps s a.unit a.on_board a.stands (λ e. own_or_other (other_side b.mover) (sym (ap (λ (x : Man). x.side) e) ∙ a.owner)) in
+          elim (place_cases b.game s m.to a.on_board (to_on_board b m u p)) [
+            | inl same ↦
+                let man : a.unit ≡ placed u m = same_Some a.unit (placed u m) (sym there ∙ ap (unit_at next) same ∙ unit_at-to b m u is p) in
+                unseen fin refl (record {
+                  step = r.step;
+                  denoted = subst (λ (x : Man). Denotes (terms_of x.kind) r.step) man r.denoted;
+                  captures = captures_from r.step.mode a.unit.side _ r.reaches.allows;
+                  leads = subst (λ (x : Man). Leads fin x.side r.step m.to f) man (subst (λ x. Leads fin a.unit.side r.step x f) same r.reaches.leads);
+                })
+            | inr far ↦ elim (place_cases b.game s m.from a.on_board p.on_board) [
+              | inl same ↦ absurd (no_unit (sym (unit_at-from b m u is p) ∙ ap (unit_at next) (sym same) ∙ there))
+              | inr gone ↦
+                  let stands : unit_at b s ≡ Some a.unit = sym (unit_at-other b m u is p s a.on_board gone far) ∙ there in
+                  let attack : (t : Place) → Leads b a.unit.side r.step s t → IsAttacked b t (other_side (other_side b.mover)) = λ t l. (
+                    s,
+                    record {
+                      unit = a.unit;
+                      on_board = a.on_board;
+                      stands = stands;
+                      owner = a.owner;
+                      reaches = record { step = r.step; played = r.played; denoted = r.denoted; reaches = record { allows = r.reaches.allows; leads = l } };
+                    },
+                  ) in
+                  let over : (t : Place) → r.step.rider ≡ true → Leads b a.unit.side r.step s m.from → Leads b a.unit.side r.step m.from t → IsPinned b (other_side b.mover) t m.from = λ t rides to_unit to_king. record {
+                    rider = a.unit;
+                    from = s;
+                    step = r.step;
+                    on_board = a.on_board;
+                    stands = stands;
+                    owner = a.owner;
+                    denoted = r.denoted;
+                    rides = rides;
+                    captures = captures_from r.step.mode a.unit.side _ r.reaches.allows;
+                    taken = λ none. no_unit (sym none ∙ p.stands);
+                    to_unit = to_unit;
+                    to_king = to_king;
+                  } in
+                  elim (walked next n v is_next steps a.unit.side r.step s f r.reaches.leads) [
+                    | inl w ↦ elim (walked b m u is p a.unit.side r.step s f w) [
+                      | inl l ↦ calm.safe (attack f l)
+                      | inr l ↦ shut (over f l.0 l.1 l.2)
+                    ]
+                    | inr w ↦ elim (walked b m u is p a.unit.side r.step s k w.1) [
+                      | inl l ↦ safe (check_from b (other_side b.mover) k on king (attack k l))
+                      | inr l ↦ kept (over k l.0 l.1 l.2)
+                    ]
+                  ]
+            ]
+          ]
+
+      pub lawful_step : IsLawful (after b m u) (record { from = k; to = f; promotion = None })
+      lawful_step =
+          let next = after b m u in
+          let is_next = IsPosition-after b m u is p in
+          let n : Ply = record { from = k; to = f; promotion = None } in
+          let v : Man = record { side = other_side b.mover; kind = King } in
+          let fin = after next n v in (
+            fin,
+            record {
+              unit = v;
+              pseudo = steps;
+              leads = refl;
+              safe = λ check. still_safe (check_at fin (IsPosition-after next n v is_next steps) (other_side b.mover) f to (king_moved next n v is_next steps refl) check);
+            },
+          )

@@ -1,0 +1,71 @@
+//! Steps by which a king gets away from a move, whatever else stands on the board.
+ghost use Rattle.std.specs.Prelude.{◌≡◌, ℕ, IsTrue};
+ghost use Rattle.board.specs.Board.{PlainBoard, IsPosition};
+ghost use Rattle.board.specs.Games.{other_side};
+ghost use Rattle.rules.specs.Squares.{Ply};
+ghost use Rattle.rules.specs.Moves.{IsPseudoLegal, IsLawful, placed, after};
+ghost use Rattle.cells.specs.Mailbox.{cell_of, place_in, IsCell};
+ghost use Rattle.cells.specs.CellSets.{Has};
+ghost use Rattle.moves.specs.Looking.{Aims};
+ghost use Rattle.moves.specs.Pinned.{IsPinned};
+ghost use Rattle.moves.specs.Checking.{Watches};
+
+use crate::checks::Watch;
+use crate::look::open_lines;
+use crate::packed::Board;
+use crate::safe::is_calm;
+use crate::sets::Class;
+use board::{Side, Unit};
+use cells::{cell_of, except, has, lowest, single, slanted_lines, straight_lines, without};
+use rules::Move;
+
+/// The cells on the lines of this one, if a rider of the other side stands on them too.
+fn opened(board: &Board, side: Side, cell: u8) -> u64
+    requires { IsCell board.now.game cell }
+    ensures { (i : ℕ) → IsCell board.now.game i → IsPinned board.now side (place_in i) (place_in cell) → Has result i }
+{
+    let riders = board.of_side(side.other())
+        & (board.set(Class::Straight) | board.set(Class::Slanted));
+    let lines = straight_lines(board.game(), cell) | slanted_lines(board.game(), cell);
+    if riders & lines == 0 { 0 } else { lines }
+}
+
+/// Cells to which the other king may not step after the move: its two, those that the unit may take on, and those to which the
+/// way may be open now.
+fn barred(board: &Board, m: Move, unit: Unit) -> u64
+    requires position { IsPosition board.now }
+    requires pseudo { IsPseudoLegal board.now m unit }
+    ensures from { Has result (cell_of m.from) }
+    ensures to { Has result (cell_of m.to) }
+    ensures aims { (b : PlainBoard) (j : ℕ) → b.game ≡ board.now.game → IsCell board.now.game j
+        → Aims b (placed unit m) m.to (place_in j) → Has result j }
+    ensures opens { (i : ℕ) → IsCell board.now.game i → IsPinned board.now (other_side unit.side) (place_in i) m.from
+        → Has result i }
+{
+    let from = cell_of(m.from);
+    let to = cell_of(m.to);
+    let kind = m.promotion.unwrap_or(unit.kind);
+    let aims = open_lines(board.game(), unit.side, kind, to);
+    single(from) | single(to) | aims | opened(board, unit.side.other(), from)
+}
+
+/// Whether the other king has a step after the move that is lawful at a glance.
+pub(crate) fn escapes(board: &Board, watch: Watch, m: Move, unit: Unit) -> bool
+    requires position { IsPosition board.now }
+    requires watches { Watches board.now watch }
+    requires pseudo { IsPseudoLegal board.now m unit }
+    ensures { IsTrue result → (n : Ply) × IsLawful (after board.now m unit) n }
+{
+    if has(watch.uncovers, cell_of(m.from)) {
+        return false;
+    }
+    let mut left = except(watch.steps, barred(board, m, unit));
+    'cells: while left != 0 {
+        let cell = lowest(left);
+        left = without(left, cell);
+        if is_calm(board, cell, unit.side.other()) {
+            return true;
+        }
+    }
+    false
+}
