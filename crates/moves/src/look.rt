@@ -18,6 +18,7 @@ use cells::{king_leaps, knight_leaps, lowest, pawn_captures, slanted_lines, stra
 use rules::Move;
 
 /// The cells where a unit of the kind would take from this one on an empty board.
+#[inline(always)]
 pub(crate) fn open_lines(game: Game, side: Side, kind: Kind, cell: u8) -> u64
     requires { IsCell game cell }
     ensures { (b : PlainBoard) (j : ℕ) → b.game ≡ game → IsCell game j
@@ -34,6 +35,7 @@ pub(crate) fn open_lines(game: Game, side: Side, kind: Kind, cell: u8) -> u64
 }
 
 /// Those of the cells where a unit of the kind would take from this one.
+#[inline(always)]
 fn struck(board: &Board, side: Side, kind: Kind, cell: u8, among: u64) -> u64
     requires { IsCell board.now.game cell }
     ensures { (i : ℕ) → Has result i ↔ (Has among i × IsCell board.now.game i

@@ -65,6 +65,7 @@ fn slanted(board: &Board, cell: u8) -> u64
 }
 
 /// The cells where a unit of the kind would take from this one.
+#[inline(always)]
 pub(crate) fn seen(board: &Board, side: Side, kind: Kind, cell: u8) -> u64
     requires { IsCell board.now.game cell }
     ensures { (j : ℕ) → Has result j

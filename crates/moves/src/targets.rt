@@ -40,6 +40,7 @@ fn pushed(board: &Board, side: Side, cell: u8) -> u64
 }
 
 /// The cells that a unit reaches.
+#[inline(always)]
 pub(crate) fn targets(board: &Board, unit: Unit, cell: u8) -> u64
     requires cell { IsCell board.now.game cell }
     requires played { IsPlayed board.now.game unit.kind }

@@ -44,8 +44,8 @@ returns-then-is_calm c = λ _.
     let calm = subst (IsCalm b (place_in c.lowest-cell.result)) (c.other.ensures ∙ ap other_side p.owner) (c.is_calm.ensures.0 c.if-is_calm.true) in
     let from : c.cell_of.result ≡ cell_of m.from = c.cell_of.ensures.value ∙ ap (λ (x : Ply). cell_of x.from) c.m.view_is in
     let kept : IsPinned b (other_side b.mover) (place_in c.args.watch.king) m.from → ⊥ = λ pin.
-        false≢true (sym c.if-has.false ∙ c.has.ensures.1 (subst (Has c.args.watch.uncovers) (sym from)
-        (w.uncovers (cell_of m.from) (IsCell-cell_of b.game m.from p.on_board) (subst (IsPinned b (other_side b.mover) (place_in c.args.watch.king)) (sym (place_in-cell_of b.game m.from p.on_board)) pin)))) in
+    false≢true (sym c.if-has.false ∙ c.has.ensures.1 (subst (Has c.args.watch.uncovers) (sym from)
+    (w.uncovers (cell_of m.from) (IsCell-cell_of b.game m.from p.on_board) (subst (IsPinned b (other_side b.mover) (place_in c.args.watch.king)) (sym (place_in-cell_of b.game m.from p.on_board)) pin)))) in
     (_, lawful_step b m u c.requires.position p (place_in c.args.watch.king) (place_in c.lowest-cell.result) w.cell.on_board w.king stays.target.0.on_board stays.target.1 stays.away stays.apart calm stays.unseen stays.shut w.safe kept)
 
 pub cells-preserved : goal.cells-preserved
