@@ -1,11 +1,13 @@
 //! The reply to a line: the text of its answer, or why there is none.
-ghost use Rattle.std.specs.Prelude.{◌≡◌, ◌⊎◌, ◌+◌, ◌<◌, ◌≤◌, All, Err, IfErr, IfOk, IfSome, Ok, length, min, string_bytes, vec_items};
+ghost use Rattle.std.specs.Prelude.{◌≡◌, ◌⊎◌, ◌+◌, ◌<◌, ◌≤◌, All, Err, IfErr, IfOk, IfSome, None, Ok, length, min, string_bytes, vec_items};
 ghost use Rattle.slots.specs.Promise.{IsSeatOf};
 ghost use Rattle.std.specs.List.{flat_map};
+ghost use Rattle.rounds.specs.Limits.{IsRefusal};
+ghost use Rattle.rounds.specs.Seats.{AreSeats};
 ghost use Rattle.wintree.specs.Plan.{depth};
 ghost use Rattle.wintree.specs.Text.{text as tree_words};
 ghost use Rattle.replies.specs.Outcome.{Solves, FindsKeys, Gives, GivesIfRead, GivesReply, reads_failed};
-ghost use Rattle.replies.specs.Output.{answer_text, none_text, key_text, keys_text, moves_text, checked_text, line_of, ShowsAnswer, ShowsKeys, ShowsPlanFound, ShowsTree, ShowsCheck, MayRead};
+ghost use Rattle.replies.specs.Output.{answer_text, none_text, key_text, keys_text, moves_text, checked_text, line_of, ShowsAnswer, ShowsKeys, ShowsPlanFound, ShowsTree, ShowsCheck, MayRead, fault_of};
 
 use crate::device::Source;
 use crate::drawing::board_drawn;
@@ -61,6 +63,42 @@ pub fn search_of(limits: Limits) -> Search
     }
 }
 
+/// What is asked within the limits, and the table and the seats that it is searched over.
+#[derive(Drop)]
+struct Lent<'a, T: Gate> {
+    task: Task<'a, T>,
+    table: Slots<MateLore>,
+    seats: Vec<Seat>,
+}
+
+fn lend<'a, T: Gate>(
+    told: &Told<'a, T>,
+    position: &'a Position,
+    goal: Goal,
+    limits: Limits,
+) -> Result<Lent<'a, T>, SolveFault>
+    ensures position { IfOk result (λ lent. lent.task.position.now ≡ position.now) }
+    ensures goal { IfOk result (λ lent. lent.task.goal ≡ goal) }
+    ensures limit { IfOk result (λ lent. lent.task.limit ≡ limits.limit) }
+    ensures accepted { IfOk result (λ _. fault_of limits ≡ None) }
+    ensures seats { IfOk result (λ lent. AreSeats lent.table (limits.workers + 1) lent.seats.items) }
+    ensures fault { IfErr result (IsRefusal limits.limit limits.workers limits.slots) }
+{
+    let Search {
+        limit,
+        workers,
+        slots,
+    } = search_of(limits);
+    let (table, seats) = make_table(told.alloc, limit, workers, slots)?;
+    let task = Task {
+        position,
+        goal,
+        limit,
+        gate: told.gate,
+    };
+    Ok(Lent { task, table, seats })
+}
+
 /// The answer within the limits.
 fn answer_within<R: Threads + Wait + Sync, T: Gate>(
     rt: &R,
@@ -93,18 +131,11 @@ fn searched_within<R: Threads + Wait + Sync, T: Gate>(
     ensures seats { IfOk result (λ found. All (IsSeatOf found.1) found.2.items) }
     ensures fault { IfErr result (λ fault. Solves goal position.now limits (Err fault)) }
 {
-    let Search {
-        limit,
-        workers,
-        slots,
-    } = search_of(limits);
-    let (table, mut seats) = make_table(told.alloc, limit, workers, slots)?;
-    let task = Task {
-        position,
-        goal,
-        limit,
-        gate: told.gate,
-    };
+    let Lent {
+        task,
+        table,
+        mut seats,
+    } = lend(told, position, goal, limits)?;
     let answer = solve_over(rt, told.alloc, &task, &table, &mut seats)?;
     Ok((answer, table, seats))
 }
@@ -119,18 +150,11 @@ fn keys_within<R: Threads + Wait + Sync, T: Gate>(
 ) -> Result<Vec<Key>, SolveFault>
     ensures { FindsKeys goal position.now limits result }
 {
-    let Search {
-        limit,
-        workers,
-        slots,
-    } = search_of(limits);
-    let (table, mut seats) = make_table(told.alloc, limit, workers, slots)?;
-    let task = Task {
-        position,
-        goal,
-        limit,
-        gate: told.gate,
-    };
+    let Lent {
+        task,
+        table,
+        mut seats,
+    } = lend(told, position, goal, limits)?;
     keys_over(rt, told.alloc, &task, &table, &mut seats)
 }
 
