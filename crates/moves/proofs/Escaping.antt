@@ -10,7 +10,7 @@ use Rattle.board.specs.Denotation.{terms_of, Denotes}
 use Rattle.board.specs.Games.{other_side}
 use Rattle.board.specs.Board.{PlainBoard, IsPosition}
 use Rattle.rules.specs.Squares.{Place, Ply, IsOnBoard, unit_at}
-use Rattle.rules.specs.Reach.{Leads, Allows, Reaches, AttacksFrom, IsAttacked, IsInCheck}
+use Rattle.rules.specs.Reach.{Leads, Allows, Reaches, IsAttacked, IsInCheck}
 use Rattle.rules.specs.Reach.Leads.{once, again}
 use Rattle.rules.specs.Moves.{IsSomeKing, IsPseudoLegal, IsLawful, placed, after}
 use Rattle.rules.proofs.Keeps.{to_on_board, IsPosition-after}

@@ -1,4 +1,4 @@
-use Rattle.std.proofs.Common.{◌≡◌, ◌∙◌, Some, MatchOption, sym, ap, subst}
+use Rattle.std.proofs.Common.{◌≡◌, ◌∙◌, MatchOption, sym, ap, subst}
 use Rattle.board.specs.Games.{other_side}
 use Rattle.moves.specs.Guard.{Guards}
 use Rattle.rules.specs.Reach.{IsInCheck}

@@ -1,12 +1,10 @@
-use Rattle.std.proofs.Common.{◌≡◌, ◌+◌, ◌<◌, ◌↔◌, AllPairs, Contains, List, take, length, get_or, true, sym, subst, ◌∙◌, arith}
+use Rattle.std.proofs.Common.{sym, subst, ◌∙◌, arith}
 use Rattle.std.proofs.lemmas.Bool.{false≢true}
 use Rattle.std.proofs.lemmas.List.{take_all}
-use Rattle.board.specs.Board.{PlainBoard}
 use Rattle.rules.specs.Squares.{Ply}
-use Rattle.rules.specs.Moves.{GivesCheck, IsLawful}
+use Rattle.rules.specs.Moves.{GivesCheck}
 use Rattle.rules.specs.Order.{IsPlyBefore, ListsLawful}
-use Rattle.moves.specs.CheckList.{ListsChecks}
-use Rattle.moves.proofs.Picking.{InOrder, Picks, keep, skip}
+use Rattle.moves.proofs.Picking.{Picks, keep, skip}
 use Rattle.moves.proofs.check_list.list_checks.Goals as goal
 use Rattle.moves.proofs.check_list.list_checks.Goals.{then-gives_check, else-gives_check}
 

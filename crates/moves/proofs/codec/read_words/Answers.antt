@@ -3,7 +3,7 @@ use Rattle.board.specs.declared.game.Game.{Game}
 use Rattle.board.specs.declared.game.Side.{Side}
 use Rattle.board.specs.declared.game.Unit.{Unit as Man}
 use Rattle.board.specs.Games.{squares_of}
-use Rattle.board.specs.Board.{PlainBoard, board_of, unit_on, IsPosition}
+use Rattle.board.specs.Board.{PlainBoard, board_of, IsPosition}
 use Rattle.moves.specs.Words.{man_of, code_on, Spells}
 use Rattle.moves.proofs.Packing.{IsRead, IsRead-start, IsRead-more, IsRead-whole, within_36}
 use Rattle.moves.proofs.codec.read_words.Goals as goal

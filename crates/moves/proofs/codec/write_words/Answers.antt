@@ -1,6 +1,5 @@
-use Rattle.std.proofs.Common.{◌≡◌, sym, ap, subst, ◌∙◌, arith}
+use Rattle.std.proofs.Common.{◌≡◌, ap, subst, ◌∙◌, arith}
 use Rattle.board.specs.Games.{squares_of}
-use Rattle.moves.specs.Words.{unpacked, IsPacked}
 use Rattle.moves.proofs.Packing.{IsPut, IsFilled, IsFilled-more, IsPacked-of, unpacked_of}
 use Rattle.moves.proofs.codec.write_words.Goals as goal
 

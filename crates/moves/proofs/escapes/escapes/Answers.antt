@@ -2,7 +2,7 @@ use Rattle.std.proofs.Common.{◌≡◌, sym, ap, subst, ◌∙◌, arith}
 use Rattle.std.proofs.lemmas.Bool.{false≢true}
 use Rattle.board.specs.Games.{other_side}
 use Rattle.rules.specs.Squares.{Ply}
-use Rattle.cells.specs.Mailbox.{cell_of, place_in, IsCell}
+use Rattle.cells.specs.Mailbox.{cell_of, place_in}
 use Rattle.cells.specs.CellSets.{Has}
 use Rattle.cells.proofs.CellNumbers.{IsCell-cell_of, place_in-cell_of, cell_of-place_in}
 use Rattle.moves.specs.Pinned.{IsPinned}

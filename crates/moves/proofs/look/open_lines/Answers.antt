@@ -1,5 +1,5 @@
 use Rattle.std.proofs.Common.{ℕ, inl, inr, subst, sym}
-use Rattle.board.specs.declared.game.Kind.TheVariants.{King, Queen, Rook, Bishop, Knight, Pawn}
+use Rattle.board.specs.declared.game.Kind.TheVariants.{King, Knight, Pawn}
 use Rattle.board.specs.Board.{PlainBoard}
 use Rattle.cells.specs.declared.tables.Way.TheVariants.{North, South, East, West, NorthEast, SouthWest, NorthWest, SouthEast}
 use Rattle.cells.specs.Mailbox.{place_in, IsCell}

@@ -1,9 +1,8 @@
-use Rattle.std.proofs.Common.{◌≡◌, ◌<◌, ℕ, List, Option, Some, None, IfSome, IfNone, IsSome, refl, sym, ap, subst, ◌∙◌}
+use Rattle.std.proofs.Common.{◌≡◌, ℕ, List, Option, Some, None, IfNone, IsSome, refl, sym, subst, ◌∙◌}
 use Rattle.board.specs.declared.game.Game.{Game}
 use Rattle.board.specs.declared.game.Side.{Side}
-use Rattle.board.specs.Board.{PlainBoard, unit_on, IsPosition}
-use Rattle.board.specs.Games.{squares_of}
-use Rattle.moves.specs.Words.{Spells, man_of, code_on, units_in, unpacked}
+use Rattle.board.specs.Board.{PlainBoard, IsPosition}
+use Rattle.moves.specs.Words.{Spells, unpacked}
 use Rattle.moves.proofs.Packing.{units_in-at, within_36, one_spelled}
 use Rattle.moves.proofs.packed.Board.position.Goals as goal
 
