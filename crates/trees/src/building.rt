@@ -31,55 +31,59 @@ fn end_at(board: &Board, goal: Goal) -> End
     }
 }
 
+/// What each part of a tree is built with.
+#[derive(Drop)]
+struct Builder<'a> {
+    alloc: Global,
+    slots: &'a Slots<MateLore>,
+    goal: Goal,
+}
+
 /// The best tree, where the side to move forces the goal within the limit.
 #[cycle(building)]
 fn best_tree(
-    alloc: Global,
-    slots: &Slots<MateLore>,
+    builder: &Builder<'_>,
     seat: &mut Seat,
     board: &Board,
-    goal: Goal,
     limit: u8,
 ) -> Result<Tree, NoMemory>
-    requires seat { IsSeatOf slots.now seat.old }
+    requires seat { IsSeatOf builder.now.slots.now seat.old }
     requires limit { limit ≤ 63 }
-    requires forced { Forces goal board.now.mover board.now limit }
-    ensures continues { Continues slots.now seat.old seat.new }
-    ensures best { IfOk result (IsBest goal board.now) }
+    requires forced { Forces builder.now.goal board.now.mover board.now limit }
+    ensures continues { Continues builder.now.slots.now seat.old seat.new }
+    ensures best { IfOk result (IsBest builder.now.goal board.now) }
     ensures depth { IfOk result (λ tree. 2 * depth tree ≤ limit + 1) }
 {
-    let attack = best_move(slots, seat, board, goal, limit);
+    let attack = best_move(builder.slots, seat, board, builder.goal, limit);
     let next = after(board, attack);
     if !has_lawful_move(&next) {
-        return Tree::end(alloc, attack, end_at(&next, goal));
+        return Tree::end(builder.alloc, attack, end_at(&next, builder.goal));
     }
-    let replies = replies_to(alloc, slots, seat, &next, goal, limit - 2)?;
-    Tree::node(alloc, attack, replies)
+    let replies = replies_to(builder, seat, &next, limit - 2)?;
+    Tree::node(builder.alloc, attack, replies)
 }
 
 /// Each lawful reply, in order, with the best tree that meets it, where each is met within so many plies.
 #[cycle(building)]
 fn replies_to(
-    alloc: Global,
-    slots: &Slots<MateLore>,
+    builder: &Builder<'_>,
     seat: &mut Seat,
     board: &Board,
-    goal: Goal,
     n: u8,
 ) -> Result<Vec<(Move, Tree)>, NoMemory>
-    requires seat { IsSeatOf slots.now seat.old }
+    requires seat { IsSeatOf builder.now.slots.now seat.old }
     requires plies { n ≤ 61 }
     requires some { (m : Ply) × IsLawful board.now m }
-    requires forced { (m : Ply) (q : _) → IsMove board.now m q → Forces goal q.mover q n }
-    ensures continues { Continues slots.now seat.old seat.new }
+    requires forced { (m : Ply) (q : _) → IsMove board.now m q → Forces builder.now.goal q.mover q n }
+    ensures continues { Continues builder.now.slots.now seat.old seat.new }
     ensures replies { IfOk result (λ replies. ListsLawful board.now (map (λ reply. reply.0) replies.items)) }
-    ensures best { IfOk result (λ replies. All (λ reply. IsBestAfter goal board.now reply.0 reply.1) replies.items) }
+    ensures best { IfOk result (λ replies. All (λ reply. IsBestAfter builder.now.goal board.now reply.0 reply.1) replies.items) }
     ensures depth { IfOk result (λ replies. All (λ reply. 2 * depth reply.1 ≤ n + 1) replies.items) }
 {
-    let mut replies = Vec::new(alloc);
+    let mut replies = Vec::new(builder.alloc);
     let moves = lawful_on(board);
     for m in moves.as_slice() {
-        let tree = best_tree(alloc, slots, seat, &after(board, *m), goal, n)?;
+        let tree = best_tree(builder, seat, &after(board, *m), n)?;
         replies.push((*m, tree))?;
     }
     Ok(replies)
@@ -103,5 +107,6 @@ pub fn build_tree(
     ensures wins { IfOk result (Wins goal position.now) }
     ensures height { IfOk result (λ tree. height tree ≡ plies) }
 {
-    best_tree(alloc, slots, seat, &Board::of(position), goal, plies)
+    let builder = Builder { alloc, slots, goal };
+    best_tree(&builder, seat, &Board::of(position), plies)
 }

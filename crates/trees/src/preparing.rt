@@ -81,23 +81,34 @@ fn prepare_replies(walk: &Walk<'_>, seat: &mut Seat, board: &Board, n: u8)
     }
 }
 
-/// Searches, by a thread for each seat, what the tree of a position needs whose fewest plies to the goal these are.
+/// The tree that is wanted: that of a position whose fewest plies to the goal these are.
+#[derive(Drop)]
+pub struct Wanted<'a> {
+    pub position: &'a Position,
+    pub goal: Goal,
+    pub plies: u8,
+}
+
+/// Searches, by a thread for each seat, what the tree needs.
 fn prepare_tree<R: Threads + Wait + Sync>(
     rt: &R,
+    wanted: &Wanted<'_>,
     slots: &Slots<MateLore>,
     seats: &mut Vec<Seat>,
-    position: &Position,
-    goal: Goal,
-    plies: u8,
 )
     requires seats { All (IsSeatOf slots.now) seats.old.items }
-    requires plies { plies ≤ 63 }
-    requires fewest { IsFewest goal position.now plies }
+    requires plies { wanted.now.plies ≤ 63 }
+    requires fewest { IsFewest wanted.now.goal wanted.now.position.now wanted.now.plies }
     ensures capacity { vec_capacity seats.new ≡ vec_capacity seats.old }
     ensures count { length seats.new.items ≡ length seats.old.items }
     ensures seats { All (IsSeatOf slots.now) seats.new.items }
     ensures go_on { SeatsContinue slots.now seats.old.items seats.new.items }
 {
+    let Wanted {
+        position,
+        goal,
+        plies,
+    } = *wanted;
     let threads = seats.len();
     if threads < 2 || plies < PREPARED_FROM {
         return;
@@ -115,14 +126,6 @@ fn prepare_tree<R: Threads + Wait + Sync>(
             prepare_line(&walk, seat, &board, plies)
         },
     );
-}
-
-/// The tree that is wanted: that of a position whose fewest plies to the goal these are.
-#[derive(Drop)]
-pub struct Wanted<'a> {
-    pub position: &'a Position,
-    pub goal: Goal,
-    pub plies: u8,
 }
 
 /// The tree that `build_tree` gives, its longer lines searched by a thread for each seat. The last seat is that of the
@@ -146,12 +149,12 @@ pub fn build_tree_over<R: Threads + Wait + Sync>(
     ensures wins { IfOk result (Wins wanted.now.goal wanted.now.position.now) }
     ensures height { IfOk result (λ tree. height tree ≡ wanted.now.plies) }
 {
+    prepare_tree(rt, wanted, slots, seats);
     let Wanted {
         position,
         goal,
         plies,
     } = *wanted;
-    prepare_tree(rt, slots, seats, position, goal, plies);
     let mut own = seats.take_last();
     let tree = build_tree(alloc, slots, &mut own, position, goal, plies);
     seats.push_reserved(own);

@@ -15,27 +15,27 @@ use Rattle.trees.proofs.building.+building.Goals as goal
 
 pub best_tree-end_at-requires : goal.best_tree-end_at-requires
 best_tree-end_at-requires t c =
-    best_reached c.args.goal c.args.board.now c.after-next.result c.best_move-attack.result c.best_move-attack.ensures.best c.after-next.ensures c.args.limit c.requires.forced
+    best_reached c.args.builder.now.goal c.args.board.now c.after-next.result c.best_move-attack.result c.best_move-attack.ensures.best c.after-next.ensures c.args.limit c.requires.forced
     (λ r lawful. false≢true (sym c.if-not-has_lawful_move.true ∙ c.has_lawful_move.ensures.1 (r, lawful)))
 
 pub best_tree-returns-then-not-has_lawful_move-clause-best : goal.best_tree-returns-then-not-has_lawful_move-clause-best
 best_tree-returns-then-not-has_lawful_move-clause-best t c =
-    IfOk-weaker c.end.result _ _ (λ tree is. subst (IsBest c.args.goal c.args.board.now) (sym is) (c.best_move-attack.ensures.best, (c.after-next.result, c.after-next.ensures, c.end_at.ensures))) c.end.ensures
+    IfOk-weaker c.end.result _ _ (λ tree is. subst (IsBest c.args.builder.now.goal c.args.board.now) (sym is) (c.best_move-attack.ensures.best, (c.after-next.result, c.after-next.ensures, c.end_at.ensures))) c.end.ensures
 
 pub best_tree-returns-then-not-has_lawful_move-clause-depth : goal.best_tree-returns-then-not-has_lawful_move-clause-depth
 best_tree-returns-then-not-has_lawful_move-clause-depth t c =
-    let plies = some_ply c.args.goal c.args.board.now.mover c.args.board.now c.args.limit (same_side-self c.args.board.now.mover) c.requires.forced in
+    let plies = some_ply c.args.builder.now.goal c.args.board.now.mover c.args.board.now c.args.limit (same_side-self c.args.board.now.mover) c.requires.forced in
     IfOk-weaker c.end.result _ _ (λ tree is. omega (arith, plies, ap depth is)) c.end.ensures
 
 pub best_tree-overflow_sub-limit : goal.best_tree-overflow_sub-limit
 best_tree-overflow_sub-limit t c =
-    two_plies c.args.goal c.args.board.now c.after-next.result c.best_move-attack.result c.best_move-attack.ensures.best c.after-next.ensures c.args.limit c.requires.forced
+    two_plies c.args.builder.now.goal c.args.board.now c.after-next.result c.best_move-attack.result c.best_move-attack.ensures.best c.after-next.ensures c.args.limit c.requires.forced
     (c.has_lawful_move.ensures.0 c.if-not-has_lawful_move.false)
 
 pub best_tree-replies_to-requires : goal.best_tree-replies_to-requires
 best_tree-replies_to-requires t c =
     let some = c.has_lawful_move.ensures.0 c.if-not-has_lawful_move.false in
-    let plies = two_plies c.args.goal c.args.board.now c.after-next.result c.best_move-attack.result c.best_move-attack.ensures.best c.after-next.ensures c.args.limit c.requires.forced some in
+    let plies = two_plies c.args.builder.now.goal c.args.board.now c.after-next.result c.best_move-attack.result c.best_move-attack.ensures.best c.after-next.ensures c.args.limit c.requires.forced some in
     let most = c.requires.limit in (
       omega (arith, c.decreases, plies),
       (
@@ -44,7 +44,7 @@ best_tree-replies_to-requires t c =
           omega arith,
           (
             some,
-            best_forces c.args.goal c.args.board.now c.after-next.result c.best_move-attack.result c.best_move-attack.ensures.best c.after-next.ensures c.args.limit c.requires.forced some,
+            best_forces c.args.builder.now.goal c.args.board.now c.after-next.result c.best_move-attack.result c.best_move-attack.ensures.best c.after-next.ensures c.args.limit c.requires.forced some,
           ),
         ),
       ),
@@ -55,7 +55,7 @@ best_tree-returns-in_err-replies-clause-continues t c = continues_more _ _ _ _ c
 
 pub best_tree-node-requires-clause-some : goal.best_tree-node-requires-clause-some
 best_tree-node-requires-clause-some t c =
-    let some = some_listed c.args.goal c.after-next.result c.in_ok-replies.replies.items (c.has_lawful_move.ensures.0 c.if-not-has_lawful_move.false) c.in_ok-replies.ensures.replies in
+    let some = some_listed c.args.builder.now.goal c.after-next.result c.in_ok-replies.replies.items (c.has_lawful_move.ensures.0 c.if-not-has_lawful_move.false) c.in_ok-replies.ensures.replies in
     omega (arith, some)
 
 pub best_tree-node-requires-clause-room : goal.best_tree-node-requires-clause-room
@@ -68,24 +68,24 @@ best_tree-returns-clause-continues t c = continues_more _ _ _ _ c.best_move-atta
 
 pub best_tree-returns-clause-best : goal.best_tree-returns-clause-best
 best_tree-returns-clause-best t c =
-    IfOk-weaker c.node.result _ _ (λ tree is. subst (IsBest c.args.goal c.args.board.now) (sym is)
-    (best_node c.args.goal c.after-next.result c.args.board.now c.best_move-attack.result c.in_ok-replies.replies.items c.best_move-attack.ensures.best c.after-next.ensures
+    IfOk-weaker c.node.result _ _ (λ tree is. subst (IsBest c.args.builder.now.goal c.args.board.now) (sym is)
+    (best_node c.args.builder.now.goal c.after-next.result c.args.board.now c.best_move-attack.result c.in_ok-replies.replies.items c.best_move-attack.ensures.best c.after-next.ensures
     (c.has_lawful_move.ensures.0 c.if-not-has_lawful_move.false) c.in_ok-replies.ensures.replies c.in_ok-replies.ensures.best)) c.node.ensures
 
 pub best_tree-returns-clause-depth : goal.best_tree-returns-clause-depth
 best_tree-returns-clause-depth t c =
     let some = c.has_lawful_move.ensures.0 c.if-not-has_lawful_move.false in
-    let plies = two_plies c.args.goal c.args.board.now c.after-next.result c.best_move-attack.result c.best_move-attack.ensures.best c.after-next.ensures c.args.limit c.requires.forced some in
+    let plies = two_plies c.args.builder.now.goal c.args.board.now c.after-next.result c.best_move-attack.result c.best_move-attack.ensures.best c.after-next.ensures c.args.limit c.requires.forced some in
     IfOk-weaker c.node.result _ _ (λ tree is. subst (λ plan. 2 * depth plan ≤ c.args.limit + 1) (sym is)
-    (node_depth c.best_move-attack.result c.in_ok-replies.replies.items c.args.limit plies (some_listed c.args.goal c.after-next.result c.in_ok-replies.replies.items some c.in_ok-replies.ensures.replies) c.in_ok-replies.ensures.depth)) c.node.ensures
+    (node_depth c.best_move-attack.result c.in_ok-replies.replies.items c.args.limit plies (some_listed c.args.builder.now.goal c.after-next.result c.in_ok-replies.replies.items some c.in_ok-replies.ensures.replies) c.in_ok-replies.ensures.depth)) c.node.ensures
 
 -- ---- its replies
 
 pub replies_to-loop-m-init : goal.replies_to-loop-m-init
 replies_to-loop-m-init t c = record {
-  continues = continues_none c.args.slots.now c.args.seat.now c.requires.seat;
+  continues = continues_none c.args.builder.now.slots.now c.args.seat.now c.requires.seat;
   moves = ap replies_in c.new-replies.ensures.items;
-  best = subst (AreBest c.args.goal c.args.board.now) (sym c.new-replies.ensures.items) (λ k d lt. absurd (omega (arith, lt)));
+  best = subst (AreBest c.args.builder.now.goal c.args.board.now) (sym c.new-replies.ensures.items) (λ k d lt. absurd (omega (arith, lt)));
   depth = subst (AreShallow c.args.n) (sym c.new-replies.ensures.items) (λ k d lt. absurd (omega (arith, lt)));
 }
 
@@ -111,7 +111,7 @@ replies_to-loop-m-preserved t c =
     record {
       continues = continues_more _ _ _ _ before.continues c.in_ok-tree.ensures.continues;
       moves = replies_more c.loop-m.replies.items c.push.new.self.items c.m-item.result c.in_ok-tree.tree c.as_slice-m-items.result.now c.loop-m.m-index items before.moves c.loop-m-test.true c.m-item.is;
-      best = best_more c.args.goal c.args.board.now c.loop-m.replies.items c.push.new.self.items c.m-item.result c.in_ok-tree.tree items before.best (c.after.result, c.after.ensures, c.in_ok-tree.ensures.best);
+      best = best_more c.args.builder.now.goal c.args.board.now c.loop-m.replies.items c.push.new.self.items c.m-item.result c.in_ok-tree.tree items before.best (c.after.result, c.after.ensures, c.in_ok-tree.ensures.best);
       depth = shallow_more c.args.n c.loop-m.replies.items c.push.new.self.items c.m-item.result c.in_ok-tree.tree items before.depth c.in_ok-tree.ensures.depth;
     }
 

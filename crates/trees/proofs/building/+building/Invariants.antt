@@ -13,8 +13,8 @@ decreases-replies_to l = 2 * l.n + 1
 abbrev pub invariant-replies_to-loop-m : goal.invariant-replies_to-loop-m
 invariant-replies_to-loop-m l =
     record {
-      continues : Continues l.slots l.fn.seat l.seat;
+      continues : Continues l.fn.builder.slots.now l.fn.seat l.seat;
       moves : replies_in l.replies.items ≡ take l.m-index l.m-items;
-      best : AreBest l.goal l.board l.replies.items;
+      best : AreBest l.fn.builder.goal l.board l.replies.items;
       depth : AreShallow l.n l.replies.items;
     }
