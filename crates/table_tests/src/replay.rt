@@ -64,18 +64,21 @@ pub fn is_run(even: bool, acts: &[Act]) -> bool {
     true
 }
 
+const KEY: [u64; 3] = [0x8000000000000001, 0, 0];
+
+const OLD: [u64; 3] = [0x8000000000000001, 3 << 48, 3 << 48];
+
+const NEW: [u64; 3] = [0x8000000000000001, 0, 5 << 48];
+
 #[test]
-fn a_run_is_told_from_what_is_none(rt: HostRuntime) {
-    let old = [0x8000000000000001, 3 << 48, 3 << 48];
-    let new = [0x8000000000000001, 0, 5 << 48];
-    let key = [0x8000000000000001, 0, 0];
+fn a_run_is_known(rt: HostRuntime) {
     assert!(rt;
         is_run(
             true,
             &[
-                Act::Asked(key, Probe::Vacant),
-                Act::Offered(old, Store::Stored),
-                Act::Asked(key, Probe::Hit(old))
+                Act::Asked(KEY, Probe::Vacant),
+                Act::Offered(OLD, Store::Stored),
+                Act::Asked(KEY, Probe::Hit(OLD))
             ]
         )
     );
@@ -83,8 +86,8 @@ fn a_run_is_told_from_what_is_none(rt: HostRuntime) {
         is_run(
             true,
             &[
-                Act::Offered(old, Store::Stored),
-                Act::Offered(new, Store::Kept(old))
+                Act::Offered(OLD, Store::Stored),
+                Act::Offered(NEW, Store::Kept(OLD))
             ]
         )
     );
@@ -92,17 +95,21 @@ fn a_run_is_told_from_what_is_none(rt: HostRuntime) {
         is_run(
             false,
             &[
-                Act::Offered(old, Store::Stored),
-                Act::Offered(new, Store::Stored)
+                Act::Offered(OLD, Store::Stored),
+                Act::Offered(NEW, Store::Stored)
             ]
         )
     );
+}
+
+#[test]
+fn what_is_no_run_is_told_from_one(rt: HostRuntime) {
     assert!(rt;
         !is_run(
             true,
             &[
-                Act::Offered(old, Store::Stored),
-                Act::Offered(new, Store::Stored)
+                Act::Offered(OLD, Store::Stored),
+                Act::Offered(NEW, Store::Stored)
             ]
         )
     );
@@ -110,8 +117,8 @@ fn a_run_is_told_from_what_is_none(rt: HostRuntime) {
         !is_run(
             false,
             &[
-                Act::Offered(old, Store::Stored),
-                Act::Offered(new, Store::Kept(old))
+                Act::Offered(OLD, Store::Stored),
+                Act::Offered(NEW, Store::Kept(OLD))
             ]
         )
     );
@@ -119,10 +126,10 @@ fn a_run_is_told_from_what_is_none(rt: HostRuntime) {
         !is_run(
             true,
             &[
-                Act::Offered(old, Store::Stored),
-                Act::Asked(key, Probe::Vacant)
+                Act::Offered(OLD, Store::Stored),
+                Act::Asked(KEY, Probe::Vacant)
             ]
         )
     );
-    assert!(rt; !is_run(true, &[Act::Asked(key, Probe::Other)]));
+    assert!(rt; !is_run(true, &[Act::Asked(KEY, Probe::Other)]));
 }
