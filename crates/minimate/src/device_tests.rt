@@ -1,7 +1,7 @@
 //! Readers and writers of the standard library that fail once and would work if they were asked again.
 ghost use Rattle.std.specs.Prelude.{None};
 
-use crate::tests::run_quietly;
+use crate::whole_runs::run_quietly;
 use replies::Counted;
 use std::io::{self, Read, Write};
 use std::test::Fail;

@@ -2,18 +2,26 @@
 #![tactic(auto)]
 
 mod batch;
+#[cfg(test)]
+mod batch_tests;
 mod beside;
 #[cfg(test)]
 mod device_tests;
 mod ending;
+#[cfg(test)]
+mod failure_tests;
 mod lines;
 mod program;
 #[cfg(test)]
 mod program_tests;
-mod run;
 #[cfg(test)]
-mod tests;
+mod refusal_tests;
+#[cfg(test)]
+mod reply_tests;
+mod run;
 mod watch;
+#[cfg(test)]
+mod whole_runs;
 
 use crate::program::run_program;
 use replies::Counted;
