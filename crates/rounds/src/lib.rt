@@ -15,6 +15,6 @@ mod task;
 
 pub use fault::SolveFault;
 pub use gate::{Ended, Gate, NoGate, no_gate_keeps_on};
-pub use keys::{Key, keys_over};
+pub use keys::{Key, keys_alone, keys_over};
 pub use solving::{MOST_WORKERS, make_table, solve, solve_over};
 pub use task::Task;
