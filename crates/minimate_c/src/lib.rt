@@ -2,8 +2,8 @@
 #![tactic(auto)]
 
 ghost use Rattle.std.specs.Prelude.{[]};
-ghost use Rattle.command_line.specs.declared.line.Action.TheVariants.{Solve, Moves, Tree, Check};
-ghost use Rattle.minimate_c.specs.Calls.{Answers, goal_of, limits_of};
+ghost use Rattle.command_line.specs.declared.line.Action.TheVariants.{Solve, Keys, Moves, Tree, Check};
+ghost use Rattle.minimate_c.specs.Calls.{Answers, AnswersAfter, AnswersFault, goal_of, limits_of};
 
 mod answering;
 mod room;
@@ -11,7 +11,9 @@ mod room;
 mod tests;
 
 use crate::answering::{goal_of, limits_of, put_reply};
-use replies::{check_reply, moves_reply, solve_reply, tree_reply};
+use replies::{
+    after_reply, check_reply, fault_reply, keys_reply, moves_reply, solve_reply, tree_reply,
+};
 use std::alloc::Global;
 
 /// What `minimate moves` writes of the position.
@@ -20,6 +22,27 @@ pub extern "C" fn minimate_moves(alloc: Global, fen: &[u8], room: &mut [u8]) -> 
     ensures { Answers (record { fen = fen.entry; action = Moves }) [] room.old room.new result }
 {
     put_reply(alloc, moves_reply(alloc, fen), room)
+}
+
+/// Why `minimate` would refuse the position's text, in a line and in a sentence; nothing where it wouldn't.
+#[unsafe(no_mangle)]
+pub extern "C" fn minimate_fault(alloc: Global, fen: &[u8], room: &mut [u8]) -> usize
+    ensures { AnswersFault fen.now room.old room.new result }
+{
+    put_reply(alloc, fault_reply(alloc, fen), room)
+}
+
+/// The position after the lawful move that `minimate moves` writes by this name.
+#[unsafe(no_mangle)]
+pub extern "C" fn minimate_after(
+    alloc: Global,
+    fen: &[u8],
+    name: &[u8],
+    room: &mut [u8],
+) -> usize
+    ensures { AnswersAfter fen.now name.now room.old room.new result }
+{
+    put_reply(alloc, after_reply(alloc, fen, name), room)
 }
 
 /// What `minimate check` writes of the position and this input, which is a tree's text.
@@ -50,6 +73,22 @@ pub extern "C" fn minimate_solve(
     ensures { Answers (record { fen = fen.entry; action = Solve (goal_of stale) (limits_of limit slots) }) [] room.old room.new result }
 {
     let reply = solve_reply(alloc, fen, goal_of(stale), limits_of(limit, slots));
+    put_reply(alloc, reply, room)
+}
+
+/// What `minimate keys` writes of the position, found by the caller's own thread alone.
+#[unsafe(no_mangle)]
+pub extern "C" fn minimate_keys(
+    alloc: Global,
+    fen: &[u8],
+    stale: bool,
+    limit: u32,
+    slots: u32,
+    room: &mut [u8],
+) -> usize
+    ensures { Answers (record { fen = fen.entry; action = Keys (goal_of stale) (limits_of limit slots) }) [] room.old room.new result }
+{
+    let reply = keys_reply(alloc, fen, goal_of(stale), limits_of(limit, slots));
     put_reply(alloc, reply, room)
 }
 

@@ -1,3 +1,4 @@
 mod DeviceLemmas
 pub mod ReplyLemmas
 mod DrawingLemmas
+mod PlayingLemmas

@@ -5,3 +5,4 @@ pub mod Refusal
 pub mod Drawing
 pub mod Output
 pub mod Outcome
+pub mod Playing

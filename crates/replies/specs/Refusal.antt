@@ -8,7 +8,7 @@ use Rattle.rounds.specs.declared.fault.SolveFault.TheVariants as solve
 use Rattle.wintree.specs.declared.fault.TreeFault.{TreeFault}
 use Rattle.wintree.specs.declared.fault.TreeFault.TheVariants as tree
 use Rattle.replies.specs.declared.refusal.Refusal.{Refusal}
-use Rattle.replies.specs.declared.refusal.Refusal.TheVariants.{Fields, Shape, Letter, Run, Side, Kings, Units, PawnRank, OtherInCheck, Limit, Workers, Slots, TooLong, Grammar, Deep, NoMemory}
+use Rattle.replies.specs.declared.refusal.Refusal.TheVariants.{Fields, Shape, Letter, Run, Side, Kings, Units, PawnRank, OtherInCheck, Move, Limit, Workers, Slots, TooLong, Grammar, Deep, NoMemory}
 
 -- the name that is printed
 abbrev pub refusal_text : Refusal → List ℕ
@@ -21,6 +21,7 @@ refusal_text Kings = codes "Kings"
 refusal_text Units = codes "Units"
 refusal_text PawnRank = codes "PawnRank"
 refusal_text OtherInCheck = codes "OtherInCheck"
+refusal_text Move = codes "Move"
 refusal_text Limit = codes "Limit"
 refusal_text Workers = codes "Workers"
 refusal_text Slots = codes "Slots"

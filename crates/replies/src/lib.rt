@@ -6,6 +6,7 @@ mod board_text;
 mod device;
 mod drawing;
 mod one_thread;
+mod playing;
 mod refusal;
 mod replying;
 mod transfer;
@@ -13,7 +14,8 @@ mod trouble;
 
 pub use advice::{Refused, advise, advise_words};
 pub use device::{Counted, Failed, Sink, Source};
-pub use one_thread::{check_reply, moves_reply, solve_reply, tree_reply};
+pub use one_thread::{check_reply, keys_reply, moves_reply, solve_reply, tree_reply};
+pub use playing::{after_reply, fault_reply};
 pub use refusal::{Refusal, refused_text};
 pub use replying::{Search, Told, answer_text, reply, reply_told, search_of};
 pub use transfer::{InputFault, write_all};

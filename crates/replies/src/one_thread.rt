@@ -1,13 +1,13 @@
 //! The replies that one thread gives, from the text of a position: those of the program, for whoever can start no thread.
 ghost use Rattle.std.specs.Prelude.{◌≤◌, [], All, IfErr, IfOk, Ok, Err, vec_items};
 ghost use Rattle.slots.specs.Promise.{IsSeatOf};
-ghost use Rattle.command_line.specs.declared.line.Action.TheVariants.{Solve, Moves, Tree, Check};
-ghost use Rattle.replies.specs.Outcome.{Gives, Solves};
-ghost use Rattle.replies.specs.Output.{IsOutput, ShowsAnswer, ShowsPlanFound, ShowsMoves, ShowsCheck};
+ghost use Rattle.command_line.specs.declared.line.Action.TheVariants.{Solve, Keys, Moves, Tree, Check};
+ghost use Rattle.replies.specs.Outcome.{Gives, FindsKeys, Solves};
+ghost use Rattle.replies.specs.Output.{IsOutput, ShowsAnswer, ShowsKeys, ShowsPlanFound, ShowsMoves, ShowsCheck};
 
 use crate::refusal::Refusal;
 use crate::replying::{
-    Search, answer_text, moves_text, none_text, search_of, tree_line, verdict_text,
+    Search, answer_text, keys_text, moves_text, none_text, search_of, tree_line, verdict_text,
 };
 use crate::transfer::{MOST_INPUT, without_line_feed};
 use alone::solve_alone;
@@ -16,7 +16,7 @@ use command_line::Limits;
 use decision::Answer;
 use entry::MateLore;
 use moves::{Board, Goal, lawful, read_sound};
-use rounds::{SolveFault, make_table};
+use rounds::{Key, NoGate, SolveFault, Task, keys_alone, make_table};
 use slots::{Seat, Slots};
 use std::alloc::Global;
 use trees::build_tree;
@@ -41,6 +41,43 @@ fn searched_alone(
     let mut seat = seats.take_last();
     let answer = solve_alone(&table, &mut seat, &Board::of(position), goal, limit);
     Ok((answer, table, seat))
+}
+
+/// The first moves that force the goal within the limits.
+fn keys_found_alone(
+    alloc: Global,
+    position: &Position,
+    goal: Goal,
+    limits: Limits,
+) -> Result<Vec<Key>, SolveFault>
+    ensures { FindsKeys goal position.now limits result }
+{
+    let Search {
+        limit,
+        workers,
+        slots,
+    } = search_of(limits);
+    let (table, mut seats) = make_table(alloc, limit, workers, slots)?;
+    let mut seat = seats.take_last();
+    let task = Task {
+        position,
+        goal,
+        limit,
+        gate: &NoGate,
+    };
+    keys_alone(alloc, &task, &table, &mut seat)
+}
+
+fn keys_shown(
+    alloc: Global,
+    position: &Position,
+    goal: Goal,
+    limits: Limits,
+) -> Result<Vec<u8>, Refusal>
+    ensures { Gives vec_items (ShowsKeys goal position.now limits) result }
+{
+    let keys = keys_found_alone(alloc, position, goal, limits)?;
+    Ok(keys_text(alloc, limits.limit, keys.as_slice())?.into_bytes())
 }
 
 fn answer_shown(
@@ -121,6 +158,14 @@ pub fn solve_reply(
 {
     let position = read_sound(fen)?;
     answer_shown(alloc, &position, goal, limits)
+}
+
+/// The reply of `keys`, searched by the caller's own thread alone.
+pub fn keys_reply(alloc: Global, fen: &[u8], goal: Goal, limits: Limits) -> Result<Vec<u8>, Refusal>
+    ensures { Gives vec_items (IsOutput (record { fen = fen.entry; action = Keys goal limits }) []) result }
+{
+    let position = read_sound(fen)?;
+    keys_shown(alloc, &position, goal, limits)
 }
 
 /// The reply of `tree`, searched by the caller's own thread alone.

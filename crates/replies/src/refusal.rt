@@ -24,6 +24,9 @@ pub enum Refusal {
     PawnRank,
     OtherInCheck,
 
+    // of the name of a move to be played
+    Move,
+
     // of the values of `solve` and `tree`
     Limit,
     Workers,
@@ -70,6 +73,7 @@ impl fmt::Display for Refusal {
             Refusal::Units => write!(f, "Units"),
             Refusal::PawnRank => write!(f, "PawnRank"),
             Refusal::OtherInCheck => write!(f, "OtherInCheck"),
+            Refusal::Move => write!(f, "Move"),
             Refusal::Limit => write!(f, "Limit"),
             Refusal::Workers => write!(f, "Workers"),
             Refusal::Slots => write!(f, "Slots"),

@@ -177,7 +177,7 @@ pub(crate) fn none_text(alloc: Global, limit: u32) -> Result<String, AllocError>
     format!(in alloc; "none within {limit}\n")
 }
 
-fn keys_text(alloc: Global, limit: u32, keys: &[Key]) -> Result<String, AllocError>
+pub(crate) fn keys_text(alloc: Global, limit: u32, keys: &[Key]) -> Result<String, AllocError>
     ensures { IfOk result (λ text. string_bytes text ≡ keys_text limit keys.now) }
 {
     match keys {
