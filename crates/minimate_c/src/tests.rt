@@ -1,7 +1,10 @@
 //! The calls on worked positions, and rooms that are too small for a reply or just large enough.
 ghost use Rattle.std.specs.Prelude.{◌≡◌};
 
-use crate::{minimate_check, minimate_moves, minimate_solve, minimate_tree};
+use crate::{
+    minimate_after, minimate_check, minimate_fault, minimate_keys, minimate_moves, minimate_solve,
+    minimate_tree,
+};
 use std::process::Abort;
 use std::test::Fail;
 
@@ -47,6 +50,42 @@ fn lists_moves(rt: HostRuntime) {
     let count = minimate_moves(rt.alloc(), PAWN_PROMOTES, &mut room);
     assert_eq!(rt; count, 33);
     assert_eq!(rt; &room, b"f1e1\nf1e2\nf1f2\nc5c6q\nc5c6r\nc5c6n\n");
+}
+
+#[test]
+fn lists_all_keys(rt: HostRuntime) {
+    let mut room = [7u8; 18];
+    let mate = b"k4/2P2/1K3/5/5 w".as_slice();
+    let count = minimate_keys(rt.alloc(), mate, false, 1, 64, &mut room);
+    assert_eq!(rt; count, 16);
+    assert_eq!(rt; &room, b"c4c5q 1\nc4c5r 1\n\x07\x07");
+    let count = minimate_keys(rt.alloc(), ROOK_MATES_IN_THREE, false, 1, 64, &mut room);
+    assert_eq!(rt; count, 14);
+    assert_eq!(rt; &room, b"none within 1\n1\n\x07\x07");
+}
+
+#[test]
+fn plays_a_move(rt: HostRuntime) {
+    let mut room = [7u8; 18];
+    let promoted = b"c5c6q".as_slice();
+    let count = minimate_after(rt.alloc(), PAWN_PROMOTES, promoted, &mut room);
+    assert_eq!(rt; count, 18);
+    assert_eq!(rt; &room, b"k1Q3/6/6/6/6/5K b\n");
+    let unnamed = b"c5c6".as_slice();
+    let count = minimate_after(rt.alloc(), PAWN_PROMOTES, unnamed, &mut room);
+    assert_eq!(rt; count, 14);
+    assert_eq!(rt; &room, b"refused: Move\nK b\n");
+}
+
+#[test]
+fn tells_a_fault(rt: HostRuntime) {
+    let mut room = [7u8; 128];
+    assert_eq!(rt; minimate_fault(rt.alloc(), PAWN_PROMOTES, &mut room), 0);
+    assert_eq!(rt; room[0], 7);
+    let count = minimate_fault(rt.alloc(), b"6/6/1K4/6/6/K4R w".as_slice(), &mut room);
+    let told = b"refused: Kings\nerror: each side has one king, K and k: here are 2 K and 0 k\n".as_slice();
+    assert_eq!(rt; count, told.len());
+    assert_eq!(rt; &room[..told.len()], told);
 }
 
 #[test]
