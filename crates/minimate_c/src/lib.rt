@@ -34,12 +34,7 @@ pub extern "C" fn minimate_fault(alloc: Global, fen: &[u8], room: &mut [u8]) -> 
 
 /// The position after the lawful move that `minimate moves` writes by this name.
 #[unsafe(no_mangle)]
-pub extern "C" fn minimate_after(
-    alloc: Global,
-    fen: &[u8],
-    name: &[u8],
-    room: &mut [u8],
-) -> usize
+pub extern "C" fn minimate_after(alloc: Global, fen: &[u8], name: &[u8], room: &mut [u8]) -> usize
     ensures { AnswersAfter fen.now name.now room.old room.new result }
 {
     put_reply(alloc, after_reply(alloc, fen, name), room)

@@ -39,7 +39,8 @@ pub fn advise<E: Write>(errors: &mut E, refused: &Refused<'_>) -> io::Result<()>
 /// The sentence of a refusal that rests on no text.
 fn values_advice(refusal: Refusal) -> &'static str {
     match refusal {
-        Refusal::Move => "no lawful move has this name: a move is two squares and what a pawn becomes, as c4c5q",
+        Refusal::Move =>
+            "no lawful move has this name: a move is two squares and what a pawn becomes, as c4c5q",
         Refusal::Limit => "--limit is 1 to 63 plies: a mate in M moves is --limit 2M-1",
         Refusal::Workers => "--workers is 1 to 16",
         Refusal::Slots => "--slots is 1 to 1048576",

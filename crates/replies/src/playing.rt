@@ -16,11 +16,7 @@ use rules::apply;
 use std::alloc::{AllocError, Global};
 
 /// The lawful move of this name.
-fn named_move(
-    alloc: Global,
-    position: &Position,
-    name: &[u8],
-) -> Result<Option<Move>, AllocError>
+fn named_move(alloc: Global, position: &Position, name: &[u8]) -> Result<Option<Move>, AllocError>
     ensures { IfOk result (λ found. MatchOption found (NamesNone position.now name.now)
         (λ m. IsLawful position.now m × (move_text m ≡ name.now))) }
 {
