@@ -1,17 +1,18 @@
 /* Forced mates in minichess, for programs in other languages: the calls of libminimate.a, which `tools/build_c` builds.
 
-   Each call answers a position with the very bytes that the program `minimate` writes for the same line, refusals among them: a line or
-   lines of text, each ended by a line feed, with no zero byte at the end. They go into room that the caller lends, and the result is their
+   Each call but the last two answers a position with the very bytes that the program `minimate` writes for the same line, refusals among
+   them: a line or lines of text, each ended by a line feed, with no zero byte at the end. They go into room that the caller lends, and the result is their
    number. Where the room is too small the result is SIZE_MAX and no byte of the room is written: call again with more room.
 
    A position's text and the texts of replies are those of docs/FORMATS.md and docs/PROGRAM.md.
 
    The calls are proved for callers that keep what follows. Nothing checks that a caller does.
 
-   - `fen`, `tree` and `room` aren't null, also where their length is 0. Bytes need no alignment.
-   - The `fen_length` bytes at `fen` and the `tree_length` bytes at `tree` can be read, and nothing writes them during the call.
+   - `fen`, `tree`, `move` and `room` aren't null, also where their length is 0. Bytes need no alignment.
+   - The `fen_length` bytes at `fen`, the `tree_length` bytes at `tree` and the `move_length` bytes at `move` can be read, and nothing
+     writes them during the call.
    - The `room_length` bytes at `room` can be written and hold values: clear them once. During the call nothing else reads or writes
-     them, and they overlap neither text. So no two calls share a room at one time.
+     them, and they overlap no text. So no two calls share a room at one time.
    - A length is at most PTRDIFF_MAX.
    - `stale` is 0 or 1, as C's `bool` always is.
    - `malloc`, `realloc` and `free` come from one allocator and align a block to each power of two up to 16 that divides its size. A call
@@ -37,6 +38,10 @@ extern "C" {
 size_t minimate_solve(const uint8_t *fen, size_t fen_length, bool stale, uint32_t limit, uint32_t slots, uint8_t *room,
                       size_t room_length);
 
+/* `minimate keys`: each first move that forces it within the limit, with the fewest plies that it takes, or that there are none. */
+size_t minimate_keys(const uint8_t *fen, size_t fen_length, bool stale, uint32_t limit, uint32_t slots, uint8_t *room,
+                     size_t room_length);
+
 /* `minimate tree`: the tree of moves that shows the same answer, or that there is none. */
 size_t minimate_tree(const uint8_t *fen, size_t fen_length, bool stale, uint32_t limit, uint32_t slots, uint8_t *room,
                      size_t room_length);
@@ -47,6 +52,14 @@ size_t minimate_check(const uint8_t *fen, size_t fen_length, bool stale, const u
 
 /* `minimate moves`: the lawful moves, each on a line. */
 size_t minimate_moves(const uint8_t *fen, size_t fen_length, uint8_t *room, size_t room_length);
+
+/* The text of the position after a move, on a line. The move is named as `minimate moves` names it; another name is `refused: Move`. The
+   program has no such line. */
+size_t minimate_after(const uint8_t *fen, size_t fen_length, const uint8_t *move, size_t move_length, uint8_t *room, size_t room_length);
+
+/* Why a position's text is refused: the line that says so, and behind it the sentence that the program writes on standard error. Nothing,
+   and so 0, where the text is sound. The program has no such line. */
+size_t minimate_fault(const uint8_t *fen, size_t fen_length, uint8_t *room, size_t room_length);
 
 #ifdef __cplusplus
 }

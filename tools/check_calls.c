@@ -1,8 +1,8 @@
 /* Makes one call of the library, and writes the reply.
 
-       check_calls solve|tree|check|moves STALE LIMIT SLOTS ROOM FEN
+       check_calls solve|keys|tree|check|moves|after|fault STALE LIMIT SLOTS ROOM FEN
 
-   The tree of `check` is what stands on the input. The room of ROOM bytes lies between bytes that no call may touch. The status is 0 where a
+   The tree of `check`, or the move of `after`, is what stands on the input. The room of ROOM bytes lies between bytes that no call may touch. The status is 0 where a
    reply came, 3 where the room was too small, and 4 where a byte was written that must not be. */
 #include <stdio.h>
 #include <stdlib.h>
@@ -17,15 +17,20 @@ static size_t call(const char *word, bool stale, uint32_t limit, uint32_t slots,
     size_t count = strlen(fen);
     if (strcmp(word, "solve") == 0)
         return minimate_solve(text, count, stale, limit, slots, room, length);
+    if (strcmp(word, "keys") == 0)
+        return minimate_keys(text, count, stale, limit, slots, room, length);
     if (strcmp(word, "tree") == 0)
         return minimate_tree(text, count, stale, limit, slots, room, length);
     if (strcmp(word, "moves") == 0)
         return minimate_moves(text, count, room, length);
+    if (strcmp(word, "fault") == 0)
+        return minimate_fault(text, count, room, length);
     uint8_t *tree = malloc(MOST_TREE);
     if (!tree)
         exit(5);
     size_t read = fread(tree, 1, MOST_TREE, stdin);
-    size_t result = minimate_check(text, count, stale, tree, read, room, length);
+    bool plays = strcmp(word, "after") == 0;
+    size_t result = plays ? minimate_after(text, count, tree, read, room, length) : minimate_check(text, count, stale, tree, read, room, length);
     free(tree);
     return result;
 }

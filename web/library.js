@@ -75,9 +75,9 @@ export class Library {
     return this.#decoder.decode(new Uint8Array(this.#calls.memory.buffer, Number(room), Number(count)));
   }
 
-  // Where a text stands in the memory, and its length.
+  // Where a text, or its bytes, stand in the memory, and their number.
   #lent(text) {
-    const bytes = this.#encoder.encode(text);
+    const bytes = typeof text === "string" ? this.#encoder.encode(text) : text;
     const at = this.#taken(bytes.length || 1);
     new Uint8Array(this.#calls.memory.buffer, Number(at), bytes.length).set(bytes);
     return [at, BigInt(bytes.length)];

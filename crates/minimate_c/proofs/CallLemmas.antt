@@ -1,5 +1,5 @@
 -- What a call answers, from the work on its reply.
-use Rattle.std.proofs.Common.{◌≡◌, ◌⊎◌, ℕ, List, Result, Ok, Err, Vec, vec_items, inl, inr, refl, ap}
+use Rattle.std.proofs.Common.{ℕ, List, Result, Ok, Err, Vec, vec_items, inl, inr, refl, ap}
 use Rattle.std.specs.declared.alloc.Global.{Global}
 use Rattle.command_line.specs.declared.line.Line.{Line}
 use Rattle.replies.specs.Outcome.{Gives}

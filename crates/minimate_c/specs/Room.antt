@@ -1,5 +1,5 @@
 -- What a call leaves in the room that its caller lends.
-use Rattle.std.specs.Prelude.{◌≡◌, ◌⊎◌, ◌+◌, ◌-◌, ◌^◌, ◌<◌, ◌≤◌, ◌++◌, ℕ, List, length, drop}
+use Rattle.std.specs.Prelude.{◌≡◌, ◌⊎◌, ◌<◌, ◌≤◌, ◌++◌, ℕ, List, length, drop}
 
 -- the number that says that a room is too small: the greatest of 64 bits
 abbrev pub too_small : ℕ
