@@ -83,7 +83,8 @@ fn tells_a_fault(rt: HostRuntime) {
     assert_eq!(rt; minimate_fault(rt.alloc(), PAWN_PROMOTES, &mut room), 0);
     assert_eq!(rt; room[0], 7);
     let count = minimate_fault(rt.alloc(), b"6/6/1K4/6/6/K4R w".as_slice(), &mut room);
-    let told = b"refused: Kings\nerror: each side has one king, K and k: here are 2 K and 0 k\n".as_slice();
+    let told =
+        b"refused: Kings\nerror: each side has one king, K and k: here are 2 K and 0 k\n".as_slice();
     assert_eq!(rt; count, told.len());
     assert_eq!(rt; &room[..told.len()], told);
 }
