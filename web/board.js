@@ -45,7 +45,8 @@ export class Board {
   #layRow(row) {
     const cells = Array.from({ length: this.#width }, (_, column) => {
       const name = squareName(this.#width, row, column);
-      const cell = drawn("g", { role: "gridcell", tabindex: "-1", "data-square": name, transform: `translate(${column * SIDE} ${row * SIDE})` });
+      const place = { "data-square": name, transform: `translate(${column * SIDE} ${row * SIDE})` };
+      const cell = drawn("g", { role: "gridcell", tabindex: "-1", ...place });
       this.#cells.set(name, cell);
       return cell;
     });
@@ -60,7 +61,8 @@ export class Board {
     const kinds = ["square", shade, marks.includes(name) && "marked", name === picked && "picked"].filter(Boolean);
     const parts = [drawn("rect", { class: kinds.join(" "), width: SIDE, height: SIDE }), ...this.#edges(row, column, shade)];
     if (letter) parts.push(unitDrawn(letter));
-    if (dots.includes(name)) parts.push(letter ? drawn("circle", { class: "ring", cx: 50, cy: 50, r: 44 }) : drawn("circle", { class: "dot", cx: 50, cy: 50, r: 14 }));
+    const dot = letter ? { class: "ring", r: 44 } : { class: "dot", r: 14 };
+    if (dots.includes(name)) parts.push(drawn("circle", { cx: 50, cy: 50, ...dot }));
     parts.push(drawn("rect", { class: "focus", x: 3, y: 3, width: SIDE - 6, height: SIDE - 6 }));
     cell.replaceChildren(...parts);
     cell.setAttribute("aria-label", this.#said(name, letter));

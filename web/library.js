@@ -1,7 +1,8 @@
 // The calls of the proved library, from text to text. What a call owes and answers: include/minimate.h.
 
 const TOO_SMALL = 2n ** 64n - 1n;
-const FIRST_ROOM = 1 << 16;
+// Most trees fit: a room that is too small costs the search once more.
+const FIRST_ROOM = 1 << 20;
 const MOST_ROOM = 1 << 28;
 
 // The shortest module with a 64-bit memory: a browser that takes it runs the module as it was linked.

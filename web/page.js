@@ -13,8 +13,8 @@ const $ = (id) => document.getElementById(id);
 
 // The problem's text, whether it is refused, and the line played from it: of its moves so many stand on the board.
 const game = { fen: "", isSound: false, moves: [], positions: [], at: 0, picked: null };
-// What was asked last and when, and the tree of its answer.
-const asked = { question: null, since: 0, ticker: 0, tree: null };
+// What was asked last and when, and how far its search is.
+const asked = { question: null, since: 0, ticker: 0, plies: 1, found: false };
 const parts = { library: null, board: null, solver: null, treeView: null, trayWidth: 0 };
 
 const lines = (reply) => reply.split("\n").filter(Boolean);
@@ -55,6 +55,7 @@ function takeAddress() {
 
 function show() {
   const rows = rowsOf(here());
+  $("board").classList.toggle("old", !rows);
   if (rows) {
     parts.board.show({ rows, dots: dots(), marks: marks(), picked: game.picked });
     if (parts.trayWidth !== rows.length) showTray(rows.length);
@@ -191,8 +192,8 @@ function ask(wantsKeys) {
   if (!(Number.isInteger(limit) && limit >= 1 && limit <= 63)) return say("The plies are a whole number from 1 to 63");
   go(0);
   forgetAnswer();
-  asked.question = { fen: game.fen, stale: $("goal").value === "stale", limit, keys: wantsKeys };
-  asked.since = performance.now();
+  const question = { fen: game.fen, stale: $("goal").value === "stale", limit, keys: wantsKeys };
+  Object.assign(asked, { question, since: performance.now(), plies: 1, found: false });
   asked.ticker = setInterval(sayBusy, 250);
   $("stop").disabled = false;
   parts.solver.begin(asked.question);
@@ -206,10 +207,16 @@ function stop(why = "") {
   say(why);
 }
 
+function stopSearch() {
+  const seconds = $("time").textContent;
+  parts.solver.stop();
+  stop(`Stopped after ${seconds}, within ${asked.plies} plies`);
+  $("time").textContent = "";
+}
+
 function forgetAnswer() {
   if (asked.ticker) parts.solver.stop();
   stop();
-  asked.tree = null;
   $("answer").textContent = $("time").textContent = "";
   $("keylist").replaceChildren();
   parts.treeView.clear();
@@ -223,17 +230,19 @@ function sayBusy() {
   if (!asked.ticker) return;
   const seconds = Math.floor((performance.now() - asked.since) / 1000);
   const goal = asked.question.stale ? "mate or stalemate" : "mate";
-  const searched = asked.found ? (asked.question.keys ? "all keys" : "the tree") : `${goal} within ${asked.plies} plies`;
+  const last = asked.question.keys ? "all keys" : "the tree";
+  const searched = asked.found ? last : `${goal} within ${asked.plies} plies`;
   $("state").classList.add("busy");
-  say(`Searching ${searched} of at most ${asked.question.limit}, ${GAMES[rowsOf(asked.question.fen).length]}: ${seconds} s`);
+  say(`Searching ${searched} of at most ${asked.question.limit}, ${GAMES[rowsOf(asked.question.fen).length]}`);
+  // The seconds stand apart: what is live is read out at each change.
+  $("time").textContent = `${seconds} s`;
 }
 
 /** What the worker tells: the plies that it tries, the answer, and then the tree or the keys. */
 function told(data) {
   if (!asked.ticker) return;
   if (data.failed) return stop(`The search failed: ${data.failed}`);
-  if (data.plies) asked.plies = data.plies;
-  if (data.plies) asked.found = false;
+  if (data.plies) Object.assign(asked, { plies: data.plies, found: false });
   if (data.answer) showAnswer(data.answer.trim());
   if (data.milliseconds === undefined) return sayBusy();
   stop();
@@ -266,8 +275,7 @@ function showKeys(reply) {
 
 function showTree(reply) {
   if (reply.startsWith("refused") || reply.startsWith("none")) return say(reply);
-  asked.tree = treeOf(reply);
-  parts.treeView.show(game.fen, asked.tree);
+  parts.treeView.show(game.fen, treeOf(reply));
 }
 
 // ---- the parts together
@@ -276,7 +284,7 @@ function listen() {
   $("fen").addEventListener("input", () => takeText($("fen").value));
   $("problem").addEventListener("submit", (event) => (event.preventDefault(), ask(false)));
   $("keys").addEventListener("click", () => ask(true));
-  $("stop").addEventListener("click", () => (parts.solver.stop(), stop("Stopped")));
+  $("stop").addEventListener("click", stopSearch);
   $("first").addEventListener("click", () => go(0));
   $("back").addEventListener("click", () => go(game.at - 1));
   $("next").addEventListener("click", () => (game.at < game.moves.length ? go(game.at + 1) : null));
@@ -301,7 +309,8 @@ async function copyLink() {
 }
 
 function listProblems() {
-  PROBLEMS.forEach(({ name, limit }, index) => $("problems").append(new Option(`${name} (${limit} ${limit === 1 ? "ply" : "plies"})`, index)));
+  const option = ({ name, limit }, index) => new Option(`${name} (${limit} ${limit === 1 ? "ply" : "plies"})`, index);
+  $("problems").append(...PROBLEMS.map(option));
 }
 
 async function begin() {

@@ -4,10 +4,10 @@ import { drawn, lettersOf, unitDrawn, unitName } from "./units.js";
 
 /** Fills the tray for a board of this width; told is `dropped(letter, square)`. */
 export function fillTray(place, width, squareSize, dropped) {
-  const letters = [...lettersOf(width, true), ...lettersOf(width, false)];
-  const choices = letters.map((letter) => choice(letter, unitName(letter), picture(letter), squareSize, dropped));
+  const choices = (isWhite) => lettersOf(width, isWhite).map((letter) => choice(letter, unitName(letter), picture(letter), squareSize, dropped));
   const empty = Object.assign(document.createElement("span"), { className: "empty", textContent: "✕" });
-  place.replaceChildren(...choices, choice("", "empty square", empty, squareSize, dropped));
+  place.style.setProperty("--columns", lettersOf(width, true).length + 1);
+  place.replaceChildren(...choices(true), choice("", "empty square", empty, squareSize, dropped), ...choices(false));
   place.querySelector("input").checked = true;
 }
 

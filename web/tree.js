@@ -71,7 +71,14 @@ export class TreeView {
     }
     const button = this.#button(path);
     button?.setAttribute("aria-current", "true");
-    button?.scrollIntoView({ block: "nearest" });
+    if (button) this.#reveal(button);
+  }
+
+  // Scrolls the tree alone, so that the board stays where it is.
+  #reveal(button) {
+    const [inner, outer] = [button.getBoundingClientRect(), this.#place.getBoundingClientRect()];
+    if (inner.top < outer.top) this.#place.scrollTop -= outer.top - inner.top;
+    if (inner.bottom > outer.bottom) this.#place.scrollTop += inner.bottom - outer.bottom;
   }
 
   #button(path) {
@@ -89,7 +96,8 @@ export class TreeView {
       here = { fen: this.#library.after(here.fen, move).trim(), path: [...here.path, move] };
       return button;
     });
-    line.append(node.replies.length ? this.#fold(item, here, number, node) : element("span", { class: "leaf", "aria-hidden": "true" }), ...moves);
+    const leaf = () => element("span", { class: "leaf", "aria-hidden": "true" });
+    line.append(node.replies.length ? this.#fold(item, here, number, node) : leaf(), ...moves);
     return item;
   }
 
@@ -108,7 +116,8 @@ export class TreeView {
   #fold(item, here, number, node) {
     const id = `lines${(this.#count += 1)}`;
     const words = node.replies.length === 1 ? "the reply" : `the ${node.replies.length} replies`;
-    const fold = element("button", { type: "button", class: "fold", tabindex: "-1", "aria-expanded": "false", "aria-controls": id, "aria-label": `Show ${words}` });
+    const said = { "aria-expanded": "false", "aria-controls": id, "aria-label": `Show ${words}` };
+    const fold = element("button", { type: "button", class: "fold", tabindex: "-1", ...said });
     const list = element("ul", { id, hidden: "" });
     item.append(list);
     fold.fill = () => list.append(...node.replies.map((one) => this.#line({ ...here, number: number + 1 }, one.move, one.tree)));
