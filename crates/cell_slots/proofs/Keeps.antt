@@ -5,7 +5,7 @@ use Rattle.crossbeam_utils.specs.Register.{Admits, Turns, Forks, Merges}
 use Rattle.slots.specs.declared.calls.Probe.TheVariants.{Hit, Vacant, Other}
 use Rattle.slots.specs.declared.calls.Store.TheVariants.{Stored}
 use Rattle.slots.specs.declared.calls.Act.TheVariants.{Asked, Offered}
-use Rattle.slots.specs.Machine.{Way, Machine, call, fresh, after, MayReply, run, StoresMeet}
+use Rattle.slots.specs.Machine.{Way, Machine, call, fresh, machine_after, MayReply, run, StoresMeet}
 use Rattle.slots.specs.Rule.{words_of}
 use Rattle.slots.specs.Steps.{IsProbeReply, HitFits}
 use Rattle.slots.proofs.Histories as calls
@@ -30,7 +30,7 @@ module _ (key : List ℕ → List ℕ) (meets : List ℕ → Type 0) where
 
   -- a probe that finds the words x
   probes_at : (slot : ℕ) (k x : List ℕ) (m : Machine) → ¬ meets (0 ∷ 0 ∷ 0 ∷ []) → x ≡ words_of m.holds → ((w : List ℕ) → m.holds ≡ Some w → meets w)
-      → MayReply (taking key) m (Asked k (reply key k x)) × (after m (Asked k (reply key k x)) ≡ m) × StoresMeet meets (Asked k (reply key k x)) × HitFits key meets (Asked k (reply key k x))
+      → MayReply (taking key) m (Asked k (reply key k x)) × (machine_after m (Asked k (reply key k x)) ≡ m) × StoresMeet meets (Asked k (reply key k x)) × HitFits key meets (Asked k (reply key k x))
   probes_at slot k x m zeros left stands =
       let may = answer_may (taking key) meets 0 slot m x (Asked k (reply key k x)) (answers key k x) m.holds refl left stands zeros in
       (subst (λ (way : Way). MayReply way m (Asked k (reply key k x))) (histories.takes_at slot key) may.0, may.1, may.2, may.3)
