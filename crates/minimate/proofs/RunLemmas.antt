@@ -4,7 +4,7 @@ use Rattle.std.proofs.lemmas.Option.{IfSome_then}
 use Rattle.replies.specs.Output.{Reply, input_of, IsOutput, refused}
 use Rattle.replies.specs.Refusal.{refusal_status}
 use Rattle.replies.specs.declared.refusal.Refusal.{Refusal}
-use Rattle.replies.specs.declared.refusal.Refusal.TheVariants.{Fields, Shape, Letter, Run as RunOfDigits, Side, Kings, Units, PawnRank, OtherInCheck, Limit, Workers, Slots, TooLong, Grammar, Deep, NoMemory}
+use Rattle.replies.specs.declared.refusal.Refusal.TheVariants.{Fields, Shape, Letter, Run as RunOfDigits, Side, Kings, Units, PawnRank, OtherInCheck, Move, Limit, Workers, Slots, TooLong, Grammar, Deep, NoMemory}
 use Rattle.minimate.specs.Run.{Run, Writes, HasReply, no_memory, RunsLine, Finishes, Refuses}
 use Rattle.command_line.specs.declared.line.Line.{Line}
 
@@ -91,6 +91,7 @@ refusal_cases Kings = inr (λ e. cc, refl)
 refusal_cases Units = inr (λ e. cc, refl)
 refusal_cases PawnRank = inr (λ e. cc, refl)
 refusal_cases OtherInCheck = inr (λ e. cc, refl)
+refusal_cases Move = inr (λ e. cc, refl)
 refusal_cases Limit = inr (λ e. cc, refl)
 refusal_cases Workers = inr (λ e. cc, refl)
 refusal_cases Slots = inr (λ e. cc, refl)
