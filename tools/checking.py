@@ -1,5 +1,7 @@
 """What the tools beside this file share: the count of what passed, the lines of the bench, and the programs that are tried."""
 
+import importlib.machinery
+import importlib.util
 import os
 import re
 import shutil
@@ -64,6 +66,15 @@ def stop(why):
     """A tool that can't do its work says why, and ends with a status of its own."""
     print(f"{os.path.basename(sys.argv[0])}: {why}", file=sys.stderr)
     sys.exit(2)
+
+
+def loaded(name, path=None):
+    """A tool of this folder, or the file at that path, as a module: their names have no ending, so that `import` doesn't find them."""
+    loader = importlib.machinery.SourceFileLoader(name, path or os.path.join(TOP, "tools", name))
+    module = importlib.util.module_from_spec(importlib.util.spec_from_loader(name, loader))
+    sys.modules[name] = module
+    loader.exec_module(module)
+    return module
 
 
 def need(tool):

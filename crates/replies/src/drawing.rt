@@ -5,34 +5,16 @@ ghost use Rattle.board.specs.Fen.{letter_of};
 ghost use Rattle.board.specs.Games.{width_of};
 ghost use Rattle.replies.specs.Drawing.{letter_on, rank_drawn, file_drawn, mover_drawn, board_drawn};
 
-use board::{Game, Kind, Position, Side, Unit};
+use board::{Game, Position, Side, Unit};
 use std::alloc::{AllocError, Global};
 use std::fmt::Write;
-
-fn unit_letter(unit: Unit) -> u8
-    ensures letter { result ≡ letter_of unit.side unit.kind }
-    ensures ascii { result < 128 }
-{
-    let upper = match unit.kind {
-        Kind::King => b'K',
-        Kind::Queen => b'Q',
-        Kind::Rook => b'R',
-        Kind::Bishop => b'B',
-        Kind::Knight => b'N',
-        Kind::Pawn => b'P',
-    };
-    match unit.side {
-        Side::White => upper,
-        Side::Black => upper + 32,
-    }
-}
 
 fn letter_on(place: Option<Unit>) -> u8
     ensures letter { result ≡ letter_on place }
     ensures ascii { result < 128 }
 {
     match place {
-        Some(unit) => unit_letter(unit),
+        Some(unit) => unit.letter(),
         None => b'.',
     }
 }

@@ -2,6 +2,7 @@
 ghost use Rattle.std.specs.Prelude.{◌≡◌, ◌≤◌, ◌+◌, ◌*◌, ◌<◌, Some, MatchOption, true, false};
 ghost use Rattle.arrayvec.specs.ArrayVec.{array_vec_len};
 ghost use Rattle.board.specs.declared.game.Kind.TheVariants.{Pawn};
+ghost use Rattle.board.specs.declared.game.Unit.{Unit as Man};
 ghost use Rattle.board.specs.Board.{unit_on, is_of_side};
 ghost use Rattle.board.specs.Games.{squares_of};
 ghost use Rattle.rules.specs.Squares.{IsOnBoard, square_number, unit_at};
@@ -27,7 +28,6 @@ pub const PROMOTIONS: [Option<Kind>; 5] = [
 fn push_between(
     table: &PieceTable,
     position: &Position,
-    unit: Unit,
     from: Square,
     to: Square,
     moves: &mut ArrayVec<Move, 512>,
@@ -35,14 +35,14 @@ fn push_between(
     requires game { table.now ≡ position.now.game }
     requires from_on_board { IsOnBoard position.now.game from }
     requires to_on_board { IsOnBoard position.now.game to }
-    requires stands { unit_at position.now from ≡ Some unit }
     requires room { array_vec_len moves.old + 5 ≤ 512 }
     requires before { ListsBelow position.now
         ((square_number position.now.game from * 36 + square_number position.now.game to) * 5) moves.old.items }
     ensures after { ListsBelow position.now
         ((square_number position.now.game from * 36 + square_number position.now.game to + 1) * 5) moves.new.items }
     ensures few { array_vec_len moves.new ≤ array_vec_len moves.old + 5 }
-    ensures one { (unit.kind ≡ Pawn → ⊥) → array_vec_len moves.new ≤ array_vec_len moves.old + 1 }
+    ensures one { (u : Man) → unit_at position.now from ≡ Some u → (u.kind ≡ Pawn → ⊥)
+        → array_vec_len moves.new ≤ array_vec_len moves.old + 1 }
 {
     for promotion in &PROMOTIONS {
         let m = Move {
@@ -76,7 +76,7 @@ fn push_from(
     for number in 0..game.squares() {
         let to = Square::of_number(game, number);
         if reaches(table, position, unit, from, to, position.unit(number)) {
-            push_between(table, position, unit, from, to, moves);
+            push_between(table, position, from, to, moves);
         }
     }
 }

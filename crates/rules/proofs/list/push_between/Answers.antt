@@ -24,9 +24,9 @@ loop-promotion-preserved c =
           record {
             lists = rw (w.moves-is, w.push.ensures.items, ← add_assoc n i 1) (ListsBelow-push b (n + i) c.loop-promotion.moves.items m c.loop-promotion.invariant.lists lawful here);
             few = rw w.moves-is (omega (arith, w.push.ensures.len));
-            one = λ piece.
-                let first : i < 1 = first_promotion b m c.args.unit c.requires.stands piece lawful i at in
-                let old = c.loop-promotion.invariant.one piece in
+            one = λ u stands piece.
+                let first : i < 1 = first_promotion b m u stands piece lawful i at in
+                let old = c.loop-promotion.invariant.one u stands piece in
                 rw w.moves-is (omega (arith, w.push.ensures.len));
           }
       | else-is_lawful_by w ↦
@@ -34,6 +34,6 @@ loop-promotion-preserved c =
           record {
             lists = rw (w.moves-is, ← add_assoc n i 1) (ListsBelow-skip b (n + i) c.loop-promotion.moves.items m c.loop-promotion.invariant.lists numbered here unlawful);
             few = rw w.moves-is (omega arith);
-            one = λ piece. let old = c.loop-promotion.invariant.one piece in rw w.moves-is (omega arith);
+            one = λ u stands piece. let old = c.loop-promotion.invariant.one u stands piece in rw w.moves-is (omega arith);
           }
     ]

@@ -1,7 +1,8 @@
-use Rattle.std.proofs.Common.{◌≡◌, ◌+◌, ◌*◌, ◌≤◌, min}
+use Rattle.std.proofs.Common.{◌≡◌, ◌+◌, ◌*◌, ◌≤◌, min, Some}
 use Rattle.arrayvec.specs.ArrayVec.{array_vec_len}
 use Rattle.board.specs.declared.game.Kind.TheVariants.{Pawn}
-use Rattle.rules.specs.Squares.{square_number}
+use Rattle.board.specs.declared.game.Unit.{Unit as Man}
+use Rattle.rules.specs.Squares.{square_number, unit_at}
 use Rattle.rules.specs.Listing.{ListsBelow}
 use Rattle.rules.proofs.list.push_between.Given as goal
 
@@ -9,5 +10,5 @@ abbrev pub invariant-loop-promotion : goal.invariant-loop-promotion
 invariant-loop-promotion l = record {
   lists : ListsBelow l.position ((square_number l.position.game l.from * 36 + square_number l.position.game l.to) * 5 + l.promotion-index) l.moves.items;
   few : array_vec_len l.moves ≤ array_vec_len l.fn.moves + l.promotion-index;
-  one : (l.fn.unit.kind ≡ Pawn → ⊥) → array_vec_len l.moves ≤ array_vec_len l.fn.moves + min 1 l.promotion-index;
+  one : (u : Man) → unit_at l.position l.from ≡ Some u → (u.kind ≡ Pawn → ⊥) → array_vec_len l.moves ≤ array_vec_len l.fn.moves + min 1 l.promotion-index;
 }

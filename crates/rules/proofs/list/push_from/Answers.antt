@@ -37,7 +37,7 @@ loop-number-preserved c =
             let next : (square_number b.game c.args.from * 36 + square_number b.game to + 1) * 5 ≡ (square_number b.game c.args.from * 36 + (n + 1)) * 5 = omega (arith, at) in
             rw w.moves-is (subst (λ k. ListsBelow b k w.push_between.new.moves.items) next w.push_between.ensures.after);
         few =
-            let step = share-step b c.args.unit c.args.from to c.unit.result n (array_vec_len c.loop-number.moves) (array_vec_len c.if-reaches.moves) (c.reaches.ensures.0 w.if-reaches.true) on_to at (rw w.moves-is w.push_between.ensures.few) (rw w.moves-is w.push_between.ensures.one) in
+            let step = share-step b c.args.unit c.args.from to c.unit.result n (array_vec_len c.loop-number.moves) (array_vec_len c.if-reaches.moves) (c.reaches.ensures.0 w.if-reaches.true) on_to at (rw w.moves-is w.push_between.ensures.few) (rw w.moves-is (w.push_between.ensures.one c.args.unit c.requires.stands)) in
             omega (arith, step, c.loop-number.invariant.few);
       }
       | else-reaches w ↦ record {
