@@ -39,22 +39,49 @@ const FIRST: [u64; 3] = [7, 1, 11];
 
 const SECOND: [u64; 3] = [7, 2, 11];
 
+// Stores the words into a slot, and tells whether they are stored.
+fn takes<R: Wait>(
+    rt: &R,
+    table: &CellSlots<Pairs>,
+    seat: &mut CellSeat,
+    slot: usize,
+    words: [u64; 3],
+) -> bool
+    requires slot { slot < table.now.len }
+    requires seat { seat.old.table ≡ table.now.table }
+    requires lore { 0 < slice_index words 0 }
+    ensures { seat.new.table ≡ table.now.table }
+{
+    table.store(rt, seat, slot, words) == Store::Stored
+}
+
+// What a slot answers to the key of the words.
+fn asked<R: Wait>(
+    rt: &R,
+    table: &CellSlots<Pairs>,
+    seat: &mut CellSeat,
+    slot: usize,
+    words: [u64; 3],
+) -> Probe
+    requires slot { slot < table.now.len }
+    requires seat { seat.old.table ≡ table.now.table }
+    ensures { seat.new.table ≡ table.now.table }
+{
+    table.probe(rt, seat, slot, Pairs::key_of(words))
+}
+
 #[test]
 fn one_slot_gives_back_what_was_stored(rt: HostRuntime) -> Result<(), Fail> {
     let (slots, mut seats) = CellSlots::<Pairs>::make(rt.alloc(), 1, 1)?;
     let mut seat = seats.pop().ok_or("no seat")?;
-    let key = Pairs::key_of(FIRST);
-    assert_eq!(rt; slots.probe(&rt, &mut seat, 0, key), Probe::Vacant);
-    assert_eq!(rt; slots.store(&rt, &mut seat, 0, FIRST), Store::Stored);
-    assert_eq!(rt; slots.probe(&rt, &mut seat, 0, key), Probe::Hit(FIRST));
+    assert_eq!(rt; asked(&rt, &slots, &mut seat, 0, FIRST), Probe::Vacant);
+    assert!(rt; takes(&rt, &slots, &mut seat, 0, FIRST));
+    assert_eq!(rt; asked(&rt, &slots, &mut seat, 0, FIRST), Probe::Hit(FIRST));
+    assert_eq!(rt; asked(&rt, &slots, &mut seat, 0, SECOND), Probe::Other);
+    assert!(rt; takes(&rt, &slots, &mut seat, 0, SECOND));
+    assert_eq!(rt; asked(&rt, &slots, &mut seat, 0, FIRST), Probe::Other);
     assert_eq!(rt;
-        slots.probe(&rt, &mut seat, 0, Pairs::key_of(SECOND)),
-        Probe::Other
-    );
-    assert_eq!(rt; slots.store(&rt, &mut seat, 0, SECOND), Store::Stored);
-    assert_eq!(rt; slots.probe(&rt, &mut seat, 0, key), Probe::Other);
-    assert_eq!(rt;
-        slots.probe(&rt, &mut seat, 0, Pairs::key_of(SECOND)),
+        asked(&rt, &slots, &mut seat, 0, SECOND),
         Probe::Hit(SECOND)
     );
     Ok(())
@@ -66,15 +93,15 @@ fn a_seat_is_told_of_each_slot(rt: HostRuntime) -> Result<(), Fail> {
     assert_eq!(rt; slots.len(), 2);
     let mut second = seats.pop().ok_or("no seat")?;
     let mut first = seats.pop().ok_or("no seat")?;
-    assert_eq!(rt; slots.store(&rt, &mut first, 1, FIRST), Store::Stored);
-    assert_eq!(rt; slots.store(&rt, &mut first, 0, SECOND), Store::Stored);
+    assert!(rt; takes(&rt, &slots, &mut first, 1, FIRST));
+    assert!(rt; takes(&rt, &slots, &mut first, 0, SECOND));
     slots.tell(&rt, &mut second, first);
     assert_eq!(rt;
-        slots.probe(&rt, &mut second, 0, Pairs::key_of(SECOND)),
+        asked(&rt, &slots, &mut second, 0, SECOND),
         Probe::Hit(SECOND)
     );
     assert_eq!(rt;
-        slots.probe(&rt, &mut second, 1, Pairs::key_of(FIRST)),
+        asked(&rt, &slots, &mut second, 1, FIRST),
         Probe::Hit(FIRST)
     );
     Ok(())
@@ -98,8 +125,8 @@ fn works<R: Wait>(rt: &R, table: &CellSlots<Pairs>, mut seat: CellSeat) -> (Cell
     requires seat { seat.table ≡ table.now.table }
     ensures { result.0.table ≡ table.now.table }
 {
-    let stored = table.store(rt, &mut seat, 0, FIRST) == Store::Stored;
-    let found = table.probe(rt, &mut seat, 0, Pairs::key_of(FIRST)) == Probe::Hit(FIRST);
+    let stored = takes(rt, table, &mut seat, 0, FIRST);
+    let found = asked(rt, table, &mut seat, 0, FIRST) == Probe::Hit(FIRST);
     (seat, stored && found)
 }
 
@@ -125,11 +152,7 @@ fn by_two<R: Threads + Wait + Sync>(
         { works(rt, table, second) },
     );
     table.tell(rt, &mut told, other);
-    (
-        one,
-        two,
-        table.probe(rt, &mut told, 0, Pairs::key_of(FIRST)),
-    )
+    (one, two, asked(rt, table, &mut told, 0, FIRST))
 }
 
 // Whether the system gives a thread: `join` makes its calls one after another where it doesn't.
