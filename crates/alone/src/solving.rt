@@ -9,10 +9,11 @@ use decision::{Answer, Question, is_forced};
 use entry::MateLore;
 use moves::{Board, Goal, Move, after, lawful_on};
 use slots::{Seat, Slots};
+use std::alloc::Allocator;
 
 /// The least move that wins within n plies.
-fn least_win(
-    slots: &Slots<MateLore>,
+fn least_win<A: Allocator>(
+    slots: &Slots<MateLore, A>,
     seat: &mut Seat,
     board: &Board,
     goal: Goal,
@@ -39,8 +40,8 @@ fn least_win(
 }
 
 /// The fewest plies up to the limit in which the side to move forces the goal, where it does so within any.
-fn fewest_plies(
-    slots: &Slots<MateLore>,
+fn fewest_plies<A: Allocator>(
+    slots: &Slots<MateLore, A>,
     seat: &mut Seat,
     board: &Board,
     goal: Goal,
@@ -68,8 +69,8 @@ fn fewest_plies(
 
 /// The fewest plies in which the side to move forces the goal, with the least first move, or that there are none up to
 /// the limit: searched by the caller's own thread, with no lock. The table and the seat serve the next call.
-pub fn solve_alone(
-    slots: &Slots<MateLore>,
+pub fn solve_alone<A: Allocator>(
+    slots: &Slots<MateLore, A>,
     seat: &mut Seat,
     board: &Board,
     goal: Goal,

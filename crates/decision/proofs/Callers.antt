@@ -8,24 +8,24 @@ use Rattle.decision.specs.Callers.{GoesOn, Searches, adds}
 use Rattle.decision.proofs.Calls.{continues_none, continues_more, added_more}
 
 -- the later calls, over the table of the first
-pub calls_next : (a b c : Caller) → GoesOn a b → GoesOn b c → Continues a.slots.now b.seat.now c.seat.now
+pub calls_next : {A : Type 0} (a b c : Caller A) → GoesOn a b → GoesOn b c → Continues a.slots.now b.seat.now c.seat.now
 calls_next a b c p q = subst (λ (t : TableId). Continues t b.seat.now c.seat.now) p.table q.calls
 
-pub goes_none : (a : Caller) → GoesOn a a
+pub goes_none : {A : Type 0} (a : Caller A) → GoesOn a a
 goes_none a = record { table = refl; reference = refl; calls = continues_none a.slots.now a.seat.now a.belongs }
 
-pub goes_more : (a b c : Caller) → GoesOn a b → GoesOn b c → GoesOn a c
+pub goes_more : {A : Type 0} (a b c : Caller A) → GoesOn a b → GoesOn b c → GoesOn a c
 goes_more a b c p q = record {
   table = q.table ∙ p.table;
   reference = q.reference ∙ p.reference;
   calls = continues_more a.slots.now a.seat.now b.seat.now c.seat.now p.calls (calls_next a b c p q);
 }
 
-pub adds_more : (a b c : Caller) → GoesOn a b → GoesOn b c → adds a c ≡ adds a b ++ adds b c
+pub adds_more : {A : Type 0} (a b c : Caller A) → GoesOn a b → GoesOn b c → adds a c ≡ adds a b ++ adds b c
 adds_more a b c p q = added_more a.seat.now b.seat.now c.seat.now p.calls.grew q.calls.grew
 
 module _ {S : Type 0} (stays : S → S → Type 0) (on : (x y z : S) → stays x y → stays y z → stays x z) where
-  pub searches_more : (a b c : Caller) (s t u : Scout S) → Searches stays a b s t → Searches stays b c t u → Searches stays a c s u
+  pub searches_more : {A : Type 0} (a b c : Caller A) (s t u : Scout S) → Searches stays a b s t → Searches stays b c t u → Searches stays a c s u
   searches_more a b c s t u p q = record {
     caller = goes_more a b c p.caller q.caller;
     stop = on s.stop t.stop u.stop p.stop q.stop;

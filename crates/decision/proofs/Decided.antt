@@ -55,7 +55,7 @@ offers_behind slot slots number words xs ys o = record {
 }
 
 -- what is kept in the question's own slots, behind other calls
-pub kept_last : (a b c : Caller) (q : Question) (i : Bounds) (key : List ℕ) (slot : ℕ) (words : List ℕ) → GoesOn a b → GoesOn b c → key ≡ key_for q → slot ≡ first_slot key (slots_of b.slots.now) → words ≡ entry_words (entry_for q i)
+pub kept_last : {A : Type 0} (a b c : Caller A) (q : Question) (i : Bounds) (key : List ℕ) (slot : ℕ) (words : List ℕ) → GoesOn a b → GoesOn b c → key ≡ key_for q → slot ≡ first_slot key (slots_of b.slots.now) → words ≡ entry_words (entry_for q i)
     → OffersBoth slot (slots_of b.slots.now) (number b.seat.now) words (adds b c) → OffersBoth (first_slot (key_for q) (slots_of a.slots.now)) (slots_of a.slots.now) (number a.seat.now) (entry_words (entry_for q i)) (adds a c)
 kept_last a b c q i key slot words ab bc k s is offers =
     let P : List ℕ → ℕ → ℕ → List ℕ → Type 0 = λ z slots n w. OffersBoth (first_slot z slots) slots n w (adds b c) in
@@ -93,7 +93,7 @@ decided_by_parts q key slot slots n number d xs ys zs words i k s a silent some 
 }
 
 -- the same by the callers between
-module _ (a b c e : Caller) (ab : GoesOn a b) (bc : GoesOn b c) (ce : GoesOn c e) (q : Question) where
+module _ {A : Type 0} (a b c e : Caller A) (ab : GoesOn a b) (bc : GoesOn b c) (ce : GoesOn c e) (q : Question) where
   -- its calls in three parts
   in_parts : adds a e ≡ (adds a b ++ adds b c) ++ adds c e
   in_parts = adds_more a c e (goes_more a b c ab bc) ce ∙ ap (λ (l : List Call). l ++ adds c e) (adds_more a b c ab bc)
@@ -123,22 +123,22 @@ pub asked_of : (q : Question) (key : List ℕ) (slot slots n number : ℕ) (coun
 asked_of q key slot slots n number counts calls k s asks = asked_first (key_for q) (first_slot (key_for q) slots) slots n number counts calls (asks_as q key slot slots n number counts calls k s asks)
 
 -- what was asked stays asked as the caller goes on
-pub asked_then : (a b c : Caller) → GoesOn a b → GoesOn b c → (q : Question) → IsAsked q (slots_of a.slots.now) (number a.seat.now) (adds a b) → IsAsked q (slots_of a.slots.now) (number a.seat.now) (adds a c)
+pub asked_then : {A : Type 0} (a b c : Caller A) → GoesOn a b → GoesOn b c → (q : Question) → IsAsked q (slots_of a.slots.now) (number a.seat.now) (adds a b) → IsAsked q (slots_of a.slots.now) (number a.seat.now) (adds a c)
 asked_then a b c ab bc q asked = subst (IsAsked q (slots_of a.slots.now) (number a.seat.now)) (sym (adds_more a b c ab bc)) (asked_on q (slots_of a.slots.now) (number a.seat.now) (adds a b) (adds b c) asked)
 
 -- what was asked later, by the names of the beginning
-pub asked_by : (a b c : Caller) → GoesOn a b → GoesOn b c → (q : Question) → IsAsked q (slots_of b.slots.now) (number b.seat.now) (adds b c) → IsAsked q (slots_of a.slots.now) (number a.seat.now) (adds b c)
+pub asked_by : {A : Type 0} (a b c : Caller A) → GoesOn a b → GoesOn b c → (q : Question) → IsAsked q (slots_of b.slots.now) (number b.seat.now) (adds b c) → IsAsked q (slots_of a.slots.now) (number a.seat.now) (adds b c)
 asked_by a b c ab bc q asked =
     subst (λ n. IsAsked q (slots_of a.slots.now) n (adds b c)) ab.calls.number
     (subst (λ (t : TableId). IsAsked q (slots_of t) (number b.seat.now) (adds b c)) ab.table asked)
 
-pub asked_later : (a b c : Caller) → GoesOn a b → GoesOn b c → (q : Question) (m : Ply) (other : Question) (l : LeadsTo q m other) → IsAsked other (slots_of b.slots.now) (number b.seat.now) (adds b c)
+pub asked_later : {A : Type 0} (a b c : Caller A) → GoesOn a b → GoesOn b c → (q : Question) (m : Ply) (other : Question) (l : LeadsTo q m other) → IsAsked other (slots_of b.slots.now) (number b.seat.now) (adds b c)
     → IsAsked (question l.0 q.attacker q.goal) (slots_of a.slots.now) (number a.seat.now) (adds a c)
 asked_later a b c ab bc q m other l asked =
     subst (λ (o : Question). IsAsked o (slots_of a.slots.now) (number a.seat.now) (adds a c)) l.2
     (subst (IsAsked other (slots_of a.slots.now) (number a.seat.now)) (sym (adds_more a b c ab bc)) (asked_behind other (slots_of a.slots.now) (number a.seat.now) (adds a b) (adds b c) (asked_by a b c ab bc other asked)))
 
-pub after_next : (a b c : Caller) → GoesOn a b → GoesOn b c → (q : Question) (ms : List Ply) (i : ℕ) (m : Ply) (other : Question) → i < length ms → m ≡ get_or ms i m → (l : LeadsTo q m other)
+pub after_next : {A : Type 0} (a b c : Caller A) → GoesOn a b → GoesOn b c → (q : Question) (ms : List Ply) (i : ℕ) (m : Ply) (other : Question) → i < length ms → m ≡ get_or ms i m → (l : LeadsTo q m other)
     → All (IsAskedAfter q (slots_of a.slots.now) (number a.seat.now) (adds a b)) (take i ms) → IsAsked other (slots_of b.slots.now) (number b.seat.now) (adds b c)
     → All (IsAskedAfter q (slots_of a.slots.now) (number a.seat.now) (adds a c)) (take (i + 1) ms)
 after_next a b c ab bc q ms i m other lt is l before asked =

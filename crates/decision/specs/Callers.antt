@@ -6,16 +6,16 @@ use Rattle.decision.specs.declared.scout.Scout.{Scout}
 use Rattle.decision.specs.Calls.{added, Continues}
 
 -- the calls that the caller has added, in its order
-abbrev pub adds : Caller → Caller → List Call
+abbrev pub adds : {A : Type 0} → Caller A → Caller A → List Call
 adds before after = added before.seat.now after.seat.now
 
 -- the same caller, later: its table and its seat are the same, and its seat continues
-pub record GoesOn (before after : Caller) : Type 0 where
+pub record GoesOn {A : Type 0} (before after : Caller A) : Type 0 where
   pub table : after.slots.now ≡ before.slots.now
   pub reference : after.seat.ghost_name ≡ before.seat.ghost_name
   pub calls : Continues before.slots.now before.seat.now after.seat.now
 
 -- a caller and what leads its search, later
-pub record Searches {S : Type 0} (stays : S → S → Type 0) (before after : Caller) (scout scout' : Scout S) : Type 0 where
+pub record Searches {S A : Type 0} (stays : S → S → Type 0) (before after : Caller A) (scout scout' : Scout S) : Type 0 where
   pub caller : GoesOn before after
   pub stop : stays scout.stop scout'.stop

@@ -15,9 +15,10 @@ use crate::caller::Caller;
 use crate::question::{NOTHING, Question};
 use entry::{Interval, MateLore, interval_laws, interval_of, meet, slot_of};
 use slots::{Probe, Slots};
+use std::alloc::Allocator;
 
 /// The first of the key's two slots.
-pub(crate) fn first_slot(slots: &Slots<MateLore>, key: [u64; 3]) -> usize
+pub(crate) fn first_slot<A: Allocator>(slots: &Slots<MateLore, A>, key: [u64; 3]) -> usize
     ensures value { result ≡ first_slot key (slots_of slots.now) }
     ensures below { result < slots_of slots.now }
 {
@@ -26,7 +27,7 @@ pub(crate) fn first_slot(slots: &Slots<MateLore>, key: [u64; 3]) -> usize
 
 /// The first of two slots more, in which an entry is kept too. Their number mixes all bits of the key: that of the format leaves
 /// some squares out where the number of slots is a power of two, and spreads small endings over few slots.
-pub(crate) fn far_slot(slots: &Slots<MateLore>, key: [u64; 3]) -> usize
+pub(crate) fn far_slot<A: Allocator>(slots: &Slots<MateLore, A>, key: [u64; 3]) -> usize
     ensures { result < slots_of slots.now }
 {
     let first = key[0].wrapping_mul(0x9E3779B97F4A7C15);
@@ -72,7 +73,7 @@ pub(crate) fn settled(reply: Probe, n: u8) -> Option<bool>
 
 /// Asks the first slot, and then the second, if the table has it, where the first reply doesn't decide n plies. The reply is
 /// the one that decides them, or else the first slot's.
-pub(crate) fn ask(caller: &mut Caller<'_>, key: [u64; 3], slot: usize, n: u8) -> Probe
+pub(crate) fn ask<A: Allocator>(caller: &mut Caller<'_, A>, key: [u64; 3], slot: usize, n: u8) -> Probe
     requires slot { slot < slots_of caller.old.slots.now }
     ensures goes_on { GoesOn caller.old caller.new }
     ensures history { KnowsHistory caller.new.seat.now }
@@ -110,7 +111,7 @@ fn told(q: &Question, reply: Probe) -> Interval
 }
 
 /// What the table knows of the question: its own two slots are asked, and two more where these don't decide n plies.
-pub(crate) fn look(caller: &mut Caller<'_>, q: &Question, n: u8) -> Interval
+pub(crate) fn look<A: Allocator>(caller: &mut Caller<'_, A>, q: &Question, n: u8) -> Interval
     ensures goes_on { GoesOn caller.old caller.new }
     ensures asked { IsAsked q.now (slots_of caller.old.slots.now) (number caller.old.seat.now)
         (adds caller.old caller.new) }

@@ -3,16 +3,17 @@ ghost use Rattle.slots.specs.Promise.{IsSeatOf};
 
 use entry::MateLore;
 use slots::{Probe, Seat, Slots, Store};
+use std::alloc::Allocator;
 
 /// The table, and the seat of one of its callers.
 #[derive(Drop)]
-pub(crate) struct Caller<'a> {
-    pub slots: &'a Slots<MateLore>,
+pub(crate) struct Caller<'a, A: Allocator> {
+    pub slots: &'a Slots<MateLore, A>,
     pub seat: &'a mut Seat,
     ghost belongs: { IsSeatOf slots.now seat.now },
 }
 
-impl Caller<'_> {
+impl<A: Allocator> Caller<'_, A> {
     ghost use Rattle.std.specs.Prelude.{◌≡◌, ◌<◌, [], ◌∷◌};
     ghost use Rattle.slots.specs.Machine.{call};
     ghost use Rattle.slots.specs.Promise.{slots_of, number};

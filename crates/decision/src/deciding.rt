@@ -25,10 +25,11 @@ use board::{Position, Side};
 use entry::MateLore;
 use moves::{Board, Goal, Move};
 use slots::{Seat, Slots};
+use std::alloc::Allocator;
 
 /// Tries the moves of the given position in turn, until one ends the search. The table is asked of each position below.
-fn try_given<S: Stop>(
-    caller: &mut Caller<'_>,
+fn try_given<S: Stop, A: Allocator>(
+    caller: &mut Caller<'_, A>,
     scout: &mut Scout<S>,
     q: &Question,
     n: u8,
@@ -52,8 +53,8 @@ fn try_given<S: Stop>(
 }
 
 /// The answer by the positions below.
-fn search_given<S: Stop>(
-    caller: &mut Caller<'_>,
+fn search_given<S: Stop, A: Allocator>(
+    caller: &mut Caller<'_, A>,
     scout: &mut Scout<S>,
     q: &Question,
     n: u8,
@@ -76,8 +77,8 @@ fn search_given<S: Stop>(
 }
 
 /// The decision, or `None` where it was told to stop.
-fn decide_with<S: Stop>(
-    caller: &mut Caller<'_>,
+fn decide_with<S: Stop, A: Allocator>(
+    caller: &mut Caller<'_, A>,
     scout: &mut Scout<S>,
     q: &Question,
     n: u8,
@@ -110,8 +111,8 @@ fn decide_with<S: Stop>(
 /// Whether the attacker forces the goal within n plies, whatever the table holds and whatever its other callers do, or `None`
 /// where the search was told to stop. The table is asked first, of this position and of each below it; what is searched is stored
 /// after its own subtree, and stays in the table where the search is stopped.
-pub fn decide_until<S: Stop>(
-    slots: &Slots<MateLore>,
+pub fn decide_until<S: Stop, A: Allocator>(
+    slots: &Slots<MateLore, A>,
     seat: &mut Seat,
     scout: &mut Scout<S>,
     q: &Question,
@@ -130,7 +131,7 @@ pub fn decide_until<S: Stop>(
 }
 
 /// `decide_until`, where nothing stops it.
-pub fn decide_on(slots: &Slots<MateLore>, seat: &mut Seat, q: &Question, n: u8) -> Decision
+pub fn decide_on<A: Allocator>(slots: &Slots<MateLore, A>, seat: &mut Seat, q: &Question, n: u8) -> Decision
     requires seat { IsSeatOf slots.now seat.old }
     requires plies { n ≤ 63 }
     ensures continues { Continues slots.now seat.old seat.new }
@@ -152,7 +153,7 @@ const UNASKED: u8 = 2;
 
 /// Whether the attacker forces the goal within n plies: the answer alone. The far slots are asked too, and an attacker's
 /// position is searched round by round.
-pub fn is_forced(slots: &Slots<MateLore>, seat: &mut Seat, q: &Question, n: u8) -> bool
+pub fn is_forced<A: Allocator>(slots: &Slots<MateLore, A>, seat: &mut Seat, q: &Question, n: u8) -> bool
     requires seat { IsSeatOf slots.now seat.old }
     requires plies { n ≤ 63 }
     ensures continues { Continues slots.now seat.old seat.new }
@@ -174,8 +175,8 @@ pub fn is_forced(slots: &Slots<MateLore>, seat: &mut Seat, q: &Question, n: u8) 
 
 /// Whether the attacker forces the goal from the position within n plies, whatever the table holds and whatever its other callers
 /// do. The table is asked first, of this position and of each below it; what is searched is stored after its own subtree.
-pub fn decide(
-    slots: &Slots<MateLore>,
+pub fn decide<A: Allocator>(
+    slots: &Slots<MateLore, A>,
     seat: &mut Seat,
     position: &Position,
     attacker: Side,

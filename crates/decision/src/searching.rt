@@ -17,6 +17,7 @@ use crate::storing::{keep, known_with};
 use arrayvec::ArrayVec;
 use entry::Interval;
 use moves::Move;
+use std::alloc::Allocator;
 
 /// The most plies of the leaf.
 const LEAF: u8 = 3;
@@ -29,7 +30,7 @@ const ROUNDS_FROM: u8 = 7;
 
 /// Whether the table knows of a position below that ends the search: on the attacker's turn one that wins, on the defender's
 /// one that escapes.
-fn is_cut(caller: &mut Caller<'_>, q: &Question, n: u8, moves: &[Move]) -> bool
+fn is_cut<A: Allocator>(caller: &mut Caller<'_, A>, q: &Question, n: u8, moves: &[Move]) -> bool
     requires plies { (0 < n) × (n ≤ 63) }
     requires lawful { All (IsLawful q.now.position) moves.now }
     ensures goes_on { GoesOn caller.old caller.new }
@@ -52,8 +53,8 @@ fn is_cut(caller: &mut Caller<'_>, q: &Question, n: u8, moves: &[Move]) -> bool
 
 /// Tries the moves in turn, until one ends the search.
 #[cycle(searching)]
-fn try_moves<S: Stop>(
-    caller: &mut Caller<'_>,
+fn try_moves<S: Stop, A: Allocator>(
+    caller: &mut Caller<'_, A>,
     scout: &mut Scout<S>,
     q: &Question,
     n: u8,
@@ -77,8 +78,8 @@ fn try_moves<S: Stop>(
 
 /// The answer for n plies by the positions below.
 #[cycle(searching)]
-pub(crate) fn search<S: Stop>(
-    caller: &mut Caller<'_>,
+pub(crate) fn search<S: Stop, A: Allocator>(
+    caller: &mut Caller<'_, A>,
     scout: &mut Scout<S>,
     q: &Question,
     n: u8,
@@ -115,8 +116,8 @@ struct Found {
 /// The answer for n plies, and what is known with it: an attacker's position is searched for three plies, for five and so on, from what is
 /// known on.
 #[cycle(searching)]
-fn search_in_rounds<S: Stop>(
-    caller: &mut Caller<'_>,
+fn search_in_rounds<S: Stop, A: Allocator>(
+    caller: &mut Caller<'_, A>,
     scout: &mut Scout<S>,
     q: &Question,
     n: u8,
@@ -155,8 +156,8 @@ fn first_round(q: &Question, n: u8, known: Interval) -> u8
 
 /// The answer for n plies. The table is asked first, and what is found is stored last.
 #[cycle(searching)]
-pub(crate) fn visit<S: Stop>(
-    caller: &mut Caller<'_>,
+pub(crate) fn visit<S: Stop, A: Allocator>(
+    caller: &mut Caller<'_, A>,
     scout: &mut Scout<S>,
     q: &Question,
     n: u8,

@@ -17,6 +17,7 @@ use crate::caller::Caller;
 use crate::question::Question;
 use entry::{Interval, interval_laws, meet, pack_board};
 use slots::{Probe, Store};
+use std::alloc::Allocator;
 
 /// What an answer for n plies says.
 pub(crate) fn said(yes: bool, n: u8) -> Interval
@@ -75,7 +76,7 @@ pub(crate) fn known_with(q: &Question, n: u8, yes: bool, known: Interval) -> Int
 }
 
 /// Offers the words to both slots, if the table has the second.
-fn offer(caller: &mut Caller<'_>, slot: usize, words: [u64; 3])
+fn offer<A: Allocator>(caller: &mut Caller<'_, A>, slot: usize, words: [u64; 3])
     requires slot { slot < slots_of caller.old.slots.now }
     requires holds { IsTruePacking words }
     ensures goes_on { GoesOn caller.old caller.new }
@@ -90,7 +91,7 @@ fn offer(caller: &mut Caller<'_>, slot: usize, words: [u64; 3])
 }
 
 /// Offers the words to one of two slots more: the second, where another entry is preferred in the first.
-fn offer_far(caller: &mut Caller<'_>, slot: usize, words: [u64; 3])
+fn offer_far<A: Allocator>(caller: &mut Caller<'_, A>, slot: usize, words: [u64; 3])
     requires slot { slot < slots_of caller.old.slots.now }
     requires holds { IsTruePacking words }
     ensures { GoesOn caller.old caller.new }
@@ -105,7 +106,7 @@ fn offer_far(caller: &mut Caller<'_>, slot: usize, words: [u64; 3])
 }
 
 /// Stores what is known of the question: in one of the far slots, and last in its own two.
-pub(crate) fn keep(caller: &mut Caller<'_>, q: &Question, known: Interval)
+pub(crate) fn keep<A: Allocator>(caller: &mut Caller<'_, A>, q: &Question, known: Interval)
     requires { IsKnownOf q.now known }
     ensures goes_on { GoesOn caller.old caller.new }
     ensures kept { OffersBoth (first_slot (key_for q.now) (slots_of caller.old.slots.now))

@@ -8,6 +8,7 @@ use crate::calls::Probe;
 use crate::lore::Lore;
 use crate::pause::{NoPause, Pause};
 use crate::table::{Seat, Slots};
+use std::alloc::Allocator;
 use std::marker::Brand;
 
 // The answer that three whole words give.
@@ -23,7 +24,7 @@ fn reply_to<L: Lore>(key: [u64; 3], got: [u64; 3]) -> Probe
     }
 }
 
-impl<L: Lore> Slots<L> {
+impl<L: Lore, A: Allocator> Slots<L, A> {
     /// Whether an entry with the key stands in the slot. It takes no lock, and tries once.
     pub fn probe(&self, seat: &mut Seat, slot: usize, key: [u64; 3]) -> Probe
         requires seat { IsSeatOf self.now seat.old }

@@ -11,8 +11,9 @@ use crate::lore::Lore;
 use crate::pause::Pause;
 use crate::plays::{Begin, Claim, Confirm, Look, Offer, Publish, Read, Tell, Told, Write};
 use crate::table::{Seat, Slots};
+use std::alloc::Allocator;
 
-impl<L: Lore> Slots<L> {
+impl<L: Lore, A: Allocator> Slots<L, A> {
     // Reads the gate, to begin a probe.
     pub(crate) fn begin<K: Told>(&self, seat: &mut Seat, slot: usize, key: [u64; 3]) -> u64
         requires told { (K.slot ≡ slot) × (K.busy ≡ Asked key Probe.Busy) }

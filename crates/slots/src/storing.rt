@@ -11,9 +11,10 @@ use crate::calls::Store;
 use crate::lore::Lore;
 use crate::pause::{NoPause, Pause};
 use crate::table::{Seat, Slots};
+use std::alloc::Allocator;
 use std::marker::Brand;
 
-impl<L: Lore> Slots<L> {
+impl<L: Lore, A: Allocator> Slots<L, A> {
     /// Offers the words to the slot. A slot of odd number takes them; one of even number keeps what
     /// it has where that is preferred. It takes no lock, and tries once.
     pub fn store(&self, seat: &mut Seat, slot: usize, words: [u64; 3]) -> Store

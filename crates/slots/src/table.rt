@@ -11,7 +11,7 @@ use crate::plays::Deal;
 use crate::rule::Slotted;
 use crate::views::View;
 use atomic_table::Table;
-use std::alloc::{AllocError, Global};
+use std::alloc::{AllocError, Allocator, Global};
 use std::marker::Model;
 
 /// A caller's right to probe and store. It has no bytes.
@@ -25,12 +25,12 @@ pub const MOST_CALLERS: usize = 17;
 
 /// Slots of three words that any number of threads read and store into, without locks.
 #[derive(Drop)]
-pub struct Slots<L: Lore> {
-    pub(crate) table: Table<u8, View, usize, Slotted<L>, Global>,
+pub struct Slots<L: Lore, A: Allocator = Global> {
+    pub(crate) table: Table<u8, View, usize, Slotted<L>, A>,
     count: usize,
 }
 
-impl<L: Lore> Model for Slots<L> {
+impl<L: Lore, A: Allocator> Model for Slots<L, A> {
     ghost Value = { TableId };
 
     ghost view = { λ s. s.table.shared.table_id };
@@ -45,6 +45,24 @@ impl<L: Lore> Slots<L> {
         slots: usize,
         callers: usize,
     ) -> Result<(Slots<L>, Vec<Seat>), MakeFault>
+        ensures ok { IfOk result (λ r. (slots_of r.0 ≡ slots) × (vec_len r.1 ≡ callers) × AllNew r.0 r.1.items) }
+        ensures seats { IfOk result (λ r. All (IsSeatOf r.0) r.1.items) }
+        ensures size { IsErrOf result MakeFault.Size ↔ (¬ IsSize slots callers) }
+        ensures limits { (MOST_SLOTS ≡ 1048576) × (MOST_CALLERS ≡ 17) }
+    {
+        Slots::make_in(alloc, slots, callers)
+    }
+}
+
+impl<L: Lore, A: Allocator> Slots<L, A> {
+    /// `make`, by any allocator.
+    pub fn make_in(
+        alloc: A,
+        slots: usize,
+        callers: usize,
+    ) -> Result<(Slots<L, A>, Vec<Seat, A>), MakeFault>
+    where
+        A: Copy,
         ensures ok { IfOk result (λ r. (slots_of r.0 ≡ slots) × (vec_len r.1 ≡ callers) × AllNew r.0 r.1.items) }
         ensures seats { IfOk result (λ r. All (IsSeatOf r.0) r.1.items) }
         ensures size { IsErrOf result MakeFault.Size ↔ (¬ IsSize slots callers) }
@@ -106,7 +124,9 @@ impl<L: Lore> Slots<L> {
     }
 
     // The table, and the seat that deals the others.
-    fn open(alloc: Global, slots: usize) -> Result<(Slots<L>, Seat), AllocError>
+    fn open(alloc: A, slots: usize) -> Result<(Slots<L, A>, Seat), AllocError>
+    where
+        A: Copy,
         requires { (0 < slots) × (slots < 2 ^ 32) }
         ensures { IfOk result (λ r. (slots_of r.0 ≡ slots) × (r.1.table_id ≡ r.0) × (r.1.me.0 ≡ dealer slots)) }
     {
@@ -122,7 +142,12 @@ impl<L: Lore> Slots<L> {
     }
 
     // So many seats.
-    fn deal(&self, alloc: Global, mut first: Seat, callers: usize) -> Result<Vec<Seat>, AllocError>
+    fn deal<B: Allocator>(
+        &self,
+        alloc: B,
+        mut first: Seat,
+        callers: usize,
+    ) -> Result<Vec<Seat, B>, AllocError>
         requires { (first.table_id ≡ self.now) × (first.me.0 ≡ dealer (slots_of self.now)) }
         ensures { IfOk result (λ v. (vec_len v ≡ callers) × AllNew self.now v.items × All (IsSeatOf self.now) v.items) }
     {

@@ -5,7 +5,7 @@ use Rattle.alone.proofs.solving.least_win.Given as goal
 
 -- none of the moves so far wins
 abbrev pub invariant-loop-m : goal.invariant-loop-m
-invariant-loop-m l =
+invariant-loop-m g l =
     record {
       continues : Continues l.slots l.fn.seat l.seat;
       none : All (λ m. Wins l.goal l.board l.n m → ⊥) (take l.m-index l.m-items);

@@ -9,6 +9,6 @@ use Rattle.decision.specs.Decisions.{AsksBelow}
 use Rattle.decision.proofs.deciding.decide.Goals as goal
 
 pub returns-clause-below : goal.returns-clause-below
-returns-clause-below c =
+returns-clause-below g c =
     subst (λ (b : PlainBoard). 0 < c.decide_on.result.expanded → 0 < c.args.n → ((m : Ply) × IsLawful b m) → AsksBelow (question b c.args.attacker c.args.goal) (slots_of c.args.slots.now) (number c.args.seat.now) c.decide_on.result.yes (added c.args.seat.now c.decide_on.new.seat))
     c.of.ensures c.decide_on.ensures.decided.below

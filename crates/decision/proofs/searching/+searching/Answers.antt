@@ -5,7 +5,7 @@ use Rattle.rules.specs.Moves.{IsLawful}
 use Rattle.decision.specs.Questions.{IsForced}
 use Rattle.decision.specs.Orders.{ListsAll}
 use Rattle.decision.specs.Below.{is_own, IsPassed}
-use Rattle.decision.proofs.Callers.{goes_more}
+use Rattle.decision.proofs.Callers.{goes_none, goes_more}
 use Rattle.decision.proofs.Replies.{known_is_right, forced_later}
 use Rattle.decision.proofs.Decided.{asked_then}
 use Rattle.decision.proofs.Below.{none_listed, some_listed, all_listed, not_empty, ended_answer, now_for, tells_answer, passed_after, cut_after, goes_by, ends_by, beq_same, beq_apart, not_self}
@@ -16,6 +16,9 @@ search-returns-then-is_empty-clause-answer g t c =
     now_for c.args.q.now c.args.n c.answer_now.result
     (none_listed c.args.q.now.position c.in_order.new.moves.items c.in_order.ensures ((Decides-eqb (length c.in_order.new.moves.items) 0).0 (sym c.is_empty.ensures ∙ c.if-is_empty.true)))
     c.answer_now.ensures
+
+pub search-returns-then-is_empty-clause-goes_on : goal.search-returns-then-is_empty-clause-goes_on
+search-returns-then-is_empty-clause-goes_on g t c = record { caller = goes_none _; stop = c.is_set.ensures.stays }
 
 pub search-is_cut-requires-clause-lawful : goal.search-is_cut-requires-clause-lawful
 search-is_cut-requires-clause-lawful g t c = subst (All (IsLawful c.args.q.now.position)) (sym c.as_slice.ensures.value) (all_listed c.args.q.now.position c.in_order.new.moves.items c.in_order.ensures)
@@ -29,7 +32,7 @@ search-returns-then-is_cut-clause-answer g t c =
 
 pub search-try_moves-requires : goal.search-try_moves-requires
 search-try_moves-requires g t c κs within =
-    (omega (arith, c.decreases), (within, ((omega (arith, c.if-n-le-LEAF.false), c.requires), subst (All (IsLawful c.args.q.now.position)) (sym c.as_slice-2.ensures.value) (all_listed c.args.q.now.position c.in_order.new.moves.items c.in_order.ensures))))
+    (omega (arith, c.decreases), (within.0, (within.1, ((omega (arith, c.if-n-le-LEAF.false), c.requires), subst (All (IsLawful c.args.q.now.position)) (sym c.as_slice-2.ensures.value) (all_listed c.args.q.now.position c.in_order.new.moves.items c.in_order.ensures)))))
 
 pub search-returns-clause-goes_on : goal.search-returns-clause-goes_on
 search-returns-clause-goes_on g t c = record {

@@ -2,4 +2,4 @@ use Rattle.decision.specs.Callers.{GoesOn}
 use Rattle.decision.proofs.searching.is_cut.Given as goal
 
 abbrev pub invariant-loop-m : goal.invariant-loop-m
-invariant-loop-m l = GoesOn l.fn.caller l.caller
+invariant-loop-m g l = GoesOn l.fn.caller l.caller
