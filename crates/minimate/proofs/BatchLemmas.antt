@@ -26,8 +26,8 @@ use Rattle.minimate.specs.Batch.{AnswersLines, EndsBatch, IsLineReply, IsReplyTe
 use Rattle.minimate.specs.Desk.{Fails, GivesNext, GivesSaid, RepliesToFirst, SameSolver, Step, TakesLines, TakesStep, WritesUntil, stop_status}
 use Rattle.minimate.specs.Lines.{IsNextLine, TakesLine, left_of}
 use Rattle.minimate.specs.Run.{Ending, Finishes, Refuses, Run, no_memory}
-use Rattle.rounds.specs.declared.fault.SolveFault.{SolveFault}
-use Rattle.rounds.specs.declared.fault.SolveFault.TheVariants as solve
+use Rattle.rounds.specs.declared.task.SolveFault.{SolveFault}
+use Rattle.rounds.specs.declared.task.SolveFault.TheVariants as solve
 use Rattle.minimate.specs.declared.batch.Solver.{Solver}
 use Rattle.minimate.specs.declared.batch.Stop.{Stop}
 use Rattle.minimate.specs.declared.batch.Stop.TheVariants.{ReadFailed, WriteFailed, NoMemory}

@@ -6,8 +6,8 @@ use Rattle.std.specs.declared.alloc.Global.{Global}
 use Rattle.rules.specs.declared.goal.Goal.{Goal}
 use Rattle.command_line.specs.declared.line.Limits.{Limits}
 use Rattle.rounds.specs.Seats.{AreSeats}
-use Rattle.rounds.specs.declared.fault.SolveFault.{SolveFault}
-use Rattle.rounds.specs.declared.fault.SolveFault.TheVariants as solve
+use Rattle.rounds.specs.declared.task.SolveFault.{SolveFault}
+use Rattle.rounds.specs.declared.task.SolveFault.TheVariants as solve
 use Rattle.replies.specs.Device.{AppendsBeginning}
 use Rattle.replies.specs.Output.{fault_of, refused}
 use Rattle.replies.specs.declared.refusal.Refusal.{Refusal}

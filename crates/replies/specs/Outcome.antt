@@ -4,8 +4,8 @@ use Rattle.std.specs.declared.alloc.Global.{Global}
 use Rattle.board.specs.Board.{PlainBoard}
 use Rattle.rules.specs.declared.goal.Goal.{Goal}
 use Rattle.decision.specs.declared.answer.Answer.{Answer}
-use Rattle.rounds.specs.declared.fault.SolveFault.{SolveFault}
-use Rattle.rounds.specs.declared.fault.SolveFault.TheVariants as solve
+use Rattle.rounds.specs.declared.task.SolveFault.{SolveFault}
+use Rattle.rounds.specs.declared.task.SolveFault.TheVariants as solve
 use Rattle.rounds.specs.declared.keys.Key.{Key}
 use Rattle.decision.specs.Answer.{IsAnswer}
 use Rattle.rounds.specs.Keys.{ListsKeys}

@@ -15,7 +15,7 @@ use Rattle.rules.specs.Squares.{Ply}
 use Rattle.decision.specs.declared.answer.Answer.{Answer}
 use Rattle.decision.specs.declared.answer.Answer.TheVariants.{Mate, NoneWithin}
 use Rattle.decision.specs.Answer.{IsAnswer, IsFewest, ForcesNothing}
-use Rattle.rounds.specs.declared.fault.SolveFault.{SolveFault}
+use Rattle.rounds.specs.declared.task.SolveFault.{SolveFault}
 use Rattle.rounds.specs.declared.keys.Key.{Key}
 use Rattle.rounds.specs.Keys.{ListsKeys}
 use Rattle.rounds.specs.Limits.{limits_fault}

@@ -3,8 +3,8 @@ use Rattle.std.specs.Prelude.{ℕ, List, ◌++◌, codes}
 use Rattle.std.specs.Fmt.{decimal}
 use Rattle.board.specs.declared.fault.FenFault.{FenFault}
 use Rattle.board.specs.declared.fault.FenFault.TheVariants as fen
-use Rattle.rounds.specs.declared.fault.SolveFault.{SolveFault}
-use Rattle.rounds.specs.declared.fault.SolveFault.TheVariants as solve
+use Rattle.rounds.specs.declared.task.SolveFault.{SolveFault}
+use Rattle.rounds.specs.declared.task.SolveFault.TheVariants as solve
 use Rattle.wintree.specs.declared.fault.TreeFault.{TreeFault}
 use Rattle.wintree.specs.declared.fault.TreeFault.TheVariants as tree
 use Rattle.replies.specs.declared.refusal.Refusal.{Refusal}

@@ -1,7 +1,7 @@
 -- What a solve by workers accepts.
 use Rattle.std.specs.Prelude.{◌≡◌, ◌⊎◌, ℕ, nat_lt, ◌<◌, ◌≤◌, ◌||◌, Option, None, Some, if◌then◌else◌}
-use Rattle.rounds.specs.declared.fault.SolveFault.{SolveFault}
-use Rattle.rounds.specs.declared.fault.SolveFault.TheVariants.{Limit, Workers, Slots, NoMemory}
+use Rattle.rounds.specs.declared.task.SolveFault.{SolveFault}
+use Rattle.rounds.specs.declared.task.SolveFault.TheVariants.{Limit, Workers, Slots, NoMemory}
 
 -- the first fault of these values: a limit outside 1 to 63 plies, workers outside 1 to 16, slots outside 1 to 1,048,576
 abbrev pub limits_fault : ℕ → ℕ → ℕ → Option SolveFault

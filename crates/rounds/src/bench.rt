@@ -2,7 +2,7 @@
 ghost use Rattle.std.specs.Prelude.{◌≡◌};
 ghost use Rattle.least.specs.Promise.{IsJobSeatOf};
 
-use crate::gate::Gate;
+use crate::task::Gate;
 use arrayvec::ArrayVec;
 use board::Position;
 use decision::{Question, Stop};

@@ -1,17 +1,87 @@
-//! Help with a job that another thread is at. It writes to the table alone, where that thread finds it.
-ghost use Rattle.std.specs.Prelude.{◌≡◌};
+//! What a thread tells the others of the job that it is at, and how they help with it. No answer rests on it: help writes to the
+//! table alone, where that thread finds it.
+ghost use Rattle.std.specs.Prelude.{◌≡◌, ◌<◌, ◌≤◌, IfSome, IfOk, length};
 ghost use Rattle.slots.specs.Promise.{IsSeatOf};
 ghost use Rattle.decision.specs.Calls.{Continues};
 ghost use Rattle.rounds.specs.Shares.{IsBench};
 
 use crate::bench::Bench;
 use crate::deal::Count;
-use crate::gate::Gate;
-use crate::outstanding::Out;
+use crate::task::Gate;
 use arrayvec::ArrayVec;
 use decision::{Memory, Question, Scout, Stop, decide_until, in_order};
 use moves::Move;
 use slots::Seat;
+use std::alloc::{AllocError, Global};
+use std::marker::PhantomData;
+use std::sync::atomic::Ordering::SeqCst;
+use std::sync::atomic::{AtomicIn, AtomicU64, Rule};
+
+/// The rule of the word: 0 where the thread is at no job, else one more than the number of a job.
+struct IsJob<J> {
+    of: PhantomData<J>,
+}
+
+impl<J: Count> Rule for IsJob<J> {
+    ghost invariant = { λ n. (n ≤ J.jobs) × (n ≤ 65536) };
+}
+
+/// The job that a thread is at, and how many moves below it helpers have taken.
+#[derive(Drop)]
+pub(crate) struct Out<J: Count> {
+    job: AtomicIn<IsJob<J>>,
+    taken: AtomicU64,
+}
+
+impl<J: Count> Out<J> {
+    /// Of a thread that is at no job.
+    fn new() -> Out<J> {
+        Out {
+            job: AtomicIn::new(0),
+            taken: AtomicU64::new(0),
+        }
+    }
+
+    /// The thread is at the job.
+    pub(crate) fn enter(&self, job: u16)
+        requires { job < J.jobs }
+    {
+        self.taken.store(0, SeqCst);
+        self.job.store(u64::from(job) + 1, SeqCst);
+    }
+
+    /// The thread is at none.
+    pub(crate) fn leave(&self) {
+        self.job.store(0, SeqCst);
+    }
+
+    /// The job that the thread is at.
+    pub(crate) fn job(&self) -> Option<u16>
+        ensures { IfSome result (λ job. job < J.jobs) }
+    {
+        let held = self.job.load(SeqCst);
+        if held == 0 {
+            return None;
+        }
+        Some((held - 1) as u16)
+    }
+
+    /// How many of the moves below the job were taken before; now it is one more.
+    pub(crate) fn take(&self) -> usize {
+        self.taken.fetch_add(1, SeqCst) as usize
+    }
+}
+
+/// One for each of so many threads.
+pub(crate) fn all_outs<J: Count>(alloc: Global, threads: usize) -> Result<Vec<Out<J>>, AllocError>
+    ensures { IfOk result (λ outs. length outs.items ≡ threads) }
+{
+    let mut outs = Vec::with_capacity(alloc, threads)?;
+    for _ in 0..threads {
+        outs.push(Out::new())?;
+    }
+    Ok(outs)
+}
 
 /// The fewest plies of a round in which threads help: below, a job is over before its moves are made.
 const HELPED_FROM: u8 = 9;

@@ -8,10 +8,8 @@ ghost use Rattle.rounds.specs.Keys.{ListsKeys};
 ghost use Rattle.rounds.specs.Going.{GoesOn, SeatsGoOn};
 
 use crate::bench::{Root, Search};
-use crate::fault::SolveFault;
-use crate::gate::{Gate, job_ended};
 use crate::solving::look_at;
-use crate::task::Task;
+use crate::task::{Gate, SolveFault, Task, job_ended};
 use decision::decide_on;
 use entry::MateLore;
 use moves::Move;

@@ -3,18 +3,13 @@
 
 mod bench;
 mod deal;
-mod fault;
-mod gate;
 mod help;
 mod keys;
-mod outstanding;
 mod round;
 mod share;
 mod solving;
 mod task;
 
-pub use fault::SolveFault;
-pub use gate::{Ended, Gate, NoGate, no_gate_keeps_on};
 pub use keys::{Key, keys_alone, keys_over};
 pub use solving::{MOST_WORKERS, make_table, solve, solve_over};
-pub use task::Task;
+pub use task::{Ended, Gate, NoGate, SolveFault, Task, no_gate_keeps_on};

@@ -9,9 +9,9 @@ ghost use Rattle.rounds.specs.Going.{GoesOn, EachGoesOn, SeatsGoOn};
 
 use crate::bench::{Bench, RootJobs, Search};
 use crate::deal::{Count, Thief, deal};
-use crate::gate::Gate;
-use crate::outstanding::{Out, all_outs};
+use crate::help::{Out, all_outs};
 use crate::share::{Part, Share, Verdict};
+use crate::task::Gate;
 use least::{JobSeat, Least, MakeFault};
 use slots::Seat;
 use std::alloc::{AllocError, Global};

@@ -3,9 +3,8 @@ ghost use Rattle.std.specs.Prelude.{◌≡◌};
 
 use crate::bench::{Bench, JobStop, RootJobs};
 use crate::deal::{Count, Owner, Thief, next_job};
-use crate::gate::{Gate, job_ended};
-use crate::help::help;
-use crate::outstanding::Out;
+use crate::help::{Out, help};
+use crate::task::{Gate, job_ended};
 use decision::{Memory, Scout, decide_on, decide_until};
 use least::JobSeat;
 use slots::Seat;

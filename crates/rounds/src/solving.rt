@@ -8,10 +8,8 @@ ghost use Rattle.rounds.specs.Seats.{AreSeats, AreCallers};
 ghost use Rattle.rounds.specs.Going.{SeatsGoOn};
 
 use crate::bench::{Root, Search};
-use crate::fault::SolveFault;
-use crate::gate::{Ended, Gate};
 use crate::round::round;
-use crate::task::Task;
+use crate::task::{Ended, Gate, SolveFault, Task};
 use board::Position;
 use decision::{Answer, MOST_LIMIT};
 use entry::MateLore;

@@ -1,5 +1,5 @@
 use Rattle.std.proofs.Common.{◌≡◌, length}
-use Rattle.rounds.proofs.outstanding.all_outs.Given as goal
+use Rattle.rounds.proofs.help.all_outs.Given as goal
 
 abbrev pub invariant-loop : goal.invariant-loop
 invariant-loop g l = length l.outs.items ≡ l.counter
