@@ -73,7 +73,12 @@ pub(crate) fn settled(reply: Probe, n: u8) -> Option<bool>
 
 /// Asks the first slot, and then the second, if the table has it, where the first reply doesn't decide n plies. The reply is
 /// the one that decides them, or else the first slot's.
-pub(crate) fn ask<A: Allocator>(caller: &mut Caller<'_, A>, key: [u64; 3], slot: usize, n: u8) -> Probe
+pub(crate) fn ask<A: Allocator>(
+    caller: &mut Caller<'_, A>,
+    key: [u64; 3],
+    slot: usize,
+    n: u8,
+) -> Probe
     requires slot { slot < slots_of caller.old.slots.now }
     ensures goes_on { GoesOn caller.old caller.new }
     ensures history { KnowsHistory caller.new.seat.now }

@@ -131,7 +131,12 @@ pub fn decide_until<S: Stop, A: Allocator>(
 }
 
 /// `decide_until`, where nothing stops it.
-pub fn decide_on<A: Allocator>(slots: &Slots<MateLore, A>, seat: &mut Seat, q: &Question, n: u8) -> Decision
+pub fn decide_on<A: Allocator>(
+    slots: &Slots<MateLore, A>,
+    seat: &mut Seat,
+    q: &Question,
+    n: u8,
+) -> Decision
     requires seat { IsSeatOf slots.now seat.old }
     requires plies { n ≤ 63 }
     ensures continues { Continues slots.now seat.old seat.new }
@@ -153,7 +158,12 @@ const UNASKED: u8 = 2;
 
 /// Whether the attacker forces the goal within n plies: the answer alone. The far slots are asked too, and an attacker's
 /// position is searched round by round.
-pub fn is_forced<A: Allocator>(slots: &Slots<MateLore, A>, seat: &mut Seat, q: &Question, n: u8) -> bool
+pub fn is_forced<A: Allocator>(
+    slots: &Slots<MateLore, A>,
+    seat: &mut Seat,
+    q: &Question,
+    n: u8,
+) -> bool
     requires seat { IsSeatOf slots.now seat.old }
     requires plies { n ≤ 63 }
     ensures continues { Continues slots.now seat.old seat.new }
