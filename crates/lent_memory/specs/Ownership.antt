@@ -1,7 +1,6 @@
 -- What lent memory owns.
-use Rattle.std.specs.Prelude.{◌≡◌, ℕ, ◌/◌, ◌%◌, ◌^◌, ◌<◌, ◌≤◌}
+use Rattle.std.specs.Prelude.{◌≡◌, ℕ, ◌/◌, ◌%◌, ◌^◌, ◌<◌}
 use mir.Syntax.{Ty, w128, ty_int, ty_array}
-use prog.Memory.{size}
 use base.Fml.{Fml, fex, fwand}
 use denote.RawPtr.{Ptr, room_for}
 

@@ -1,11 +1,13 @@
 // Memory in which nothing lies.
-ghost use Rattle.std.specs.Prelude.{◌≡◌, ℕ};
+ghost use Rattle.std.specs.Prelude.{◌≡◌, ℕ, IfSome};
 ghost use types.Logic.{sem};
 ghost use Rattle.lent_memory.specs.Ownership.{IsMemorySize, bytes_at};
 
+use std::alloc::Allocator;
 use std::marker::Model;
 
 /// So many bytes, aligned to 16, in which nothing lies.
+#[repr(C)]
 pub struct Memory {
     pub(crate) ptr: *mut u8,
     pub(crate) size: usize,
@@ -17,13 +19,15 @@ impl Model for Memory {
 }
 
 impl Memory {
-    /// Takes over what the caller owns.
-    pub unsafe fn from_raw_parts(ptr: *mut u8, size: usize) -> Memory
-        requires fits { IsMemorySize size }
-        requires* memory { sem 𝓛 (bytes_at ptr size) }
-        ensures { result.size ≡ size }
+    /// So many bytes of an allocator, which doesn't get them back.
+    pub fn taken<A: Allocator>(alloc: &A, size: usize) -> Option<Memory>
+        requires { IsMemorySize size }
+        ensures { IfSome result (λ m. m.size ≡ size) }
     {
-        Memory { ptr, size }
+        match alloc.allocate(size, 16) {
+            Ok(ptr) => Some(Memory { ptr, size }),
+            Err(_) => None,
+        }
     }
 
     /// How many bytes, and the memory again.
