@@ -246,7 +246,7 @@ function told(data) {
   if (data.answer) showAnswer(data.answer.trim());
   if (data.milliseconds === undefined) return sayBusy();
   stop();
-  $("time").textContent = `${(data.milliseconds / 1000).toFixed(2)} s, ${Math.round(data.memory / 1048576)} MiB of memory`;
+  $("time").textContent = `${(data.milliseconds / 1000).toFixed(2)} s`;
   if (data.keys) showKeys(data.keys);
   if (data.tree) showTree(data.tree.trim());
 }
@@ -315,7 +315,7 @@ function listProblems() {
 
 async function begin() {
   const code = await compiled(moduleName());
-  parts.library = await Library.of(code);
+  parts.library = new Library(code);
   parts.solver = new Solver(code, told);
   parts.treeView = new TreeView($("tree"), parts.library, { played: playPath });
   parts.board = new Board($("board"), { pressed, dropped, emptied: (square) => isSetting() && setSquares([[square, null]]) });

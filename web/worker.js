@@ -6,9 +6,9 @@ const SLOTS = 1048573;
 
 let library = null;
 
-onmessage = async ({ data }) => {
+onmessage = ({ data }) => {
   try {
-    if (data.code) library = await Library.of(data.code);
+    if (data.code) library = new Library(data.code);
     else search(data);
   } catch (error) {
     postMessage({ failed: String(error.message ?? error) });
@@ -18,7 +18,7 @@ onmessage = async ({ data }) => {
 /** Looks within 1, 3, 5 and so on plies, and tells of each; then builds the tree, or lists the keys. */
 function search({ fen, stale, limit, keys }) {
   const begun = performance.now();
-  const done = (said) => postMessage({ ...said, milliseconds: performance.now() - begun, memory: library.memory });
+  const done = (said) => postMessage({ ...said, milliseconds: performance.now() - begun });
   const answer = answered(fen, stale, limit);
   postMessage({ answer });
   const plies = pliesOf(answer);

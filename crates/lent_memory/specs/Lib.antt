@@ -1,1 +1,2 @@
+-- to be believed
 pub mod Ownership

@@ -1,4 +1,4 @@
-// The lent memory as an allocator.
+//! The lent memory as an allocator.
 ghost use Rattle.std.specs.Prelude.{◌≡◌, ◌≤◌, IfSome};
 ghost use Rattle.lent_memory.specs.Ownership.{block_token};
 
@@ -16,6 +16,7 @@ pub struct Lent {
 }
 
 impl Lent {
+    /// Over this memory.
     pub fn new(memory: Memory) -> Lent
         ensures { result.size ≡ memory.size }
     {
@@ -27,16 +28,13 @@ impl Lent {
     }
 
     /// The bytes that it lends.
-    pub fn size(&self) -> usize {
+    pub fn size(&self) -> usize
+        ensures { result ≡ self.now.size }
+    {
         self.size
     }
 
-    /// The memory again, unless it is with somebody: then it is lost.
-    pub fn into_memory(self) -> Option<Memory> {
-        let unloaded = self.memory.replace(None);
-        unloaded
-    }
-
+    /// The whole of it, if it is here and enough.
     fn take(&self, size: usize, align: usize) -> Option<Memory>
         ensures { IfSome result (λ m. (m.size ≡ self.now.size) × (size ≤ m.size) × (align ≤ 16)) }
     {
@@ -51,6 +49,7 @@ impl Lent {
         None
     }
 
+    /// It is here again.
     fn give(&self, back: Back)
         requires { back.size ≡ self.now.size }
     {

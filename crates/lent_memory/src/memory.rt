@@ -1,6 +1,5 @@
-// Memory in which nothing lies.
+//! Memory in which nothing lies.
 ghost use Rattle.std.specs.Prelude.{◌≡◌, ℕ, IfSome};
-ghost use types.Logic.{sem};
 ghost use Rattle.lent_memory.specs.Ownership.{IsMemorySize, bytes_at};
 
 use std::alloc::Allocator;
