@@ -1,5 +1,5 @@
 -- A plan made of a list of replies.
-use Rattle.std.proofs.Common.{◌≡◌, ℕ, suc, ◌+◌, ◌<◌, ◌≤◌, max, List, [], ◌∷◌, ◌++◌, length, sym, ◌∙◌, subst, ap, arith, All, Vec, Global}
+use Rattle.std.proofs.Common.{◌≡◌, ℕ, suc, ◌+◌, ◌<◌, ◌≤◌, max, List, [], ◌∷◌, ◌++◌, length, sym, ◌∙◌, subst, ap, arith, All, Vec}
 use Rattle.std.proofs.lemmas.List.{length_push}
 use Rattle.std.proofs.lemmas.List.Elements.{recursion_from_All, All-push}
 use Rattle.std.specs.List.{AllByRecursion}
@@ -47,7 +47,7 @@ module _ (all list : List (Ply × Plan)) (r : Ply) (plan : Plan) (is : all ≡ l
   room_more inside room below = subst (All (λ reply. depth reply.1 + inside ≤ 32)) (sym is) (All-push (λ reply. depth reply.1 + inside ≤ 32) list (r, plan) room below)
 
 -- what `Tree::node` makes is a tree
-pub kept_node : (m : Ply) (replies : Vec (Ply × Plan) Global) (nested : ℕ) → IsPly m → ArePlansIn replies.items → 0 < length replies.items → All (λ reply. depth reply.1 ≤ 31) replies.items → nested ≡ deepest_in replies.items → IsKept m (Replies replies) (nested + 1)
+pub kept_node : {A : Type 0} (m : Ply) (replies : Vec (Ply × Plan) A) (nested : ℕ) → IsPly m → ArePlansIn replies.items → 0 < length replies.items → All (λ reply. depth reply.1 ≤ 31) replies.items → nested ≡ deepest_in replies.items → IsKept m (Replies replies) (nested + 1)
 kept_node m replies nested ply plans some room is =
     record {
       some = some;
@@ -57,7 +57,7 @@ kept_node m replies nested ply plans some room is =
     }
 
 -- the fields of a tree whose list of replies was read
-pub opened : (m : Ply) (next read : Next) (replies : Vec (Ply × Plan) Global) (plan : Plan) (list : List (Ply × Plan)) → plan_after m next ≡ plan → HasReplies next → read ≡ next → read ≡ Replies replies → list ≡ replies.items → (0 < length list) × (plan ≡ plan_of m list)
+pub opened : {A : Type 0} (m : Ply) (next read : Next A) (replies : Vec (Ply × Plan) A) (plan : Plan) (list : List (Ply × Plan)) → plan_after m next ≡ plan → HasReplies next → read ≡ next → read ≡ Replies replies → list ≡ replies.items → (0 < length list) × (plan ≡ plan_of m list)
 opened m next read replies plan list view_is some read_is is list_is =
     let next_is : next ≡ Replies replies = sym read_is ∙ is in
     (subst (λ xs. 0 < length xs) (sym list_is) (subst HasReplies next_is some), sym view_is ∙ ap (plan_after m) next_is ∙ ap (plan_of m) (sym list_is))

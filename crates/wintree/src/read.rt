@@ -10,10 +10,10 @@ use crate::fault::TreeFault;
 use crate::tree::{DEEPEST, End, Tree};
 use board::Kind;
 use moves::{Move, Square};
-use std::alloc::Global;
+use std::alloc::Allocator;
 
 /// The tree that the bytes are the text of.
-pub fn read_tree(alloc: Global, bytes: &[u8]) -> Result<Tree, TreeFault>
+pub fn read_tree<A: Allocator + Copy>(alloc: A, bytes: &[u8]) -> Result<Tree<A>, TreeFault>
     // What is read is the text of the tree.
     ensures read { IfOk result (λ tree. TreeText bytes.now tree) }
 
@@ -27,7 +27,7 @@ pub fn read_tree(alloc: Global, bytes: &[u8]) -> Result<Tree, TreeFault>
 }
 
 // The tree that takes all the bytes.
-fn whole_tree(alloc: Global, bytes: &[u8]) -> Result<Tree, TreeFault>
+fn whole_tree<A: Allocator + Copy>(alloc: A, bytes: &[u8]) -> Result<Tree<A>, TreeFault>
     ensures read { IfOk result (λ tree. TreeText bytes.now tree) }
     ensures fault { IfErr result (IsFaultOf bytes.now) }
 {
@@ -40,7 +40,12 @@ fn whole_tree(alloc: Global, bytes: &[u8]) -> Result<Tree, TreeFault>
 
 // The tree at the offset, inside so many open braces, and the offset of its end.
 #[cycle(reader)]
-fn tree_at(alloc: Global, bytes: &[u8], at: usize, inside: u8) -> Result<(Tree, usize), TreeFault>
+fn tree_at<A: Allocator + Copy>(
+    alloc: A,
+    bytes: &[u8],
+    at: usize,
+    inside: u8,
+) -> Result<(Tree<A>, usize), TreeFault>
     requires room { inside < 32 }
     requires stands { Stands bytes.now at inside (IsTreeAhead inside) }
     ensures read { IfOk result (λ found. ReadsTree bytes.now at inside found.0 found.1) }
@@ -66,12 +71,12 @@ fn tree_at(alloc: Global, bytes: &[u8], at: usize, inside: u8) -> Result<(Tree, 
 
 // The replies at the offset, with their trees, inside so many open braces, and the offset after the last brace's end.
 #[cycle(reader)]
-fn replies_at(
-    alloc: Global,
+fn replies_at<A: Allocator + Copy>(
+    alloc: A,
     bytes: &[u8],
     at: usize,
     inside: u8,
-) -> Result<(Vec<(Move, Tree)>, usize), TreeFault>
+) -> Result<(Vec<(Move, Tree<A>), A>, usize), TreeFault>
     requires room { (0 < inside) × (inside < 32) }
     requires stands { Stands bytes.now at inside (AreRepliesAhead inside) }
     ensures read { IfOk result (λ found. ReadsReplies bytes.now at inside found.0.items found.1) }

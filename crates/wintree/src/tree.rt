@@ -5,7 +5,7 @@ ghost use Rattle.wintree.specs.Plan.{ends, depth, deepest_in, plan_of, IsPly, Is
 
 use crate::fault::NoMemory;
 use moves::Move;
-use std::alloc::Global;
+use std::alloc::{Allocator, Global};
 use std::marker::Model;
 
 /// How a line ends, where the defender has no lawful move: in check, or not.
@@ -22,21 +22,21 @@ pub(crate) const DEEPEST: u8 = 32;
 /// moves are nested.
 #[cycle(tree)]
 #[derive(Drop)]
-pub struct Tree {
+pub struct Tree<A: Allocator = Global> {
     pub(crate) attack: Move,
-    pub(crate) next: Box<Next>,
+    pub(crate) next: Box<Next<A>, A>,
     nested: u8,
 }
 
 /// What stands after an attacker's move.
 #[cycle(tree)]
 #[derive(Drop)]
-pub(crate) enum Next {
+pub(crate) enum Next<A: Allocator> {
     End(End),
-    Replies(Vec<(Move, Tree)>),
+    Replies(Vec<(Move, Tree<A>), A>),
 }
 
-impl Model for Tree {
+impl<A: Allocator> Model for Tree<A> {
     ghost use Rattle.wintree.specs.Plan.{Plan, plan_code, depth};
 
     ghost Value = { Plan };
@@ -53,12 +53,12 @@ impl Model for Tree {
 
     ghost use Rattle.wintree.specs.Falls.{falls};
 
-    ghost size_decreases = { λ tree kept. falls tree.attack tree.next.value };
+    ghost size_decreases = { λ tree kept. falls ⟦<A as Allocator>⟧ tree.attack tree.next.value };
 }
 
-impl Tree {
+impl<A: Allocator> Tree<A> {
     /// A move that ends the line.
-    pub fn end(alloc: Global, attack: Move, end: End) -> Result<Tree, NoMemory>
+    pub fn end(alloc: A, attack: Move, end: End) -> Result<Tree<A>, NoMemory>
         ensures { IfOk result (λ tree. tree ≡ ends attack end) }
     {
         look_at(attack);
@@ -70,7 +70,11 @@ impl Tree {
     }
 
     /// A move, and a tree for each reply.
-    pub fn node(alloc: Global, attack: Move, replies: Vec<(Move, Tree)>) -> Result<Tree, NoMemory>
+    pub fn node(
+        alloc: A,
+        attack: Move,
+        replies: Vec<(Move, Tree<A>), A>,
+    ) -> Result<Tree<A>, NoMemory>
         requires some { 0 < vec_len replies }
         requires room { All (λ reply. depth reply.1 ≤ 31) replies.items }
         ensures { IfOk result (λ tree. tree ≡ plan_of attack replies.items) }
@@ -95,7 +99,7 @@ impl Tree {
 }
 
 /// The greatest depth of the trees.
-fn deepest(replies: &[(Move, Tree)]) -> u8
+fn deepest<A: Allocator>(replies: &[(Move, Tree<A>)]) -> u8
     ensures nested { result ≡ deepest_in replies.now }
     ensures limit { result ≤ 32 }
     ensures moves { ArePlansIn replies.now }

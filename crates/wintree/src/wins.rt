@@ -9,9 +9,10 @@ ghost use Rattle.wintree.specs.Answered.{AreAnswered, highest_in};
 use crate::tree::{End, Next, Tree};
 use board::Position;
 use moves::{Goal, Move, apply, in_check, is_lawful, lawful};
+use std::alloc::Allocator;
 
 /// How many plies the tree wins in for the side to move, if it wins.
-pub fn check(position: &Position, tree: &Tree, goal: Goal) -> Option<u8>
+pub fn check<A: Allocator>(position: &Position, tree: &Tree<A>, goal: Goal) -> Option<u8>
     // It wins exactly where the definition says so, in as many plies as its height.
     ensures wins { SomeIff result (Wins goal position.now tree.now) (height tree.now) }
 
@@ -23,7 +24,7 @@ pub fn check(position: &Position, tree: &Tree, goal: Goal) -> Option<u8>
 
 /// The tree's height, if it wins.
 #[cycle(checker)]
-fn height_if_won(position: &Position, tree: &Tree, goal: Goal) -> Option<u8>
+fn height_if_won<A: Allocator>(position: &Position, tree: &Tree<A>, goal: Goal) -> Option<u8>
     ensures { SomeIff result (Wins goal position.now tree.now) (height tree.now) }
 {
     if !is_lawful(position, tree.attack) {
@@ -41,10 +42,10 @@ fn height_if_won(position: &Position, tree: &Tree, goal: Goal) -> Option<u8>
 
 /// The greatest height of the replies' trees, if the replies are the lawful moves and each tree wins.
 #[cycle(checker)]
-fn highest_if_won(
+fn highest_if_won<A: Allocator>(
     position: &Position,
     moves: &[Move],
-    replies: &[(Move, Tree)],
+    replies: &[(Move, Tree<A>)],
     goal: Goal,
 ) -> Option<u8>
     requires { ListsLawful position.now moves.now }

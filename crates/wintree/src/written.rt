@@ -6,11 +6,14 @@ ghost use Rattle.wintree.specs.Text.{text, TreeText};
 
 use crate::fault::NoMemory;
 use crate::tree::{End, Next, Tree};
-use std::alloc::Global;
+use std::alloc::Allocator;
 use std::fmt::Write;
 
 /// The one text of the tree.
-pub fn tree_text(alloc: Global, tree: &Tree) -> Result<Vec<u8>, NoMemory>
+pub fn tree_text<A: Allocator, B: Allocator>(
+    alloc: B,
+    tree: &Tree<A>,
+) -> Result<Vec<u8, B>, NoMemory>
     ensures { IfOk result (λ bytes. TreeText bytes.items tree.now) }
 {
     let mut written = String::new(alloc);
@@ -19,7 +22,10 @@ pub fn tree_text(alloc: Global, tree: &Tree) -> Result<Vec<u8>, NoMemory>
 }
 
 /// Adds the tree's text.
-fn push_tree(written: &mut String, tree: &Tree) -> Result<(), NoMemory>
+fn push_tree<A: Allocator, B: Allocator>(
+    written: &mut String<B>,
+    tree: &Tree<A>,
+) -> Result<(), NoMemory>
     ensures moves { IsPlan tree.now }
     ensures written { OnOk result (string_bytes written.new ≡ string_bytes written.old ++ text tree.now) }
 {

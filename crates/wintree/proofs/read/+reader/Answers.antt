@@ -11,41 +11,44 @@ use Rattle.wintree.proofs.read.+reader.Goals as goal
 -- ---- a tree
 
 pub tree_at-returns-in_err-attack-clause-fault : goal.tree_at-returns-in_err-attack-clause-fault
-tree_at-returns-in_err-attack-clause-fault t c =
+tree_at-returns-in_err-attack-clause-fault g t c =
     let p = err_from_is_err_and c.from_residual.result c.from_residual.ensures.1 in
     rw (p.1, p.2) (no_attack c.args.bytes.now c.args.at c.args.inside _ c.requires.stands c.requires.room c.in_err-attack.ensures.fault)
 
 pub tree_at-returns-then-eq-clause-read : goal.tree_at-returns-then-eq-clause-read
-tree_at-returns-then-eq-clause-read t c =
+tree_at-returns-then-eq-clause-read g t c =
     let is = sym c.byte_at-mark.ensures ∙ equal _ _ 35 c.eq.ensures c.if-eq.true in
     read_end c.args.bytes.now c.args.at c.in_ok-attack.next c.args.inside 35 c.in_ok-attack.attack Mate _ c.requires.stands c.requires.room c.in_ok-attack.ensures.read is refl refl refl c.in_ok-end.ensures
 
 pub tree_at-returns-then-eq-2-clause-read : goal.tree_at-returns-then-eq-2-clause-read
-tree_at-returns-then-eq-2-clause-read t c =
+tree_at-returns-then-eq-2-clause-read g t c =
     let is = sym c.byte_at-mark.ensures ∙ equal _ _ 61 c.eq-2.ensures c.if-eq-2.true in
     read_end c.args.bytes.now c.args.at c.in_ok-attack.next c.args.inside 61 c.in_ok-attack.attack Stale _ c.requires.stands c.requires.room c.in_ok-attack.ensures.read is refl refl refl c.in_ok-end-2.ensures
 
 pub tree_at-returns-then-ne-clause-fault : goal.tree_at-returns-then-ne-clause-fault
-tree_at-returns-then-ne-clause-fault t c =
+tree_at-returns-then-ne-clause-fault g t c =
     no_end c.args.bytes.now c.args.at c.in_ok-attack.next c.args.inside c.in_ok-attack.attack c.requires.stands c.requires.room c.in_ok-attack.ensures.read
     (λ e. unequal _ _ 35 c.eq.ensures c.if-eq.false (c.byte_at-mark.ensures ∙ e))
     (λ e. unequal _ _ 61 c.eq-2.ensures c.if-eq-2.false (c.byte_at-mark.ensures ∙ e))
     (λ e. differs _ _ 123 c.ne.ensures c.if-ne.true (c.byte_at-mark.ensures ∙ e))
 
 pub tree_at-returns-then-inside-eq-DEEPEST-clause-fault : goal.tree_at-returns-then-inside-eq-DEEPEST-clause-fault
-tree_at-returns-then-inside-eq-DEEPEST-clause-fault t c =
+tree_at-returns-then-inside-eq-DEEPEST-clause-fault g t c =
     let is = sym c.byte_at-mark.ensures ∙ equals _ _ 123 c.ne.ensures c.if-ne.false in
     brace_too_deep c.args.bytes.now c.args.at c.in_ok-attack.next c.args.inside c.in_ok-attack.attack c.requires.stands (omega (arith, c.if-inside-eq-DEEPEST.true)) c.in_ok-attack.ensures.read is
 
 pub tree_at-replies_at-requires : goal.tree_at-replies_at-requires
-tree_at-replies_at-requires t c =
+tree_at-replies_at-requires g t c κs within =
     let is = sym c.byte_at-mark.ensures ∙ equals _ _ 123 c.ne.ensures c.if-ne.false in
     let low : c.args.inside + 1 ≤ 31 = omega (arith, c.if-inside-eq-DEEPEST.false, c.requires.room) in
     let stands = read_brace c.args.bytes.now c.args.at c.in_ok-attack.next c.args.inside c.in_ok-attack.attack c.requires.stands (omega arith) c.in_ok-attack.ensures.read is in
-    (omega (arith, c.decreases, low), ((omega arith, omega arith), subst (λ n. Stands c.args.bytes.now (c.in_ok-attack.next + 1) n (AreRepliesAhead n)) (sym (add-one c.args.inside)) stands))
+    (omega (arith, c.decreases, low), (within, ((omega arith, omega arith), subst (λ n. Stands c.args.bytes.now (c.in_ok-attack.next + 1) n (AreRepliesAhead n)) (sym (add-one c.args.inside)) stands)))
+
+pub tree_at-node-requires-clause-room : goal.tree_at-node-requires-clause-room
+tree_at-node-requires-clause-room g t c = λ k d lt. omega (arith, c.in_ok-replies.ensures.read.room k d lt)
 
 pub tree_at-returns-clause-read : goal.tree_at-returns-clause-read
-tree_at-returns-clause-read t c =
+tree_at-returns-clause-read g t c =
     let is = sym c.byte_at-mark.ensures ∙ equals _ _ 123 c.ne.ensures c.if-ne.false in
     let list = c.in_ok-replies.replies.items in
     let replies = subst (λ n. ReadsReplies c.args.bytes.now (c.in_ok-attack.next + 1) n list c.in_ok-replies.end) (add-one c.args.inside) c.in_ok-replies.ensures.read in
@@ -54,28 +57,28 @@ tree_at-returns-clause-read t c =
 -- ---- replies
 
 pub replies_at-returns-in_err-reply-clause-fault : goal.replies_at-returns-in_err-reply-clause-fault
-replies_at-returns-in_err-reply-clause-fault t c =
+replies_at-returns-in_err-reply-clause-fault g t c =
     let p = err_from_is_err_and c.from_residual.result c.from_residual.ensures.1 in
     rw (p.1, p.2) (no_reply c.args.bytes.now c.loop-replies.start c.args.inside _ c.requires.room.0 c.loop-replies.invariant.stands c.requires.room.1 c.in_err-reply.ensures.fault)
 
 pub replies_at-returns-then-ne-clause-fault : goal.replies_at-returns-then-ne-clause-fault
-replies_at-returns-then-ne-clause-fault t c =
+replies_at-returns-then-ne-clause-fault g t c =
     no_colon c.args.bytes.now c.loop-replies.start c.in_ok-reply.next c.args.inside c.in_ok-reply.reply c.requires.room.0 c.loop-replies.invariant.stands c.requires.room.1 c.in_ok-reply.ensures.read
     (λ e. differs _ _ 58 c.ne.ensures c.if-ne.true (c.byte_at.ensures ∙ e))
 
 pub replies_at-tree_at-requires : goal.replies_at-tree_at-requires
-replies_at-tree_at-requires t c =
+replies_at-tree_at-requires g t c κs within =
     let colon = sym c.byte_at.ensures ∙ equals _ _ 58 c.ne.ensures c.if-ne.false in
-    (omega (arith, c.decreases), (c.requires.room.1, read_colon c.args.bytes.now c.loop-replies.start c.in_ok-reply.next c.args.inside c.in_ok-reply.reply c.requires.room.0 c.loop-replies.invariant.stands c.requires.room.1 c.in_ok-reply.ensures.read colon))
+    (omega (arith, c.decreases), (within, (c.requires.room.1, read_colon c.args.bytes.now c.loop-replies.start c.in_ok-reply.next c.args.inside c.in_ok-reply.reply c.requires.room.0 c.loop-replies.invariant.stands c.requires.room.1 c.in_ok-reply.ensures.read colon)))
 
 pub replies_at-returns-then-ne-2-clause-fault : goal.replies_at-returns-then-ne-2-clause-fault
-replies_at-returns-then-ne-2-clause-fault t c =
+replies_at-returns-then-ne-2-clause-fault g t c =
     no_comma c.args.bytes.now c.in_ok-below.end c.args.inside c.requires.room.0 c.in_ok-below.ensures.read.stands
     (λ e. differs _ _ 44 c.ne-in-loop-replies.ensures c.if-ne-2.true (c.byte_at-mark.ensures ∙ e))
     (λ e. unequal _ _ 125 c.eq.ensures c.if-eq.false (c.byte_at-mark.ensures ∙ e))
 
 pub replies_at-loop-replies-preserved : goal.replies_at-loop-replies-preserved
-replies_at-loop-replies-preserved t c =
+replies_at-loop-replies-preserved g t c =
     let colon = sym c.byte_at.ensures ∙ equals _ _ 58 c.ne.ensures c.if-ne.false in
     let comma = sym c.byte_at-mark.ensures ∙ equals _ _ 44 c.ne-in-loop-replies.ensures c.if-ne-2.false in
     let items = c.in_ok-push.ensures.items in
@@ -89,7 +92,7 @@ replies_at-loop-replies-preserved t c =
     }
 
 pub replies_at-returns-then-eq-clause-read : goal.replies_at-returns-then-eq-clause-read
-replies_at-returns-then-eq-clause-read t c =
+replies_at-returns-then-eq-clause-read g t c =
     let colon = sym c.byte_at.ensures ∙ equals _ _ 58 c.ne.ensures c.if-ne.false in
     let close = sym c.byte_at-mark.ensures ∙ equal _ _ 125 c.eq.ensures c.if-eq.true in
     let items = c.in_ok-push.ensures.items in

@@ -12,4 +12,4 @@ what_wins aim b plan None h = tt
 what_wins aim b plan (Some n) h = subst (Forces aim b.mover b) (sym h.1) (forced_for_mover aim b plan h.0)
 
 pub returns-clause-forced : goal.returns-clause-forced
-returns-clause-forced c = what_wins c.args.goal c.args.position.now c.args.tree.now c.height_if_won.result c.height_if_won.ensures
+returns-clause-forced g c = what_wins c.args.goal c.args.position.now c.args.tree.now c.height_if_won.result c.height_if_won.ensures

@@ -11,7 +11,7 @@ use Rattle.wintree.proofs.written.+push_tree.Goals as goal
 pub returns-in_ok-push-in-Replies-clause-written :
     goal.returns-in_ok-push-in-Replies-clause-written
 unfolding lib.Utf8.encode
-returns-in_ok-push-in-Replies-clause-written t c =
+returns-in_ok-push-in-Replies-clause-written g t c =
     let m = c.tree.inside.attack in
     let replies = c.in-Replies.replies in
     let next_is = sym c.deref.ensures ∙ c.in-Replies.is in
