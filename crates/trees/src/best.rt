@@ -10,10 +10,11 @@ use decision::Answer;
 use entry::MateLore;
 use moves::{Board, Goal, Move};
 use slots::{Seat, Slots};
+use std::alloc::Allocator;
 
 /// The best move, where the side to move forces the goal within the limit.
-pub(crate) fn best_move(
-    slots: &Slots<MateLore>,
+pub(crate) fn best_move<A: Allocator>(
+    slots: &Slots<MateLore, A>,
     seat: &mut Seat,
     board: &Board,
     goal: Goal,

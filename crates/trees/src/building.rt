@@ -16,7 +16,7 @@ use board::Position;
 use entry::MateLore;
 use moves::{Board, Goal, Move, after, has_lawful_move, lawful_on, mover_in_check};
 use slots::{Seat, Slots};
-use std::alloc::Global;
+use std::alloc::Allocator;
 use wintree::{End, NoMemory, Tree};
 
 /// How the line ends where the goal is reached.
@@ -33,20 +33,20 @@ fn end_at(board: &Board, goal: Goal) -> End
 
 /// What each part of a tree is built with.
 #[derive(Drop)]
-struct Builder<'a> {
-    alloc: Global,
-    slots: &'a Slots<MateLore>,
+struct Builder<'a, A: Allocator, B: Allocator> {
+    alloc: B,
+    slots: &'a Slots<MateLore, A>,
     goal: Goal,
 }
 
 /// The best tree, where the side to move forces the goal within the limit.
 #[cycle(building)]
-fn best_tree(
-    builder: &Builder<'_>,
+fn best_tree<A: Allocator, B: Allocator + Copy>(
+    builder: &Builder<'_, A, B>,
     seat: &mut Seat,
     board: &Board,
     limit: u8,
-) -> Result<Tree, NoMemory>
+) -> Result<Tree<B>, NoMemory>
     requires seat { IsSeatOf builder.now.slots.now seat.old }
     requires limit { limit ≤ 63 }
     requires forced { Forces builder.now.goal board.now.mover board.now limit }
@@ -65,12 +65,12 @@ fn best_tree(
 
 /// Each lawful reply, in order, with the best tree that meets it, where each is met within so many plies.
 #[cycle(building)]
-fn replies_to(
-    builder: &Builder<'_>,
+fn replies_to<A: Allocator, B: Allocator + Copy>(
+    builder: &Builder<'_, A, B>,
     seat: &mut Seat,
     board: &Board,
     n: u8,
-) -> Result<Vec<(Move, Tree)>, NoMemory>
+) -> Result<Vec<(Move, Tree<B>), B>, NoMemory>
     requires seat { IsSeatOf builder.now.slots.now seat.old }
     requires plies { n ≤ 61 }
     requires some { (m : Ply) × IsLawful board.now m }
@@ -91,14 +91,14 @@ fn replies_to(
 
 /// The tree of a position whose fewest plies to the goal these are: at each turn of the attacker it takes the fewest plies, and
 /// then the least move. After a want of memory the table and the seat serve the next call.
-pub fn build_tree(
-    alloc: Global,
-    slots: &Slots<MateLore>,
+pub fn build_tree<A: Allocator, B: Allocator + Copy>(
+    alloc: B,
+    slots: &Slots<MateLore, A>,
     seat: &mut Seat,
     position: &Position,
     goal: Goal,
     plies: u8,
-) -> Result<Tree, NoMemory>
+) -> Result<Tree<B>, NoMemory>
     requires seat { IsSeatOf slots.now seat.old }
     requires plies { plies ≤ 63 }
     requires fewest { IsFewest goal position.now plies }

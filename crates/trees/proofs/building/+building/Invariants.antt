@@ -4,14 +4,14 @@ use Rattle.trees.proofs.Lists.{replies_in, AreBest, AreShallow}
 use Rattle.trees.proofs.building.+building.Given as goal
 
 abbrev pub decreases-best_tree : goal.decreases-best_tree
-decreases-best_tree l = 2 * l.limit
+decreases-best_tree g l = 2 * l.limit
 
 abbrev pub decreases-replies_to : goal.decreases-replies_to
-decreases-replies_to l = 2 * l.n + 1
+decreases-replies_to g l = 2 * l.n + 1
 
 -- the replies so far are met
 abbrev pub invariant-replies_to-loop-m : goal.invariant-replies_to-loop-m
-invariant-replies_to-loop-m l =
+invariant-replies_to-loop-m g l =
     record {
       continues : Continues l.fn.builder.slots.now l.fn.seat l.seat;
       moves : replies_in l.replies.items ≡ take l.m-index l.m-items;

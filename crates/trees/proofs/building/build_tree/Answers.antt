@@ -6,9 +6,9 @@ use Rattle.trees.proofs.Fewest.{best_plan}
 use Rattle.trees.proofs.building.build_tree.Goals as goal
 
 pub returns-clause-wins : goal.returns-clause-wins
-returns-clause-wins c =
+returns-clause-wins g c =
     IfOk-weaker c.best_tree.result _ _ (λ tree best. (best_plan c.args.goal c.args.position.now tree (subst (λ (b : PlainBoard). IsBest c.args.goal b tree) c.of.ensures best) c.args.plies c.requires.fewest).0) c.best_tree.ensures.best
 
 pub returns-clause-height : goal.returns-clause-height
-returns-clause-height c =
+returns-clause-height g c =
     IfOk-weaker c.best_tree.result _ _ (λ tree best. (best_plan c.args.goal c.args.position.now tree (subst (λ (b : PlainBoard). IsBest c.args.goal b tree) c.of.ensures best) c.args.plies c.requires.fewest).1) c.best_tree.ensures.best
