@@ -155,27 +155,3 @@ pub fn keys_over<T: Gate, R: Threads + Wait + Sync>(
     seats.push_reserved(own);
     keys.map_err(|_| SolveFault::NoMemory)
 }
-
-/// The same, searched by the caller's own thread alone, with no lock.
-pub fn keys_alone<T: Gate>(
-    alloc: Global,
-    task: &Task<'_, T>,
-    slots: &Slots<MateLore>,
-    seat: &mut Seat,
-) -> Result<Vec<Key>, SolveFault>
-    requires { IsSeatOf slots.now seat.old }
-    ensures lists { IfOk result (λ keys. ListsKeys task.now.goal task.now.position.now task.now.limit keys.items) }
-    ensures accepted { IfOk result (λ _. task_fault task.now.limit 1 ≡ None) }
-    ensures refused { IfErr result (IsTaskRefusal task.now.limit 1) }
-    ensures seat { IsSeatOf slots.now seat.new }
-    ensures goes_on { GoesOn T.keeps slots.now seat.old seat.new }
-{
-    look_at(task.limit, 1)?;
-    let search = Search {
-        root: Root::of(task.position, task.goal),
-        slots,
-        gate: task.gate,
-    };
-    let keys = keys_of(alloc, &search, task.limit, seat);
-    keys.map_err(|_| SolveFault::NoMemory)
-}

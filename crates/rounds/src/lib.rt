@@ -5,11 +5,13 @@ mod bench;
 mod deal;
 mod help;
 mod keys;
+mod own_keys;
 mod round;
 mod share;
 mod solving;
 mod task;
 
-pub use keys::{Key, keys_alone, keys_over};
-pub use solving::{MOST_WORKERS, make_table, solve, solve_over};
+pub use keys::{Key, keys_over};
+pub use own_keys::{Asked, keys_alone};
+pub use solving::{MOST_WORKERS, make_table, make_table_in, solve, solve_over};
 pub use task::{Ended, Gate, NoGate, SolveFault, Task, no_gate_keeps_on};

@@ -15,7 +15,7 @@ use decision::{Answer, MOST_LIMIT};
 use entry::MateLore;
 use moves::Goal;
 use slots::{MOST_SLOTS, Seat, Slots};
-use std::alloc::{AllocError, Global};
+use std::alloc::{AllocError, Allocator, Global};
 use std::marker::Brand;
 use std::sync::Wait;
 use std::thread::Threads;
@@ -81,8 +81,24 @@ pub fn make_table(
     ensures new { IfOk result (λ r. AllNew r.0 r.1.items) }
     ensures refused { IfErr result (IsRefusal limit workers slots) }
 {
+    make_table_in(alloc, limit, workers, slots)
+}
+
+/// `make_table`, by any allocator.
+pub fn make_table_in<A: Allocator + Copy>(
+    alloc: A,
+    limit: u8,
+    workers: u8,
+    slots: usize,
+) -> Result<(Slots<MateLore, A>, Vec<Seat, A>), SolveFault>
+    ensures accepted { IfOk result (λ _. limits_fault limit workers slots ≡ None) }
+    ensures slots { IfOk result (λ r. slots_of r.0 ≡ slots) }
+    ensures seats { IfOk result (λ r. AreSeats r.0 (workers + 1) r.1.items) }
+    ensures new { IfOk result (λ r. AllNew r.0 r.1.items) }
+    ensures refused { IfErr result (IsRefusal limit workers slots) }
+{
     let limits = limits_of(limit, workers, slots)?;
-    match Slots::make(alloc, limits.slots, usize::from(limits.workers) + 1) {
+    match Slots::make_in(alloc, limits.slots, usize::from(limits.workers) + 1) {
         Ok(made) => Ok(made),
         Err(_) => Err(SolveFault::NoMemory),
     }
