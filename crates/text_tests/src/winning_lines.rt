@@ -1,7 +1,7 @@
 //! Tables of texts and of the offsets at which they go wrong, and trees checked at positions.
 
-use board::{Position, read_fen};
-use moves::{Goal, lawful};
+use board::read_fen;
+use moves::{Goal, Move, lawful};
 use std::alloc::Global;
 use std::test::Fail;
 use wintree::{End, Tree, TreeFault, check, read_tree, tree_text};
@@ -19,6 +19,18 @@ fn nested(alloc: Global, count: usize) -> Result<Vec<u8>, Fail> {
     Ok(bytes)
 }
 
+/// What is wrong with a text, if anything is.
+fn fault_of(alloc: Global, text: &[u8]) -> Option<TreeFault> {
+    read_tree(alloc, text).err()
+}
+
+/// The depth of the tree that a text is read as, and the text that this is written as.
+fn written_again(alloc: Global, text: &[u8]) -> Result<(u8, Vec<u8>), Fail> {
+    let tree = read_tree(alloc, text)?;
+    let again = tree_text(alloc, &tree)?;
+    Ok((tree.depth(), again))
+}
+
 #[test]
 fn trees_are_read_and_written_again(rt: HostRuntime) -> Result<(), Fail> {
     for (text, depth) in [
@@ -31,9 +43,8 @@ fn trees_are_read_and_written_again(rt: HostRuntime) -> Result<(), Fail> {
         (b"c1e1{b6a6:e1e6#,b6c6:e1e6#}".as_slice(), 2),
         (b"a1b2n{c3d4r:e5f6b#,f6e5q:a1a1q{b2b2:c3c3=}}".as_slice(), 3),
     ] {
-        let tree = read_tree(rt.alloc(), text)?;
-        assert_eq!(rt; tree.depth(), depth);
-        let again = tree_text(rt.alloc(), &tree)?;
+        let (found, again) = written_again(rt.alloc(), text)?;
+        assert_eq!(rt; found, depth);
         assert_eq!(rt; again.as_slice(), text);
     }
     Ok(())
@@ -61,7 +72,7 @@ fn faults_name_the_offset(rt: HostRuntime) -> Result<(), Fail> {
         (b"c4c5 #".as_slice(), 4),
         (b"\xFF4c5#".as_slice(), 0),
     ] {
-        let fault = read_tree(rt.alloc(), text).err();
+        let fault = fault_of(rt.alloc(), text);
         assert_eq!(rt; fault, Some(TreeFault::Grammar(offset)), "{offset}");
     }
     Ok(())
@@ -71,10 +82,10 @@ fn faults_name_the_offset(rt: HostRuntime) -> Result<(), Fail> {
 fn beginnings_of_a_text_end_too_soon(rt: HostRuntime) -> Result<(), Fail> {
     let text = b"c4c5{a6a5:b1a1#}";
     for n in 0..16 {
-        let fault = read_tree(rt.alloc(), &text[..n]).err();
+        let fault = fault_of(rt.alloc(), &text[..n]);
         assert_eq!(rt; fault, Some(TreeFault::Grammar(n)), "{n}");
     }
-    assert!(rt; read_tree(rt.alloc(), text).is_ok());
+    assert_eq!(rt; fault_of(rt.alloc(), text), None);
     Ok(())
 }
 
@@ -83,11 +94,10 @@ fn thirty_two_moves_may_be_nested(rt: HostRuntime) -> Result<(), Fail> {
     let deepest = nested(rt.alloc(), 31)?;
     let text = deepest.as_slice();
     assert_eq!(rt; text.len(), 346);
-    let tree = read_tree(rt.alloc(), text)?;
-    assert_eq!(rt; tree.depth(), 32);
-    let again = tree_text(rt.alloc(), &tree)?;
+    let (found, again) = written_again(rt.alloc(), text)?;
+    assert_eq!(rt; found, 32);
     assert_eq!(rt; again.as_slice(), text);
-    let fault = read_tree(rt.alloc(), text.get(..314).ok_or("short")?).err();
+    let fault = fault_of(rt.alloc(), text.get(..314).ok_or("short")?);
     assert_eq!(rt; fault, Some(TreeFault::Grammar(314)));
     Ok(())
 }
@@ -97,9 +107,9 @@ fn thirty_three_moves_are_too_deep(rt: HostRuntime) -> Result<(), Fail> {
     let deeper = nested(rt.alloc(), 32)?;
     let text = deeper.as_slice();
     assert_eq!(rt; text.len(), 357);
-    let fault = read_tree(rt.alloc(), text).err();
+    let fault = fault_of(rt.alloc(), text);
     assert_eq!(rt; fault, Some(TreeFault::Deep));
-    let fault = read_tree(rt.alloc(), text.get(..315).ok_or("short")?).err();
+    let fault = fault_of(rt.alloc(), text.get(..315).ok_or("short")?);
     assert_eq!(rt; fault, Some(TreeFault::Deep));
     Ok(())
 }
@@ -206,30 +216,40 @@ fn a_side_with_no_move_wins_nothing(rt: HostRuntime) -> Result<(), Fail> {
     Ok(())
 }
 
-/// The one lawful move of the position, if there is one alone.
-fn made_tree(alloc: Global, position: &Position, end: End) -> Result<Tree, Fail> {
-    let first = *lawful(position).first().ok_or("no move")?;
-    Ok(Tree::end(alloc, first, end)?)
+/// The first lawful move at the position of a text, or the last.
+fn end_move(fen: &[u8], last: bool) -> Result<Move, Fail> {
+    let moves = lawful(&read_fen(fen)?);
+    let found = if last { moves.last() } else { moves.first() };
+    Ok(*found.ok_or("no move")?)
+}
+
+/// The depth and the text of the tree of a move that ends the line.
+fn ending(alloc: Global, attack: Move, end: End) -> Result<(u8, Vec<u8>), Fail> {
+    let tree = Tree::end(alloc, attack, end)?;
+    let text = tree_text(alloc, &tree)?;
+    Ok((tree.depth(), text))
+}
+
+/// The same of a move with one reply, which another move meets.
+fn answered(alloc: Global, attack: Move, reply: Move, meets: Move) -> Result<(u8, Vec<u8>), Fail> {
+    let mut replies = Vec::new(alloc);
+    replies.push((reply, Tree::end(alloc, meets, End::Mate)?))?;
+    let tree = Tree::node(alloc, attack, replies)?;
+    let text = tree_text(alloc, &tree)?;
+    Ok((tree.depth(), text))
 }
 
 #[test]
 fn trees_are_made_of_moves_and_replies(rt: HostRuntime) -> Result<(), Fail> {
     // The defender's only move is a6a5, and the attacker's first one there is b1a1.
-    let defender = read_fen(b"k5/2K3/6/6/6/1R4 b")?;
-    let attacker = read_fen(b"6/k1K3/6/6/6/1R4 w")?;
-    let reply = *lawful(&defender).first().ok_or("no move")?;
-    let below = made_tree(rt.alloc(), &attacker, End::Mate)?;
-    assert_eq!(rt; below.depth(), 1);
-    let mut replies = Vec::new(rt.alloc());
-    replies.push((reply, below))?;
-    let first = read_fen(b"k5/6/2K3/6/6/1R4 w")?;
-    let attack = *lawful(&first).last().ok_or("no move")?;
-    let tree = Tree::node(rt.alloc(), attack, replies)?;
-    assert_eq!(rt; tree.depth(), 2);
-    let text = tree_text(rt.alloc(), &tree)?;
-    assert_eq!(rt; text.as_slice(), b"c4d5{a6a5:b1a1#}".as_slice());
-    let stale = made_tree(rt.alloc(), &attacker, End::Stale)?;
-    let text = tree_text(rt.alloc(), &stale)?;
+    let attack = end_move(b"k5/6/2K3/6/6/1R4 w", true)?;
+    let reply = end_move(b"k5/2K3/6/6/6/1R4 b", false)?;
+    let meets = end_move(b"6/k1K3/6/6/6/1R4 w", false)?;
+    let (depth, text) = ending(rt.alloc(), meets, End::Stale)?;
+    assert_eq!(rt; depth, 1);
     assert_eq!(rt; text.as_slice(), b"b1a1=".as_slice());
+    let (depth, text) = answered(rt.alloc(), attack, reply, meets)?;
+    assert_eq!(rt; depth, 2);
+    assert_eq!(rt; text.as_slice(), b"c4d5{a6a5:b1a1#}".as_slice());
     Ok(())
 }
