@@ -1,6 +1,5 @@
 -- How the work on a reply may end.
 use Rattle.std.specs.Prelude.{◌≡◌, ◌⊎◌, ⊤, ℕ, List, Option, None, Some, IfSome, Result, Ok, Err, Vec}
-use Rattle.std.specs.declared.alloc.Global.{Global}
 use Rattle.board.specs.Board.{PlainBoard}
 use Rattle.rules.specs.declared.goal.Goal.{Goal}
 use Rattle.decision.specs.declared.answer.Answer.{Answer}
@@ -25,7 +24,7 @@ Solves goal b limits (Ok answer) = (fault_of limits ≡ None) × IsAnswer goal b
 Solves goal b limits (Err fault) = (fault_of limits ≡ Some fault) ⊎ ((fault_of limits ≡ None) × (fault ≡ solve.NoMemory))
 
 -- the same of the first moves that force the goal
-abbrev pub FindsKeys : Goal → PlainBoard → Limits → Result (Vec Key Global) SolveFault → Type 0
+abbrev pub FindsKeys : {A : Type 0} → Goal → PlainBoard → Limits → Result (Vec Key A) SolveFault → Type 0
 FindsKeys goal b limits (Ok keys) = (fault_of limits ≡ None) × ListsKeys goal b limits.limit keys.items
 FindsKeys goal b limits (Err fault) = (fault_of limits ≡ Some fault) ⊎ ((fault_of limits ≡ None) × (fault ≡ solve.NoMemory))
 

@@ -16,18 +16,18 @@ use command_line::Limits;
 use decision::Answer;
 use entry::MateLore;
 use moves::{Board, Goal, lawful, read_sound};
-use rounds::{Key, NoGate, SolveFault, Task, keys_alone, make_table};
+use rounds::{Asked, Key, SolveFault, keys_alone, make_table_in};
 use slots::{Seat, Slots};
-use std::alloc::Global;
+use std::alloc::Allocator;
 use trees::build_tree;
 
 /// The answer within the limits, with the table that it was found over and a seat there.
-fn searched_alone(
-    alloc: Global,
+fn searched_alone<A: Allocator + Copy>(
+    alloc: A,
     position: &Position,
     goal: Goal,
     limits: Limits,
-) -> Result<(Answer, Slots<MateLore>, Seat), SolveFault>
+) -> Result<(Answer, Slots<MateLore, A>, Seat), SolveFault>
     ensures answer { IfOk result (λ found. Solves goal position.now limits (Ok found.0)) }
     ensures seat { IfOk result (λ found. IsSeatOf found.1 found.2) }
     ensures fault { IfErr result (λ fault. Solves goal position.now limits (Err fault)) }
@@ -37,19 +37,19 @@ fn searched_alone(
         workers,
         slots,
     } = search_of(limits);
-    let (table, mut seats) = make_table(alloc, limit, workers, slots)?;
+    let (table, mut seats) = make_table_in(alloc, limit, workers, slots)?;
     let mut seat = seats.take_last();
     let answer = solve_alone(&table, &mut seat, &Board::of(position), goal, limit);
     Ok((answer, table, seat))
 }
 
 /// The first moves that force the goal within the limits.
-fn keys_found_alone(
-    alloc: Global,
+fn keys_found_alone<A: Allocator + Copy>(
+    alloc: A,
     position: &Position,
     goal: Goal,
     limits: Limits,
-) -> Result<Vec<Key>, SolveFault>
+) -> Result<Vec<Key, A>, SolveFault>
     ensures { FindsKeys goal position.now limits result }
 {
     let Search {
@@ -57,47 +57,46 @@ fn keys_found_alone(
         workers,
         slots,
     } = search_of(limits);
-    let (table, mut seats) = make_table(alloc, limit, workers, slots)?;
+    let (table, mut seats) = make_table_in(alloc, limit, workers, slots)?;
     let mut seat = seats.take_last();
-    let task = Task {
+    let asked = Asked {
         position,
         goal,
         limit,
-        gate: &NoGate,
     };
-    keys_alone(alloc, &task, &table, &mut seat)
+    keys_alone(alloc, &asked, &table, &mut seat)
 }
 
-fn keys_shown(
-    alloc: Global,
+fn keys_shown<A: Allocator + Copy>(
+    alloc: A,
     position: &Position,
     goal: Goal,
     limits: Limits,
-) -> Result<Vec<u8>, Refusal>
+) -> Result<Vec<u8, A>, Refusal>
     ensures { Gives vec_items (ShowsKeys goal position.now limits) result }
 {
     let keys = keys_found_alone(alloc, position, goal, limits)?;
     Ok(keys_text(alloc, limits.limit, keys.as_slice())?.into_bytes())
 }
 
-fn answer_shown(
-    alloc: Global,
+fn answer_shown<A: Allocator + Copy>(
+    alloc: A,
     position: &Position,
     goal: Goal,
     limits: Limits,
-) -> Result<Vec<u8>, Refusal>
+) -> Result<Vec<u8, A>, Refusal>
     ensures { Gives vec_items (ShowsAnswer goal position.now limits) result }
 {
     let (answer, _, _) = searched_alone(alloc, position, goal, limits)?;
     Ok(answer_text(alloc, goal, answer)?.into_bytes())
 }
 
-fn plan_shown(
-    alloc: Global,
+fn plan_shown<A: Allocator + Copy>(
+    alloc: A,
     position: &Position,
     goal: Goal,
     limits: Limits,
-) -> Result<Vec<u8>, Refusal>
+) -> Result<Vec<u8, A>, Refusal>
     ensures { Gives vec_items (ShowsPlanFound goal position.now limits) result }
 {
     let (answer, table, mut seat) = searched_alone(alloc, position, goal, limits)?;
@@ -110,19 +109,19 @@ fn plan_shown(
     }
 }
 
-fn moves_shown(alloc: Global, position: &Position) -> Result<Vec<u8>, Refusal>
+fn moves_shown<A: Allocator>(alloc: A, position: &Position) -> Result<Vec<u8, A>, Refusal>
     ensures { Gives vec_items (ShowsMoves position.now) result }
 {
     let moves = lawful(position);
     Ok(moves_text(alloc, moves.as_slice())?.into_bytes())
 }
 
-fn check_shown(
-    alloc: Global,
+fn check_shown<A: Allocator + Copy>(
+    alloc: A,
     position: &Position,
     goal: Goal,
     input: &[u8],
-) -> Result<Vec<u8>, Refusal>
+) -> Result<Vec<u8, A>, Refusal>
     ensures { Gives vec_items (ShowsCheck goal position.now input.now) result }
 {
     if MOST_INPUT < input.len() {
@@ -132,7 +131,7 @@ fn check_shown(
 }
 
 /// The reply of `moves`: the lawful moves, or why there are none to tell.
-pub fn moves_reply(alloc: Global, fen: &[u8]) -> Result<Vec<u8>, Refusal>
+pub fn moves_reply<A: Allocator>(alloc: A, fen: &[u8]) -> Result<Vec<u8, A>, Refusal>
     ensures { Gives vec_items (IsOutput (record { fen = fen.entry; action = Moves }) []) result }
 {
     let position = read_sound(fen)?;
@@ -140,7 +139,12 @@ pub fn moves_reply(alloc: Global, fen: &[u8]) -> Result<Vec<u8>, Refusal>
 }
 
 /// The reply of `check` to the tree of this input.
-pub fn check_reply(alloc: Global, fen: &[u8], goal: Goal, input: &[u8]) -> Result<Vec<u8>, Refusal>
+pub fn check_reply<A: Allocator + Copy>(
+    alloc: A,
+    fen: &[u8],
+    goal: Goal,
+    input: &[u8],
+) -> Result<Vec<u8, A>, Refusal>
     ensures { Gives vec_items (IsOutput (record { fen = fen.entry; action = Check goal }) input.now) result }
 {
     let position = read_sound(fen)?;
@@ -148,12 +152,12 @@ pub fn check_reply(alloc: Global, fen: &[u8], goal: Goal, input: &[u8]) -> Resul
 }
 
 /// The reply of `solve`, searched by the caller's own thread alone.
-pub fn solve_reply(
-    alloc: Global,
+pub fn solve_reply<A: Allocator + Copy>(
+    alloc: A,
     fen: &[u8],
     goal: Goal,
     limits: Limits,
-) -> Result<Vec<u8>, Refusal>
+) -> Result<Vec<u8, A>, Refusal>
     ensures { Gives vec_items (IsOutput (record { fen = fen.entry; action = Solve goal limits }) []) result }
 {
     let position = read_sound(fen)?;
@@ -161,7 +165,12 @@ pub fn solve_reply(
 }
 
 /// The reply of `keys`, searched by the caller's own thread alone.
-pub fn keys_reply(alloc: Global, fen: &[u8], goal: Goal, limits: Limits) -> Result<Vec<u8>, Refusal>
+pub fn keys_reply<A: Allocator + Copy>(
+    alloc: A,
+    fen: &[u8],
+    goal: Goal,
+    limits: Limits,
+) -> Result<Vec<u8, A>, Refusal>
     ensures { Gives vec_items (IsOutput (record { fen = fen.entry; action = Keys goal limits }) []) result }
 {
     let position = read_sound(fen)?;
@@ -169,7 +178,12 @@ pub fn keys_reply(alloc: Global, fen: &[u8], goal: Goal, limits: Limits) -> Resu
 }
 
 /// The reply of `tree`, searched by the caller's own thread alone.
-pub fn tree_reply(alloc: Global, fen: &[u8], goal: Goal, limits: Limits) -> Result<Vec<u8>, Refusal>
+pub fn tree_reply<A: Allocator + Copy>(
+    alloc: A,
+    fen: &[u8],
+    goal: Goal,
+    limits: Limits,
+) -> Result<Vec<u8, A>, Refusal>
     ensures { Gives vec_items (IsOutput (record { fen = fen.entry; action = Tree goal limits }) []) result }
 {
     let position = read_sound(fen)?;

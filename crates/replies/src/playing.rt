@@ -13,10 +13,14 @@ use crate::refusal::{Refusal, refused_text};
 use board::{Position, fen_text};
 use moves::{Move, lawful, read_sound};
 use rules::apply;
-use std::alloc::{AllocError, Global};
+use std::alloc::{AllocError, Allocator};
 
 /// The lawful move of this name.
-fn named_move(alloc: Global, position: &Position, name: &[u8]) -> Result<Option<Move>, AllocError>
+fn named_move<A: Allocator + Copy>(
+    alloc: A,
+    position: &Position,
+    name: &[u8],
+) -> Result<Option<Move>, AllocError>
     ensures { IfOk result (λ found. MatchOption found (NamesNone position.now name.now)
         (λ m. IsLawful position.now m × (move_text m ≡ name.now))) }
 {
@@ -30,7 +34,7 @@ fn named_move(alloc: Global, position: &Position, name: &[u8]) -> Result<Option<
     Ok(None)
 }
 
-fn position_line(alloc: Global, position: &Position) -> Result<Vec<u8>, AllocError>
+fn position_line<A: Allocator>(alloc: A, position: &Position) -> Result<Vec<u8, A>, AllocError>
     ensures { IfOk result (λ line. (text : List ℕ) × IsFenText text position.now × (line.items ≡ line_of text)) }
 {
     let text = fen_text(position);
@@ -40,7 +44,11 @@ fn position_line(alloc: Global, position: &Position) -> Result<Vec<u8>, AllocErr
     Ok(line)
 }
 
-fn after_shown(alloc: Global, position: &Position, name: &[u8]) -> Result<Vec<u8>, Refusal>
+fn after_shown<A: Allocator + Copy>(
+    alloc: A,
+    position: &Position,
+    name: &[u8],
+) -> Result<Vec<u8, A>, Refusal>
     ensures { Gives vec_items (ShowsAfter position.now name.now) result }
 {
     match named_move(alloc, position, name)? {
@@ -50,7 +58,11 @@ fn after_shown(alloc: Global, position: &Position, name: &[u8]) -> Result<Vec<u8
 }
 
 /// The text of the position after the lawful move of this name, on a line.
-pub fn after_reply(alloc: Global, fen: &[u8], name: &[u8]) -> Result<Vec<u8>, Refusal>
+pub fn after_reply<A: Allocator + Copy>(
+    alloc: A,
+    fen: &[u8],
+    name: &[u8],
+) -> Result<Vec<u8, A>, Refusal>
     ensures { Gives vec_items (IsAfterReply fen.now name.now) result }
 {
     let position = read_sound(fen)?;
@@ -58,7 +70,7 @@ pub fn after_reply(alloc: Global, fen: &[u8], name: &[u8]) -> Result<Vec<u8>, Re
 }
 
 /// What standard error would be told of the refusal of this text.
-fn sentence_of(alloc: Global, refusal: Refusal, fen: &[u8]) -> Result<Vec<u8>, Refusal>
+fn sentence_of<A: Allocator>(alloc: A, refusal: Refusal, fen: &[u8]) -> Result<Vec<u8, A>, Refusal>
     ensures { IfErr result (λ why. why ≡ no_memory) }
 {
     let mut sentence = Vec::new(alloc);
@@ -73,7 +85,11 @@ fn sentence_of(alloc: Global, refusal: Refusal, fen: &[u8]) -> Result<Vec<u8>, R
     }
 }
 
-fn refusal_told(alloc: Global, refusal: Refusal, fen: &[u8]) -> Result<Vec<u8>, Refusal>
+fn refusal_told<A: Allocator + Copy>(
+    alloc: A,
+    refusal: Refusal,
+    fen: &[u8],
+) -> Result<Vec<u8, A>, Refusal>
     ensures told { IfOk result (λ text. (sentence : List ℕ) × (text.items ≡ (refused refusal).text ++ sentence)) }
     ensures fault { IfErr result (λ why. why ≡ no_memory) }
 {
@@ -84,7 +100,7 @@ fn refusal_told(alloc: Global, refusal: Refusal, fen: &[u8]) -> Result<Vec<u8>, 
 }
 
 /// Why the text is no sound position's, in a line and in a sentence; nothing where it is one's.
-pub fn fault_reply(alloc: Global, fen: &[u8]) -> Result<Vec<u8>, Refusal>
+pub fn fault_reply<A: Allocator + Copy>(alloc: A, fen: &[u8]) -> Result<Vec<u8, A>, Refusal>
     ensures { Gives vec_items (IsFaultReply fen.now) result }
 {
     match read_sound(fen) {

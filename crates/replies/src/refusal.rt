@@ -6,7 +6,7 @@ ghost use Rattle.replies.specs.declared.refusal.Refusal.TheVariants.{NoMemory as
 
 use board::FenFault;
 use rounds::SolveFault;
-use std::alloc::{AllocError, Global};
+use std::alloc::{AllocError, Allocator};
 use std::fmt;
 use wintree::{NoMemory, TreeFault};
 
@@ -53,7 +53,7 @@ impl Refusal {
 }
 
 /// The line that says why a line was not answered.
-pub fn refused_text(alloc: Global, refusal: Refusal) -> Result<String, AllocError>
+pub fn refused_text<A: Allocator>(alloc: A, refusal: Refusal) -> Result<String<A>, AllocError>
     ensures { IfOk result (λ text. string_bytes text ≡ (refused refusal).text) }
 {
     format!(in alloc; "refused: {refusal}\n")

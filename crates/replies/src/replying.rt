@@ -21,7 +21,7 @@ use entry::MateLore;
 use moves::{Goal, Move, lawful, read_sound};
 use rounds::{Gate, Key, NoGate, SolveFault, Task, keys_over, make_table, solve, solve_over};
 use slots::{Seat, Slots};
-use std::alloc::{AllocError, Global};
+use std::alloc::{AllocError, Allocator, Global};
 use std::fmt::Write;
 use std::sync::Wait;
 use std::thread::Threads;
@@ -159,7 +159,11 @@ fn keys_within<R: Threads + Wait + Sync, T: Gate>(
 }
 
 /// What is printed of an answer.
-pub fn answer_text(alloc: Global, goal: Goal, answer: Answer) -> Result<String, AllocError>
+pub fn answer_text<A: Allocator>(
+    alloc: A,
+    goal: Goal,
+    answer: Answer,
+) -> Result<String<A>, AllocError>
     ensures { IfOk result (λ text. string_bytes text ≡ answer_text goal answer) }
 {
     match answer {
@@ -171,13 +175,17 @@ pub fn answer_text(alloc: Global, goal: Goal, answer: Answer) -> Result<String, 
     }
 }
 
-pub(crate) fn none_text(alloc: Global, limit: u32) -> Result<String, AllocError>
+pub(crate) fn none_text<A: Allocator>(alloc: A, limit: u32) -> Result<String<A>, AllocError>
     ensures { IfOk result (λ text. string_bytes text ≡ none_text limit) }
 {
     format!(in alloc; "none within {limit}\n")
 }
 
-pub(crate) fn keys_text(alloc: Global, limit: u32, keys: &[Key]) -> Result<String, AllocError>
+pub(crate) fn keys_text<A: Allocator>(
+    alloc: A,
+    limit: u32,
+    keys: &[Key],
+) -> Result<String<A>, AllocError>
     ensures { IfOk result (λ text. string_bytes text ≡ keys_text limit keys.now) }
 {
     match keys {
@@ -186,7 +194,7 @@ pub(crate) fn keys_text(alloc: Global, limit: u32, keys: &[Key]) -> Result<Strin
     }
 }
 
-fn key_lines(alloc: Global, keys: &[Key]) -> Result<String, AllocError>
+fn key_lines<A: Allocator>(alloc: A, keys: &[Key]) -> Result<String<A>, AllocError>
     ensures { IfOk result (λ text. string_bytes text ≡ flat_map key_text keys.now) }
 {
     let mut text = String::new(alloc);
@@ -197,7 +205,7 @@ fn key_lines(alloc: Global, keys: &[Key]) -> Result<String, AllocError>
     Ok(text)
 }
 
-pub(crate) fn moves_text(alloc: Global, moves: &[Move]) -> Result<String, AllocError>
+pub(crate) fn moves_text<A: Allocator>(alloc: A, moves: &[Move]) -> Result<String<A>, AllocError>
     ensures { IfOk result (λ text. string_bytes text ≡ moves_text moves.now) }
 {
     let mut text = String::new(alloc);
@@ -207,7 +215,7 @@ pub(crate) fn moves_text(alloc: Global, moves: &[Move]) -> Result<String, AllocE
     Ok(text)
 }
 
-fn checked_text(alloc: Global, plies: Option<u8>) -> Result<String, AllocError>
+fn checked_text<A: Allocator>(alloc: A, plies: Option<u8>) -> Result<String<A>, AllocError>
     ensures { IfOk result (λ text. string_bytes text ≡ checked_text plies) }
 {
     match plies {
@@ -270,7 +278,10 @@ fn plan_text<R: Threads + Wait + Sync, T: Gate>(
     }
 }
 
-pub(crate) fn tree_line(alloc: Global, tree: &Tree) -> Result<Vec<u8>, NoMemory>
+pub(crate) fn tree_line<A: Allocator, B: Allocator>(
+    alloc: B,
+    tree: &Tree<A>,
+) -> Result<Vec<u8, B>, NoMemory>
     ensures { IfOk result (λ line. line.items ≡ line_of (tree_words tree.now)) }
 {
     let mut line = tree_text(alloc, tree)?;
@@ -279,12 +290,12 @@ pub(crate) fn tree_line(alloc: Global, tree: &Tree) -> Result<Vec<u8>, NoMemory>
 }
 
 /// In how many plies the tree of a text wins, if it wins.
-pub(crate) fn verdict_text(
-    alloc: Global,
+pub(crate) fn verdict_text<A: Allocator + Copy>(
+    alloc: A,
     position: &Position,
     goal: Goal,
     text: &[u8],
-) -> Result<Vec<u8>, Refusal>
+) -> Result<Vec<u8, A>, Refusal>
     ensures { Gives vec_items (ShowsTree goal position.now text.now) result }
 {
     let tree = read_tree(alloc, text)?;
@@ -294,7 +305,7 @@ pub(crate) fn verdict_text(
 }
 
 /// Does nothing but read the depth, by which contracts learn that it is at most 32.
-fn look_at_depth(tree: &Tree)
+fn look_at_depth<A: Allocator>(tree: &Tree<A>)
     ensures { depth tree.now ≤ 32 }
 {
     let _ = tree.depth();

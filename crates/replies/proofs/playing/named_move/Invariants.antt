@@ -4,4 +4,4 @@ use Rattle.rules.specs.MoveText.{move_text}
 use Rattle.replies.proofs.playing.named_move.Given as goal
 
 abbrev pub invariant-loop-m : goal.invariant-loop-m
-invariant-loop-m l = All (λ m. move_text m ≡ l.name → ⊥) (take l.m-index l.m-items)
+invariant-loop-m g l = All (λ m. move_text m ≡ l.name → ⊥) (take l.m-index l.m-items)

@@ -5,4 +5,4 @@ use Rattle.replies.specs.Output.{key_text}
 use Rattle.replies.proofs.replying.key_lines.Given as goal
 
 abbrev pub invariant-loop-key : goal.invariant-loop-key
-invariant-loop-key l = string_bytes l.text ≡ flat_map key_text (take l.key-index l.keys)
+invariant-loop-key g l = string_bytes l.text ≡ flat_map key_text (take l.key-index l.keys)
