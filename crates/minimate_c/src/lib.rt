@@ -3,17 +3,12 @@
 
 ghost use Rattle.std.specs.Prelude.{[]};
 ghost use Rattle.command_line.specs.declared.line.Action.TheVariants.{Solve, Keys, Moves, Tree, Check};
-ghost use Rattle.minimate_c.specs.Calls.{Answers, AnswersAfter, AnswersFault, goal_of, limits_of};
+ghost use Rattle.calls.specs.Calls.{Answers, AnswersAfter, AnswersFault, goal_of, limits_of};
 
-mod answering;
-mod room;
 #[cfg(test)]
 mod tests;
 
-use crate::answering::{goal_of, limits_of, put_reply};
-use replies::{
-    after_reply, check_reply, fault_reply, keys_reply, moves_reply, solve_reply, tree_reply,
-};
+use calls::Terms;
 use std::alloc::Global;
 
 /// What `minimate moves` writes of the position.
@@ -21,7 +16,7 @@ use std::alloc::Global;
 pub extern "C" fn minimate_moves(alloc: Global, fen: &[u8], room: &mut [u8]) -> usize
     ensures { Answers (record { fen = fen.entry; action = Moves }) [] room.old room.new result }
 {
-    put_reply(alloc, moves_reply(alloc, fen), room)
+    calls::moves(alloc, fen, room)
 }
 
 /// Why `minimate` would refuse the position's text, in a line and in a sentence; nothing where it wouldn't.
@@ -29,7 +24,7 @@ pub extern "C" fn minimate_moves(alloc: Global, fen: &[u8], room: &mut [u8]) -> 
 pub extern "C" fn minimate_fault(alloc: Global, fen: &[u8], room: &mut [u8]) -> usize
     ensures { AnswersFault fen.now room.old room.new result }
 {
-    put_reply(alloc, fault_reply(alloc, fen), room)
+    calls::fault(alloc, fen, room)
 }
 
 /// The position after the lawful move that `minimate moves` writes by this name.
@@ -37,7 +32,7 @@ pub extern "C" fn minimate_fault(alloc: Global, fen: &[u8], room: &mut [u8]) -> 
 pub extern "C" fn minimate_after(alloc: Global, fen: &[u8], name: &[u8], room: &mut [u8]) -> usize
     ensures { AnswersAfter fen.now name.now room.old room.new result }
 {
-    put_reply(alloc, after_reply(alloc, fen, name), room)
+    calls::after(alloc, fen, name, room)
 }
 
 /// What `minimate check` writes of the position and this input, which is a tree's text.
@@ -51,8 +46,7 @@ pub extern "C" fn minimate_check(
 ) -> usize
     ensures { Answers (record { fen = fen.entry; action = Check (goal_of stale) }) tree.now room.old room.new result }
 {
-    let reply = check_reply(alloc, fen, goal_of(stale), tree);
-    put_reply(alloc, reply, room)
+    calls::check(alloc, fen, stale, tree, room)
 }
 
 /// What `minimate solve` writes of the position, found by the caller's own thread alone.
@@ -67,8 +61,12 @@ pub extern "C" fn minimate_solve(
 ) -> usize
     ensures { Answers (record { fen = fen.entry; action = Solve (goal_of stale) (limits_of limit slots) }) [] room.old room.new result }
 {
-    let reply = solve_reply(alloc, fen, goal_of(stale), limits_of(limit, slots));
-    put_reply(alloc, reply, room)
+    let terms = Terms {
+        stale,
+        limit,
+        slots,
+    };
+    calls::solve(alloc, fen, terms, room)
 }
 
 /// What `minimate keys` writes of the position, found by the caller's own thread alone.
@@ -83,8 +81,12 @@ pub extern "C" fn minimate_keys(
 ) -> usize
     ensures { Answers (record { fen = fen.entry; action = Keys (goal_of stale) (limits_of limit slots) }) [] room.old room.new result }
 {
-    let reply = keys_reply(alloc, fen, goal_of(stale), limits_of(limit, slots));
-    put_reply(alloc, reply, room)
+    let terms = Terms {
+        stale,
+        limit,
+        slots,
+    };
+    calls::keys(alloc, fen, terms, room)
 }
 
 /// What `minimate tree` writes of the position, found by the caller's own thread alone.
@@ -99,6 +101,10 @@ pub extern "C" fn minimate_tree(
 ) -> usize
     ensures { Answers (record { fen = fen.entry; action = Tree (goal_of stale) (limits_of limit slots) }) [] room.old room.new result }
 {
-    let reply = tree_reply(alloc, fen, goal_of(stale), limits_of(limit, slots));
-    put_reply(alloc, reply, room)
+    let terms = Terms {
+        stale,
+        limit,
+        slots,
+    };
+    calls::tree(alloc, fen, terms, room)
 }

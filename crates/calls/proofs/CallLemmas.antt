@@ -1,0 +1,22 @@
+-- What a call answers, from the work on its reply.
+use Rattle.std.proofs.Common.{ℕ, List, Result, Ok, Err, Vec, vec_items, inl, inr, refl, ap}
+use Rattle.command_line.specs.declared.line.Line.{Line}
+use Rattle.replies.specs.Outcome.{Gives}
+use Rattle.replies.specs.Output.{Reply, answered, refused, IsOutput}
+use Rattle.replies.specs.declared.refusal.Refusal.{Refusal}
+use Rattle.replies.specs.declared.refusal.Refusal.TheVariants.{NoMemory}
+use Rattle.calls.specs.Calls.{Puts, Answers}
+use Rattle.calls.specs.Putting.{PutsReply}
+
+-- a reply that is given is answered where it is put
+pub puts : {A : Type 0} (Is : Reply → Type 0) (r : Result (Vec ℕ A) Refusal) (old new : List ℕ) (number : ℕ)
+    → Gives vec_items Is r → PutsReply r old new number → Puts Is old new number
+puts Is (Ok text) old new number gives put = (answered text.items, inl gives, put)
+puts Is (Err refusal) old new number (inl none) (inl put) = (refused refusal, inr (ap refused none), put)
+puts Is (Err refusal) old new number (inr right) (inl put) = (refused refusal, inl right, put)
+puts Is (Err refusal) old new number gives (inr put) = (refused NoMemory, inr refl, put)
+
+-- so is a reply that is the line's
+pub answers : {A : Type 0} (line : Line) (input : List ℕ) (r : Result (Vec ℕ A) Refusal) (old new : List ℕ) (number : ℕ)
+    → Gives vec_items (IsOutput line input) r → PutsReply r old new number → Answers line input old new number
+answers line input = puts (IsOutput line input)

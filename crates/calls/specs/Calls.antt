@@ -1,0 +1,35 @@
+-- What a call of the library answers.
+use Rattle.std.specs.Prelude.{◌≡◌, ◌⊎◌, ℕ, Bool, true, false, List}
+use Rattle.rules.specs.declared.goal.Goal.{Goal}
+use Rattle.rules.specs.declared.goal.Goal.TheVariants.{Mate, MateOrStale}
+use Rattle.command_line.specs.declared.line.Line.{Line}
+use Rattle.command_line.specs.declared.line.Limits.{Limits}
+use Rattle.replies.specs.Output.{Reply, refused, IsOutput}
+use Rattle.replies.specs.Playing.{IsAfterReply, IsFaultReply}
+use Rattle.replies.specs.declared.refusal.Refusal.TheVariants.{NoMemory}
+use Rattle.calls.specs.Room.{IsPut}
+
+-- the goal that a caller names: mate, or stalemate too
+abbrev pub goal_of : Bool → Goal
+goal_of false = Mate
+goal_of true = MateOrStale
+
+-- the limits of a search with one worker
+abbrev pub limits_of : ℕ → ℕ → Limits
+limits_of limit slots = record { limit = limit; workers = 1; slots = slots }
+
+-- the room and the number are those of such a reply, or of the refusal for want of memory
+abbrev pub Puts : (Reply → Type 0) → List ℕ → List ℕ → ℕ → Type 0
+Puts Is old new number = (reply : Reply) × (Is reply ⊎ (reply ≡ refused NoMemory)) × IsPut reply.text old new number
+
+-- the reply is the program's to the line with this input
+abbrev pub Answers : Line → List ℕ → List ℕ → List ℕ → ℕ → Type 0
+Answers line input = Puts (IsOutput line input)
+
+-- the reply is the position after the move of this name, at the position of a text
+abbrev pub AnswersAfter : List ℕ → List ℕ → List ℕ → List ℕ → ℕ → Type 0
+AnswersAfter fen name = Puts (IsAfterReply fen name)
+
+-- the reply is the fault of a text, or nothing
+abbrev pub AnswersFault : List ℕ → List ℕ → List ℕ → ℕ → Type 0
+AnswersFault fen = Puts (IsFaultReply fen)

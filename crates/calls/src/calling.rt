@@ -1,0 +1,72 @@
+//! The seven calls. Each puts its reply into the room, or why there is none, and answers the length of what it puts.
+ghost use Rattle.std.specs.Prelude.{[]};
+ghost use Rattle.command_line.specs.declared.line.Action.TheVariants.{Solve, Keys, Moves, Tree, Check};
+ghost use Rattle.calls.specs.Calls.{Answers, AnswersAfter, AnswersFault, goal_of, limits_of};
+
+use crate::answering::{Terms, goal_of, limits_of, put_reply};
+use replies::{
+    after_reply, check_reply, fault_reply, keys_reply, moves_reply, solve_reply, tree_reply,
+};
+use std::alloc::Allocator;
+
+/// What `minimate moves` writes of the position.
+pub fn moves<A: Allocator + Copy>(alloc: A, fen: &[u8], room: &mut [u8]) -> usize
+    ensures { Answers (record { fen = fen.entry; action = Moves }) [] room.old room.new result }
+{
+    put_reply(alloc, moves_reply(alloc, fen), room)
+}
+
+/// Why `minimate` would refuse the position's text, in a line and in a sentence; nothing where it wouldn't.
+pub fn fault<A: Allocator + Copy>(alloc: A, fen: &[u8], room: &mut [u8]) -> usize
+    ensures { AnswersFault fen.now room.old room.new result }
+{
+    put_reply(alloc, fault_reply(alloc, fen), room)
+}
+
+/// The position after the lawful move that `minimate moves` writes by this name.
+pub fn after<A: Allocator + Copy>(alloc: A, fen: &[u8], name: &[u8], room: &mut [u8]) -> usize
+    ensures { AnswersAfter fen.now name.now room.old room.new result }
+{
+    put_reply(alloc, after_reply(alloc, fen, name), room)
+}
+
+/// What `minimate check` writes of the position and this input, which is a tree's text.
+pub fn check<A: Allocator + Copy>(
+    alloc: A,
+    fen: &[u8],
+    stale: bool,
+    tree: &[u8],
+    room: &mut [u8],
+) -> usize
+    ensures { Answers (record { fen = fen.entry; action = Check (goal_of stale) }) tree.now room.old room.new result }
+{
+    let reply = check_reply(alloc, fen, goal_of(stale), tree);
+    put_reply(alloc, reply, room)
+}
+
+/// What `minimate solve` writes of the position, found by the caller's own thread alone.
+pub fn solve<A: Allocator + Copy>(alloc: A, fen: &[u8], terms: Terms, room: &mut [u8]) -> usize
+    ensures { Answers (record { fen = fen.entry; action = Solve (goal_of terms.stale) (limits_of terms.limit terms.slots) })
+        [] room.old room.new result }
+{
+    let reply = solve_reply(alloc, fen, goal_of(terms.stale), limits_of(terms));
+    put_reply(alloc, reply, room)
+}
+
+/// What `minimate keys` writes of the position, found by the caller's own thread alone.
+pub fn keys<A: Allocator + Copy>(alloc: A, fen: &[u8], terms: Terms, room: &mut [u8]) -> usize
+    ensures { Answers (record { fen = fen.entry; action = Keys (goal_of terms.stale) (limits_of terms.limit terms.slots) })
+        [] room.old room.new result }
+{
+    let reply = keys_reply(alloc, fen, goal_of(terms.stale), limits_of(terms));
+    put_reply(alloc, reply, room)
+}
+
+/// What `minimate tree` writes of the position, found by the caller's own thread alone.
+pub fn tree<A: Allocator + Copy>(alloc: A, fen: &[u8], terms: Terms, room: &mut [u8]) -> usize
+    ensures { Answers (record { fen = fen.entry; action = Tree (goal_of terms.stale) (limits_of terms.limit terms.slots) })
+        [] room.old room.new result }
+{
+    let reply = tree_reply(alloc, fen, goal_of(terms.stale), limits_of(terms));
+    put_reply(alloc, reply, room)
+}

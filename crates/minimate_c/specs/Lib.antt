@@ -1,3 +1,0 @@
--- to be believed
-pub mod Room
-pub mod Calls
