@@ -1,5 +1,5 @@
 //! The calls over memory of the host, too little of it, and memory that is with somebody else.
-ghost use Rattle.std.specs.Prelude.{◌≡◌};
+ghost use Rattle.lent_memory.specs.Ownership.{IsMemorySize};
 
 use crate::{page_after, page_check, page_fault, page_keys, page_moves, page_solve, page_tree};
 use calls::Terms;
@@ -23,14 +23,21 @@ const fn mate_within(limit: u32) -> Terms {
 }
 
 /// Memory that the host gives.
-fn lent(rt: HostRuntime, size: usize) -> Memory {
-    Memory::taken(&rt.alloc(), size).expect(&rt, "memory")
+fn lent(rt: &impl Abort, alloc: Global, size: usize) -> Memory
+    requires { IsMemorySize size }
+{
+    Memory::taken(&alloc, size).expect(rt, "memory")
 }
 
 #[test]
 fn solves_into_the_room(rt: HostRuntime) {
     let mut room = [7u8; 14];
-    let count = page_solve(lent(rt, ENOUGH), ROOK_MATES_IN_THREE, mate_within(3), &mut room);
+    let count = page_solve(
+        lent(&rt, rt.alloc(), ENOUGH),
+        ROOK_MATES_IN_THREE,
+        mate_within(3),
+        &mut room,
+    );
     assert_eq!(rt; count, 12);
     assert_eq!(rt; &room, b"mate 3 c4c5\n\x07\x07");
 }
@@ -38,7 +45,12 @@ fn solves_into_the_room(rt: HostRuntime) {
 #[test]
 fn writes_a_tree_into_the_room(rt: HostRuntime) {
     let mut room = [7u8; 18];
-    let count = page_tree(lent(rt, ENOUGH), ROOK_MATES_IN_THREE, mate_within(3), &mut room);
+    let count = page_tree(
+        lent(&rt, rt.alloc(), ENOUGH),
+        ROOK_MATES_IN_THREE,
+        mate_within(3),
+        &mut room,
+    );
     assert_eq!(rt; count, 17);
     assert_eq!(rt; &room, b"c4c5{a6a5:b1a1#}\n\x07");
 }
@@ -47,7 +59,13 @@ fn writes_a_tree_into_the_room(rt: HostRuntime) {
 fn checks_a_tree(rt: HostRuntime) {
     let mut room = [7u8; 8];
     let tree = b"c4c5{a6a5:b1a1#}".as_slice();
-    let count = page_check(lent(rt, ENOUGH), ROOK_MATES_IN_THREE, false, tree, &mut room);
+    let count = page_check(
+        lent(&rt, rt.alloc(), ENOUGH),
+        ROOK_MATES_IN_THREE,
+        false,
+        tree,
+        &mut room,
+    );
     assert_eq!(rt; count, 6);
     assert_eq!(rt; &room, b"yes 3\n\x07\x07");
 }
@@ -55,7 +73,7 @@ fn checks_a_tree(rt: HostRuntime) {
 #[test]
 fn lists_moves(rt: HostRuntime) {
     let mut room = [7u8; 33];
-    let count = page_moves(lent(rt, ENOUGH), PAWN_PROMOTES, &mut room);
+    let count = page_moves(lent(&rt, rt.alloc(), ENOUGH), PAWN_PROMOTES, &mut room);
     assert_eq!(rt; count, 33);
     assert_eq!(rt; &room, b"f1e1\nf1e2\nf1f2\nc5c6q\nc5c6r\nc5c6n\n");
 }
@@ -64,7 +82,12 @@ fn lists_moves(rt: HostRuntime) {
 fn lists_all_keys(rt: HostRuntime) {
     let mut room = [7u8; 18];
     let mate = b"k4/2P2/1K3/5/5 w".as_slice();
-    let count = page_keys(lent(rt, ENOUGH), mate, mate_within(1), &mut room);
+    let count = page_keys(
+        lent(&rt, rt.alloc(), ENOUGH),
+        mate,
+        mate_within(1),
+        &mut room,
+    );
     assert_eq!(rt; count, 16);
     assert_eq!(rt; &room, b"c4c5q 1\nc4c5r 1\n\x07\x07");
 }
@@ -73,7 +96,12 @@ fn lists_all_keys(rt: HostRuntime) {
 fn plays_a_move(rt: HostRuntime) {
     let mut room = [7u8; 18];
     let promoted = b"c5c6q".as_slice();
-    let count = page_after(lent(rt, ENOUGH), PAWN_PROMOTES, promoted, &mut room);
+    let count = page_after(
+        lent(&rt, rt.alloc(), ENOUGH),
+        PAWN_PROMOTES,
+        promoted,
+        &mut room,
+    );
     assert_eq!(rt; count, 18);
     assert_eq!(rt; &room, b"k1Q3/6/6/6/6/5K b\n");
 }
@@ -81,9 +109,16 @@ fn plays_a_move(rt: HostRuntime) {
 #[test]
 fn tells_a_fault(rt: HostRuntime) {
     let mut room = [7u8; 15];
-    assert_eq!(rt; page_fault(lent(rt, ENOUGH), PAWN_PROMOTES, &mut room), 0);
+    assert_eq!(rt;
+        page_fault(lent(&rt, rt.alloc(), ENOUGH), PAWN_PROMOTES, &mut room),
+        0
+    );
     assert_eq!(rt; room[0], 7);
-    let count = page_moves(lent(rt, ENOUGH), b"6/6/1K4/6/6/K4R w".as_slice(), &mut room);
+    let count = page_moves(
+        lent(&rt, rt.alloc(), ENOUGH),
+        b"6/6/1K4/6/6/K4R w".as_slice(),
+        &mut room,
+    );
     assert_eq!(rt; count, 15);
     assert_eq!(rt; &room, b"refused: Kings\n");
 }
@@ -91,14 +126,19 @@ fn tells_a_fault(rt: HostRuntime) {
 #[test]
 fn is_refused_for_want_of_memory(rt: HostRuntime) {
     let mut room = [7u8; 18];
-    let count = page_solve(lent(rt, 16), ROOK_MATES_IN_THREE, mate_within(3), &mut room);
+    let count = page_solve(
+        lent(&rt, rt.alloc(), 16),
+        ROOK_MATES_IN_THREE,
+        mate_within(3),
+        &mut room,
+    );
     assert_eq!(rt; count, 18);
     assert_eq!(rt; &room, b"refused: NoMemory\n");
 }
 
 #[test]
 fn memory_is_with_one_at_a_time(rt: HostRuntime) -> Result<(), Fail> {
-    let memory = Lent::new(lent(rt, 64));
+    let memory = Lent::new(lent(&rt, rt.alloc(), 64));
     assert_eq!(rt; memory.size(), 64);
     let mut first: Vec<u8, &Lent> = Vec::with_capacity(&memory, 48)?;
     first.push(1)?;
