@@ -9,12 +9,31 @@ use entry::MateLore;
 use moves::Goal;
 use rounds::{NoGate, Task, make_table, solve_over};
 use slots::Slots;
+use std::alloc::Global;
 use std::process::Abort;
 use std::sync::Wait;
 use std::test::Fail;
 use std::thread::Threads;
 use trees::{Wanted, build_tree, build_tree_over};
-use wintree::{Tree, check, tree_text};
+use wintree::{NoMemory, Tree, check, tree_text};
+
+/// The text of a tree, and in how many plies it wins, if it does.
+#[derive(Drop)]
+struct Shown {
+    text: Vec<u8>,
+    plies: Option<u8>,
+}
+
+fn shown_of(
+    alloc: Global,
+    position: &Position,
+    goal: Goal,
+    tree: &Tree,
+) -> Result<Shown, NoMemory> {
+    let text = tree_text(alloc, tree)?;
+    let plies = check(position, tree, goal);
+    Ok(Shown { text, plies })
+}
 
 /// The tree of a position where the side to move forces the goal within nine plies.
 fn tree_of<R: Threads + Wait + Abort + AllocGlobal + Sync>(
@@ -22,7 +41,7 @@ fn tree_of<R: Threads + Wait + Abort + AllocGlobal + Sync>(
     position: &Position,
     goal: Goal,
     slots: usize,
-) -> Tree
+) -> Result<Shown, NoMemory>
     requires { (0 < slots) × (slots ≤ 1048576) }
 {
     let Ok(Answer::Mate { plies, .. }) = solved(rt, rt.alloc(), position, goal, 9, 64) else {
@@ -32,7 +51,8 @@ fn tree_of<R: Threads + Wait + Abort + AllocGlobal + Sync>(
     let Some(mut seat) = seats.pop() else {
         panic!(rt; "no seat")
     };
-    build_tree(rt.alloc(), &table, &mut seat, position, goal, plies).expect(rt, "memory")
+    let tree = build_tree(rt.alloc(), &table, &mut seat, position, goal, plies)?;
+    shown_of(rt.alloc(), position, goal, &tree)
 }
 
 /// The same, by so many workers and the caller's own thread, over the table and the seats of their solve.
@@ -41,7 +61,7 @@ fn tree_by<R: Threads + Wait + Abort + AllocGlobal + Sync>(
     position: &Position,
     goal: Goal,
     workers: u8,
-) -> Tree {
+) -> Result<Shown, NoMemory> {
     let (table, mut seats) = make_table(rt.alloc(), 9, workers, 4096).expect(rt, "a table");
     let task = Task {
         position,
@@ -58,7 +78,8 @@ fn tree_by<R: Threads + Wait + Abort + AllocGlobal + Sync>(
         goal,
         plies,
     };
-    build_tree_over(rt, rt.alloc(), &wanted, &table, &mut seats).expect(rt, "memory")
+    let tree = build_tree_over(rt, rt.alloc(), &wanted, &table, &mut seats)?;
+    shown_of(rt.alloc(), position, goal, &tree)
 }
 
 // Each of these positions has one reply at most to its best move; the trees were worked out by hand.
@@ -74,10 +95,9 @@ fn trees_of_worked_positions(rt: HostRuntime) -> Result<(), Fail> {
     ] {
         let root = position(&rt, text);
         for slots in [1, 2, 64] {
-            let built = tree_of(&rt, &root, goal, slots);
-            let bytes = tree_text(rt.alloc(), &built)?;
-            assert_eq!(rt; bytes.as_slice(), tree.as_bytes(), "{text}");
-            assert_eq!(rt; check(&root, &built, goal), Some(plies), "{text}");
+            let built = tree_of(&rt, &root, goal, slots)?;
+            assert_eq!(rt; built.text.as_slice(), tree.as_bytes(), "{text}");
+            assert_eq!(rt; built.plies, Some(plies), "{text}");
         }
     }
     Ok(())
@@ -85,7 +105,7 @@ fn trees_of_worked_positions(rt: HostRuntime) -> Result<(), Fail> {
 
 // Mates in five and seven plies, with the answers of an independent program.
 #[test]
-fn trees_of_longer_mates_win(rt: HostRuntime) {
+fn trees_of_longer_mates_win(rt: HostRuntime) -> Result<(), Fail> {
     for (text, plies) in [
         ("2qK1/3B1/1k1NQ/3b1/r1Q2 w", 5),
         ("4r/P1pk1/B1N2/3b1/3K1 b", 5),
@@ -95,9 +115,10 @@ fn trees_of_longer_mates_win(rt: HostRuntime) {
         ("6/5q/6/6/1k4/4K1 b", 7),
     ] {
         let root = position(&rt, text);
-        let built = tree_of(&rt, &root, Goal::Mate, 4096);
-        assert_eq!(rt; check(&root, &built, Goal::Mate), Some(plies), "{text}");
+        let built = tree_of(&rt, &root, Goal::Mate, 4096)?;
+        assert_eq!(rt; built.plies, Some(plies), "{text}");
     }
+    Ok(())
 }
 
 // A position has one best tree, so several threads give the one that a single thread gives. Mates of an independent program.
@@ -109,12 +130,11 @@ fn threads_build_the_tree_that_one_builds(rt: HostRuntime) -> Result<(), Fail> {
         ("R1b1N/3qk/2N2/5/4K b", 9),
     ] {
         let root = position(&rt, text);
-        let alone = tree_text(rt.alloc(), &tree_of(&rt, &root, Goal::Mate, 4096))?;
+        let alone = tree_of(&rt, &root, Goal::Mate, 4096)?;
         for workers in [1, 4] {
-            let tree = tree_by(&rt, &root, Goal::Mate, workers);
-            let bytes = tree_text(rt.alloc(), &tree)?;
-            assert_eq!(rt; bytes.as_slice(), alone.as_slice(), "{text}");
-            assert_eq!(rt; check(&root, &tree, Goal::Mate), Some(plies), "{text}");
+            let built = tree_by(&rt, &root, Goal::Mate, workers)?;
+            assert_eq!(rt; built.text.as_slice(), alone.text.as_slice(), "{text}");
+            assert_eq!(rt; built.plies, Some(plies), "{text}");
         }
     }
     Ok(())
