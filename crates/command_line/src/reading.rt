@@ -7,7 +7,7 @@ ghost use Rattle.command_line.specs.declared.line.Line.{Line as TheLine};
 ghost use Rattle.command_line.specs.declared.line.Order.{Order as TheOrder};
 ghost use Rattle.command_line.specs.declared.line.Limits.{Limits as TheLimits};
 ghost use Rattle.command_line.specs.declared.line.Action.{Action as TheAction};
-ghost use Rattle.clap.specs.Words.{FailsBy, app_of, fault_of, first_of, found_of, kind_of, new_app, rows_of, rule_of, subcommand_of, subcommand_rows_of};
+ghost use Rattle.clap.specs.Words.{App, FailsBy, app_of, fault_of, first_of, found_of, kind_of, new_app, rows_of, rule_of, subcommand_of, subcommand_rows_of, with_subcommand};
 ghost use Rattle.command_line.specs.Words.{HasGoal, HasLimits, HasLine, HasNumber, HasOrder, MeansAction, MeansFound, MeansOrder, MeansNoOrder, progress_word};
 ghost use Rattle.clap.specs.declared.builder.command.Command.TheViews.{out-Command as fields_of};
 ghost use Rattle.command_line.specs.Program.{fen_rule, goal_rule, number_rule, limit_rule, workers_rule, slots_rule, progress_rule, limits_app, search_app, solve_app, keys_app, tree_app, check_app, moves_app, show_app, batch_app, program};
@@ -237,11 +237,23 @@ fn check_command<'a>(alloc: Global) -> Result<Command<'a>, AllocError>
     .arg(fen(alloc))
 }
 
+/// Adds a command to another, if both could be made.
+fn added<'a>(
+    command: Result<Command<'a>, AllocError>,
+    other: Result<Command<'a>, AllocError>,
+) -> Result<Command<'a>, AllocError>
+    ensures { (app sub : App) → IfOk command.entry (λ c. app_of c ≡ app) → IfOk other.entry (λ c. app_of c ≡ sub)
+        → IfOk other.entry (λ c. (fields_of c).has_globals ≡ false)
+        → IfOk result (λ made. app_of made ≡ with_subcommand app sub.top) }
+{
+    command?.subcommand(other?)
+}
+
 /// The program's commands.
 fn command<'a>(alloc: Global) -> Result<Command<'a>, AllocError>
     ensures { IfOk result (λ command. app_of command ≡ program) }
 {
-    named(
+    let bare = named(
         alloc,
         "minimate",
         help::PROGRAM,
@@ -249,14 +261,14 @@ fn command<'a>(alloc: Global) -> Result<Command<'a>, AllocError>
         help::PROGRAM_MORE,
     )
     .version("0.1.0")
-    .subcommand_required(true)
-    .subcommand(solve_command(alloc)?)?
-    .subcommand(keys_command(alloc)?)?
-    .subcommand(tree_command(alloc)?)?
-    .subcommand(check_command(alloc)?)?
-    .subcommand(moves_command(alloc)?)?
-    .subcommand(show_command(alloc)?)?
-    .subcommand(batch_command(alloc)?)
+    .subcommand_required(true);
+    let solving = added(Ok(bare), solve_command(alloc));
+    let finding = added(solving, keys_command(alloc));
+    let searching = added(finding, tree_command(alloc));
+    let checking = added(searching, check_command(alloc));
+    let moving = added(checking, moves_command(alloc));
+    let showing = added(moving, show_command(alloc));
+    added(showing, batch_command(alloc))
 }
 
 /// What `clap` makes of the words.
