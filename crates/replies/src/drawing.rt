@@ -1,7 +1,6 @@
 //! A board as people see it.
 ghost use Rattle.std.specs.Prelude.{◌≡◌, ◌++◌, ◌<◌, IfOk, OnOk, codes, string_bytes};
 ghost use Rattle.std.specs.List.{flat_map, range_with_len};
-ghost use Rattle.board.specs.Fen.{letter_of};
 ghost use Rattle.board.specs.Games.{width_of};
 ghost use Rattle.replies.specs.Drawing.{letter_on, rank_drawn, file_drawn, mover_drawn, board_drawn};
 
