@@ -1,29 +1,7 @@
 //! Forced mates in minichess: the program.
 #![tactic(auto)]
 
-mod batch;
-#[cfg(test)]
-mod batch_tests;
-mod beside;
-#[cfg(test)]
-mod device_tests;
-mod ending;
-#[cfg(test)]
-mod failure_tests;
-mod lines;
-mod program;
-#[cfg(test)]
-mod program_tests;
-#[cfg(test)]
-mod refusal_tests;
-#[cfg(test)]
-mod reply_tests;
-mod run;
-mod watch;
-#[cfg(test)]
-mod whole_runs;
-
-use crate::program::run_program;
+use console::run_program;
 use replies::Counted;
 use std::process::ExitCode;
 use std::{env, io};

@@ -1,0 +1,22 @@
+use Rattle.std.proofs.Common.{inl, refl, arith}
+use Rattle.std.proofs.KnownBytes.{Appends-nil}
+use Rattle.replies.specs.Output.{answered}
+use Rattle.console.proofs.RunLemmas.{run_of_reply, run_of_refusal, run_of_failed_read}
+use Rattle.console.proofs.running.run_line.Goals as goal
+
+pub returns-in-Ok-clause-runs : goal.returns-in-Ok-clause-runs
+returns-in-Ok-clause-runs g c =
+    let reply = c.in-Ok.ensures in
+    run_of_reply c.args.line.now _ (answered c.in-Ok.text.items) (omega (arith, reply.counts)) (inl refl) reply.given
+    (rw (← c.as_slice.ensures.value) c.finish.ensures)
+
+pub returns-in-Err-Refused-clause-runs : goal.returns-in-Err-Refused-clause-runs
+returns-in-Err-Refused-clause-runs g c =
+    let refused = c.in-Err-Refused in
+    run_of_refusal c.args.line.now _ refused.refusal (omega (arith, rw refused.field-0-is at refused.ensures.counts))
+    (rw refused.field-0-is at refused.ensures.given) c.refuse_and_tell.ensures.refuses
+
+pub returns-in-Err-ReadFailed-clause-runs : goal.returns-in-Err-ReadFailed-clause-runs
+returns-in-Err-ReadFailed-clause-runs g c =
+    let failed = c.in-Err-ReadFailed in
+    run_of_failed_read c.args.line.now _ (omega (arith, rw failed.field-0-is at failed.ensures.counts)) (omega arith) refl (Appends-nil _)

@@ -1,0 +1,83 @@
+-- A batch: what is written for the lines of an input.
+use Rattle.std.specs.Prelude.{◌≡◌, ◌⊎◌, ◌-◌, ◌==◌, ℕ, Bool, true, List, [], ◌∷◌, ◌++◌, length, take, slice_index, nat_lt, if◌then◌else◌, IfSome, MatchBool, MatchOption}
+use Rattle.std.specs.List.{AllZip, flat_map}
+use Rattle.board.specs.Board.{PlainBoard}
+use Rattle.board.specs.declared.fault.FenFault.{FenFault}
+use Rattle.rules.specs.Reading.{IsSoundFault}
+use Rattle.rules.specs.declared.goal.Goal.{Goal}
+use Rattle.command_line.specs.declared.line.Limits.{Limits}
+use Rattle.replies.specs.Input.{without_line_feed}
+use Rattle.replies.specs.Output.{Reply, IsSoundText, ShowsAnswer, fault_of, line_of, refused}
+use Rattle.replies.specs.Refusal.{refusal_of_fen, refusal_of_solve}
+use Rattle.replies.specs.declared.refusal.Refusal.TheVariants.{TooLong}
+use Rattle.console.specs.Run.{Run, Writes, Finishes, Refuses, no_memory}
+
+-- ---- lines
+
+-- a byte goes onto the first of the lines
+abbrev pub onto : ℕ → List (List ℕ) → List (List ℕ)
+onto x [] = (x ∷ []) ∷ []
+onto x (line ∷ lines) = (x ∷ line) ∷ lines
+
+-- the lines of the bytes, each with its line feed, if it has one
+abbrev pub lines_of : List ℕ → List (List ℕ)
+lines_of [] = []
+lines_of (x ∷ xs) = if x == 10 then (x ∷ []) ∷ lines_of xs else onto x (lines_of xs)
+
+-- the bytes without one carriage return at their end, if there is one
+abbrev pub without_return : List ℕ → List ℕ
+without_return bytes = if slice_index bytes (length bytes - 1) == 13 then take (length bytes - 1) bytes else bytes
+
+-- what a line says: without its feed, and without one carriage return before that
+abbrev pub said_in : List ℕ → List ℕ
+said_in line = if slice_index line (length line - 1) == 10 then without_return (take (length line - 1) line) else line
+
+-- it says nothing, or it is a comment
+abbrev pub is_remark : List ℕ → Bool
+is_remark [] = true
+is_remark (x ∷ xs) = x == 35
+
+-- ---- replies
+
+-- the reply to a solve of the position of this text
+abbrev pub ShowsPosition : Goal → Limits → List ℕ → Reply → Type 0
+ShowsPosition goal limits text reply =
+    ((b : PlainBoard) × IsSoundText text b × ShowsAnswer goal b limits reply)
+    ⊎ ((fault : FenFault) × IsSoundFault text fault × (reply ≡ refused (refusal_of_fen fault)))
+
+-- what is written for what a line says: a remark as it is, or the reply to its position
+abbrev pub IsReplyText : Goal → Limits → List ℕ → List ℕ → Type 0
+IsReplyText goal limits said text =
+    MatchBool (is_remark said) (text ≡ line_of said) ((reply : Reply) × ShowsPosition goal limits said reply × (text ≡ reply.text))
+
+-- what is written for a line; one of more than 256 bytes, its feed not counted, is too long
+abbrev pub IsLineReply : Goal → Limits → List ℕ → List ℕ → Type 0
+IsLineReply goal limits line text =
+    MatchBool (nat_lt 256 (length (without_line_feed line))) (text ≡ (refused TooLong).text) (IsReplyText goal limits (said_in line) text)
+
+-- the texts, all in one
+abbrev pub joined : List (List ℕ) → List ℕ
+joined texts = flat_map (λ text. text) texts
+
+-- ---- a run
+
+-- the texts are the replies to the first lines of the input, one each, and to all of them where the status is 0
+abbrev pub AnswersLines : Goal → Limits → ℕ → List (List ℕ) → List ℕ → Type 0
+AnswersLines goal limits status texts input =
+    (front : List (List ℕ)) × (rest : List (List ℕ)) × (lines_of input ≡ front ++ rest) × AllZip (IsLineReply goal limits) front texts
+    × (status ≡ 0 → rest ≡ [])
+
+-- a read failed, after all of the text was written
+abbrev pub EndsUnread : Run → List ℕ → Type 0
+EndsUnread run text = (run.failed_reads ≡ 1) × (run.ending.failed_writes ≡ 0) × (run.ending.status ≡ 4) × Writes run.ending text
+
+-- how the writing of the text ended: well, by a failed read, or for want of memory; the first and the last perhaps by a failed write
+abbrev pub EndsBatch : Run → List ℕ → Type 0
+EndsBatch run text =
+    ((run.failed_reads ≡ 0) × Finishes run.ending text 0) ⊎ EndsUnread run text ⊎ ((run.failed_reads ≡ 0) × Finishes run.ending (text ++ no_memory) 3)
+
+-- the run is one of the batch: the limits are refused, or its lines are answered as far as it came
+abbrev pub RunsBatch : Goal → Limits → Run → Type 0
+RunsBatch goal limits run = MatchOption (fault_of limits)
+    ((texts : List (List ℕ)) × IfSome run.input (AnswersLines goal limits run.ending.status texts) × EndsBatch run (joined texts))
+    (λ fault. (run.failed_reads ≡ 0) × Refuses run.ending (refusal_of_solve fault))

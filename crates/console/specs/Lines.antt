@@ -1,0 +1,48 @@
+-- Reading an input line by line.
+use Rattle.std.specs.Prelude.{◌≡◌, ◌≢◌, ◌-◌, ◌<◌, ◌≤◌, ℕ, List, [], ◌∷◌, length, take, drop, Option, None, Some, IfSome, All, MatchBool}
+use Rattle.std.specs.Io.BufRead.{take_through, drop_through}
+use Rattle.std.specs.Io.KnownBytes.{prepend_known}
+use Rattle.replies.specs.Input.{without_line_feed}
+use Rattle.console.specs.declared.lines.Unread.{Unread}
+use Rattle.console.specs.declared.lines.Held.{Held}
+use Rattle.console.specs.declared.lines.Next.{Next}
+use Rattle.console.specs.declared.lines.Next.TheVariants.{End, Line, TooLong}
+
+-- what is unread lies within the chunk
+abbrev pub IsUnread : Unread → Type 0
+IsUnread u = (u.from ≤ u.to) × (u.to ≤ length u.chunk)
+
+-- the bytes that were read and not used yet
+abbrev pub unread_bytes : Unread → List ℕ
+unread_bytes u = take (u.to - u.from) (drop u.from u.chunk)
+
+-- all that is left: those bytes, and then what the reader has, where it tells
+abbrev pub left_of : Unread → Option (List ℕ) → Option (List ℕ)
+left_of u known = prepend_known (unread_bytes u) known
+
+-- what is left stays the same, and if no byte of it is unread, there is none
+abbrev pub Fills : Unread → Unread → Option (List ℕ) → Option (List ℕ) → Type 0
+Fills u v before after = IfSome (left_of u before) (λ xs. (left_of v after ≡ Some xs) × (v.from ≡ v.to → xs ≡ []))
+
+-- a byte is taken from the front of known bytes, or there is none
+abbrev pub TakesByte : Option (List ℕ) → Option (List ℕ) → Option ℕ → Type 0
+TakesByte before after None = IfSome before (λ xs. (xs ≡ []) × (after ≡ Some []))
+TakesByte before after (Some byte) = IfSome before (λ xs. (ys : List ℕ) × (xs ≡ byte ∷ ys) × (after ≡ Some ys))
+
+-- no byte is a line feed
+abbrev pub HasNoFeed : List ℕ → Type 0
+HasNoFeed bytes = All (λ x. x ≢ 10) bytes
+
+-- what is held of a line whose bytes so far are these
+abbrev pub HoldsLine : List ℕ → Held → Type 0
+HoldsLine raw held = MatchBool held.is_long (256 < length raw) ((held.bytes.items ≡ raw) × (length raw ≤ 256))
+
+-- of these bytes this is the first line, of which at most 256 bytes stand before the feed
+abbrev pub IsNextLine : List ℕ → Next → Type 0
+IsNextLine xs End = xs ≡ []
+IsNextLine xs (Line line) = (0 < length xs) × (line.items ≡ take_through 10 xs) × (length (without_line_feed line.items) ≤ 256)
+IsNextLine xs TooLong = (0 < length xs) × (256 < length (without_line_feed (take_through 10 xs)))
+
+-- the first line is taken from known bytes
+abbrev pub TakesLine : Option (List ℕ) → Option (List ℕ) → Next → Type 0
+TakesLine before after next = IfSome before (λ xs. IsNextLine xs next × (after ≡ Some (drop_through 10 xs)))

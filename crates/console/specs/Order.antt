@@ -1,0 +1,38 @@
+-- What a run of the words does: what they ask for, if they mean an order.
+use Rattle.std.specs.Prelude.{◌≡◌, ◌⊎◌, List, [], None}
+use Rattle.clap.specs.Words.{Text}
+use Rattle.rules.specs.declared.goal.Goal.{Goal}
+use Rattle.command_line.specs.Words.{MeansOrder, MeansNoOrder}
+use Rattle.command_line.specs.declared.line.Limits.{Limits}
+use Rattle.command_line.specs.declared.line.Order.{Order}
+use Rattle.command_line.specs.declared.line.Order.TheVariants.{One, Batch}
+use Rattle.replies.specs.Output.{MayRead, fault_of}
+use Rattle.console.specs.Batch.{RunsBatch}
+use Rattle.console.specs.Run.{Run, Writes, GivesUp, MayTell, RunsLine, failures_of}
+
+-- the run is one of the order
+abbrev pub RunsOrder : Order → Run → Type 0
+RunsOrder (One line) run = RunsLine line run
+RunsOrder (Batch goal limits) run = RunsBatch goal limits run
+
+-- the order reads the input: a batch does, but where its limits are refused
+abbrev pub MayReadOf : Order → Type 0
+MayReadOf (One line) = MayRead line
+MayReadOf (Batch goal limits) = fault_of limits ≡ None
+
+-- the words mean no order: status 2, nothing is written, and nothing fails
+abbrev pub RefusesWords : List Text → Run → Type 0
+RefusesWords words run =
+    MeansNoOrder words × (run.ending.status ≡ 2) × Writes run.ending [] × (failures_of run ≡ 0)
+
+-- the words mean an order that reads the input
+abbrev pub MayReadFor : List Text → Type 0
+MayReadFor words = (order : Order) × MeansOrder words order × MayReadOf order
+
+-- the words mean a batch, which tells why it refuses a line
+abbrev pub MeansBatch : List Text → Type 0
+MeansBatch words = (goal : Goal) × (limits : Limits) × MeansOrder words (Batch goal limits)
+
+-- the words mean no order, or memory is wanting, or the run is one of the order that the words mean
+abbrev pub RunsWords : List Text → Run → Type 0
+RunsWords words run = RefusesWords words run ⊎ GivesUp run ⊎ ((order : Order) × MeansOrder words order × RunsOrder order run)

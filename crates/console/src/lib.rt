@@ -1,0 +1,13 @@
+//! The program over any words and streams: what it reads and writes, and with what status it ends.
+#![tactic(auto)]
+
+mod batch;
+mod beside;
+mod ending;
+mod lines;
+mod program;
+mod running;
+mod watch;
+
+pub use program::run_program;
+pub use running::run;

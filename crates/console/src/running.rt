@@ -1,0 +1,133 @@
+//! A run of the program over any reader and writer.
+ghost use Rattle.std.specs.Prelude.{◌≡◌, ◌⊎◌, ◌<◌, None, map};
+ghost use Rattle.replies.specs.Output.{fault_of, MayRead};
+ghost use Rattle.console.specs.Batch.{RunsBatch};
+ghost use Rattle.console.specs.Order.{MayReadFor, MeansBatch, RunsWords};
+ghost use Rattle.console.specs.Run.{ending_of, run_of, MayTell, Refuses, RunsLine};
+
+use crate::batch::{Batch, Desk, Stop, answer_lines};
+use crate::beside::{Host, reply_shown};
+use crate::ending::{
+    ANSWERED, FAILED, REFUSED_WORDS, finish, give_up_for_memory, may_tell, refuse,
+};
+use command_line::{Line, LineFault, Order, asks_progress, read_order};
+use replies::{Refusal, Refused, Sink, Source, Trouble, advise};
+use std::convert::AsStr;
+use std::io::Write;
+use std::sync::Wait;
+use std::sync::atomic::AtomicU64;
+use std::thread::Threads;
+use std::time::Clock;
+
+/// Answers a line: writes its output, and gives its status. No line but a `check` at a sound
+/// position asks the reader for anything. `errors` is told why a line was refused; whether it takes
+/// that changes nothing.
+pub fn run_line<
+    R: Threads + Wait + Eprint + Clock + Sync + AllocGlobal,
+    S: Source,
+    K: Sink,
+    E: Write,
+>(host: &Host<'_, R>, line: &Line<'_>, reader: &mut S, writer: &mut K, errors: &mut E) -> u8
+    requires reads { S.failures reader.old < u64.MAX }
+    requires writes { K.failures writer.old < u64.MAX }
+    ensures unread { MayRead line.now ⊎ (reader.new ≡ reader.old) }
+    ensures runs { RunsLine line.now (run_of S.remaining S.failures reader.old reader.new
+        (ending_of K.contents K.failures writer.old writer.new result)) }
+    ensures silent { MayTell result ⊎ (errors.new ≡ errors.old) }
+{
+    match reply_shown(host, line, reader) {
+        Ok(text) => finish(writer, text.as_slice(), ANSWERED),
+        Err(Trouble::Refused(refusal)) => {
+            refuse_and_tell(host.rt, writer, errors, line.fen, refusal)
+        }
+        Err(Trouble::ReadFailed) => FAILED,
+    }
+}
+
+/// Writes why there is no answer, and tells it with a sentence.
+fn refuse_and_tell<R: AllocGlobal, K: Sink, E: Write>(
+    rt: &R,
+    writer: &mut K,
+    errors: &mut E,
+    fen: &[u8],
+    refusal: Refusal,
+) -> u8
+    requires { K.failures writer.old < u64.MAX }
+    ensures refuses { Refuses (ending_of K.contents K.failures writer.old writer.new result) refusal }
+    ensures silent { MayTell result ⊎ (errors.new ≡ errors.old) }
+{
+    let status = refuse(rt.alloc(), writer, refusal);
+    if may_tell(status) {
+        let refused = Refused {
+            refusal,
+            fen,
+            line: None,
+        };
+        let _ = advise(errors, &refused);
+    }
+    status
+}
+
+/// Answers the lines of a batch, or refuses its limits.
+pub fn run_batch<
+    R: Threads + Wait + Eprint + Clock + Sync + AllocGlobal,
+    S: Source,
+    K: Sink,
+    E: Write,
+>(host: &Host<'_, R>, batch: Batch, reader: &mut S, writer: &mut K, errors: &mut E) -> u8
+    requires reads { S.failures reader.old < u64.MAX }
+    requires writes { K.failures writer.old < u64.MAX }
+    ensures unread { (fault_of batch.limits ≡ None) ⊎ (reader.new ≡ reader.old) }
+    ensures runs { RunsBatch batch.goal batch.limits (run_of S.remaining S.failures reader.old reader.new
+        (ending_of K.contents K.failures writer.old writer.new result)) }
+{
+    match Desk::open(host.rt.alloc(), batch.goal, batch.limits) {
+        Ok(mut desk) => match answer_lines(host, &mut desk, reader, writer, errors) {
+            None => ANSWERED,
+            Some(Stop::NoMemory) => give_up_for_memory(writer),
+            Some(Stop::ReadFailed) => FAILED,
+            Some(Stop::WriteFailed) => FAILED,
+        },
+        Err(fault) => refuse_and_tell(host.rt, writer, errors, b"", Refusal::from(fault)),
+    }
+}
+
+/// The host, and whether the words ask for a sign of life.
+fn host_of<'a, R, W: AsStr>(rt: &'a R, words: &[W]) -> Host<'a, R> {
+    Host {
+        rt,
+        shows: asks_progress(words),
+        line: AtomicU64::new(0),
+    }
+}
+
+/// Answers what the words ask for. The first word is the program's name.
+pub fn run<
+    R: Threads + Wait + Eprint + Clock + Sync + AllocGlobal,
+    W: AsStr,
+    S: Source,
+    K: Sink,
+    E: Write,
+>(rt: &R, words: &[W], reader: &mut S, writer: &mut K, errors: &mut E) -> u8
+    requires reads { S.failures reader.old < u64.MAX }
+    requires writes { K.failures writer.old < u64.MAX }
+    ensures unread { MayReadFor (map W.text words.now) ⊎ (reader.new ≡ reader.old) }
+    ensures runs { RunsWords (map W.text words.now) (run_of S.remaining S.failures reader.old reader.new
+        (ending_of K.contents K.failures writer.old writer.new result)) }
+    ensures silent { MayTell result ⊎ MeansBatch (map W.text words.now) ⊎ (errors.new ≡ errors.old) }
+{
+    match read_order(rt.alloc(), words) {
+        Ok(Order::One(line)) => run_line(&host_of(rt, words), &line, reader, writer, errors),
+        Ok(Order::Batch(goal, limits)) => {
+            run_batch(
+                &host_of(rt, words),
+                Batch { goal, limits },
+                reader,
+                writer,
+                errors,
+            )
+        }
+        Err(LineFault::Words) => REFUSED_WORDS,
+        Err(LineFault::NoMemory) => give_up_for_memory(writer),
+    }
+}

@@ -1,0 +1,216 @@
+//! The program over words that are given or can't be had: its status, and what standard error is told.
+use console::run_program;
+use replies::Counted;
+use std::alloc::AllocError;
+use std::io;
+use std::process::Abort;
+use std::sync::Wait;
+use std::test::Fail;
+use std::thread::Threads;
+use std::time::Clock;
+
+const FEN: &str = "k5/6/2K3/6/6/1R4 w";
+
+/// What a run answers, writes and tells.
+#[derive(Drop)]
+struct Told {
+    status: u8,
+    output: Vec<u8>,
+    errors: Vec<u8>,
+}
+
+/// The words as a program has them.
+fn owned<R: AllocGlobal>(rt: &R, words: &[&str]) -> Result<Vec<String>, AllocError> {
+    let mut all = Vec::new(rt.alloc());
+    for word in words {
+        all.push(word.to_string(rt.alloc())?)?;
+    }
+    Ok(all)
+}
+
+/// Runs the words, with a tree for an input.
+fn tell<R: Threads + Wait + Abort + AllocGlobal + Eprint + Clock + Sync>(
+    rt: &R,
+    words: io::Result<Vec<String>>,
+) -> Told {
+    let mut reader = Counted::new(b"c4c5{a6a5:b1a1#}".as_slice());
+    let mut writer = Counted::new(Vec::new(rt.alloc()));
+    let mut errors = Vec::new(rt.alloc());
+    let status = run_program(rt, words, &mut reader, &mut writer, &mut errors);
+    Told {
+        status,
+        output: writer.device,
+        errors,
+    }
+}
+
+/// Runs the words, and expects a status, an output and what is told.
+fn expect<R: Threads + Wait + Abort + AllocGlobal + Eprint + Clock + Sync>(
+    rt: &R,
+    words: io::Result<Vec<String>>,
+    status: u8,
+    output: &str,
+    errors: &str,
+) {
+    let told = tell(rt, words);
+    assert_eq!(rt; told.status, status);
+    assert_eq!(rt; told.output.as_slice(), output.as_bytes());
+    assert_eq!(rt; told.errors.as_slice(), errors.as_bytes());
+}
+
+#[test]
+fn runs_the_words(rt: HostRuntime) -> Result<(), Fail> {
+    let check = owned(&rt, &["minimate", "check", FEN])?;
+    expect(&rt, Ok(check), 0, "yes 3\n", "");
+    let solve = owned(&rt, &["minimate", "solve", "--limit", "1", FEN])?;
+    expect(&rt, Ok(solve), 0, "none within 1\n", "");
+    Ok(())
+}
+
+/// Expects a sentence about the position, whatever the command.
+fn expect_sentence<R: Threads + Wait + Abort + AllocGlobal + Eprint + Clock + Sync>(
+    rt: &R,
+    fen: &str,
+    sentence: &str,
+) -> Result<(), Fail> {
+    let errors = format!(in rt.alloc(); "error: {sentence}\n")?;
+    for command in ["moves", "show", "check"] {
+        let told = tell(rt, Ok(owned(rt, &["minimate", command, fen])?));
+        assert_eq!(rt; told.status, 1);
+        assert!(rt; told.output.as_slice().starts_with(b"refused: "));
+        assert_eq!(rt; told.errors.as_slice(), errors.as_bytes());
+    }
+    Ok(())
+}
+
+#[test]
+fn explains_fields_and_shapes(rt: HostRuntime) -> Result<(), Fail> {
+    for (fen, sentence) in [
+        (
+            "k5/6/1K4/6/6/5R",
+            "a position has two fields, the board and the side: here is one; write ' w' or ' b' behind the board",
+        ),
+        (
+            "k5/6/1K4/6/6/5R w - - 0 1",
+            "a position has two fields, the board and the side: here are six; leave out ' - - 0 1'",
+        ),
+        (
+            "k5/6/1K4/6/6/5R  w",
+            "a position has one space, between the board and the side: here are 2",
+        ),
+        (
+            "k5/6/1K4/6/5R w",
+            "a board of 5 ranks has 5 squares in each: here rank 5 has 6",
+        ),
+        (
+            "k5/6/1K4/6/7/5R w",
+            "a board of 6 ranks has 6 squares in each: here rank 2 has 7",
+        ),
+        (
+            "k5 w",
+            "a board has six ranks of six squares or five of five, with / between them: here are 1",
+        ),
+    ] {
+        expect_sentence(&rt, fen, sentence)?;
+    }
+    Ok(())
+}
+
+#[test]
+fn explains_boards(rt: HostRuntime) -> Result<(), Fail> {
+    for (fen, sentence) in [
+        (
+            "k5/6/1K4/6/6/4BR w",
+            "rank 1 has 'B': the units of Los Alamos chess are K Q R N P, and in lower case Black's",
+        ),
+        (
+            "k5/6/1K31/6/6/5R w",
+            "rank 4 has '31': write each run of empty squares as one digit from 1 to 6",
+        ),
+        (
+            "k5/6/1K4/6/6/5R x",
+            "the side to move is w or b: here is 'x'",
+        ),
+        (
+            "6/6/1K4/6/6/K4R w",
+            "each side has one king, K and k: here are 2 K and 0 k",
+        ),
+        (
+            "k5/QQQQQQ/QQQQQQ/6/6/K5 w",
+            "a side has at most 12 units in Los Alamos chess: here White has 13 and Black 1",
+        ),
+        (
+            "k3P/5/1K3/5/5 w",
+            "rank 5 has a pawn: pawns stand on ranks 2 to 4 alone",
+        ),
+        (
+            "k5/6/1K4/6/6/4pR w",
+            "rank 1 has a pawn: pawns stand on ranks 2 to 5 alone",
+        ),
+        (
+            "k4R/6/1K4/6/6/6 w",
+            "Black is in check, and White is to move: write b for the side, or move a unit",
+        ),
+    ] {
+        expect_sentence(&rt, fen, sentence)?;
+    }
+    Ok(())
+}
+
+/// Expects a sentence about the words, over an input.
+fn expect_advice<R: Threads + Wait + Abort + AllocGlobal + Eprint + Clock + Sync>(
+    rt: &R,
+    words: &[&str],
+    output: &str,
+    sentence: &str,
+) -> Result<(), Fail> {
+    let errors = format!(in rt.alloc(); "error: {sentence}\n")?;
+    expect(rt, Ok(owned(rt, words)?), 1, output, errors.as_str());
+    Ok(())
+}
+
+#[test]
+fn explains_values(rt: HostRuntime) -> Result<(), Fail> {
+    let limit = ["minimate", "solve", "--limit", "64", FEN];
+    let plies = "--limit is 1 to 63 plies: a mate in M moves is --limit 2M-1";
+    expect_advice(&rt, &limit, "refused: Limit\n", plies)?;
+    let workers = ["minimate", "tree", "--limit=1", "--workers", "17", FEN];
+    let threads = "--workers is 1 to 16";
+    expect_advice(&rt, &workers, "refused: Workers\n", threads)?;
+    let slots = ["minimate", "solve", "--limit=1", "--slots", "0", FEN];
+    expect_advice(&rt, &slots, "refused: Slots\n", "--slots is 1 to 1048576")
+}
+
+#[test]
+fn explains_words_that_are_no_line(rt: HostRuntime) -> Result<(), Fail> {
+    let goal = owned(&rt, &["minimate", "check", "--goal", "Mate", FEN])?;
+    let no_goal = "error: the goal is neither `mate` nor `stale`\n";
+    expect(&rt, Ok(goal), 2, "", no_goal);
+    let version = owned(&rt, &["minimate", "--version"])?;
+    expect(&rt, Ok(version), 2, "", "minimate 0.1.0\n");
+    for (word, beginning) in [
+        ("--help", "Finds forced mates"),
+        ("--depth", "error: unexpected argument '--depth'"),
+        ("play", "error: unrecognized subcommand 'play'"),
+    ] {
+        let told = tell(&rt, Ok(owned(&rt, &["minimate", word])?));
+        assert_eq!(rt; told.status, 2);
+        assert!(rt; told.output.is_empty());
+        assert!(rt; told.errors.as_slice().starts_with(beginning.as_bytes()));
+    }
+    let cut = owned(&rt, &["minimate", "moves", "k5/6/1K4/6/6/5R", "w", "-"])?;
+    let told = tell(&rt, Ok(cut));
+    assert_eq!(rt; told.status, 2);
+    let quote = "error: a position is one word, so quote it: 'k5/6/1K4/6/6/5R w'\n";
+    assert!(rt; told.errors.as_slice().ends_with(quote.as_bytes()));
+    Ok(())
+}
+
+#[test]
+fn explains_that_there_are_no_words(rt: HostRuntime) {
+    let no_text = "error: a word of the command line is not UTF-8\n";
+    let unreadable = io::Error::from(io::ErrorKind::InvalidData);
+    expect(&rt, Err(unreadable), 2, "", no_text);
+    let no_memory = io::Error::from(io::ErrorKind::OutOfMemory);
+    expect(&rt, Err(no_memory), 3, "refused: NoMemory\n", "");
+}
