@@ -1,7 +1,6 @@
 //! The seven calls. Each puts its reply into the room, or why there is none, and answers the length of what it puts.
-ghost use Rattle.std.specs.Prelude.{[]};
-ghost use Rattle.command_line.specs.declared.line.Action.TheVariants.{Solve, Keys, Moves, Tree, Check};
-ghost use Rattle.calls.specs.Calls.{Answers, AnswersAfter, AnswersFault, goal_of, limits_of};
+ghost use Rattle.command_line.specs.declared.line.Action.TheVariants.{Solve, Keys, Tree};
+ghost use Rattle.calls.specs.Calls.{AnswersAfter, AnswersCheck, AnswersFault, AnswersMoves, AnswersSearch};
 
 use crate::answering::{Terms, goal_of, limits_of, put_reply};
 use replies::{
@@ -11,7 +10,7 @@ use std::alloc::Allocator;
 
 /// What `minimate moves` writes of the position.
 pub fn moves<A: Allocator + Copy>(alloc: A, fen: &[u8], room: &mut [u8]) -> usize
-    ensures { Answers (record { fen = fen.entry; action = Moves }) [] room.old room.new result }
+    ensures { AnswersMoves fen.entry room.old room.new result }
 {
     put_reply(alloc, moves_reply(alloc, fen), room)
 }
@@ -38,7 +37,7 @@ pub fn check<A: Allocator + Copy>(
     tree: &[u8],
     room: &mut [u8],
 ) -> usize
-    ensures { Answers (record { fen = fen.entry; action = Check (goal_of stale) }) tree.now room.old room.new result }
+    ensures { AnswersCheck fen.entry stale tree.now room.old room.new result }
 {
     let reply = check_reply(alloc, fen, goal_of(stale), tree);
     put_reply(alloc, reply, room)
@@ -46,8 +45,7 @@ pub fn check<A: Allocator + Copy>(
 
 /// What `minimate solve` writes of the position, found by the caller's own thread alone.
 pub fn solve<A: Allocator + Copy>(alloc: A, fen: &[u8], terms: Terms, room: &mut [u8]) -> usize
-    ensures { Answers (record { fen = fen.entry; action = Solve (goal_of terms.stale) (limits_of terms.limit terms.slots) })
-        [] room.old room.new result }
+    ensures { AnswersSearch Solve fen.entry terms room.old room.new result }
 {
     let reply = solve_reply(alloc, fen, goal_of(terms.stale), limits_of(terms));
     put_reply(alloc, reply, room)
@@ -55,8 +53,7 @@ pub fn solve<A: Allocator + Copy>(alloc: A, fen: &[u8], terms: Terms, room: &mut
 
 /// What `minimate keys` writes of the position, found by the caller's own thread alone.
 pub fn keys<A: Allocator + Copy>(alloc: A, fen: &[u8], terms: Terms, room: &mut [u8]) -> usize
-    ensures { Answers (record { fen = fen.entry; action = Keys (goal_of terms.stale) (limits_of terms.limit terms.slots) })
-        [] room.old room.new result }
+    ensures { AnswersSearch Keys fen.entry terms room.old room.new result }
 {
     let reply = keys_reply(alloc, fen, goal_of(terms.stale), limits_of(terms));
     put_reply(alloc, reply, room)
@@ -64,8 +61,7 @@ pub fn keys<A: Allocator + Copy>(alloc: A, fen: &[u8], terms: Terms, room: &mut 
 
 /// What `minimate tree` writes of the position, found by the caller's own thread alone.
 pub fn tree<A: Allocator + Copy>(alloc: A, fen: &[u8], terms: Terms, room: &mut [u8]) -> usize
-    ensures { Answers (record { fen = fen.entry; action = Tree (goal_of terms.stale) (limits_of terms.limit terms.slots) })
-        [] room.old room.new result }
+    ensures { AnswersSearch Tree fen.entry terms room.old room.new result }
 {
     let reply = tree_reply(alloc, fen, goal_of(terms.stale), limits_of(terms));
     put_reply(alloc, reply, room)

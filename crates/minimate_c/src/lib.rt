@@ -1,9 +1,8 @@
 //! The library for other languages: each call's text goes into room that its caller lends. include/minimate.h says what a caller owes.
 #![tactic(auto)]
 
-ghost use Rattle.std.specs.Prelude.{[]};
-ghost use Rattle.command_line.specs.declared.line.Action.TheVariants.{Solve, Keys, Moves, Tree, Check};
-ghost use Rattle.calls.specs.Calls.{Answers, AnswersAfter, AnswersFault, goal_of, limits_of};
+ghost use Rattle.command_line.specs.declared.line.Action.TheVariants.{Solve, Keys, Tree};
+ghost use Rattle.calls.specs.Calls.{AnswersAfter, AnswersCheck, AnswersFault, AnswersMoves, AnswersSearch, terms_of};
 
 #[cfg(test)]
 mod tests;
@@ -14,7 +13,7 @@ use std::alloc::Global;
 /// What `minimate moves` writes of the position.
 #[unsafe(no_mangle)]
 pub extern "C" fn minimate_moves(alloc: Global, fen: &[u8], room: &mut [u8]) -> usize
-    ensures { Answers (record { fen = fen.entry; action = Moves }) [] room.old room.new result }
+    ensures { AnswersMoves fen.entry room.old room.new result }
 {
     calls::moves(alloc, fen, room)
 }
@@ -44,7 +43,7 @@ pub extern "C" fn minimate_check(
     tree: &[u8],
     room: &mut [u8],
 ) -> usize
-    ensures { Answers (record { fen = fen.entry; action = Check (goal_of stale) }) tree.now room.old room.new result }
+    ensures { AnswersCheck fen.entry stale tree.now room.old room.new result }
 {
     calls::check(alloc, fen, stale, tree, room)
 }
@@ -59,7 +58,7 @@ pub extern "C" fn minimate_solve(
     slots: u32,
     room: &mut [u8],
 ) -> usize
-    ensures { Answers (record { fen = fen.entry; action = Solve (goal_of stale) (limits_of limit slots) }) [] room.old room.new result }
+    ensures { AnswersSearch Solve fen.entry (terms_of stale limit slots) room.old room.new result }
 {
     let terms = Terms {
         stale,
@@ -79,7 +78,7 @@ pub extern "C" fn minimate_keys(
     slots: u32,
     room: &mut [u8],
 ) -> usize
-    ensures { Answers (record { fen = fen.entry; action = Keys (goal_of stale) (limits_of limit slots) }) [] room.old room.new result }
+    ensures { AnswersSearch Keys fen.entry (terms_of stale limit slots) room.old room.new result }
 {
     let terms = Terms {
         stale,
@@ -99,7 +98,7 @@ pub extern "C" fn minimate_tree(
     slots: u32,
     room: &mut [u8],
 ) -> usize
-    ensures { Answers (record { fen = fen.entry; action = Tree (goal_of stale) (limits_of limit slots) }) [] room.old room.new result }
+    ensures { AnswersSearch Tree fen.entry (terms_of stale limit slots) room.old room.new result }
 {
     let terms = Terms {
         stale,

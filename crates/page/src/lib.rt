@@ -1,9 +1,8 @@
 //! The part of minimate that a browser loads: the seven calls over memory that the page lends, each from text into room that it lends too.
 #![tactic(auto)]
 
-ghost use Rattle.std.specs.Prelude.{[]};
-ghost use Rattle.command_line.specs.declared.line.Action.TheVariants.{Solve, Keys, Moves, Tree, Check};
-ghost use Rattle.calls.specs.Calls.{Answers, AnswersAfter, AnswersFault, goal_of, limits_of};
+ghost use Rattle.command_line.specs.declared.line.Action.TheVariants.{Solve, Keys, Tree};
+ghost use Rattle.calls.specs.Calls.{AnswersAfter, AnswersCheck, AnswersFault, AnswersMoves, AnswersSearch};
 
 mod arena;
 #[cfg(test)]
@@ -16,7 +15,7 @@ use lent_memory::Memory;
 /// What `minimate moves` writes of the position. The memory is the module's from then on, here and in each call below.
 #[unsafe(no_mangle)]
 pub extern "C" fn page_moves(memory: Memory, fen: &[u8], room: &mut [u8]) -> usize
-    ensures { Answers (record { fen = fen.entry; action = Moves }) [] room.old room.new result }
+    ensures { AnswersMoves fen.entry room.old room.new result }
 {
     match arena_over(memory) {
         Some(arena) => calls::moves(&arena, fen, room),
@@ -55,7 +54,7 @@ pub extern "C" fn page_check(
     tree: &[u8],
     room: &mut [u8],
 ) -> usize
-    ensures { Answers (record { fen = fen.entry; action = Check (goal_of stale) }) tree.now room.old room.new result }
+    ensures { AnswersCheck fen.entry stale tree.now room.old room.new result }
 {
     match arena_over(memory) {
         Some(arena) => calls::check(&arena, fen, stale, tree, room),
@@ -66,8 +65,7 @@ pub extern "C" fn page_check(
 /// What `minimate solve` writes of the position, found by one thread.
 #[unsafe(no_mangle)]
 pub extern "C" fn page_solve(memory: Memory, fen: &[u8], terms: Terms, room: &mut [u8]) -> usize
-    ensures { Answers (record { fen = fen.entry; action = Solve (goal_of terms.stale) (limits_of terms.limit terms.slots) })
-        [] room.old room.new result }
+    ensures { AnswersSearch Solve fen.entry terms room.old room.new result }
 {
     match arena_over(memory) {
         Some(arena) => calls::solve(&arena, fen, terms, room),
@@ -78,8 +76,7 @@ pub extern "C" fn page_solve(memory: Memory, fen: &[u8], terms: Terms, room: &mu
 /// What `minimate keys` writes of the position, found by one thread.
 #[unsafe(no_mangle)]
 pub extern "C" fn page_keys(memory: Memory, fen: &[u8], terms: Terms, room: &mut [u8]) -> usize
-    ensures { Answers (record { fen = fen.entry; action = Keys (goal_of terms.stale) (limits_of terms.limit terms.slots) })
-        [] room.old room.new result }
+    ensures { AnswersSearch Keys fen.entry terms room.old room.new result }
 {
     match arena_over(memory) {
         Some(arena) => calls::keys(&arena, fen, terms, room),
@@ -90,8 +87,7 @@ pub extern "C" fn page_keys(memory: Memory, fen: &[u8], terms: Terms, room: &mut
 /// What `minimate tree` writes of the position, found by one thread.
 #[unsafe(no_mangle)]
 pub extern "C" fn page_tree(memory: Memory, fen: &[u8], terms: Terms, room: &mut [u8]) -> usize
-    ensures { Answers (record { fen = fen.entry; action = Tree (goal_of terms.stale) (limits_of terms.limit terms.slots) })
-        [] room.old room.new result }
+    ensures { AnswersSearch Tree fen.entry terms room.old room.new result }
 {
     match arena_over(memory) {
         Some(arena) => calls::tree(&arena, fen, terms, room),
