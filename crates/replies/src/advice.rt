@@ -15,25 +15,44 @@ pub struct Refused<'a> {
 
 /// Tells in one sentence why something was refused, and what to write instead.
 pub fn advise<E: Write>(errors: &mut E, refused: &Refused<'_>) -> io::Result<()> {
-    match refused.line {
-        Some(number) => write!(errors, "error: line {number}: ")?,
-        None => write!(errors, "error: ")?,
-    }
-    match refused.refusal {
-        Refusal::Fields => advise_fields(errors, refused.fen)?,
-        Refusal::Shape => advise_shape(errors, &Board::of(refused.fen))?,
-        Refusal::Letter => advise_letter(errors, &Board::of(refused.fen))?,
-        Refusal::Run => advise_run(errors, &Board::of(refused.fen))?,
-        Refusal::Side => advise_side(errors, refused.fen)?,
-        Refusal::Kings => advise_kings(errors, &Board::of(refused.fen))?,
-        Refusal::Units => advise_units(errors, &Board::of(refused.fen))?,
-        Refusal::PawnRank => advise_pawn(errors, &Board::of(refused.fen))?,
-        Refusal::OtherInCheck => advise_check(errors, refused.fen)?,
-        Refusal::TooLong => advise_length(errors, refused.line)?,
-        Refusal::Grammar(offset) => advise_grammar(errors, offset)?,
-        other => write!(errors, "{}", values_advice(other))?,
-    }
+    name_line(errors, refused.line)?;
+    advise_text(errors, refused)?;
     errors.write_all(b"\n")
+}
+
+fn name_line<E: Write>(errors: &mut E, line: Option<u64>) -> io::Result<()> {
+    match line {
+        Some(number) => write!(errors, "error: line {number}: "),
+        None => errors.write_all(b"error: "),
+    }
+}
+
+fn advise_text<E: Write>(errors: &mut E, refused: &Refused<'_>) -> io::Result<()> {
+    match refused.refusal {
+        Refusal::Fields => advise_fields(errors, refused.fen),
+        Refusal::Side => advise_side(errors, refused.fen),
+        Refusal::OtherInCheck => advise_check(errors, refused.fen),
+        Refusal::TooLong => advise_length(errors, refused.line),
+        Refusal::Grammar(offset) => advise_grammar(errors, offset),
+        other => advise_board(errors, other, &Board::of(refused.fen)),
+    }
+}
+
+/// The sentence of a refusal that rests on the board alone, or on no text.
+fn advise_board<E: Write>(
+    errors: &mut E,
+    refusal: Refusal,
+    board: &Board<'_>,
+) -> io::Result<()> {
+    match refusal {
+        Refusal::Shape => advise_shape(errors, board),
+        Refusal::Letter => advise_letter(errors, board),
+        Refusal::Run => advise_run(errors, board),
+        Refusal::Kings => advise_kings(errors, board),
+        Refusal::Units => advise_units(errors, board),
+        Refusal::PawnRank => advise_pawn(errors, board),
+        other => errors.write_all(values_advice(other).as_bytes()),
+    }
 }
 
 /// The sentence of a refusal that rests on no text.
@@ -96,21 +115,22 @@ fn advise_shape<E: Write>(errors: &mut E, board: &Board<'_>) -> io::Result<()> {
 }
 
 fn advise_letter<E: Write>(errors: &mut E, board: &Board<'_>) -> io::Result<()> {
-    let (game, letters) = match board.ranks {
-        6 => ("Los Alamos chess", "K Q R N P"),
-        _ => ("Gardner minichess", "K Q R B N P"),
-    };
     if let Some((rank, letter)) = board.foreign_letter() {
-        write!(
-            errors,
-            "rank {rank} has '{}': ",
-            [letter].as_slice().escape_ascii()
-        )?;
+        name_letter(errors, rank, letter)?;
     }
-    write!(
-        errors,
-        "the units of {game} are {letters}, and in lower case Black's"
-    )
+    match board.ranks {
+        6 => errors.write_all(
+            b"the units of Los Alamos chess are K Q R N P, and in lower case Black's",
+        ),
+        _ => errors.write_all(
+            b"the units of Gardner minichess are K Q R B N P, and in lower case Black's",
+        ),
+    }
+}
+
+fn name_letter<E: Write>(errors: &mut E, rank: usize, letter: u8) -> io::Result<()> {
+    let text = [letter];
+    write!(errors, "rank {rank} has '{}': ", text.escape_ascii())
 }
 
 fn advise_run<E: Write>(errors: &mut E, board: &Board<'_>) -> io::Result<()> {
