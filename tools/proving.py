@@ -205,7 +205,7 @@ class Proofs:
         self.crates, self.shares = read_crates(top), shares
         self.names = reached(self.crates, name)
         self.running, self.done = {}, [name for name in self.names if self.is_kept(name)]
-        self.most, self.most_jobs = processors(), 2
+        self.most, self.most_jobs, self.memory = processors(), 2, 0.9 * free_memory()
 
     def share_of(self, name):
         return self.shares.get(name, UNKNOWN)
@@ -237,10 +237,11 @@ class Proofs:
         ready = self.ready()
         for at, name in enumerate(ready):
             free = self.most - sum(it.jobs for it in self.running.values())
+            room = self.memory - sum(self.memory_of(it, check.jobs) for it, check in self.running.items())
             jobs = max(1, min(self.most_jobs, free - (len(ready) - at - 1)))
-            while jobs > 1 and self.memory_of(name, jobs) > free_memory():
+            while jobs > 1 and self.memory_of(name, jobs) > room:
                 jobs -= 1
-            if self.running and (free < 1 or self.memory_of(name, jobs) > free_memory()):
+            if self.running and (free < 1 or self.memory_of(name, jobs) > room):
                 return
             with self.hold():
                 self.running[name] = Check(Room(self.top, self.work, self.crates, name), self.rt, jobs)
@@ -260,7 +261,9 @@ class Proofs:
             with self.hold():
                 for check in self.running.values():
                     check.end()
-                    check.room.leave()
+                for check in self.running.values():
+                    with contextlib.suppress(OSError):
+                        check.room.leave()
 
     def judge(self, name, check):
         """A check that ended well is done. One that was killed, most likely for memory, comes again, with nothing beside it."""
@@ -284,5 +287,5 @@ def first_error(path):
     """The line of a log that says first what is wrong."""
     with open(path, encoding="utf-8", errors="replace") as log:
         lines = [line.strip() for line in log if line.strip()]
-    wrong = re.compile(r"fn \S+: (not proved|no proof|could not tell)|(\S+:\d+:\d+: )?error\b|rt: |rattle: ")
+    wrong = re.compile(r"(note: )?\S+\.(rt|antt):\d+:\d+: (?!warning)|fn \S+: (not proved|no proof|could not tell)|error\b|rattle: |rt: (?!chose|waiting)")
     return next((line for line in lines if wrong.match(line)), lines[-1] if lines else "the toolchain said nothing")

@@ -27,6 +27,13 @@ fn shows_words(rt: HostRuntime) {
 }
 
 #[test]
+fn copies_a_board(rt: HostRuntime) {
+    let kings = board(&rt, "k5/6/6/6/6/5K w").copied();
+    assert_eq!(rt; kings.words(), [0x0010_0000, 0, 0x0700_0000]);
+    assert!(rt; has_lawful_move(&kings));
+}
+
+#[test]
 fn reads_and_writes_words(rt: HostRuntime) {
     let text = "rnbqk/ppppp/5/PPPPP/RNBQK b";
     let words = [0x0005_0066_6661_2453, 0x0000_00CC_CCC0_0000, 0x7_8AB9];

@@ -54,7 +54,7 @@ fn fewest_plies<A: Allocator>(
     ensures fewest { MatchOption result (ForcesNothing goal board.now limit) (IsFewest goal board.now) }
 {
     let q = Question {
-        position: Board::of(&board.position()),
+        position: board.copied(),
         attacker: board.mover(),
         goal,
     };

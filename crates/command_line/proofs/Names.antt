@@ -1,6 +1,7 @@
 -- Commands are told apart by their names.
 use Rattle.std.proofs.Common.{◌≡◌, ◌≢◌, ◌∙◌, List, ℕ, ap, arith, codes, refl, slice_index, sym}
 use Rattle.clap.specs.Words.{Row, Text}
+use Rattle.command_line.specs.Making.{NamesNoSearch}
 use Rattle.command_line.specs.Words.{HasGoal, HasLimits, MeansAction, MeansFound}
 use Rattle.rules.specs.declared.goal.Goal.{Goal}
 use Rattle.command_line.specs.declared.line.Limits.{Limits}
@@ -42,33 +43,6 @@ no_limits name rows (Check goal) searches none means = searches.check means.0
 no_limits name rows Moves searches none means = searches.aims.moves means
 no_limits name rows Show searches none means = searches.aims.show means
 
-pub solve_searches : (name : Text) → name ≡ codes "solve" → Searches name
-solve_searches name is = record {
-  aims = record {
-    moves = two_names 0 (codes "solve") (codes "moves") 115 109 refl refl (λ e. omega arith) name is;
-    show = two_names 1 (codes "solve") (codes "show") 111 104 refl refl (λ e. omega arith) name is;
-  };
-  check = two_names 0 (codes "solve") (codes "check") 115 99 refl refl (λ e. omega arith) name is;
-}
-
-pub keys_searches : (name : Text) → name ≡ codes "keys" → Searches name
-keys_searches name is = record {
-  aims = record {
-    moves = two_names 0 (codes "keys") (codes "moves") 107 109 refl refl (λ e. omega arith) name is;
-    show = two_names 0 (codes "keys") (codes "show") 107 115 refl refl (λ e. omega arith) name is;
-  };
-  check = two_names 0 (codes "keys") (codes "check") 107 99 refl refl (λ e. omega arith) name is;
-}
-
-pub tree_searches : (name : Text) → name ≡ codes "tree" → Searches name
-tree_searches name is = record {
-  aims = record {
-    moves = two_names 0 (codes "tree") (codes "moves") 116 109 refl refl (λ e. omega arith) name is;
-    show = two_names 0 (codes "tree") (codes "show") 116 115 refl refl (λ e. omega arith) name is;
-  };
-  check = two_names 0 (codes "tree") (codes "check") 116 99 refl refl (λ e. omega arith) name is;
-}
-
 pub batch_searches : (name : Text) → name ≡ codes "batch" → Searches name
 batch_searches name is = record {
   aims = record {
@@ -78,11 +52,14 @@ batch_searches name is = record {
   check = two_names 0 (codes "batch") (codes "check") 98 99 refl refl (λ e. omega arith) name is;
 }
 
-pub check_aims : (name : Text) → name ≡ codes "check" → Aims name
-check_aims name is = record {
-  moves = two_names 0 (codes "check") (codes "moves") 99 109 refl refl (λ e. omega arith) name is;
-  show = two_names 0 (codes "check") (codes "show") 99 115 refl refl (λ e. omega arith) name is;
-}
+-- a name of none of them means no command
+pub no_action : (name : Text) (rows : List Row) (action : Action) → Searches name → NamesNoSearch name → MeansAction name rows action → ⊥
+no_action name rows (Solve goal limits) searches not means = not.solve means.0
+no_action name rows (Keys goal limits) searches not means = not.keys means.0
+no_action name rows (Tree goal limits) searches not means = not.tree means.0
+no_action name rows (Check goal) searches not means = searches.check means.0
+no_action name rows Moves searches not means = searches.aims.moves means
+no_action name rows Show searches not means = searches.aims.show means
 
 -- ---- orders
 

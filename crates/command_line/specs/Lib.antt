@@ -1,3 +1,5 @@
 -- to be believed
 pub mod Program
 pub mod Words
+-- inside
+pub mod Making

@@ -1,5 +1,5 @@
 //! Reading the words of a command line.
-ghost use Rattle.std.specs.Prelude.{◌≡◌, ◌≢◌, ◌↔◌, All, Any, false, IfErr, IfNone, IfOk, IfSome, MatchBool, None, OnErr, Some, ℕ, codes, map};
+ghost use Rattle.std.specs.Prelude.{◌≡◌, ◌≢◌, ◌↔◌, All, Any, IfErr, List, IfNone, IfOk, IfSome, MatchBool, None, OnErr, Some, ℕ, codes, map};
 ghost use Rattle.rules.specs.declared.goal.Goal.{Goal as TheGoal};
 ghost use Rattle.clap.specs.declared.error.kind.ErrorKind.TheVariants.{OutOfMemory};
 ghost use Rattle.command_line.specs.declared.reading.LineFault.TheVariants.{NoMemory, Words};
@@ -7,9 +7,9 @@ ghost use Rattle.command_line.specs.declared.line.Line.{Line as TheLine};
 ghost use Rattle.command_line.specs.declared.line.Order.{Order as TheOrder};
 ghost use Rattle.command_line.specs.declared.line.Limits.{Limits as TheLimits};
 ghost use Rattle.command_line.specs.declared.line.Action.{Action as TheAction};
-ghost use Rattle.clap.specs.Words.{App, FailsBy, app_of, fault_of, first_of, found_of, kind_of, new_app, rows_of, rule_of, subcommand_of, subcommand_rows_of, with_subcommand};
+ghost use Rattle.clap.specs.Words.{App, FailsBy, Row, fault_of, first_of, found_of, kind_of, new_app, rows_of, subcommand_of, subcommand_rows_of, with_subcommand};
 ghost use Rattle.command_line.specs.Words.{HasGoal, HasLimits, HasLine, HasNumber, HasOrder, MeansAction, MeansFound, MeansOrder, MeansNoOrder, progress_word};
-ghost use Rattle.clap.specs.declared.builder.command.Command.TheViews.{out-Command as fields_of};
+ghost use Rattle.command_line.specs.Making.{IsLocal, IsLocalArg, NamesNoSearch, option_rule};
 ghost use Rattle.command_line.specs.Program.{fen_rule, goal_rule, number_rule, limit_rule, workers_rule, slots_rule, progress_rule, limits_app, search_app, solve_app, keys_app, tree_app, check_app, moves_app, show_app, batch_app, program};
 
 use crate::help;
@@ -19,6 +19,7 @@ use clap::{Arg, ArgAction, ArgMatches, Command, Error, value_parser};
 use moves::Goal;
 use std::alloc::{AllocError, Global};
 use std::convert::AsStr;
+use std::mem;
 
 const PROGRESS_WORD: &str = "--progress";
 
@@ -42,8 +43,7 @@ impl From<Error> for LineFault {
 }
 
 fn fen<'a>(alloc: Global) -> Arg<'a>
-    ensures rule { rule_of result ≡ fen_rule }
-    ensures local { result.global ≡ false }
+    ensures { IsLocalArg fen_rule result }
 {
     Arg::new(alloc, "FEN")
         .required(true)
@@ -51,61 +51,61 @@ fn fen<'a>(alloc: Global) -> Arg<'a>
         .long_help(help::FEN_MORE)
 }
 
-fn number<'a>(alloc: Global, name: &'a str, value_name: &'a str) -> Arg<'a>
-    ensures rule { rule_of result ≡ number_rule name.entry.now }
-    ensures local { result.global ≡ false }
+/// A value after `--name`, and what its short and its long help say.
+fn option<'a>(
+    alloc: Global,
+    name: &'a str,
+    value_name: &'a str,
+    help: &'a str,
+    more: &'a str,
+) -> Arg<'a>
+    ensures { IsLocalArg (option_rule name.entry.now) result }
 {
     Arg::new(alloc, name)
         .long(name)
         .value_name(value_name)
-        .value_parser(value_parser!(u32))
+        .help(help)
+        .long_help(more)
+}
+
+fn number<'a>(
+    alloc: Global,
+    name: &'a str,
+    value_name: &'a str,
+    help: &'a str,
+    more: &'a str,
+) -> Arg<'a>
+    ensures { IsLocalArg (number_rule name.entry.now) result }
+{
+    option(alloc, name, value_name, help, more).value_parser(value_parser!(u32))
 }
 
 fn goal<'a>(alloc: Global) -> Arg<'a>
-    ensures rule { rule_of result ≡ goal_rule }
-    ensures local { result.global ≡ false }
+    ensures { IsLocalArg goal_rule result }
 {
-    Arg::new(alloc, "goal")
-        .long("goal")
-        .value_name("GOAL")
-        .default_value("mate")
-        .help(help::GOAL)
-        .long_help(help::GOAL_MORE)
+    option(alloc, "goal", "GOAL", help::GOAL, help::GOAL_MORE).default_value("mate")
 }
 
 fn limit<'a>(alloc: Global) -> Arg<'a>
-    ensures rule { rule_of result ≡ limit_rule }
-    ensures local { result.global ≡ false }
+    ensures { IsLocalArg limit_rule result }
 {
-    number(alloc, "limit", "N")
-        .required(true)
-        .help(help::LIMIT)
-        .long_help(help::LIMIT_MORE)
+    number(alloc, "limit", "N", help::LIMIT, help::LIMIT_MORE).required(true)
 }
 
 fn workers<'a>(alloc: Global) -> Arg<'a>
-    ensures rule { rule_of result ≡ workers_rule }
-    ensures local { result.global ≡ false }
+    ensures { IsLocalArg workers_rule result }
 {
-    number(alloc, "workers", "K")
-        .default_value("2")
-        .help(help::WORKERS)
-        .long_help(help::WORKERS_MORE)
+    number(alloc, "workers", "K", help::WORKERS, help::WORKERS_MORE).default_value("2")
 }
 
 fn slots<'a>(alloc: Global) -> Arg<'a>
-    ensures rule { rule_of result ≡ slots_rule }
-    ensures local { result.global ≡ false }
+    ensures { IsLocalArg slots_rule result }
 {
-    number(alloc, "slots", "S")
-        .default_value("64")
-        .help(help::SLOTS)
-        .long_help(help::SLOTS_MORE)
+    number(alloc, "slots", "S", help::SLOTS, help::SLOTS_MORE).default_value("64")
 }
 
 fn progress<'a>(alloc: Global) -> Arg<'a>
-    ensures rule { rule_of result ≡ progress_rule }
-    ensures local { result.global ≡ false }
+    ensures { IsLocalArg progress_rule result }
 {
     Arg::new(alloc, "progress")
         .long("progress")
@@ -122,8 +122,7 @@ fn named<'a>(
     notes: &'a str,
     more: &'a str,
 ) -> Command<'a>
-    ensures app { app_of result ≡ new_app name.entry.now }
-    ensures local { (fields_of result).has_globals ≡ false }
+    ensures { IsLocal (new_app name.entry.now) result }
 {
     Command::new(alloc, name)
         .about(about)
@@ -133,15 +132,22 @@ fn named<'a>(
 
 /// Adds what a search takes, but for the position.
 fn with_limits<'a>(alloc: Global, command: Command<'a>) -> Result<Command<'a>, AllocError>
-    ensures app { IfOk result (λ made. app_of made ≡ limits_app (app_of command.entry)) }
-    ensures local { IfOk result (λ made. (fields_of made).has_globals ≡ (fields_of command.entry).has_globals) }
+    ensures { (app : App) → IsLocal app command.entry → IfOk result (IsLocal (limits_app app)) }
 {
-    command
-        .arg(limit(alloc))?
-        .arg(workers(alloc))?
-        .arg(slots(alloc))?
-        .arg(goal(alloc))?
-        .arg(progress(alloc))
+    // by `else` and not by `?`, whose calls are dear to prove at a type as large as this
+    let Ok(limited) = command.arg(limit(alloc)) else {
+        return Err(AllocError);
+    };
+    let Ok(manned) = limited.arg(workers(alloc)) else {
+        return Err(AllocError);
+    };
+    let Ok(remembering) = manned.arg(slots(alloc)) else {
+        return Err(AllocError);
+    };
+    let Ok(aiming) = remembering.arg(goal(alloc)) else {
+        return Err(AllocError);
+    };
+    aiming.arg(progress(alloc))
 }
 
 /// A command that searches at a position.
@@ -152,15 +158,16 @@ fn search_command<'a>(
     notes: &'a str,
     more: &'a str,
 ) -> Result<Command<'a>, AllocError>
-    ensures app { IfOk result (λ command. app_of command ≡ search_app name.entry.now) }
-    ensures local { IfOk result (λ command. (fields_of command).has_globals ≡ false) }
+    ensures { IfOk result (IsLocal (search_app name.entry.now)) }
 {
-    with_limits(alloc, named(alloc, name, about, notes, more))?.arg(fen(alloc))
+    let Ok(limited) = with_limits(alloc, named(alloc, name, about, notes, more)) else {
+        return Err(AllocError);
+    };
+    limited.arg(fen(alloc))
 }
 
 fn solve_command<'a>(alloc: Global) -> Result<Command<'a>, AllocError>
-    ensures app { IfOk result (λ command. app_of command ≡ solve_app) }
-    ensures local { IfOk result (λ command. (fields_of command).has_globals ≡ false) }
+    ensures { IfOk result (IsLocal solve_app) }
 {
     search_command(
         alloc,
@@ -172,22 +179,19 @@ fn solve_command<'a>(alloc: Global) -> Result<Command<'a>, AllocError>
 }
 
 fn keys_command<'a>(alloc: Global) -> Result<Command<'a>, AllocError>
-    ensures app { IfOk result (λ command. app_of command ≡ keys_app) }
-    ensures local { IfOk result (λ command. (fields_of command).has_globals ≡ false) }
+    ensures { IfOk result (IsLocal keys_app) }
 {
     search_command(alloc, "keys", help::KEYS, help::KEYS_NOTES, help::KEYS_MORE)
 }
 
 fn tree_command<'a>(alloc: Global) -> Result<Command<'a>, AllocError>
-    ensures app { IfOk result (λ command. app_of command ≡ tree_app) }
-    ensures local { IfOk result (λ command. (fields_of command).has_globals ≡ false) }
+    ensures { IfOk result (IsLocal tree_app) }
 {
     search_command(alloc, "tree", help::TREE, help::TREE_NOTES, help::TREE_MORE)
 }
 
 fn batch_command<'a>(alloc: Global) -> Result<Command<'a>, AllocError>
-    ensures app { IfOk result (λ command. app_of command ≡ batch_app) }
-    ensures local { IfOk result (λ command. (fields_of command).has_globals ≡ false) }
+    ensures { IfOk result (IsLocal batch_app) }
 {
     with_limits(
         alloc,
@@ -202,8 +206,7 @@ fn batch_command<'a>(alloc: Global) -> Result<Command<'a>, AllocError>
 }
 
 fn moves_command<'a>(alloc: Global) -> Result<Command<'a>, AllocError>
-    ensures app { IfOk result (λ command. app_of command ≡ moves_app) }
-    ensures local { IfOk result (λ command. (fields_of command).has_globals ≡ false) }
+    ensures { IfOk result (IsLocal moves_app) }
 {
     named(
         alloc,
@@ -216,25 +219,25 @@ fn moves_command<'a>(alloc: Global) -> Result<Command<'a>, AllocError>
 }
 
 fn show_command<'a>(alloc: Global) -> Result<Command<'a>, AllocError>
-    ensures app { IfOk result (λ command. app_of command ≡ show_app) }
-    ensures local { IfOk result (λ command. (fields_of command).has_globals ≡ false) }
+    ensures { IfOk result (IsLocal show_app) }
 {
     named(alloc, "show", help::SHOW, help::SHOW_NOTES, help::SHOW_MORE).arg(fen(alloc))
 }
 
 fn check_command<'a>(alloc: Global) -> Result<Command<'a>, AllocError>
-    ensures app { IfOk result (λ command. app_of command ≡ check_app) }
-    ensures local { IfOk result (λ command. (fields_of command).has_globals ≡ false) }
+    ensures { IfOk result (IsLocal check_app) }
 {
-    named(
+    let bare = named(
         alloc,
         "check",
         help::CHECK,
         help::CHECK_NOTES,
         help::CHECK_MORE,
-    )
-    .arg(goal(alloc))?
-    .arg(fen(alloc))
+    );
+    let Ok(aiming) = bare.arg(goal(alloc)) else {
+        return Err(AllocError);
+    };
+    aiming.arg(fen(alloc))
 }
 
 /// Adds a command to another, if both could be made.
@@ -242,16 +245,24 @@ fn added<'a>(
     command: Result<Command<'a>, AllocError>,
     other: Result<Command<'a>, AllocError>,
 ) -> Result<Command<'a>, AllocError>
-    ensures { (app sub : App) → IfOk command.entry (λ c. app_of c ≡ app) → IfOk other.entry (λ c. app_of c ≡ sub)
-        → IfOk other.entry (λ c. (fields_of c).has_globals ≡ false)
-        → IfOk result (λ made. app_of made ≡ with_subcommand app sub.top) }
+    ensures { (app sub : App) → IfOk command.entry (IsLocal app) → IfOk other.entry (IsLocal sub)
+        → IfOk result (IsLocal (with_subcommand app sub.top)) }
 {
-    command?.subcommand(other?)
+    // dropped by a call, which is one step, and not field by field
+    let Ok(command) = command else {
+        mem::drop(other);
+        return Err(AllocError);
+    };
+    let Ok(other) = other else {
+        mem::drop(command);
+        return Err(AllocError);
+    };
+    command.subcommand(other)
 }
 
 /// The program's commands.
 fn command<'a>(alloc: Global) -> Result<Command<'a>, AllocError>
-    ensures { IfOk result (λ command. app_of command ≡ program) }
+    ensures { IfOk result (IsLocal program) }
 {
     let bare = named(
         alloc,
@@ -308,19 +319,30 @@ fn goal_of(matches: &ArgMatches<'_>) -> Option<Goal>
     }
 }
 
+/// The command of that name which searches for the goal within the limits.
+fn search_of(name: &str, goal: Goal, limits: Limits) -> Option<Action>
+    ensures some { IfSome result (λ action. (rows : List Row) → HasGoal rows goal → HasLimits rows limits
+        → MeansAction name.now rows action) }
+    ensures none { IfNone result (NamesNoSearch name.now) }
+{
+    match name {
+        "solve" => Some(Action::Solve(goal, limits)),
+        "keys" => Some(Action::Keys(goal, limits)),
+        "tree" => Some(Action::Tree(goal, limits)),
+        _ => None,
+    }
+}
+
 fn action_of(name: &str, values: &ArgMatches<'_>) -> Option<Action>
     ensures some { IfSome result (MeansAction name.now (rows_of (found_of values.now))) }
     ensures none { IfNone result
         ((action : TheAction) → MeansAction name.now (rows_of (found_of values.now)) action → ⊥) }
 {
     match name {
-        "solve" => Some(Action::Solve(goal_of(values)?, limits(values)?)),
-        "keys" => Some(Action::Keys(goal_of(values)?, limits(values)?)),
         "moves" => Some(Action::Moves),
         "show" => Some(Action::Show),
-        "tree" => Some(Action::Tree(goal_of(values)?, limits(values)?)),
         "check" => Some(Action::Check(goal_of(values)?)),
-        _ => None,
+        _ => search_of(name, goal_of(values)?, limits(values)?),
     }
 }
 
@@ -373,12 +395,7 @@ pub fn asks_progress<W: AsStr>(words: &[W]) -> bool
     ensures { MatchBool result (Any (λ word. W.text word ≡ progress_word) words.now)
         (All (λ word. W.text word ≢ progress_word) words.now) }
 {
-    for word in words {
-        if word.as_str() == PROGRESS_WORD {
-            return true;
-        }
-    }
-    false
+    words.iter().any(|word| word.as_str() == PROGRESS_WORD)
 }
 
 /// The order that the words mean. The first word is the program's name.

@@ -10,4 +10,4 @@ mod running;
 mod watch;
 
 pub use program::run_program;
-pub use running::run;
+pub use running::{run, run_line};

@@ -13,16 +13,37 @@ use crate::ending::{
 use command_line::{Line, LineFault, Order, asks_progress, read_order};
 use replies::{Refusal, Refused, Sink, Source, Trouble, advise};
 use std::convert::AsStr;
-use std::io::Write;
+use std::io::{Write, sink};
 use std::sync::Wait;
 use std::sync::atomic::AtomicU64;
 use std::thread::Threads;
 use std::time::Clock;
 
 /// Answers a line: writes its output, and gives its status. No line but a `check` at a sound
-/// position asks the reader for anything. `errors` is told why a line was refused; whether it takes
-/// that changes nothing.
-pub fn run_line<
+/// position asks the reader for anything. Nobody is told how far a search is, or why a line was refused.
+pub fn run_line<R: Threads + Wait + Eprint + Clock + Sync + AllocGlobal, S: Source, K: Sink>(
+    rt: &R,
+    line: &Line<'_>,
+    reader: &mut S,
+    writer: &mut K,
+) -> u8
+    requires reads { S.failures reader.old < u64.MAX }
+    requires writes { K.failures writer.old < u64.MAX }
+    ensures unread { MayRead line.now ⊎ (reader.new ≡ reader.old) }
+    ensures runs { RunsLine line.now (run_of S.remaining S.failures reader.old reader.new
+        (ending_of K.contents K.failures writer.old writer.new result)) }
+{
+    let host = Host {
+        rt,
+        shows: false,
+        line: AtomicU64::new(0),
+    };
+    run_line_on(&host, line, reader, writer, &mut sink())
+}
+
+/// The same with a host that may show how far a search is. `errors` is told why a line was refused;
+/// whether it takes that changes nothing.
+fn run_line_on<
     R: Threads + Wait + Eprint + Clock + Sync + AllocGlobal,
     S: Source,
     K: Sink,
@@ -117,7 +138,7 @@ pub fn run<
     ensures silent { MayTell result ⊎ MeansBatch (map W.text words.now) ⊎ (errors.new ≡ errors.old) }
 {
     match read_order(rt.alloc(), words) {
-        Ok(Order::One(line)) => run_line(&host_of(rt, words), &line, reader, writer, errors),
+        Ok(Order::One(line)) => run_line_on(&host_of(rt, words), &line, reader, writer, errors),
         Ok(Order::Batch(goal, limits)) => {
             run_batch(
                 &host_of(rt, words),

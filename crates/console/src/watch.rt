@@ -151,6 +151,10 @@ impl Watch {
 }
 
 impl Gate for Watch {
+    ghost use Rattle.std.specs.Prelude.{◌≡◌};
+
+    ghost keeps = { λ _ before after. after ≡ before };
+
     fn begin(&self, _round: u8, _job: u16, _slots: &Slots<MateLore>, _seat: &mut Seat) {}
 
     fn end(&self, round: u8, ended: Ended) {

@@ -1,5 +1,8 @@
 //! Replies at worked positions: answers, keys, trees, moves and boards.
 use crate::whole_runs::{expect, expect_with, run_quietly};
+use command_line::{Action, Limits, Line};
+use console::run_line;
+use moves::Goal;
 use replies::Counted;
 use std::process::Abort;
 use std::sync::Wait;
@@ -44,6 +47,24 @@ fn finds_mates_in_one(rt: HostRuntime) {
     expect_answer(&rt, "1", ROOK_MATES, "mate 1 f1f6\n");
     expect_answer(&rt, "1", "5r/6/6/1k4/6/K5 b", "mate 1 f6f1\n");
     expect_answer(&rt, "1", PAWN_MATES, "mate 1 c4c5q\n");
+}
+
+#[test]
+fn answers_a_line(rt: HostRuntime) {
+    let limits = Limits {
+        limit: 1,
+        workers: 2,
+        slots: 64,
+    };
+    let line = Line {
+        fen: ROOK_MATES.as_bytes(),
+        action: Action::Solve(Goal::Mate, limits),
+    };
+    let mut reader = Counted::new(b"".as_slice());
+    let mut writer = Counted::new(Vec::new(rt.alloc()));
+    let status = run_line(&rt, &line, &mut reader, &mut writer);
+    assert_eq!(rt; status, 0);
+    assert_eq!(rt; writer.device.as_slice(), b"mate 1 f1f6\n".as_slice());
 }
 
 #[test]

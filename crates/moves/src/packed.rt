@@ -46,6 +46,16 @@ impl Board {
         Board { words, sets }
     }
 
+    /// The same board once more: no position is made.
+    pub fn copied(&self) -> Board
+        ensures { result ≡ self.now }
+    {
+        Board {
+            words: self.words,
+            sets: self.sets,
+        }
+    }
+
     /// The position that the words stand for.
     pub fn position(&self) -> Position
         ensures { result ≡ self.now }

@@ -15,42 +15,28 @@ pub struct Refused<'a> {
 
 /// Tells in one sentence why something was refused, and what to write instead.
 pub fn advise<E: Write>(errors: &mut E, refused: &Refused<'_>) -> io::Result<()> {
-    name_line(errors, refused.line)?;
-    advise_text(errors, refused)?;
+    match refused.line {
+        Some(number) => write!(errors, "error: line {number}: ")?,
+        None => errors.write_all(b"error: ")?,
+    }
+    write_sentence(errors, refused)?;
     errors.write_all(b"\n")
 }
 
-fn name_line<E: Write>(errors: &mut E, line: Option<u64>) -> io::Result<()> {
-    match line {
-        Some(number) => write!(errors, "error: line {number}: "),
-        None => errors.write_all(b"error: "),
-    }
-}
-
-fn advise_text<E: Write>(errors: &mut E, refused: &Refused<'_>) -> io::Result<()> {
+/// What is wrong, and what to write instead.
+fn write_sentence<E: Write>(errors: &mut E, refused: &Refused<'_>) -> io::Result<()> {
     match refused.refusal {
         Refusal::Fields => advise_fields(errors, refused.fen),
+        Refusal::Shape => advise_shape(errors, &Board::of(refused.fen)),
+        Refusal::Letter => advise_letter(errors, &Board::of(refused.fen)),
+        Refusal::Run => advise_run(errors, &Board::of(refused.fen)),
         Refusal::Side => advise_side(errors, refused.fen),
+        Refusal::Kings => advise_kings(errors, &Board::of(refused.fen)),
+        Refusal::Units => advise_units(errors, &Board::of(refused.fen)),
+        Refusal::PawnRank => advise_pawn(errors, &Board::of(refused.fen)),
         Refusal::OtherInCheck => advise_check(errors, refused.fen),
-        Refusal::TooLong => advise_length(errors, refused.line),
+        Refusal::TooLong => errors.write_all(length_advice(refused.line)),
         Refusal::Grammar(offset) => advise_grammar(errors, offset),
-        other => advise_board(errors, other, &Board::of(refused.fen)),
-    }
-}
-
-/// The sentence of a refusal that rests on the board alone, or on no text.
-fn advise_board<E: Write>(
-    errors: &mut E,
-    refusal: Refusal,
-    board: &Board<'_>,
-) -> io::Result<()> {
-    match refusal {
-        Refusal::Shape => advise_shape(errors, board),
-        Refusal::Letter => advise_letter(errors, board),
-        Refusal::Run => advise_run(errors, board),
-        Refusal::Kings => advise_kings(errors, board),
-        Refusal::Units => advise_units(errors, board),
-        Refusal::PawnRank => advise_pawn(errors, board),
         other => errors.write_all(values_advice(other).as_bytes()),
     }
 }
@@ -71,13 +57,22 @@ fn values_advice(refusal: Refusal) -> &'static str {
 
 /// The number of fields, in words where there are few.
 fn write_count<E: Write>(errors: &mut E, count: usize) -> io::Result<()> {
-    match count {
-        1 => write!(errors, "is one"),
-        3 => write!(errors, "are three"),
-        4 => write!(errors, "are four"),
-        5 => write!(errors, "are five"),
-        6 => write!(errors, "are six"),
-        _ => write!(errors, "are {count}"),
+    let words = match count {
+        1 => "is one",
+        3 => "are three",
+        4 => "are four",
+        5 => "are five",
+        6 => "are six",
+        _ => return write!(errors, "are {count}"),
+    };
+    errors.write_all(words.as_bytes())
+}
+
+/// What is to be left out of the fields, or added to them.
+fn write_change<E: Write>(errors: &mut E, fen: &[u8]) -> io::Result<()> {
+    match board_text::after_two_fields(fen) {
+        Some(rest) => write!(errors, "; leave out '{}'", rest.escape_ascii()),
+        None => errors.write_all(b"; write ' w' or ' b' behind the board"),
     }
 }
 
@@ -89,15 +84,9 @@ fn advise_fields<E: Write>(errors: &mut E, fen: &[u8]) -> io::Result<()> {
             "a position has one space, between the board and the side: here are {spaces}"
         );
     }
-    write!(
-        errors,
-        "a position has two fields, the board and the side: here "
-    )?;
+    errors.write_all(b"a position has two fields, the board and the side: here ")?;
     write_count(errors, spaces.saturating_add(1))?;
-    match board_text::after_two_fields(fen) {
-        Some(rest) => write!(errors, "; leave out '{}'", rest.escape_ascii()),
-        None => write!(errors, "; write ' w' or ' b' behind the board"),
-    }
+    write_change(errors, fen)
 }
 
 fn advise_shape<E: Write>(errors: &mut E, board: &Board<'_>) -> io::Result<()> {
@@ -114,33 +103,56 @@ fn advise_shape<E: Write>(errors: &mut E, board: &Board<'_>) -> io::Result<()> {
     }
 }
 
-fn advise_letter<E: Write>(errors: &mut E, board: &Board<'_>) -> io::Result<()> {
-    if let Some((rank, letter)) = board.foreign_letter() {
-        name_letter(errors, rank, letter)?;
-    }
-    match board.ranks {
-        6 => errors.write_all(
-            b"the units of Los Alamos chess are K Q R N P, and in lower case Black's",
-        ),
-        _ => errors.write_all(
-            b"the units of Gardner minichess are K Q R B N P, and in lower case Black's",
-        ),
+fn game_of(ranks: usize) -> &'static str {
+    match ranks {
+        6 => "Los Alamos chess",
+        _ => "Gardner minichess",
     }
 }
 
-fn name_letter<E: Write>(errors: &mut E, rank: usize, letter: u8) -> io::Result<()> {
-    let text = [letter];
-    write!(errors, "rank {rank} has '{}': ", text.escape_ascii())
+/// The units of the game of so many ranks.
+fn units_of(ranks: usize) -> &'static str {
+    match ranks {
+        6 => "K Q R N P",
+        _ => "K Q R B N P",
+    }
+}
+
+/// Which letter is no unit's, and where.
+fn write_letter<E: Write>(errors: &mut E, board: &Board<'_>) -> io::Result<()> {
+    match board.foreign_letter() {
+        Some((rank, letter)) => write!(
+            errors,
+            "rank {rank} has '{}': ",
+            [letter].as_slice().escape_ascii()
+        ),
+        None => Ok(()),
+    }
+}
+
+fn advise_letter<E: Write>(errors: &mut E, board: &Board<'_>) -> io::Result<()> {
+    write_letter(errors, board)?;
+    let (game, letters) = (game_of(board.ranks), units_of(board.ranks));
+    write!(
+        errors,
+        "the units of {game} are {letters}, and in lower case Black's"
+    )
+}
+
+/// Which run of empty squares is no single digit, and where.
+fn write_run<E: Write>(errors: &mut E, board: &Board<'_>) -> io::Result<()> {
+    match board.split_run() {
+        Some((rank, run)) => write!(errors, "rank {rank} has '{}': ", run.escape_ascii()),
+        None => Ok(()),
+    }
 }
 
 fn advise_run<E: Write>(errors: &mut E, board: &Board<'_>) -> io::Result<()> {
-    let ranks = board.ranks;
-    if let Some((rank, run)) = board.split_run() {
-        write!(errors, "rank {rank} has '{}': ", run.escape_ascii())?;
-    }
+    write_run(errors, board)?;
     write!(
         errors,
-        "write each run of empty squares as one digit from 1 to {ranks}"
+        "write each run of empty squares as one digit from 1 to {}",
+        board.ranks
     )
 }
 
@@ -163,10 +175,8 @@ fn advise_kings<E: Write>(errors: &mut E, board: &Board<'_>) -> io::Result<()> {
 }
 
 fn advise_units<E: Write>(errors: &mut E, board: &Board<'_>) -> io::Result<()> {
-    let (game, most) = match board.ranks {
-        6 => ("Los Alamos chess", 12),
-        _ => ("Gardner minichess", 10),
-    };
+    let game = game_of(board.ranks);
+    let most = if board.ranks == 6 { 12 } else { 10 };
     let (white, black) = (board.units(true), board.units(false));
     write!(
         errors,
@@ -175,18 +185,15 @@ fn advise_units<E: Write>(errors: &mut E, board: &Board<'_>) -> io::Result<()> {
 }
 
 fn advise_pawn<E: Write>(errors: &mut E, board: &Board<'_>) -> io::Result<()> {
-    let ranks = board.ranks;
-    if board.first_rank_has_pawn() {
-        return write!(
-            errors,
-            "rank 1 has a pawn: pawns stand on ranks 2 to {} alone",
-            ranks.saturating_sub(1)
-        );
-    }
+    let rank = if board.first_rank_has_pawn() {
+        1
+    } else {
+        board.ranks
+    };
     write!(
         errors,
-        "rank {ranks} has a pawn: pawns stand on ranks 2 to {} alone",
-        ranks.saturating_sub(1)
+        "rank {rank} has a pawn: pawns stand on ranks 2 to {} alone",
+        board.ranks.saturating_sub(1)
     )
 }
 
@@ -201,21 +208,17 @@ fn advise_check<E: Write>(errors: &mut E, fen: &[u8]) -> io::Result<()> {
     )
 }
 
-fn advise_length<E: Write>(errors: &mut E, line: Option<u64>) -> io::Result<()> {
+fn length_advice(line: Option<u64>) -> &'static [u8] {
     match line {
-        Some(_) => write!(errors, "a line has at most 256 bytes"),
-        None => write!(
-            errors,
-            "a tree has at most 1048576 bytes, its line feed counted"
-        ),
+        Some(_) => b"a line has at most 256 bytes",
+        None => b"a tree has at most 1048576 bytes, its line feed counted",
     }
 }
 
 fn advise_grammar<E: Write>(errors: &mut E, offset: usize) -> io::Result<()> {
     match offset {
-        0 => write!(
-            errors,
-            "the input begins with no move: where `tree` wrote no tree, there is none to check"
+        0 => errors.write_all(
+            b"the input begins with no move: where `tree` wrote no tree, there is none to check",
         ),
         _ => write!(
             errors,

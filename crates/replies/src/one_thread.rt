@@ -1,13 +1,17 @@
 //! The replies that one thread gives, from the text of a position: those of the program, for whoever can start no thread.
-ghost use Rattle.std.specs.Prelude.{◌≤◌, [], All, IfErr, IfOk, Ok, Err, vec_items};
+ghost use Rattle.std.specs.Prelude.{◌≡◌, ◌≤◌, [], All, IfErr, IfOk, Ok, Err, vec_items};
 ghost use Rattle.slots.specs.Promise.{IsSeatOf};
+ghost use Rattle.decision.specs.Answer.{IsFewest};
+ghost use Rattle.trees.specs.Best.{IsBest};
+ghost use Rattle.wintree.specs.Plan.{Plan};
+ghost use Rattle.wintree.specs.Text.{text as tree_words};
 ghost use Rattle.command_line.specs.declared.line.Action.TheVariants.{Solve, Keys, Moves, Tree, Check};
 ghost use Rattle.replies.specs.Outcome.{Gives, FindsKeys, Solves};
-ghost use Rattle.replies.specs.Output.{IsOutput, ShowsAnswer, ShowsKeys, ShowsPlanFound, ShowsMoves, ShowsCheck};
+ghost use Rattle.replies.specs.Output.{answered, line_of, IsOutput, ShowsAnswer, ShowsKeys, ShowsPlanFound, ShowsMoves, ShowsCheck};
 
 use crate::refusal::Refusal;
 use crate::replying::{
-    Search, answer_text, keys_text, moves_text, none_text, search_of, tree_line, verdict_text,
+    Search, answer_text, keys_text, moves_text, none_line, search_of, tree_line, verdict_text,
 };
 use crate::transfer::{MOST_INPUT, without_line_feed};
 use alone::solve_alone;
@@ -19,7 +23,7 @@ use moves::{Board, Goal, lawful, read_sound};
 use rounds::{Asked, Key, SolveFault, keys_alone, make_table_in};
 use slots::{Seat, Slots};
 use std::alloc::Allocator;
-use trees::build_tree;
+use trees::{Wanted, build_tree};
 
 /// The answer within the limits, with the table that it was found over and a seat there.
 fn searched_alone<A: Allocator + Copy>(
@@ -102,11 +106,37 @@ fn plan_shown<A: Allocator + Copy>(
     let (answer, table, mut seat) = searched_alone(alloc, position, goal, limits)?;
     match answer {
         Answer::Mate { plies, .. } => {
-            let tree = build_tree(alloc, &table, &mut seat, position, goal, plies)?;
-            Ok(tree_line(alloc, &tree)?)
+            let wanted = Wanted {
+                position,
+                goal,
+                plies,
+            };
+            plan_line_alone(alloc, &wanted, &table, &mut seat)
         }
-        Answer::NoneWithin(limit) => Ok(none_text(alloc, u32::from(limit))?.into_bytes()),
+        Answer::NoneWithin(limit) => none_line(alloc, limit),
     }
+}
+
+/// The best tree of so many plies, on one line.
+fn plan_line_alone<A: Allocator, B: Allocator + Copy>(
+    alloc: B,
+    wanted: &Wanted<'_>,
+    table: &Slots<MateLore, A>,
+    seat: &mut Seat,
+) -> Result<Vec<u8, B>, Refusal>
+    requires seat { IsSeatOf table.now seat.old }
+    requires plies { wanted.now.plies ≤ 63 }
+    requires fewest { IsFewest wanted.now.goal wanted.now.position.now wanted.now.plies }
+    ensures { Gives vec_items (λ reply. (plan : Plan) × IsBest wanted.now.goal wanted.now.position.now plan
+        × (reply ≡ answered (line_of (tree_words plan)))) result }
+{
+    let Wanted {
+        position,
+        goal,
+        plies,
+    } = *wanted;
+    let tree = build_tree(alloc, table, seat, position, goal, plies)?;
+    Ok(tree_line(alloc, &tree)?)
 }
 
 fn moves_shown<A: Allocator>(alloc: A, position: &Position) -> Result<Vec<u8, A>, Refusal>

@@ -1,8 +1,8 @@
 //! What stands after `refused: `.
-ghost use Rattle.std.specs.Prelude.{◌≡◌, IfOk, Some, string_bytes};
+ghost use Rattle.std.specs.Prelude.{◌≡◌, ◌≢◌, ℕ, IfOk, Some, string_bytes};
 ghost use Rattle.replies.specs.Output.{refused};
 ghost use Rattle.replies.specs.Refusal.{refusal_status, refusal_text, refusal_of_fen, refusal_of_solve, refusal_of_tree};
-ghost use Rattle.replies.specs.declared.refusal.Refusal.TheVariants.{NoMemory as no_memory};
+ghost use Rattle.replies.specs.declared.refusal.Refusal.TheVariants.{Grammar, NoMemory as no_memory};
 
 use board::FenFault;
 use rounds::SolveFault;
@@ -64,24 +64,34 @@ impl fmt::Display for Refusal {
 
     fn fmt<W: fmt::Write>(&self, f: &mut fmt::Formatter<W>) -> fmt::Result {
         match self {
-            Refusal::Fields => write!(f, "Fields"),
-            Refusal::Shape => write!(f, "Shape"),
-            Refusal::Letter => write!(f, "Letter"),
-            Refusal::Run => write!(f, "Run"),
-            Refusal::Side => write!(f, "Side"),
-            Refusal::Kings => write!(f, "Kings"),
-            Refusal::Units => write!(f, "Units"),
-            Refusal::PawnRank => write!(f, "PawnRank"),
-            Refusal::OtherInCheck => write!(f, "OtherInCheck"),
-            Refusal::Move => write!(f, "Move"),
-            Refusal::Limit => write!(f, "Limit"),
-            Refusal::Workers => write!(f, "Workers"),
-            Refusal::Slots => write!(f, "Slots"),
-            Refusal::TooLong => write!(f, "TooLong"),
             Refusal::Grammar(offset) => write!(f, "Grammar at offset {offset}"),
-            Refusal::Deep => write!(f, "Deep"),
-            Refusal::NoMemory => write!(f, "NoMemory"),
+            other => write!(f, "{}", name_of(*other)),
         }
+    }
+}
+
+/// What is printed of a refusal, up to its number.
+fn name_of(refusal: Refusal) -> &'static str
+    ensures { ((offset : ℕ) → refusal ≢ Grammar offset) → result.now ≡ refusal_text refusal }
+{
+    match refusal {
+        Refusal::Fields => "Fields",
+        Refusal::Shape => "Shape",
+        Refusal::Letter => "Letter",
+        Refusal::Run => "Run",
+        Refusal::Side => "Side",
+        Refusal::Kings => "Kings",
+        Refusal::Units => "Units",
+        Refusal::PawnRank => "PawnRank",
+        Refusal::OtherInCheck => "OtherInCheck",
+        Refusal::Move => "Move",
+        Refusal::Limit => "Limit",
+        Refusal::Workers => "Workers",
+        Refusal::Slots => "Slots",
+        Refusal::TooLong => "TooLong",
+        Refusal::Grammar(_) => "Grammar",
+        Refusal::Deep => "Deep",
+        Refusal::NoMemory => "NoMemory",
     }
 }
 

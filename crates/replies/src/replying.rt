@@ -4,10 +4,12 @@ ghost use Rattle.slots.specs.Promise.{IsSeatOf};
 ghost use Rattle.std.specs.List.{flat_map};
 ghost use Rattle.rounds.specs.Limits.{IsRefusal};
 ghost use Rattle.rounds.specs.Seats.{AreSeats};
-ghost use Rattle.wintree.specs.Plan.{depth};
+ghost use Rattle.wintree.specs.Plan.{Plan, depth};
 ghost use Rattle.wintree.specs.Text.{text as tree_words};
+ghost use Rattle.decision.specs.Answer.{IsFewest};
+ghost use Rattle.trees.specs.Best.{IsBest};
 ghost use Rattle.replies.specs.Outcome.{Solves, FindsKeys, Gives, GivesIfRead, GivesReply, reads_failed};
-ghost use Rattle.replies.specs.Output.{answer_text, none_text, key_text, keys_text, moves_text, checked_text, line_of, ShowsAnswer, ShowsKeys, ShowsPlanFound, ShowsTree, ShowsCheck, MayRead, fault_of};
+ghost use Rattle.replies.specs.Output.{answered, answer_text, none_text, key_text, keys_text, moves_text, checked_text, line_of, ShowsAnswer, ShowsKeys, ShowsPlanFound, ShowsTree, ShowsCheck, MayRead, fault_of};
 
 use crate::device::Source;
 use crate::drawing::board_drawn;
@@ -262,7 +264,6 @@ fn plan_text<R: Threads + Wait + Sync, T: Gate>(
 ) -> Result<Vec<u8>, Refusal>
     ensures { Gives vec_items (ShowsPlanFound goal position.now limits) result }
 {
-    let alloc = told.alloc;
     let (answer, table, mut seats) = searched_within(rt, told, position, goal, limits)?;
     match answer {
         Answer::Mate { plies, .. } => {
@@ -271,11 +272,36 @@ fn plan_text<R: Threads + Wait + Sync, T: Gate>(
                 goal,
                 plies,
             };
-            let tree = build_tree_over(rt, alloc, &wanted, &table, &mut seats)?;
-            Ok(tree_line(alloc, &tree)?)
+            plan_line(rt, told.alloc, &wanted, &table, &mut seats)
         }
-        Answer::NoneWithin(limit) => Ok(none_text(alloc, u32::from(limit))?.into_bytes()),
+        Answer::NoneWithin(limit) => none_line(told.alloc, limit),
     }
+}
+
+/// The best tree of so many plies, on one line.
+fn plan_line<R: Threads + Wait + Sync>(
+    rt: &R,
+    alloc: Global,
+    wanted: &Wanted<'_>,
+    table: &Slots<MateLore>,
+    seats: &mut Vec<Seat>,
+) -> Result<Vec<u8>, Refusal>
+    requires some { 0 < length seats.old.items }
+    requires seats { All (IsSeatOf table.now) seats.old.items }
+    requires plies { wanted.now.plies ≤ 63 }
+    requires fewest { IsFewest wanted.now.goal wanted.now.position.now wanted.now.plies }
+    ensures { Gives vec_items (λ reply. (plan : Plan) × IsBest wanted.now.goal wanted.now.position.now plan
+        × (reply ≡ answered (line_of (tree_words plan)))) result }
+{
+    let tree = build_tree_over(rt, alloc, wanted, table, seats)?;
+    Ok(tree_line(alloc, &tree)?)
+}
+
+/// That there is no tree, on one line.
+pub(crate) fn none_line<A: Allocator>(alloc: A, limit: u8) -> Result<Vec<u8, A>, Refusal>
+    ensures { Gives vec_items (λ reply. reply ≡ answered (none_text limit)) result }
+{
+    Ok(none_text(alloc, u32::from(limit))?.into_bytes())
 }
 
 pub(crate) fn tree_line<A: Allocator, B: Allocator>(

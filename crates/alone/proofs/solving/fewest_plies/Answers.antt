@@ -20,14 +20,14 @@ pub returns-then-is_forced-clause-fewest : goal.returns-then-is_forced-clause-fe
 returns-then-is_forced-clause-fewest g c =
     let decided : IsTrue c.is_forced.result ↔ Forces c.args.goal c.args.board.now.mover c.args.board.now (2 * c.loop-round.round + 1) =
     (subst (λ (p : Side × PlainBoard). IsTrue c.is_forced.result ↔ Forces c.args.goal p.0 p.1 (2 * c.loop-round.round + 1))
-    (λ i. (c.mover.ensures.value i, (c.of.ensures ∙ c.position.ensures) i)) c.is_forced.ensures.answer) in
+    (λ i. (c.mover.ensures.value i, c.copied.ensures i)) c.is_forced.ensures.answer) in
     record { forced = decided.0 c.if-is_forced.true; fewer = λ k less f. c.loop-round.invariant.nothing k (omega (arith, less)) f }
 
 pub loop-round-preserved : goal.loop-round-preserved
 loop-round-preserved g c =
     let decided : IsTrue c.is_forced.result ↔ Forces c.args.goal c.args.board.now.mover c.args.board.now (2 * c.loop-round.round + 1) =
     (subst (λ (p : Side × PlainBoard). IsTrue c.is_forced.result ↔ Forces c.args.goal p.0 p.1 (2 * c.loop-round.round + 1))
-    (λ i. (c.mover.ensures.value i, (c.of.ensures ∙ c.position.ensures) i)) c.is_forced.ensures.answer) in
+    (λ i. (c.mover.ensures.value i, c.copied.ensures i)) c.is_forced.ensures.answer) in
     record {
       continues = continues_more _ _ _ _ c.loop-round.invariant.continues c.is_forced.ensures.continues;
       nothing = next_round c.args.goal c.args.board.now c.loop-round.round c.loop-round.invariant.nothing

@@ -15,14 +15,14 @@ program_is_free = refl
 
 pub returns-clause-found : goal.returns-clause-found
 returns-clause-found g c =
-    let is : _ ≡ program = c.in_ok-command.ensures in
+    let is : _ ≡ program = c.in_ok-command.ensures.is_app in
     let words = map g.W.AsStr.text c.args.words.now in
     IfOk-weaker c.try_get_matches_from.result _ _
     (λ m found. (found (ap is_simple is ∙ program_is_simple)).1 ∙ ap (λ (a : App). subcommand_of a words) is) c.try_get_matches_from.ensures.matches
 
 pub returns-clause-kinds : goal.returns-clause-kinds
 returns-clause-kinds g c =
-    let is : _ ≡ program = c.in_ok-command.ensures in
+    let is : _ ≡ program = c.in_ok-command.ensures.is_app in
     let words = map g.W.AsStr.text c.args.words.now in
     subst (λ (a : App). FailsBy (fault_of a words) c.try_get_matches_from.result) is
     (c.try_get_matches_from.ensures.kinds (ap is_simple_and_free is ∙ program_is_free))

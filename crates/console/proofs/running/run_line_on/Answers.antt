@@ -2,7 +2,7 @@ use Rattle.std.proofs.Common.{inl, refl, arith}
 use Rattle.std.proofs.KnownBytes.{Appends-nil}
 use Rattle.replies.specs.Output.{answered}
 use Rattle.console.proofs.RunLemmas.{run_of_reply, run_of_refusal, run_of_failed_read}
-use Rattle.console.proofs.running.run_line.Goals as goal
+use Rattle.console.proofs.running.run_line_on.Goals as goal
 
 pub returns-in-Ok-clause-runs : goal.returns-in-Ok-clause-runs
 returns-in-Ok-clause-runs g c =

@@ -1,7 +1,0 @@
--- none of the words so far asks
-use Rattle.std.proofs.Common.{◌≢◌, All, take}
-use Rattle.command_line.specs.Words.{progress_word}
-use Rattle.command_line.proofs.reading.asks_progress.Given as goal
-
-abbrev pub invariant-loop-word : goal.invariant-loop-word
-invariant-loop-word g l = All (λ word. g.W.AsStr.text word ≢ progress_word) (take l.word-index l.words)
