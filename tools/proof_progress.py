@@ -16,7 +16,7 @@ GAIN = 0.7
 
 
 def read_shares():
-    """The table that tools/proof_times makes."""
+    """The table that tools/proof_times --write makes anew."""
     if not os.path.exists(SHARES):
         return {}
     with open(SHARES, encoding="ascii") as table:
