@@ -1,12 +1,11 @@
 -- A batch, line by line.
-use Rattle.std.proofs.Common.{◌≡◌, ◌≢◌, ◌∙◌, ◌==◌, ◌+◌, ◌-◌, ◌<◌, ◌⊎◌, ℕ, Bool, true, false, List, [], ◌∷◌, ◌++◌, Option, None, Some, Result, Ok, Err, IfSome, IsErr, IsErrAnd, Vec, vec_items, length, take, drop, ap, inl, inr, refl, sym, subst, append_assoc, append-nil, arith, if◌then◌else◌}
+use Rattle.std.proofs.Common.{◌≡◌, ◌≢◌, ◌∙◌, ◌==◌, ◌+◌, ◌-◌, ◌<◌, ◌⊎◌, ℕ, Bool, true, false, List, [], ◌∷◌, ◌++◌, Option, None, Some, Result, Ok, Err, IfSome, IsErr, IsErrAnd, Vec, vec_items, length, take, drop, ap, inl, inr, refl, sym, subst, append_assoc, append-nil, length-append, ne_eqb, not, arith, All, MatchBool, if◌then◌else◌}
 use Rattle.std.proofs.lemmas.Bool.{le-ltb, lt-ltb}
 use Rattle.std.proofs.lemmas.List.{flat_map_more}
-use Rattle.std.proofs.lemmas.List.Elements.{AllZip-push}
+use Rattle.std.proofs.lemmas.List.Elements.{AllZip-push, All-head, All-nil, All-push, All-tail}
 use Rattle.std.proofs.lemmas.Option.{IfSome_then}
-use Rattle.std.proofs.KnownBytes.{Appends-nil, Appends-trans}
-use Rattle.std.specs.Io.BufRead.{take_through, drop_through}
-use Rattle.std.specs.Io.KnownBytes.{Appends}
+use Rattle.std.proofs.KnownBytes.{Appends-nil, Appends-trans, Consumes-nil, Consumes-trans}
+use Rattle.std.specs.Io.KnownBytes.{Appends, Consumes}
 use Rattle.std.specs.List.{AllZip}
 use Rattle.std.specs.declared.alloc.Global.{Global}
 use Rattle.board.specs.Board.{PlainBoard}
@@ -14,23 +13,24 @@ use Rattle.board.specs.declared.fault.FenFault.{FenFault}
 use Rattle.command_line.specs.declared.line.Limits.{Limits}
 use Rattle.rules.specs.Reading.{IsSoundFault}
 use Rattle.rules.specs.declared.goal.Goal.{Goal}
-use Rattle.replies.proofs.ReplyLemmas.{of_any}
+use Rattle.replies.proofs.ReplyLemmas.{of_any, of_input_then}
 use Rattle.replies.specs.Device.{AppendsBeginning}
-use Rattle.replies.specs.Input.{without_line_feed}
+use Rattle.replies.specs.Input.{OfInput, without_line_feed}
 use Rattle.replies.specs.Outcome.{Gives}
 use Rattle.replies.specs.Output.{IsSoundText, ShowsAnswer, answered, fault_of, refused}
 use Rattle.replies.specs.Refusal.{refusal_of_fen, refusal_of_solve}
 use Rattle.replies.specs.declared.refusal.Refusal.{Refusal}
 use Rattle.replies.specs.declared.refusal.Refusal.TheVariants.{TooLong}
 use Rattle.console.specs.Batch.{AnswersLines, EndsBatch, IsLineReply, IsReplyText, RunsBatch, is_remark, joined, lines_of, onto, said_in}
-use Rattle.console.specs.Desk.{Fails, GivesNext, GivesSaid, RepliesToFirst, SameSolver, Step, TakesLines, TakesStep, WritesUntil, stop_status}
-use Rattle.console.specs.Lines.{IsNextLine, TakesLine, left_of}
+use Rattle.console.specs.Desk.{Fails, GivesNext, GivesSaid, IsFirstOf, RepliesTo, SameSolver, Step, TakesLines, TakesStep, WritesUntil, stop_status}
+use Rattle.console.specs.Lines.{HasNoFeed, IsFed, IsLastOf, IsReadAs, TakesLine, left_of}
 use Rattle.console.specs.Run.{Ending, Finishes, Refuses, Run, no_memory}
 use Rattle.rounds.specs.declared.task.SolveFault.{SolveFault}
 use Rattle.rounds.specs.declared.task.SolveFault.TheVariants as solve
 use Rattle.console.specs.declared.batch.Solver.{Solver}
 use Rattle.console.specs.declared.batch.Stop.{Stop}
 use Rattle.console.specs.declared.batch.Stop.TheVariants.{ReadFailed, WriteFailed, NoMemory}
+use Rattle.console.specs.declared.lines.Taken.{Taken}
 use Rattle.console.specs.declared.lines.Next.{Next}
 use Rattle.console.specs.declared.lines.Next.TheVariants.{Line}
 use Rattle.console.specs.declared.lines.Unread.{Unread}
@@ -50,65 +50,73 @@ said_gives goal limits said b (Ok text) remark sound gives = rw remark (answered
 said_gives goal limits said b (Err why) remark sound (inl none) = inl none
 said_gives goal limits said b (Err why) remark sound (inr shows) = inr (rw remark (refused why, inl (b, sound, shows), refl))
 
--- ---- the first line, and what is left
+-- ---- lines
 
-alone : (b : Bool) (x : ℕ) → (if b then (x ∷ []) ∷ lines_of [] else onto x (lines_of [])) ≡ (if b then x ∷ [] else x ∷ []) ∷ lines_of (if b then [] else [])
-alone true x = refl
-alone false x = refl
+-- a line with its feed is the first of what begins with it
+lines_fed : (raw rest : List ℕ) → HasNoFeed raw → lines_of (raw ++ 10 ∷ rest) ≡ (raw ++ 10 ∷ []) ∷ lines_of rest
+lines_fed [] rest none = refl
+lines_fed (x ∷ xs) rest none =
+    rw (ne_eqb x 10 (All-head (λ y. y ≢ 10) x xs none)) (ap (onto x) (lines_fed xs rest (All-tail (λ y. y ≢ 10) x xs none)))
 
-before : (b : Bool) (x : ℕ) (xs : List ℕ) → lines_of xs ≡ take_through 10 xs ∷ lines_of (drop_through 10 xs)
-    → (if b then (x ∷ []) ∷ lines_of xs else onto x (lines_of xs)) ≡ (if b then x ∷ [] else x ∷ take_through 10 xs) ∷ lines_of (if b then xs else drop_through 10 xs)
-before true x xs e = refl
-before false x xs e = ap (onto x) e
+-- bytes without a feed are one line
+lines_last : (line : List ℕ) → 0 < length line → HasNoFeed line → lines_of line ≡ line ∷ []
+lines_last [] some none = absurd (omega (arith, some))
+lines_last (x ∷ []) some none = rw (ne_eqb x 10 (All-head (λ y. y ≢ 10) x [] none)) refl
+lines_last (x ∷ y ∷ ys) some none =
+    rw (ne_eqb x 10 (All-head (λ z. z ≢ 10) x (y ∷ ys) none)) (ap (onto x) (lines_last (y ∷ ys) (omega arith) (All-tail (λ z. z ≢ 10) x (y ∷ ys) none)))
 
-first : (x : ℕ) (xs : List ℕ) → lines_of (x ∷ xs) ≡ take_through 10 (x ∷ xs) ∷ lines_of (drop_through 10 (x ∷ xs))
-first x [] = alone (x == 10) x
-first x (y ∷ ys) = before (x == 10) x (y ∷ ys) (first y ys)
+fed_first : (line rest : List ℕ) → IsFed line → lines_of (line ++ rest) ≡ line ∷ lines_of rest
+fed_first line rest (raw, none, is) =
+    ap (λ l. lines_of (l ++ rest)) is ∙ ap lines_of (append_assoc raw (10 ∷ []) rest) ∙ lines_fed raw rest none ∙ ap (λ l. l ∷ lines_of rest) (sym is)
 
-first_line : (xs : List ℕ) → 0 < length xs → lines_of xs ≡ take_through 10 xs ∷ lines_of (drop_through 10 xs)
-first_line [] some = absurd (omega (arith, some))
-first_line (x ∷ xs) some = first x xs
-
--- ---- lines so far
-
--- the texts are the replies to the first lines; the others are left
-abbrev pub Answered : Solver → Option (List ℕ) → List (List ℕ) → List ℕ → Type 0
-Answered s now texts xs = (front : List (List ℕ)) × (ys : List ℕ) × (now ≡ Some ys) × (lines_of xs ≡ front ++ lines_of ys)
-    × AllZip (IsLineReply s.goal s.limits) front texts
-
--- the replies so far are written
-abbrev pub KeptSoFar : Solver → Option (List ℕ) → Option (List ℕ) → Option (List ℕ) → Option (List ℕ) → Type 0
-KeptSoFar s left now written written_now =
-    (texts : List (List ℕ)) × IfSome left (Answered s now texts) × Appends written written_now (joined texts)
-
-pub kept_first : (s : Solver) (left written : Option (List ℕ)) → KeptSoFar s left left written written
-kept_first s None written = ([], tt, Appends-nil written)
-kept_first s (Some xs) written = ([], ([], xs, refl, refl, tt), Appends-nil written)
-
--- a reply for the same question
-same_reply : (s s' : Solver) (line text : List ℕ) → SameSolver s s' → IsLineReply s'.goal s'.limits line text → IsLineReply s.goal s.limits line text
-same_reply s s' line text same reply = subst (λ g. IsLineReply g s.limits line text) same.0 (subst (λ l. IsLineReply s'.goal l line text) same.1 reply)
-
--- one line more is answered
-answered_more : (s s' : Solver) (now after : Option (List ℕ)) (texts : List (List ℕ)) (text xs : List ℕ) → SameSolver s s' → Answered s now texts xs
-    → IfSome now (λ ys. RepliesToFirst s' text ys × (after ≡ Some (drop_through 10 ys))) → Answered s after (texts ++ text ∷ []) xs
-answered_more s s' now after texts text xs same (front, ys, is, split, zip) more =
-    let ((some, reply), left) = subst (λ o. IfSome o (λ zs. RepliesToFirst s' text zs × (after ≡ Some (drop_through 10 zs)))) is more in (
-      front ++ take_through 10 ys ∷ [],
-      drop_through 10 ys,
-      left,
-      split ∙ ap (λ l. front ++ l) (first_line ys some) ∙ sym (append_assoc front (take_through 10 ys ∷ []) (lines_of (drop_through 10 ys))),
-      AllZip-push (IsLineReply s.goal s.limits) front texts (take_through 10 ys) text zip (same_reply s s' (take_through 10 ys) text same reply),
-    )
+-- lines with their feeds are the first of what begins with them
+fed_front : (front : List (List ℕ)) (rest : List ℕ) → All IsFed front → lines_of (joined front ++ rest) ≡ front ++ lines_of rest
+fed_front [] rest fed = refl
+fed_front (line ∷ front) rest fed =
+    ap lines_of (append_assoc line (joined front) rest) ∙ fed_first line (joined front ++ rest) (All-head IsFed line front fed)
+    ∙ ap (λ l. line ∷ l) (fed_front front rest (All-tail IsFed line front fed))
 
 joined_more : (texts : List (List ℕ)) (text : List ℕ) → joined texts ++ text ≡ joined (texts ++ text ∷ [])
 joined_more texts text = flat_map_more (λ t. t) [] texts text
 
+joined_all : (texts others : List (List ℕ)) → joined texts ++ joined others ≡ joined (texts ++ others)
+joined_all [] others = refl
+joined_all (text ∷ texts) others = append_assoc text (joined texts) (joined others) ∙ ap (λ l. text ++ l) (joined_all texts others)
+
+zip_all : {X Y : Type 0} (R : X → Y → Type 0) (xs us : List X) (ys vs : List Y) → AllZip R xs ys → AllZip R us vs → AllZip R (xs ++ us) (ys ++ vs)
+zip_all R [] us [] vs p q = q
+zip_all R [] us (y ∷ ys) vs p q = absurd p
+zip_all R (x ∷ xs) us [] vs p q = absurd p
+zip_all R (x ∷ xs) us (y ∷ ys) vs p q = (p.0, zip_all R xs us ys vs p.1 q)
+
+-- ---- lines so far
+
+-- the replies to lines with their feeds are written, and those lines are gone
+abbrev pub KeptSoFar : Solver → Option (List ℕ) → Option (List ℕ) → Option (List ℕ) → Option (List ℕ) → Type 0
+KeptSoFar s left now written written_now = (front : List (List ℕ)) × (texts : List (List ℕ)) × All IsFed front × AllZip (RepliesTo s) front texts
+    × Consumes left now (joined front) × Appends written written_now (joined texts)
+
+pub kept_first : (s : Solver) (left written : Option (List ℕ)) → KeptSoFar s left left written written
+kept_first s left written = ([], [], All-nil IsFed, tt, Consumes-nil left, Appends-nil written)
+
+-- a reply for the same question
+same_reply : (s s' : Solver) (line text : List ℕ) → SameSolver s s' → RepliesTo s' line text → RepliesTo s line text
+same_reply s s' line text same reply = subst (λ g. IsLineReply g s.limits line text) same.0 (subst (λ l. IsLineReply s'.goal l line text) same.1 reply)
+
+same_replies : (s s' : Solver) (lines texts : List (List ℕ)) → SameSolver s s' → AllZip (RepliesTo s') lines texts → AllZip (RepliesTo s) lines texts
+same_replies s s' [] [] same zip = tt
+same_replies s s' [] (text ∷ texts) same zip = absurd zip
+same_replies s s' (line ∷ lines) [] same zip = absurd zip
+same_replies s s' (line ∷ lines) (text ∷ texts) same zip = (same_reply s s' line text same zip.0, same_replies s s' lines texts same zip.1)
+
 pub kept_more : (s s' : Solver) (left : Option (List ℕ)) (step : Step) (written : Option (List ℕ)) → SameSolver s s' → KeptSoFar s left step.left written step.written
     → TakesStep s' step (Ok true) → KeptSoFar s left step.left_after written step.written_after
-kept_more s s' left step written same (texts, answers, appended) (text, more, grown, none) = (
+kept_more s s' left step written same (front, texts, fed, zip, gone, appended) (line, text, feeds, taken, reply, grown, none) = (
+  front ++ line ∷ [],
   texts ++ text ∷ [],
-  IfSome_then left answers (λ xs so_far. answered_more s s' step.left step.left_after texts text xs same so_far more),
+  All-push IsFed front line fed feeds,
+  AllZip-push (RepliesTo s) front texts line text zip (same_reply s s' line text same reply),
+  subst (Consumes left step.left_after) (joined_more front line) (Consumes-trans left step.left step.left_after (joined front) line gone taken),
   subst (Appends written step.written_after) (joined_more texts text) (Appends-trans written step.written step.written_after (joined texts) text appended grown),
 )
 
@@ -118,16 +126,43 @@ nothing_more : (written mid after : Option (List ℕ)) (text : List ℕ) → App
 nothing_more written mid after text grown none = subst (Appends written after) (append-nil text) (Appends-trans written mid after text [] grown none)
 
 -- the lines that are answered, where others may be left
-front_answered : (s : Solver) (status : ℕ) (now : Option (List ℕ)) (texts : List (List ℕ)) (xs : List ℕ) → (status ≡ 0 → ⊥) → Answered s now texts xs
-    → AnswersLines s.goal s.limits status texts xs
-front_answered s status now texts xs other (front, ys, is, split, zip) = (front, lines_of ys, split, zip, λ e. absurd (other e))
+front_answered : (s : Solver) (status : ℕ) (left now : Option (List ℕ)) (front texts : List (List ℕ)) → (status ≡ 0 → ⊥) → All IsFed front
+    → AllZip (RepliesTo s) front texts → Consumes left now (joined front) → OfInput left (AnswersLines s.goal s.limits status texts)
+front_answered s status None now front texts other fed zip gone =
+    (joined front, tt, front, [], ap lines_of (sym (append-nil (joined front))) ∙ fed_front front [] fed, zip, λ e. absurd (other e))
+front_answered s status (Some xs) None front texts other fed zip gone = absurd gone
+front_answered s status (Some xs) (Some ys) front texts other fed zip gone =
+    (xs, refl, front, lines_of ys, ap lines_of gone ∙ fed_front front ys fed, zip, λ e. absurd (other e))
 
--- all are answered
-all_answered : (s : Solver) (now : Option (List ℕ)) (texts : List (List ℕ)) (xs : List ℕ) → Answered s now texts xs → IfSome now (λ ys. ys ≡ [])
-    → AnswersLines s.goal s.limits 0 texts xs
-all_answered s now texts xs (front, ys, is, split, zip) end =
-    let none : ys ≡ [] = subst (λ o. IfSome o (λ zs. zs ≡ [])) is end in
-    (front, lines_of ys, split, zip, λ _. ap lines_of none)
+-- the same with one line more
+one_answered : (s : Solver) (status : ℕ) (left now : Option (List ℕ)) (front texts : List (List ℕ)) (line text : List ℕ) → (status ≡ 0 → ⊥) → All IsFed front
+    → AllZip (RepliesTo s) front texts → Consumes left now (joined front) → IsFirstOf now line → RepliesTo s line text
+    → OfInput left (AnswersLines s.goal s.limits status (texts ++ text ∷ []))
+one_answered s status None now front texts line text other fed zip gone (one, first) reply = (
+  joined front ++ line,
+  tt,
+  front ++ line ∷ [],
+  [],
+  fed_front front line fed ∙ ap (λ l. front ++ l) one ∙ sym (append-nil (front ++ line ∷ [])),
+  AllZip-push (RepliesTo s) front texts line text zip reply,
+  λ e. absurd (other e),
+)
+one_answered s status (Some xs) None front texts line text other fed zip gone first reply = absurd gone
+one_answered s status (Some xs) (Some ys) front texts line text other fed zip gone (one, (rest, first)) reply = (
+  xs,
+  refl,
+  front ++ line ∷ [],
+  rest,
+  ap lines_of gone ∙ fed_front front ys fed ∙ ap (λ l. front ++ l) first ∙ sym (append_assoc front (line ∷ []) rest),
+  AllZip-push (RepliesTo s) front texts line text zip reply,
+  λ e. absurd (other e),
+)
+
+-- bytes that are gone, and then the last ones
+gone_then_last : (left now : Option (List ℕ)) (gone last : List ℕ) → Consumes left now gone → IfSome now (λ told. told ≡ last) → IfSome left (λ told. told ≡ gone ++ last)
+gone_then_last None now gone last is end = tt
+gone_then_last (Some xs) None gone last is end = absurd is
+gone_then_last (Some xs) (Some ys) gone last is end = is ∙ ap (λ l. gone ++ l) end
 
 -- from the first line to one step: what was seen before and after
 abbrev pub whole_step : Step → Option (List ℕ) → Option (List ℕ) → ℕ → ℕ → Step
@@ -137,40 +172,43 @@ fails_since : (step : Step) (left written : Option (List ℕ)) (reads writes m n
     → Fails (whole_step step left written reads writes) m n
 fails_since step left written reads writes m n r w fails = (fails.0 ∙ ap (λ k. k + m) r, fails.1 ∙ ap (λ k. k + n) w)
 
-pub lines_end : (s s' : Solver) (left : Option (List ℕ)) (step : Step) (written : Option (List ℕ)) (reads writes : ℕ) → step.failed_reads ≡ reads → step.failed_writes ≡ writes
-    → KeptSoFar s left step.left written step.written → TakesStep s' step (Ok false) → TakesLines s (whole_step step left written reads writes) None
-lines_end s s' left step written reads writes r w (texts, answers, appended) (end, nothing, none) = (
-  texts,
-  IfSome_then left answers (λ xs so_far. all_answered s step.left texts xs so_far end),
-  (nothing_more written step.written step.written_after (joined texts) appended nothing, fails_since step left written reads writes 0 0 r w none),
+pub lines_end : (s s' : Solver) (left : Option (List ℕ)) (step : Step) (written : Option (List ℕ)) (reads writes : ℕ) → SameSolver s s'
+    → step.failed_reads ≡ reads → step.failed_writes ≡ writes → KeptSoFar s left step.left written step.written → TakesStep s' step (Ok false)
+    → TakesLines s (whole_step step left written reads writes) None
+lines_end s s' left step written reads writes same r w (front, texts, fed, zip, gone, appended) (line, text, (none, last), (others, replies, is), grown, fails) = (
+  texts ++ others,
+  (
+    joined front ++ line,
+    gone_then_last left step.left (joined front) line gone last,
+    front ++ lines_of line,
+    [],
+    fed_front front line fed ∙ sym (append-nil (front ++ lines_of line)),
+    zip_all (RepliesTo s) front (lines_of line) texts others zip (same_replies s s' (lines_of line) others same replies),
+    λ _. refl,
+  ),
+  (
+    subst (Appends written step.written_after) (ap (λ l. joined texts ++ l) is ∙ joined_all texts others)
+        (Appends-trans written step.written step.written_after (joined texts) text appended grown),
+    fails_since step left written reads writes 0 0 r w fails,
+  ),
 )
-
--- what is left behind the first line
-abbrev drop_of : Option (List ℕ) → Option (List ℕ)
-drop_of None = None
-drop_of (Some xs) = Some (drop_through 10 xs)
-
-dropped : (now : Option (List ℕ)) (P : List ℕ → Type 0) → IfSome now P → IfSome now (λ xs. P xs × (drop_of now ≡ Some (drop_through 10 xs)))
-dropped None P h = tt
-dropped (Some xs) P h = (h, refl)
 
 pub lines_stop : (s s' : Solver) (left : Option (List ℕ)) (step : Step) (written : Option (List ℕ)) (reads writes : ℕ) (stop : Stop) → SameSolver s s'
     → step.failed_reads ≡ reads → step.failed_writes ≡ writes → KeptSoFar s left step.left written step.written → TakesStep s' step (Err stop)
     → TakesLines s (whole_step step left written reads writes) (Some stop)
-lines_stop s s' left step written reads writes ReadFailed same r w (texts, answers, appended) (nothing, one) = (
+lines_stop s s' left step written reads writes ReadFailed same r w (front, texts, fed, zip, gone, appended) (nothing, one) = (
   texts,
-  IfSome_then left answers (λ xs so_far. front_answered s 4 step.left texts xs (λ e. absurd (omega (arith, e))) so_far),
+  front_answered s 4 left step.left front texts (λ e. absurd (omega (arith, e))) fed zip gone,
   (nothing_more written step.written step.written_after (joined texts) appended nothing, fails_since step left written reads writes 1 0 r w one),
 )
-lines_stop s s' left step written reads writes NoMemory same r w (texts, answers, appended) (nothing, none) = (
+lines_stop s s' left step written reads writes NoMemory same r w (front, texts, fed, zip, gone, appended) (nothing, none) = (
   texts,
-  IfSome_then left answers (λ xs so_far. front_answered s 3 step.left texts xs (λ e. absurd (omega (arith, e))) so_far),
+  front_answered s 3 left step.left front texts (λ e. absurd (omega (arith, e))) fed zip gone,
   (nothing_more written step.written step.written_after (joined texts) appended nothing, fails_since step left written reads writes 0 0 r w none),
 )
-lines_stop s s' left step written reads writes WriteFailed same r w (texts, answers, appended) (text, more, (taken, rest, cut, grown), one) = (
+lines_stop s s' left step written reads writes WriteFailed same r w (front, texts, fed, zip, gone, appended) (line, text, first, reply, (taken, rest, cut, grown), one) = (
   texts ++ text ∷ [],
-  IfSome_then left answers (λ xs so_far. front_answered s 4 (drop_of step.left) (texts ++ text ∷ []) xs (λ e. absurd (omega (arith, e)))
-      (answered_more s s' step.left (drop_of step.left) texts text xs same so_far (dropped step.left (RepliesToFirst s' text) more))),
+  one_answered s 4 left step.left front texts line text (λ e. absurd (omega (arith, e))) fed zip gone first (same_reply s s' line text same reply),
   (
     (
       joined texts ++ taken,
@@ -185,29 +223,76 @@ lines_stop s s' left step written reads writes WriteFailed same r w (texts, answ
 -- ---- one line
 
 -- a line that is too long is refused
-pub too_long_reply : (s : Solver) (text xs : List ℕ) → (0 < length xs) × (256 < length (without_line_feed (take_through 10 xs))) → text ≡ (refused TooLong).text
-    → RepliesToFirst s text xs
-too_long_reply s text xs next is = (next.0, rw (lt-ltb 256 (length (without_line_feed (take_through 10 xs))) next.1) is)
+pub too_long_reply : (s : Solver) (text line : List ℕ) → (0 < length line) × (256 < length (without_line_feed line)) → text ≡ (refused TooLong).text
+    → (0 < length line) × RepliesTo s line text
+too_long_reply s text line next is = (next.0, rw (lt-ltb 256 (length (without_line_feed line)) next.1) is)
 
 -- any other is answered by what it says
-pub line_reply : (s : Solver) (line : Vec ℕ Global) (text xs : List ℕ) → IsNextLine xs (Line line) → IsReplyText s.goal s.limits (said_in line.items) text → RepliesToFirst s text xs
-line_reply s line text xs next reply =
-    (next.0, subst (λ l. IsLineReply s.goal s.limits l text) next.1 (rw (le-ltb 256 (length (without_line_feed line.items)) next.2) reply))
+pub line_reply : (s : Solver) (held : Vec ℕ Global) (text line : List ℕ) → IsReadAs line (Line held) → IsReplyText s.goal s.limits (said_in held.items) text
+    → (0 < length line) × RepliesTo s line text
+line_reply s held text line next reply =
+    (next.0, rw (le-ltb 256 (length (without_line_feed line)) next.2) (subst (λ l. IsReplyText s.goal s.limits (said_in l) text) next.1 reply))
 
--- the line that was taken is answered
-pub taken_line : (s : Solver) (left after : Option (List ℕ)) (next : Next) (text : Vec ℕ Global) → TakesLine left after next → GivesNext s next (Some text)
-    → IfSome left (λ xs. RepliesToFirst s (vec_items text) xs × (after ≡ Some (drop_through 10 xs)))
-taken_line s left after next text takes gives = IfSome_then left takes (λ xs h. (gives xs h.0, h.1))
+-- how a line was taken
+abbrev IsTaken : Option (List ℕ) → Option (List ℕ) → Bool → List ℕ → Type 0
+IsTaken left after is_last line = MatchBool is_last (IsLastOf left line) (IsFed line × Consumes left after line)
 
--- there was none
-pub taken_end : (s : Solver) (left after : Option (List ℕ)) (next : Next) → TakesLine left after next → GivesNext s next None → IfSome left (λ xs. xs ≡ [])
-taken_end s left after next takes gives = IfSome_then left takes (λ xs h. gives xs h.0)
+-- a line without a byte is the last
+empty_last : (left after : Option (List ℕ)) (is_last : Bool) (line : List ℕ) → line ≡ [] → IsTaken left after is_last line → IsLastOf left line
+empty_last left after true line none taken = taken
+empty_last left after false line none ((raw, no_feed, is), gone) = absurd (omega (arith, ap length is, ap length none, length-append raw (10 ∷ [])))
+
+-- a line that was taken is the first
+first_taken : (left after : Option (List ℕ)) (is_last : Bool) (line : List ℕ) → 0 < length line → IsTaken left after is_last line → IsFirstOf left line
+first_taken left after true line some (none, last) =
+    let one = lines_last line some none in (one, IfSome_then left last (λ told same. ([], ap lines_of same ∙ one)))
+first_taken None after false line some (fed, gone) = (ap lines_of (sym (append-nil line)) ∙ fed_first line [] fed, tt)
+first_taken (Some xs) None false line some (fed, gone) = absurd gone
+first_taken (Some xs) (Some ys) false line some (fed, gone) =
+    (ap lines_of (sym (append-nil line)) ∙ fed_first line [] fed, (lines_of ys, ap lines_of gone ∙ fed_first line ys fed))
+
+-- there was no line
+pub step_ended : (s : Solver) (step : Step) (taken : Taken) → TakesLine step.left step.left_after taken → GivesNext s taken.next None
+    → Appends step.written step.written_after [] → Fails step 0 0 → TakesStep s step (Ok false)
+step_ended s step taken (line, how, read) gives grown fails =
+    let none : line ≡ [] = gives line read in
+    (
+      line,
+      [],
+      empty_last step.left step.left_after taken.is_last line none how,
+      ([], subst (λ l. AllZip (RepliesTo s) (lines_of l) []) (sym none) tt, refl),
+      grown,
+      fails,
+    )
+
+-- a line was answered, and no more may come after the last one
+pub step_written : (s : Solver) (step : Step) (is_last : Bool) (next : Next) (text : Vec ℕ Global) → TakesLine step.left step.left_after (record { next = next; is_last = is_last })
+    → GivesNext s next (Some text) → Appends step.written step.written_after (vec_items text) → Fails step 0 0 → TakesStep s step (Ok (not is_last))
+step_written s step false next text (line, (fed, gone), read) gives grown fails = (line, vec_items text, fed, gone, (gives line read).1, grown, fails)
+step_written s step true next text (line, (none, last), read) gives grown fails =
+    let (some, reply) = gives line read in
+    (
+      line,
+      vec_items text,
+      (none, last),
+      (
+        vec_items text ∷ [],
+        subst (λ l. AllZip (RepliesTo s) l (vec_items text ∷ [])) (sym (lines_last line some none)) (reply, tt),
+        sym (append-nil (vec_items text)),
+      ),
+      grown,
+      fails,
+    )
 
 -- a failed write ends the batch
-pub step_unwritten : (s : Solver) (step : Step) (r : Result Bool Stop) (text : List ℕ) → IsErr r × IsErrAnd r (λ stop. stop ≡ WriteFailed)
-    → IfSome step.left (RepliesToFirst s text) → AppendsBeginning step.written step.written_after text → Fails step 0 1 → TakesStep s step r
-step_unwritten s step (Ok more) text err replies cut fails = absurd err.1
-step_unwritten s step (Err stop) text err replies cut fails = subst (λ x. TakesStep s step (Err x)) (sym err.1) (text, replies, cut, fails)
+pub step_unwritten : (s : Solver) (step : Step) (r : Result Bool Stop) (taken : Taken) (text : Vec ℕ Global) → IsErr r × IsErrAnd r (λ stop. stop ≡ WriteFailed)
+    → TakesLine step.left step.left_after taken → GivesNext s taken.next (Some text) → AppendsBeginning step.written step.written_after (vec_items text) → Fails step 0 1
+    → TakesStep s step r
+step_unwritten s step (Ok more) taken text err takes gives cut fails = absurd err.1
+step_unwritten s step (Err stop) taken text err (line, how, read) gives cut fails =
+    let (some, reply) = gives line read in
+    subst (λ x. TakesStep s step (Err x)) (sym err.1)
+    (line, vec_items text, first_taken step.left step.left_after taken.is_last line some how, reply, cut, fails)
 
 -- ---- a run
 
@@ -227,15 +312,15 @@ finishes_after a b c old mid new status asked text more written same (inr ((take
 
 -- the limits are searched, and lines were answered
 pub batch_ran : (s : Solver) (goal : Goal) (limits : Limits) (run : Run) (left : Option (List ℕ)) (texts : List (List ℕ)) → fault_of s.limits ≡ None
-    → s.goal ≡ goal → s.limits ≡ limits → left ≡ run.input → IfSome left (AnswersLines s.goal s.limits run.ending.status texts)
+    → s.goal ≡ goal → s.limits ≡ limits → left ≡ run.input → OfInput left (AnswersLines s.goal s.limits run.ending.status texts)
     → EndsBatch run (joined texts) → RunsBatch goal limits run
 batch_ran s goal limits run left texts searched same_goal same_limits same answers ends =
     let none : fault_of limits ≡ None = subst (λ l. fault_of l ≡ None) same_limits searched in
     rw none (
       texts,
-      subst (λ o. IfSome o (AnswersLines goal limits run.ending.status texts)) same
-          (subst (λ l. IfSome left (AnswersLines goal l run.ending.status texts)) same_limits
-          (subst (λ g. IfSome left (AnswersLines g s.limits run.ending.status texts)) same_goal answers)),
+      subst (λ o. OfInput o (AnswersLines goal limits run.ending.status texts)) same
+          (subst (λ l. OfInput left (AnswersLines goal l run.ending.status texts)) same_limits
+          (subst (λ g. OfInput left (AnswersLines g s.limits run.ending.status texts)) same_goal answers)),
       ends,
     )
 
@@ -254,6 +339,6 @@ gave_up ending text (inr cut) none = absurd (omega (arith, cut.2, none))
 
 -- where lines may be left, the status plays no part
 pub answers_with : (goal : Goal) (limits : Limits) (m status : ℕ) (left : Option (List ℕ)) (texts : List (List ℕ)) → (status ≡ 0 → ⊥)
-    → IfSome left (AnswersLines goal limits m texts) → IfSome left (AnswersLines goal limits status texts)
-answers_with goal limits m status left texts other answers = IfSome_then left answers (λ xs a.
+    → OfInput left (AnswersLines goal limits m texts) → OfInput left (AnswersLines goal limits status texts)
+answers_with goal limits m status left texts other answers = of_input_then left _ _ answers (λ xs a.
     let (front, rest, split, zip, end) = a in (front, rest, split, zip, λ e. absurd (other e)))

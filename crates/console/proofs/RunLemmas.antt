@@ -1,6 +1,7 @@
 -- A run, from how its text was written.
-use Rattle.std.proofs.Common.{◌≡◌, ◌≢◌, ◌⊎◌, [], IfSome, inl, inr, refl, arith, subst, ◌∙◌}
-use Rattle.std.proofs.lemmas.Option.{IfSome_then}
+use Rattle.std.proofs.Common.{◌≡◌, ◌≢◌, ◌⊎◌, [], inl, inr, refl, arith, subst, ◌∙◌}
+use Rattle.replies.proofs.ReplyLemmas.{of_input_then}
+use Rattle.replies.specs.Input.{OfInput}
 use Rattle.replies.specs.Output.{Reply, input_of, IsOutput, refused}
 use Rattle.replies.specs.Refusal.{refusal_status}
 use Rattle.replies.specs.declared.refusal.Refusal.{Refusal}
@@ -10,11 +11,11 @@ use Rattle.command_line.specs.declared.line.Line.{Line}
 
 -- a run that wrote a reply of status 0 or 1
 pub run_of_reply : (line : Line) (run : Run) (reply : Reply) → run.failed_reads ≡ 0
-    → (reply.status ≡ 0) ⊎ (reply.status ≡ 1) → IfSome (input_of line.action run.input) (λ input. IsOutput line input reply)
+    → (reply.status ≡ 0) ⊎ (reply.status ≡ 1) → OfInput (input_of line.action run.input) (λ input. IsOutput line input reply)
     → Finishes run.ending reply.text reply.status → RunsLine line run
 run_of_reply line run reply unread asked known (inl whole) =
     let is_reply : HasReply line run (λ r. (run.ending.status ≡ r.status) × Writes run.ending r.text) =
-    IfSome_then (input_of line.action run.input) known (λ input is. (reply, is, (whole.2, whole.0))) in
+    of_input_then (input_of line.action run.input) _ _ known (λ input is. (reply, is, (whole.2, whole.0))) in
     let none = whole.1 in
     let same = whole.2 in
     record {
@@ -36,7 +37,7 @@ run_of_reply line run reply unread asked known (inr cut) =
       failed = (λ e. omega arith, λ h. four);
       once = omega arith;
       failed_read = λ h. absurd (omega arith);
-      failed_write = λ h. inr (IfSome_then (input_of line.action run.input) known (λ input is. (reply, is, cut.0)));
+      failed_write = λ h. inr (of_input_then (input_of line.action run.input) _ _ known (λ input is. (reply, is, cut.0)));
     }
 
 -- a run that wrote the line for want of memory
@@ -102,12 +103,12 @@ refusal_cases NoMemory = inl refl
 
 -- a run that wrote a refusal, or the line for want of memory
 pub run_of_refusal : (line : Line) (run : Run) (refusal : Refusal) → run.failed_reads ≡ 0
-    → IfSome (input_of line.action run.input) (λ input. (refusal ≡ NoMemory) ⊎ IsOutput line input (refused refusal))
+    → OfInput (input_of line.action run.input) (λ input. (refusal ≡ NoMemory) ⊎ IsOutput line input (refused refusal))
     → Refuses run.ending refusal → RunsLine line run
 run_of_refusal line run refusal unread known (inr wrote) = run_of_no_memory line run unread wrote
 run_of_refusal line run refusal unread known (inl wrote) = elim (refusal_cases refusal) [
   | inl is ↦ run_of_no_memory line run unread
       (subst (λ r. Finishes run.ending (refused r).text (refused r).status) is wrote)
   | inr other ↦ run_of_reply line run (refused refusal) unread (inr other.1)
-      (IfSome_then (input_of line.action run.input) known (λ input is. elim is [ inl e ↦ absurd (other.0 e) | inr output ↦ output ])) wrote
+      (of_input_then (input_of line.action run.input) _ _ known (λ input is. elim is [ inl e ↦ absurd (other.0 e) | inr output ↦ output ])) wrote
 ]

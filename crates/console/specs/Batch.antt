@@ -1,12 +1,12 @@
 -- A batch: what is written for the lines of an input.
-use Rattle.std.specs.Prelude.{◌≡◌, ◌⊎◌, ◌-◌, ◌==◌, ℕ, Bool, true, List, [], ◌∷◌, ◌++◌, length, take, slice_index, nat_lt, if◌then◌else◌, IfSome, MatchBool, MatchOption}
+use Rattle.std.specs.Prelude.{◌≡◌, ◌⊎◌, ◌-◌, ◌==◌, ℕ, Bool, true, List, [], ◌∷◌, ◌++◌, length, take, slice_index, nat_lt, if◌then◌else◌, MatchBool, MatchOption}
 use Rattle.std.specs.List.{AllZip, flat_map}
 use Rattle.board.specs.Board.{PlainBoard}
 use Rattle.board.specs.declared.fault.FenFault.{FenFault}
 use Rattle.rules.specs.Reading.{IsSoundFault}
 use Rattle.rules.specs.declared.goal.Goal.{Goal}
 use Rattle.command_line.specs.declared.line.Limits.{Limits}
-use Rattle.replies.specs.Input.{without_line_feed}
+use Rattle.replies.specs.Input.{OfInput, without_line_feed}
 use Rattle.replies.specs.Output.{Reply, IsSoundText, ShowsAnswer, fault_of, line_of, refused}
 use Rattle.replies.specs.Refusal.{refusal_of_fen, refusal_of_solve}
 use Rattle.replies.specs.declared.refusal.Refusal.TheVariants.{TooLong}
@@ -79,5 +79,5 @@ EndsBatch run text =
 -- the run is one of the batch: the limits are refused, or its lines are answered as far as it came
 abbrev pub RunsBatch : Goal → Limits → Run → Type 0
 RunsBatch goal limits run = MatchOption (fault_of limits)
-    ((texts : List (List ℕ)) × IfSome run.input (AnswersLines goal limits run.ending.status texts) × EndsBatch run (joined texts))
+    ((texts : List (List ℕ)) × OfInput run.input (AnswersLines goal limits run.ending.status texts) × EndsBatch run (joined texts))
     (λ fault. (run.failed_reads ≡ 0) × Refuses run.ending (refusal_of_solve fault))

@@ -1,7 +1,7 @@
 -- The steps of a batch.
-use Rattle.std.specs.Prelude.{◌≡◌, ◌⊎◌, ◌+◌, ◌<◌, ℕ, Bool, true, false, List, [], length, Option, None, Some, IfSome, Result, Ok, Err, vec_items, Vec}
-use Rattle.std.specs.Io.KnownBytes.{Appends}
-use Rattle.std.specs.Io.BufRead.{take_through, drop_through}
+use Rattle.std.specs.Prelude.{◌≡◌, ◌⊎◌, ◌+◌, ◌<◌, ℕ, Bool, true, false, List, [], ◌∷◌, length, Option, None, Some, IfSome, Result, Ok, Err, vec_items, Vec}
+use Rattle.std.specs.Io.KnownBytes.{Appends, Consumes}
+use Rattle.std.specs.List.{AllZip}
 use Rattle.std.specs.declared.alloc.Global.{Global}
 use Rattle.rules.specs.declared.goal.Goal.{Goal}
 use Rattle.command_line.specs.declared.line.Limits.{Limits}
@@ -9,13 +9,14 @@ use Rattle.rounds.specs.Seats.{AreSeats}
 use Rattle.rounds.specs.declared.task.SolveFault.{SolveFault}
 use Rattle.rounds.specs.declared.task.SolveFault.TheVariants as solve
 use Rattle.replies.specs.Device.{AppendsBeginning}
+use Rattle.replies.specs.Input.{OfInput}
 use Rattle.replies.specs.Output.{fault_of, refused}
 use Rattle.replies.specs.declared.refusal.Refusal.{Refusal}
 use Rattle.replies.specs.declared.refusal.Refusal.TheVariants as refusal
 use Rattle.replies.specs.declared.transfer.InputFault.{InputFault}
 use Rattle.replies.specs.declared.transfer.InputFault.TheVariants as input
-use Rattle.console.specs.Batch.{AnswersLines, IsLineReply, IsReplyText, joined}
-use Rattle.console.specs.Lines.{IsNextLine, IsUnread, left_of}
+use Rattle.console.specs.Batch.{AnswersLines, IsLineReply, IsReplyText, joined, lines_of}
+use Rattle.console.specs.Lines.{IsFed, IsLastOf, IsReadAs, IsUnread, left_of}
 use Rattle.console.specs.declared.batch.Desk.{Desk}
 use Rattle.console.specs.declared.batch.Solver.{Solver}
 use Rattle.console.specs.declared.batch.Stop.{Stop}
@@ -75,23 +76,32 @@ step_of desk desk_after remaining read_failures reader reader_after contents wri
 abbrev pub Fails : Step → ℕ → ℕ → Type 0
 Fails step reads writes = (step.failed_reads_after ≡ step.failed_reads + reads) × (step.failed_writes_after ≡ step.failed_writes + writes)
 
--- the text is the reply to the first line of these bytes
-abbrev pub RepliesToFirst : Solver → List ℕ → List ℕ → Type 0
-RepliesToFirst s text xs = (0 < length xs) × IsLineReply s.goal s.limits (take_through 10 xs) text
+-- the text is the reply to a line
+abbrev pub RepliesTo : Solver → List ℕ → List ℕ → Type 0
+RepliesTo s line text = IsLineReply s.goal s.limits line text
 
 -- the text is the reply to what comes next of the input; none comes at its end
 abbrev pub GivesNext : Solver → Next → Option (Vec ℕ Global) → Type 0
-GivesNext s next None = (xs : List ℕ) → IsNextLine xs next → xs ≡ []
-GivesNext s next (Some text) = (xs : List ℕ) → IsNextLine xs next → RepliesToFirst s (vec_items text) xs
+GivesNext s next None = (line : List ℕ) → IsReadAs line next → line ≡ []
+GivesNext s next (Some text) = (line : List ℕ) → IsReadAs line next → (0 < length line) × RepliesTo s line (vec_items text)
 
--- a line is taken and answered; or there is none; or something stops it
+-- the text is the reply to the last line, or is empty where none was left
+abbrev pub RepliesToLast : Solver → List ℕ → List ℕ → Type 0
+RepliesToLast s line text = (texts : List (List ℕ)) × AllZip (RepliesTo s) (lines_of line) texts × (text ≡ joined texts)
+
+-- the line is one, and the first of what was left
+abbrev pub IsFirstOf : Option (List ℕ) → List ℕ → Type 0
+IsFirstOf left line = (lines_of line ≡ line ∷ []) × IfSome left (λ told. (rest : List (List ℕ)) × (lines_of told ≡ line ∷ rest))
+
+-- a line with a feed is taken and answered; or the last one, or there is none; or something stops it
 abbrev pub TakesStep : Solver → Step → Result Bool Stop → Type 0
-TakesStep s step (Ok true) = (text : List ℕ)
-    × IfSome step.left (λ xs. RepliesToFirst s text xs × (step.left_after ≡ Some (drop_through 10 xs))) × Appends step.written step.written_after text × Fails step 0 0
-TakesStep s step (Ok false) = IfSome step.left (λ xs. xs ≡ []) × Appends step.written step.written_after [] × Fails step 0 0
+TakesStep s step (Ok true) = (line : List ℕ) × (text : List ℕ)
+    × IsFed line × Consumes step.left step.left_after line × RepliesTo s line text × Appends step.written step.written_after text × Fails step 0 0
+TakesStep s step (Ok false) = (line : List ℕ) × (text : List ℕ)
+    × IsLastOf step.left line × RepliesToLast s line text × Appends step.written step.written_after text × Fails step 0 0
 TakesStep s step (Err ReadFailed) = Appends step.written step.written_after [] × Fails step 1 0
-TakesStep s step (Err WriteFailed) = (text : List ℕ)
-    × IfSome step.left (RepliesToFirst s text) × AppendsBeginning step.written step.written_after text × Fails step 0 1
+TakesStep s step (Err WriteFailed) = (line : List ℕ) × (text : List ℕ)
+    × IsFirstOf step.left line × RepliesTo s line text × AppendsBeginning step.written step.written_after text × Fails step 0 1
 TakesStep s step (Err NoMemory) = Appends step.written step.written_after [] × Fails step 0 0
 
 -- the status of a batch that ends so
@@ -110,7 +120,7 @@ WritesUntil step (Some NoMemory) text = Appends step.written step.written_after 
 -- lines are taken and answered
 abbrev pub TakesLines : Solver → Step → Option Stop → Type 0
 TakesLines s step stop =
-    (texts : List (List ℕ)) × IfSome step.left (AnswersLines s.goal s.limits (stop_status stop) texts) × WritesUntil step stop (joined texts)
+    (texts : List (List ℕ)) × OfInput step.left (AnswersLines s.goal s.limits (stop_status stop) texts) × WritesUntil step stop (joined texts)
 
 -- what stops a batch at each fault of the input
 abbrev pub stop_of : InputFault → Stop

@@ -1,10 +1,10 @@
 -- Reading an input line by line.
-use Rattle.std.specs.Prelude.{◌≡◌, ◌≢◌, ◌-◌, ◌<◌, ◌≤◌, ℕ, List, [], ◌∷◌, length, take, drop, Option, None, Some, IfSome, All, MatchBool}
-use Rattle.std.specs.Io.BufRead.{take_through, drop_through}
-use Rattle.std.specs.Io.KnownBytes.{prepend_known}
+use Rattle.std.specs.Prelude.{◌≡◌, ◌≢◌, ◌-◌, ◌<◌, ◌≤◌, ℕ, List, [], ◌∷◌, ◌++◌, length, take, drop, Option, None, Some, IfSome, All, MatchBool}
+use Rattle.std.specs.Io.KnownBytes.{Consumes, prepend_known}
 use Rattle.replies.specs.Input.{without_line_feed}
 use Rattle.console.specs.declared.lines.Unread.{Unread}
 use Rattle.console.specs.declared.lines.Held.{Held}
+use Rattle.console.specs.declared.lines.Taken.{Taken}
 use Rattle.console.specs.declared.lines.Next.{Next}
 use Rattle.console.specs.declared.lines.Next.TheVariants.{End, Line, TooLong}
 
@@ -37,12 +37,21 @@ HasNoFeed bytes = All (λ x. x ≢ 10) bytes
 abbrev pub HoldsLine : List ℕ → Held → Type 0
 HoldsLine raw held = MatchBool held.is_long (256 < length raw) ((held.bytes.items ≡ raw) × (length raw ≤ 256))
 
--- of these bytes this is the first line, of which at most 256 bytes stand before the feed
-abbrev pub IsNextLine : List ℕ → Next → Type 0
-IsNextLine xs End = xs ≡ []
-IsNextLine xs (Line line) = (0 < length xs) × (line.items ≡ take_through 10 xs) × (length (without_line_feed line.items) ≤ 256)
-IsNextLine xs TooLong = (0 < length xs) × (256 < length (without_line_feed (take_through 10 xs)))
+-- the line ends with its feed, and has no other
+abbrev pub IsFed : List ℕ → Type 0
+IsFed line = (raw : List ℕ) × HasNoFeed raw × (line ≡ raw ++ 10 ∷ [])
 
--- the first line is taken from known bytes
-abbrev pub TakesLine : Option (List ℕ) → Option (List ℕ) → Next → Type 0
-TakesLine before after next = IfSome before (λ xs. IsNextLine xs next × (after ≡ Some (drop_through 10 xs)))
+-- these are the bytes of no line; of one of which at most 256 bytes stand before the feed; or of a longer one
+abbrev pub IsReadAs : List ℕ → Next → Type 0
+IsReadAs line End = line ≡ []
+IsReadAs line (Line held) = (0 < length line) × (held.items ≡ line) × (length (without_line_feed line) ≤ 256)
+IsReadAs line TooLong = (0 < length line) × (256 < length (without_line_feed line))
+
+-- all that was left is the line, and has no feed
+abbrev pub IsLastOf : Option (List ℕ) → List ℕ → Type 0
+IsLastOf before line = HasNoFeed line × IfSome before (λ told. told ≡ line)
+
+-- the first line is taken: one with its feed, or the last one, if any is left
+abbrev pub TakesLine : Option (List ℕ) → Option (List ℕ) → Taken → Type 0
+TakesLine before after taken = (line : List ℕ)
+    × MatchBool taken.is_last (IsLastOf before line) (IsFed line × Consumes before after line) × IsReadAs line taken.next

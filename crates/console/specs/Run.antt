@@ -1,7 +1,8 @@
 -- What a run of the program does: its status, and what it reads and writes.
-use Rattle.std.specs.Prelude.{◌≡◌, ◌⊎◌, ◌↔◌, ◌+◌, ◌-◌, ◌<◌, ◌≤◌, ℕ, List, [], Option, IfSome}
+use Rattle.std.specs.Prelude.{◌≡◌, ◌⊎◌, ◌↔◌, ◌+◌, ◌-◌, ◌<◌, ◌≤◌, ℕ, List, [], Option}
 use Rattle.std.specs.Io.KnownBytes.{Appends}
 use Rattle.replies.specs.Device.{AppendsBeginning}
+use Rattle.replies.specs.Input.{OfInput}
 use Rattle.replies.specs.Output.{Reply, IsOutput, input_of, refused}
 use Rattle.command_line.specs.declared.line.Line.{Line}
 use Rattle.replies.specs.declared.refusal.Refusal.{Refusal}
@@ -49,10 +50,10 @@ Writes ending text = Appends ending.before ending.after text
 abbrev pub WritesBeginning : Ending → List ℕ → Type 0
 WritesBeginning ending text = AppendsBeginning ending.before ending.after text
 
--- some reply to the line is so, where the input that the line reads is known
+-- some reply to the line with the input that it reads is so
 abbrev pub HasReply : Line → Run → (Reply → Type 0) → Type 0
 HasReply line run Is =
-    IfSome (input_of line.action run.input) (λ input. (reply : Reply) × IsOutput line input reply × Is reply)
+    OfInput (input_of line.action run.input) (λ input. (reply : Reply) × IsOutput line input reply × Is reply)
 
 -- a run with this status tells why: its line was refused, or memory was
 abbrev pub MayTell : ℕ → Type 0

@@ -7,7 +7,7 @@ ghost use Rattle.console.specs.Desk.{GivesNext, GivesSaid, IsDesk, IsSolver, Ope
 ghost use Rattle.console.specs.declared.batch.Stop.TheVariants.{NoMemory, WriteFailed};
 
 use crate::beside::{Host, solve_beside};
-use crate::lines::{Next, Unread, is_remark, said_in};
+use crate::lines::{Next, Taken, Unread, is_remark, said_in};
 use crate::watch::Course;
 use board::Position;
 use command_line::Limits;
@@ -246,7 +246,7 @@ fn next_text<R: Threads + Wait + Eprint + Clock + Sync + AllocGlobal, E: Write>(
     }
 }
 
-/// Reads a line, and writes the reply to it. Answers whether there was one.
+/// Reads a line, and writes the reply to it. Answers whether more may come.
 fn answer_next<
     R: Threads + Wait + Eprint + Clock + Sync + AllocGlobal,
     S: Source,
@@ -269,12 +269,12 @@ fn answer_next<
 {
     desk.number = desk.number.saturating_add(1);
     host.line.store(desk.number, Ordering::SeqCst);
-    let next = desk.unread.next_line(host.rt, host.rt.alloc(), reader)?;
+    let Taken { next, is_last } = desk.unread.next_line(host.rt, host.rt.alloc(), reader)?;
     let Some(text) = next_text(host, &mut desk.solver, next, desk.number, errors)? else {
         return Ok(false);
     };
     write_all(writer, text.as_slice())?;
-    Ok(true)
+    Ok(!is_last)
 }
 
 /// Reads line after line and writes the replies, to the end of the input or until something stops it.

@@ -2,7 +2,7 @@
 ghost use Rattle.std.specs.Prelude.{◌≡◌, ◌+◌, ◌<◌, ◌++◌, ◌∷◌, [], ℕ, IfOk, List, OnErr, OnOk};
 ghost use Rattle.replies.specs.Input.{failed_reads};
 ghost use Rattle.console.specs.Batch.{is_remark, said_in, without_return};
-ghost use Rattle.console.specs.Lines.{Fills, HasNoFeed, HoldsLine, IsNextLine, IsUnread, TakesByte, TakesLine, left_of};
+ghost use Rattle.console.specs.Lines.{Fills, HasNoFeed, HoldsLine, IsReadAs, IsUnread, TakesByte, TakesLine, left_of};
 
 use replies::{Failed, InputFault, Source};
 use std::alloc::{AllocError, Global};
@@ -22,6 +22,14 @@ pub struct Unread {
 }
 
 /// What comes next of an input.
+#[derive(Drop)]
+pub struct Taken {
+    pub next: Next,
+    /// Whether the reader had no more, so that it isn't asked again.
+    pub is_last: bool,
+}
+
+/// A line, if there is one.
 #[derive(Drop)]
 pub enum Next {
     End,
@@ -85,7 +93,7 @@ impl Unread {
         rt: &R,
         alloc: Global,
         reader: &mut S,
-    ) -> Result<Next, InputFault>
+    ) -> Result<Taken, InputFault>
         requires bounds { IsUnread self.old }
         requires room { S.failures reader.old < u64.MAX }
         ensures bounds { IsUnread self.new }
@@ -96,10 +104,16 @@ impl Unread {
         let mut held = Held::new(alloc);
         for _ in rt.forever() {
             let Some(byte) = self.next_byte(reader)? else {
-                return Ok(held.last());
+                return Ok(Taken {
+                    next: held.last(),
+                    is_last: true,
+                });
             };
             if byte == b'\n' {
-                return Ok(held.ended()?);
+                return Ok(Taken {
+                    next: held.ended()?,
+                    is_last: false,
+                });
             }
             held.hold(byte)?;
         }
@@ -137,7 +151,7 @@ impl Held {
 
     /// The line at the end of the input, which has no feed.
     fn last(self) -> Next
-        ensures { (raw : List ℕ) → HasNoFeed raw → HoldsLine raw self → IsNextLine raw result }
+        ensures { (raw : List ℕ) → HasNoFeed raw → HoldsLine raw self → IsReadAs raw result }
     {
         if self.is_long {
             return Next::TooLong;
@@ -150,8 +164,8 @@ impl Held {
 
     /// The line, where a feed comes next.
     fn ended(self) -> Result<Next, AllocError>
-        ensures { IfOk result (λ next. (raw rest : List ℕ) → HasNoFeed raw → HoldsLine raw self
-            → IsNextLine (raw ++ 10 ∷ rest) next) }
+        ensures { IfOk result (λ next. (raw : List ℕ) → HasNoFeed raw → HoldsLine raw self
+            → IsReadAs (raw ++ 10 ∷ []) next) }
     {
         if self.is_long {
             return Ok(Next::TooLong);

@@ -125,3 +125,46 @@ fn works_where_nothing_fails(rt: HostRuntime) {
     assert_eq!(rt; status, 0);
     assert_eq!(rt; writer.device.taken.as_slice(), b"yes 3\n".as_slice());
 }
+
+/// A reader that has given all after its first part, and would give the second if it were asked again, as a
+/// terminal does after its sign of the end.
+#[derive(Drop)]
+struct Pausing<'a> {
+    first: &'a [u8],
+    second: &'a [u8],
+    calls: u64,
+}
+
+impl Read for Pausing<'_> {
+    ghost remaining = { λ _. None };
+
+    fn read(&mut self, buffer: &mut [u8]) -> io::Result<usize> {
+        self.calls = self.calls.saturating_add(1);
+        match self.calls {
+            1 => self.first.read(buffer),
+            2 => Ok(0),
+            _ => self.second.read(buffer),
+        }
+    }
+}
+
+#[test]
+fn a_batch_ends_with_its_reader(rt: HostRuntime) {
+    let words = ["minimate", "batch", "--limit", "1"];
+    for (first, answer) in [
+        (b"k5/6/1K4/6/6/5R w".as_slice(), b"mate 1 f1f6\n".as_slice()),
+        (b"# kings".as_slice(), b"# kings\n".as_slice()),
+        (b"".as_slice(), b"".as_slice()),
+    ] {
+        let mut reader = Counted::new(Pausing {
+            first,
+            second: b"k5/6/1K4/6/6/5R w\n",
+            calls: 0,
+        });
+        let mut writer = Counted::new(Vec::new(rt.alloc()));
+        let status = run_quietly(&rt, words.as_slice(), &mut reader, &mut writer);
+        assert_eq!(rt; status, 0);
+        assert_eq!(rt; reader.device.calls, if first.is_empty() { 1 } else { 2 });
+        assert_eq!(rt; writer.device.as_slice(), answer);
+    }
+}

@@ -1,13 +1,12 @@
 -- A reply, from what its parts give.
-use Rattle.std.proofs.Common.{◌≡◌, ◌∙◌, ◌≤◌, ◌⊎◌, ℕ, List, Option, None, Some, Result, Ok, Err, IfSome, IsErr, IsErrAnd, length, inl, inr, refl, sym, ap, subst}
-use Rattle.std.proofs.lemmas.Bool.{le-ltb}
-use Rattle.std.proofs.lemmas.Option.{IfSome_then}
+use Rattle.std.proofs.Common.{◌≡◌, ◌∙◌, ◌≤◌, ◌⊎◌, ℕ, List, [], Option, None, Some, Result, Ok, Err, IsErr, IsErrAnd, length, inl, inr, refl, sym, ap, subst}
+use Rattle.std.proofs.lemmas.Bool.{le-ltb, lt-ltb}
 use Rattle.board.specs.Board.{PlainBoard}
 use Rattle.board.specs.declared.fault.FenFault.{FenFault}
 use Rattle.rules.specs.Reading.{IsSoundFault}
 use Rattle.rules.specs.declared.goal.Goal.{Goal}
-use Rattle.replies.specs.Input.{IsInput, without_line_feed}
-use Rattle.replies.specs.Outcome.{Gives, GivesIfRead, GivesReply}
+use Rattle.replies.specs.Input.{IsInput, IsTooLong, OfInput, without_line_feed}
+use Rattle.replies.specs.Outcome.{Gives, GivesIfRead, GivesReply, trouble_of}
 use Rattle.replies.specs.Output.{Reply, answered, refused, fault_of, line_of, none_text, ShowsPlanFound, IsSoundText, IsOutput, Shows, ShowsTree, ShowsCheck, input_of}
 use Rattle.decision.specs.Answer.{IsFewest, ForcesNothing}
 use Rattle.trees.specs.Best.{IsBest}
@@ -18,14 +17,20 @@ use Rattle.replies.specs.Refusal.{refusal_of_fen}
 use Rattle.command_line.specs.declared.line.Line.{Line}
 use Rattle.command_line.specs.declared.line.Action.{Action}
 use Rattle.replies.specs.declared.refusal.Refusal.{Refusal}
-use Rattle.replies.specs.declared.refusal.Refusal.TheVariants.{NoMemory}
+use Rattle.replies.specs.declared.refusal.Refusal.TheVariants.{NoMemory, TooLong}
+use Rattle.replies.specs.declared.transfer.InputFault.{InputFault}
+use Rattle.replies.specs.declared.transfer.InputFault.TheVariants as input
 use Rattle.replies.specs.declared.trouble.Trouble.{Trouble}
 use Rattle.replies.specs.declared.trouble.Trouble.TheVariants.{Refused, ReadFailed}
 
--- what holds of each value holds of the one that is known
-pub of_any : {X : Type 0} (known : Option X) (P : X → Type 0) → ((x : X) → P x) → IfSome known P
-of_any None P all = tt
-of_any (Some x) P all = all x
+-- what is so of each input is so of the one that was read
+pub of_any : (known : Option (List ℕ)) (P : List ℕ → Type 0) → ((input : List ℕ) → P input) → OfInput known P
+of_any None P all = ([], tt, all [])
+of_any (Some input) P all = (input, refl, all input)
+
+-- what follows from what is so of the input
+pub of_input_then : (known : Option (List ℕ)) (P Q : List ℕ → Type 0) → OfInput known P → ((input : List ℕ) → P input → Q input) → OfInput known Q
+of_input_then known P Q (input, same, is) so = (input, same, so input is)
 
 -- a refusal that is right, or is want of memory, is given
 pub refusal_gives : {B : Type 0} (bytes : B → List ℕ) (Is : Reply → Type 0) (r : Result B Trouble) (refusal : Refusal) → (refusal ≡ NoMemory) ⊎ Is (refused refusal)
@@ -55,13 +60,21 @@ gives_at bytes line input b action (Err (Refused refusal)) sound is (inl none) =
 gives_at bytes line input b action (Err (Refused refusal)) sound is (inr shows) = inr (output_at line input b action _ sound is shows)
 gives_at bytes line input b action (Err ReadFailed) sound is gives = tt
 
--- the same where the input that the command reads is known
+-- the same with the input that the command reads
 pub gives_reply : {B : Type 0} (bytes : B → List ℕ) (line : Line) (known : Option (List ℕ)) (b : PlainBoard) (action : Action) (r : Result B Trouble)
-    → IsSoundText line.fen.now b → line.action ≡ action → IfSome (input_of action known) (λ input. GivesIfRead bytes (Shows b action input) r)
+    → IsSoundText line.fen.now b → line.action ≡ action → OfInput (input_of action known) (λ input. GivesIfRead bytes (Shows b action input) r)
     → GivesReply bytes line known r
 gives_reply {B} bytes line known b action r sound is gives =
-    subst (λ a. IfSome (input_of a known) (λ input. GivesIfRead bytes (IsOutput line input) r)) (sym is)
-    (IfSome_then (input_of action known) gives (λ input one. gives_at bytes line input b action r sound is one))
+    subst (λ a. OfInput (input_of a known) (λ input. GivesIfRead bytes (IsOutput line input) r)) (sym is)
+    (of_input_then (input_of action known) _ _ gives (λ input one. gives_at bytes line input b action r sound is one))
+
+-- the same of a command that reads no input
+pub gives_unread : {B : Type 0} (bytes : B → List ℕ) (line : Line) (known : Option (List ℕ)) (b : PlainBoard) (action : Action) (r : Result B Trouble)
+    → IsSoundText line.fen.now b → line.action ≡ action → input_of action known ≡ Some [] → GivesIfRead bytes (Shows b action []) r
+    → GivesReply bytes line known r
+gives_unread {B} bytes line known b action r sound is none gives =
+    gives_reply bytes line known b action r sound is
+    (subst (λ o. OfInput o (λ input. GivesIfRead bytes (Shows b action input) r)) (sym none) ([], refl, gives))
 
 -- the same where no read is to fail
 pub gives_output : {B : Type 0} (bytes : B → List ℕ) (line : Line) (input : List ℕ) (b : PlainBoard) (action : Action) (r : Result B Refusal)
@@ -88,11 +101,29 @@ shows_check goal b input reply fits shows = rw (le-ltb 1048576 (length input) fi
 pub check_refused : {B : Type 0} (bytes : B → List ℕ) (goal : Goal) (b : PlainBoard) (known : Option (List ℕ)) (read : List ℕ) (r : Result B Trouble) (refusal : Refusal)
     → IsInput known read → (refusal ≡ NoMemory) ⊎ ShowsTree goal b (without_line_feed read) (refused refusal)
     → IsErr r × IsErrAnd r (λ trouble. trouble ≡ Refused refusal)
-    → IfSome known (λ input. GivesIfRead bytes (ShowsCheck goal b input) r)
+    → OfInput known (λ input. GivesIfRead bytes (ShowsCheck goal b input) r)
 check_refused {B} bytes goal b known read r refusal is right err =
     let here : GivesIfRead bytes (ShowsCheck goal b read) r = refusal_gives bytes (ShowsCheck goal b read) r refusal
     (elim right [ inl none ↦ inl none | inr shows ↦ inr (shows_check goal b read (refused refusal) is.0 shows) ]) err in
-    IfSome_then known is.1 (λ input same. subst (λ i. GivesIfRead bytes (ShowsCheck goal b i) r) (sym same) here)
+    (read, is.1, here)
+
+-- what is said of the input that was read is said of the reader's input
+pub check_shown : {B : Type 0} (bytes : B → List ℕ) (goal : Goal) (b : PlainBoard) (known : Option (List ℕ)) (read : List ℕ) (text : B)
+    → IsInput known read → ShowsTree goal b (without_line_feed read) (answered (bytes text))
+    → OfInput known (λ input. GivesIfRead bytes (ShowsCheck goal b input) (Ok {E = Trouble} text))
+check_shown bytes goal b known read text is shows = (read, is.1, shows_check goal b read (answered (bytes text)) is.0 shows)
+
+-- an input that wasn't taken is too long, or memory is wanting, or a read failed
+pub check_unread : {B : Type 0} (bytes : B → List ℕ) (goal : Goal) (b : PlainBoard) (known : Option (List ℕ)) (r : Result B Trouble) (fault : InputFault)
+    → (fault ≡ input.TooLong → IsTooLong known) → IsErr r × IsErrAnd r (λ trouble. trouble ≡ trouble_of fault)
+    → OfInput known (λ input. GivesIfRead bytes (ShowsCheck goal b input) r)
+check_unread bytes goal b known (Ok text) fault long err = absurd err.1
+check_unread bytes goal b known (Err (Refused refusal)) input.TooLong long err =
+    let same : TooLong ≡ refusal = cc in
+    of_input_then known _ _ (long refl) (λ read big. inr (rw (lt-ltb 1048576 (length read) big) (ap refused (sym same))))
+check_unread bytes goal b known (Err (Refused refusal)) input.NoMemory long err = of_any known _ (λ read. inl cc)
+check_unread bytes goal b known (Err (Refused refusal)) input.ReadFailed long err = absurd cc
+check_unread bytes goal b known (Err ReadFailed) fault long err = of_any known _ (λ read. tt)
 
 -- ---- plans
 

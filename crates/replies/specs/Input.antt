@@ -7,9 +7,13 @@ use Rattle.replies.specs.declared.transfer.InputFault.TheVariants.{ReadFailed, T
 abbrev pub IsInput : Option (List ℕ) → List ℕ → Type 0
 IsInput known bytes = (length bytes ≤ 1048576) × IfSome known (λ input. input ≡ bytes)
 
--- the reader had more than 1,048,576 bytes, where it tells
+-- this is so of an input: of all the bytes that the reader had, where it tells
+abbrev pub OfInput : Option (List ℕ) → (List ℕ → Type 0) → Type 0
+OfInput known Holds = (input : List ℕ) × IfSome known (λ told. told ≡ input) × Holds input
+
+-- the input has more than 1,048,576 bytes
 abbrev pub IsTooLong : Option (List ℕ) → Type 0
-IsTooLong known = IfSome known (λ input. 1048576 < length input)
+IsTooLong known = OfInput known (λ input. 1048576 < length input)
 
 -- how many reads failed: one at most, since a failure ends the reading
 abbrev pub failed_reads : {T : Type 0} → Result T InputFault → ℕ

@@ -1,5 +1,5 @@
 -- How the work on a reply may end.
-use Rattle.std.specs.Prelude.{◌≡◌, ◌⊎◌, ⊤, ℕ, List, Option, None, Some, IfSome, Result, Ok, Err, Vec}
+use Rattle.std.specs.Prelude.{◌≡◌, ◌⊎◌, ⊤, ℕ, List, Option, None, Some, Result, Ok, Err, Vec}
 use Rattle.board.specs.Board.{PlainBoard}
 use Rattle.rules.specs.declared.goal.Goal.{Goal}
 use Rattle.decision.specs.declared.answer.Answer.{Answer}
@@ -8,6 +8,7 @@ use Rattle.rounds.specs.declared.task.SolveFault.TheVariants as solve
 use Rattle.rounds.specs.declared.keys.Key.{Key}
 use Rattle.decision.specs.Answer.{IsAnswer}
 use Rattle.rounds.specs.Keys.{ListsKeys}
+use Rattle.replies.specs.Input.{OfInput}
 use Rattle.replies.specs.Output.{Reply, answered, refused, fault_of, input_of, IsOutput}
 use Rattle.command_line.specs.declared.line.Line.{Line}
 use Rattle.command_line.specs.declared.line.Limits.{Limits}
@@ -39,10 +40,10 @@ GivesIfRead bytes Is (Ok text) = Is (answered (bytes text))
 GivesIfRead bytes Is (Err (Refused refusal)) = (refusal ≡ NoMemory) ⊎ Is (refused refusal)
 GivesIfRead bytes Is (Err ReadFailed) = ⊤
 
--- a reply to the line, where the input that it reads is known
+-- a reply to the line with the input that it reads
 abbrev pub GivesReply : {B : Type 0} → (B → List ℕ) → Line → Option (List ℕ) → Result B Trouble → Type 0
 GivesReply bytes line known result =
-    IfSome (input_of line.action known) (λ input. GivesIfRead bytes (IsOutput line input) result)
+    OfInput (input_of line.action known) (λ input. GivesIfRead bytes (IsOutput line input) result)
 
 -- how many reads failed
 abbrev pub reads_failed : {B : Type 0} → Result B Trouble → ℕ

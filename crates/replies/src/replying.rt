@@ -8,6 +8,7 @@ ghost use Rattle.wintree.specs.Plan.{Plan, depth};
 ghost use Rattle.wintree.specs.Text.{text as tree_words};
 ghost use Rattle.decision.specs.Answer.{IsFewest};
 ghost use Rattle.trees.specs.Best.{IsBest};
+ghost use Rattle.replies.specs.Input.{OfInput};
 ghost use Rattle.replies.specs.Outcome.{Solves, FindsKeys, Gives, GivesIfRead, GivesReply, reads_failed};
 ghost use Rattle.replies.specs.Output.{answered, answer_text, none_text, key_text, keys_text, moves_text, checked_text, line_of, ShowsAnswer, ShowsKeys, ShowsPlanFound, ShowsTree, ShowsCheck, MayRead, fault_of};
 
@@ -345,7 +346,7 @@ fn check_text<S: Source>(
     reader: &mut S,
 ) -> Result<Vec<u8>, Trouble>
     requires { S.failures reader.old < u64.MAX }
-    ensures shown { IfSome (S.remaining reader.old)
+    ensures shown { OfInput (S.remaining reader.old)
         (λ input. GivesIfRead vec_items (ShowsCheck goal position.now input) result) }
     ensures counts { S.failures reader.new ≡ S.failures reader.old + reads_failed result }
 {

@@ -8,19 +8,26 @@ use Rattle.decision.specs.Calls.{Continues}
 use Rattle.decision.proofs.Calls.{continues_none, continues_more}
 use Rattle.rounds.specs.declared.share.Share.{Share}
 use Rattle.rounds.specs.Shares.{seats_back}
-use Rattle.rounds.specs.Going.{GoesOn, EachGoesOn, SeatsGoOn}
+use Rattle.rounds.specs.Going.{GoesOn, KeepsOn, EachGoesOn, SeatsGoOn, KeptSeatsGoOn}
+use Rattle.rounds.specs.Going.GoesOn.{searched, called, onward}
 use Rattle.decision.proofs.Zips.{zip_same, zip_last, zip_then, zip_back}
 
 module _ (keeps : TableId → Seat ℕ View → Seat ℕ View → Type 0) (t : TableId) where
   pub goes_none : (a : Seat ℕ View) → IsSeatOf t a → GoesOn keeps t a a
-  goes_none a seat _ = continues_none t a seat
+  goes_none a seat = searched (continues_none t a seat)
 
   pub goes_more : (a b c : Seat ℕ View) → GoesOn keeps t a b → GoesOn keeps t b c → GoesOn keeps t a c
-  goes_more a b c p q keep = continues_more t a b c (p keep) (q keep)
+  goes_more a b c p q = onward p q
 
   -- the gate is called, and then a job is decided
   pub goes_decided : (a b c : Seat ℕ View) → IsSeatOf t a → keeps t a b → Continues t b c → GoesOn keeps t a c
-  goes_decided a b c seat kept calls keep = continues_more t a b c (keep a b seat kept) calls
+  goes_decided a b c seat kept calls = onward (called seat kept) (searched calls)
+
+  -- a seat that goes on continues, if it does so in the gate's calls
+  pub goes_kept : KeepsOn keeps t → (a b : Seat ℕ View) → GoesOn keeps t a b → Continues t a b
+  goes_kept keep a b (searched calls) = calls
+  goes_kept keep a b (called seat kept) = keep a b seat kept
+  goes_kept keep a b (onward {between = m} p q) = continues_more t a m b (goes_kept keep a m p) (goes_kept keep m b q)
 
 module _ (keeps : TableId → Seat ℕ View → Seat ℕ View → Type 0) (t : TableId) where
   -- no seat was used
@@ -33,6 +40,12 @@ module _ (keeps : TableId → Seat ℕ View → Seat ℕ View → Type 0) (t : T
   -- the last one alone was used
   pub seats_last : (xs xs' ys : List (Seat ℕ View)) (s s' : Seat ℕ View) → xs ≡ ys ++ s ∷ [] → xs' ≡ ys ++ s' ∷ [] → All (IsSeatOf t) ys → GoesOn keeps t s s' → SeatsGoOn keeps t xs xs'
   seats_last xs xs' ys s s' e e' seats on = zip_last (GoesOn keeps t) (IsSeatOf t) (goes_none keeps t) xs xs' ys s s' e e' seats on
+
+  pub seats_kept : KeptSeatsGoOn keeps t
+  seats_kept keep [] [] on = tt
+  seats_kept keep [] (y ∷ ys) on = absurd on
+  seats_kept keep (x ∷ xs) [] on = absurd on
+  seats_kept keep (x ∷ xs) (y ∷ ys) on = (goes_kept keeps t keep x y on.0, seats_kept keep xs ys on.1)
 
   module _ {J : Type 0} where
     -- the last share alone was used

@@ -14,4 +14,4 @@ mod task;
 pub use keys::{Key, keys_over};
 pub use own_keys::{Asked, keys_alone};
 pub use solving::{MOST_WORKERS, make_table, make_table_in, solve, solve_over};
-pub use task::{Ended, Gate, NoGate, SolveFault, Task, no_gate_keeps_on};
+pub use task::{Ended, Gate, NoGate, SolveFault, Task, kept_seats_go_on, no_gate_keeps_on};

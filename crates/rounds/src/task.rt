@@ -2,7 +2,7 @@
 ghost use Rattle.std.specs.Prelude.{◌≡◌, false, IsTrue};
 ghost use Rattle.atomic_table.specs.Seated.{TableId};
 ghost use Rattle.slots.specs.Promise.{IsSeatOf};
-ghost use Rattle.rounds.specs.Going.{KeepsOn};
+ghost use Rattle.rounds.specs.Going.{KeepsOn, KeptSeatsGoOn};
 ghost use Rattle.rounds.specs.declared.task.Ended.TheVariants.{Wins, Loses};
 
 use board::Position;
@@ -92,4 +92,10 @@ impl Gate for NoGate {
 /// In the calls of the gate that does nothing each seat goes on. The function does nothing: its contract is the law.
 pub fn no_gate_keeps_on()
     ensures { (table : TableId) → KeepsOn ⟦<NoGate as Gate>⟧.keeps table }
+{}
+
+/// Whatever the gate is: where a seat goes on in its calls, the seats of a solve go on. The function does nothing: its
+/// contract is the law.
+pub fn kept_seats_go_on<T: Gate>()
+    ensures { (table : TableId) → KeptSeatsGoOn T.keeps table }
 {}

@@ -17,7 +17,7 @@ pub loop-preserved : goal.loop-preserved
 loop-preserved g c =
     let so_far = c.loop.invariant in
     let step = rw c.in-Ok-true.field-0-test at c.in-Ok-true.ensures.step in
-    let (text, more, grown, none) = step in
+    let (line, text, feeds, taken, reply, grown, none) = step in
     record {
       desk = c.answer_next.ensures.desk;
       same = (c.answer_next.ensures.same.0 ∙ so_far.same.0, c.answer_next.ensures.same.1 ∙ so_far.same.1);

@@ -1,7 +1,7 @@
-use Rattle.std.proofs.Common.{◌∙◌, ap, rules, Ok, vec_items}
+use Rattle.std.proofs.Common.{◌∙◌, ap, refl, rules, Ok, vec_items}
 use Rattle.replies.specs.Output.{IsSoundText, ShowsAnswer, ShowsKeys, ShowsPlanFound, answered}
 use Rattle.command_line.specs.declared.line.Action.TheVariants.{Solve, Keys, Show, Tree, Check}
-use Rattle.replies.proofs.ReplyLemmas.{fault_gives, gives_reply, refusal_gives}
+use Rattle.replies.proofs.ReplyLemmas.{fault_gives, gives_reply, gives_unread, refusal_gives}
 use Rattle.replies.proofs.replying.reply_told.Goals as goal
 
 pub returns-in_err-position-clause-given : goal.returns-in_err-position-clause-given
@@ -10,8 +10,8 @@ returns-in_err-position-clause-given g c = fault_gives _ c.args.line.now _ _ c.i
 pub returns-in_err-solve_text-in-Solve-clause-given : goal.returns-in_err-solve_text-in-Solve-clause-given
 returns-in_err-solve_text-in-Solve-clause-given g c =
     let sound : IsSoundText c.args.line.now.fen.now c.in_ok-position.position = search rules in
-    gives_reply vec_items c.args.line.now (g.S.Source.remaining c.args.reader.now) c.in_ok-position.position (Solve c.in-Solve.goal c.in-Solve.limits)
-    c.from_residual-in_err-solve_text-in-Solve.result sound c.in-Solve.is
+    gives_unread vec_items c.args.line.now (g.S.Source.remaining c.args.reader.now) c.in_ok-position.position (Solve c.in-Solve.goal c.in-Solve.limits)
+    c.from_residual-in_err-solve_text-in-Solve.result sound c.in-Solve.is refl
     (refusal_gives vec_items (ShowsAnswer c.in-Solve.goal c.in_ok-position.position c.in-Solve.limits)
     c.from_residual-in_err-solve_text-in-Solve.result c.in_err-solve_text-in-Solve.field-0.0 c.in_err-solve_text-in-Solve.ensures
     c.from_residual-in_err-solve_text-in-Solve.ensures)
@@ -19,14 +19,14 @@ returns-in_err-solve_text-in-Solve-clause-given g c =
 pub returns-in_ok-solve_text-in-Solve-clause-given : goal.returns-in_ok-solve_text-in-Solve-clause-given
 returns-in_ok-solve_text-in-Solve-clause-given g c =
     let sound : IsSoundText c.args.line.now.fen.now c.in_ok-position.position = search rules in
-    gives_reply vec_items c.args.line.now (g.S.Source.remaining c.args.reader.now) c.in_ok-position.position (Solve c.in-Solve.goal c.in-Solve.limits)
-    (Ok c.in_ok-solve_text-in-Solve.field-0) sound c.in-Solve.is c.in_ok-solve_text-in-Solve.ensures
+    gives_unread vec_items c.args.line.now (g.S.Source.remaining c.args.reader.now) c.in_ok-position.position (Solve c.in-Solve.goal c.in-Solve.limits)
+    (Ok c.in_ok-solve_text-in-Solve.field-0) sound c.in-Solve.is refl c.in_ok-solve_text-in-Solve.ensures
 
 pub returns-in_err-found_keys-in-Keys-clause-given : goal.returns-in_err-found_keys-in-Keys-clause-given
 returns-in_err-found_keys-in-Keys-clause-given g c =
     let sound : IsSoundText c.args.line.now.fen.now c.in_ok-position.position = search rules in
-    gives_reply vec_items c.args.line.now (g.S.Source.remaining c.args.reader.now) c.in_ok-position.position (Keys c.in-Keys.goal c.in-Keys.limits)
-    c.from_residual-in_err-found_keys-in-Keys.result sound c.in-Keys.is
+    gives_unread vec_items c.args.line.now (g.S.Source.remaining c.args.reader.now) c.in_ok-position.position (Keys c.in-Keys.goal c.in-Keys.limits)
+    c.from_residual-in_err-found_keys-in-Keys.result sound c.in-Keys.is refl
     (refusal_gives vec_items (ShowsKeys c.in-Keys.goal c.in_ok-position.position c.in-Keys.limits)
     c.from_residual-in_err-found_keys-in-Keys.result c.in_err-found_keys-in-Keys.field-0.0 c.in_err-found_keys-in-Keys.ensures
     c.from_residual-in_err-found_keys-in-Keys.ensures)
@@ -34,14 +34,14 @@ returns-in_err-found_keys-in-Keys-clause-given g c =
 pub returns-in_ok-found_keys-in-Keys-clause-given : goal.returns-in_ok-found_keys-in-Keys-clause-given
 returns-in_ok-found_keys-in-Keys-clause-given g c =
     let sound : IsSoundText c.args.line.now.fen.now c.in_ok-position.position = search rules in
-    gives_reply vec_items c.args.line.now (g.S.Source.remaining c.args.reader.now) c.in_ok-position.position (Keys c.in-Keys.goal c.in-Keys.limits)
-    (Ok c.in_ok-found_keys-in-Keys.field-0) sound c.in-Keys.is c.in_ok-found_keys-in-Keys.ensures
+    gives_unread vec_items c.args.line.now (g.S.Source.remaining c.args.reader.now) c.in_ok-position.position (Keys c.in-Keys.goal c.in-Keys.limits)
+    (Ok c.in_ok-found_keys-in-Keys.field-0) sound c.in-Keys.is refl c.in_ok-found_keys-in-Keys.ensures
 
 pub returns-in_err-plan_text-in-Tree-clause-given : goal.returns-in_err-plan_text-in-Tree-clause-given
 returns-in_err-plan_text-in-Tree-clause-given g c =
     let sound : IsSoundText c.args.line.now.fen.now c.in_ok-position.position = search rules in
-    gives_reply vec_items c.args.line.now (g.S.Source.remaining c.args.reader.now) c.in_ok-position.position (Tree c.in-Tree.goal c.in-Tree.limits)
-    c.from_residual-in_err-plan_text-in-Tree.result sound c.in-Tree.is
+    gives_unread vec_items c.args.line.now (g.S.Source.remaining c.args.reader.now) c.in_ok-position.position (Tree c.in-Tree.goal c.in-Tree.limits)
+    c.from_residual-in_err-plan_text-in-Tree.result sound c.in-Tree.is refl
     (refusal_gives vec_items (ShowsPlanFound c.in-Tree.goal c.in_ok-position.position c.in-Tree.limits)
     c.from_residual-in_err-plan_text-in-Tree.result c.in_err-plan_text-in-Tree.field-0.0 c.in_err-plan_text-in-Tree.ensures
     c.from_residual-in_err-plan_text-in-Tree.ensures)
@@ -49,8 +49,8 @@ returns-in_err-plan_text-in-Tree-clause-given g c =
 pub returns-in_ok-plan_text-in-Tree-clause-given : goal.returns-in_ok-plan_text-in-Tree-clause-given
 returns-in_ok-plan_text-in-Tree-clause-given g c =
     let sound : IsSoundText c.args.line.now.fen.now c.in_ok-position.position = search rules in
-    gives_reply vec_items c.args.line.now (g.S.Source.remaining c.args.reader.now) c.in_ok-position.position (Tree c.in-Tree.goal c.in-Tree.limits)
-    (Ok c.in_ok-plan_text-in-Tree.field-0) sound c.in-Tree.is c.in_ok-plan_text-in-Tree.ensures
+    gives_unread vec_items c.args.line.now (g.S.Source.remaining c.args.reader.now) c.in_ok-position.position (Tree c.in-Tree.goal c.in-Tree.limits)
+    (Ok c.in_ok-plan_text-in-Tree.field-0) sound c.in-Tree.is refl c.in_ok-plan_text-in-Tree.ensures
 
 pub returns-in-Check-clause-given : goal.returns-in-Check-clause-given
 returns-in-Check-clause-given g c =
@@ -60,5 +60,5 @@ returns-in-Check-clause-given g c =
 pub returns-in_ok-board_drawn-in-Show-clause-given : goal.returns-in_ok-board_drawn-in-Show-clause-given
 returns-in_ok-board_drawn-in-Show-clause-given g c =
     let sound : IsSoundText c.args.line.now.fen.now c.in_ok-position.position = search rules in
-    gives_reply vec_items c.args.line.now (g.S.Source.remaining c.args.reader.now) c.in_ok-position.position Show (Ok c.into_bytes-in-Show.result) sound c.in-Show.is
+    gives_unread vec_items c.args.line.now (g.S.Source.remaining c.args.reader.now) c.in_ok-position.position Show (Ok c.into_bytes-in-Show.result) sound c.in-Show.is refl
     (ap answered (ap vec_items c.into_bytes-in-Show.ensures.value ∙ c.in_ok-board_drawn-in-Show.ensures))

@@ -1,5 +1,5 @@
-use Rattle.std.proofs.Common.{◌<◌, length, arith}
-use Rattle.rounds.proofs.Going.{goes_more}
+use Rattle.std.proofs.Common.{◌<◌, length, arith, rules}
+use Rattle.rounds.proofs.Going.{goes_none, goes_more}
 use Rattle.rounds.proofs.Jobs.{move_at}
 use Rattle.rounds.proofs.Taking.{one_key, no_key, all_keys}
 use Rattle.rounds.proofs.keys.keys_of.Goals as goal
@@ -34,3 +34,11 @@ loop-job-preserved g c =
 pub returns-clause-lists : goal.returns-clause-lists
 returns-clause-lists g c =
     all_keys c.args.search.now.root c.args.limit c.loop-job.keys.items c.loop-job.job c.requires.root (omega (arith, c.loop-job-test.false, c.jobs-job-end.ensures.value)) c.loop-job.invariant.ordered c.loop-job.invariant.exact
+
+pub loop-job-init : goal.loop-job-init
+loop-job-init g c = record {
+  seat = c.requires.seat;
+  goes_on = goes_none g.T.Gate.keeps c.args.search.now.slots.now c.args.seat.now c.requires.seat;
+  ordered = search rules;
+  exact = search rules;
+}

@@ -1,6 +1,6 @@
 use Rattle.std.proofs.Common.{◌+◌, ◌*◌, arith, sym, ◌∙◌}
 use Rattle.std.proofs.lemmas.Bool.{false≢true}
-use Rattle.rounds.proofs.Going.{goes_more, goes_decided}
+use Rattle.rounds.proofs.Going.{goes_none, goes_more, goes_decided}
 use Rattle.rounds.proofs.Jobs.{job_after}
 use Rattle.rounds.proofs.Taking.{none_more, takes_now, takes_none}
 use Rattle.rounds.proofs.keys.plies_of.Goals as goal
@@ -29,3 +29,10 @@ loop-number-preserved g c = let t = c.args.search.now.slots.now in let r = c.arg
 pub returns-clause-plies : goal.returns-clause-plies
 returns-clause-plies g c =
     takes_none c.args.search.now.root c.args.job c.loop-number.number c.args.limit (omega (arith, c.loop-number-test.false)) c.loop-number.invariant.none
+
+pub loop-number-init : goal.loop-number-init
+loop-number-init g c = record {
+  seat = c.requires.seat;
+  goes_on = goes_none g.T.Gate.keeps c.args.search.now.slots.now c.args.seat.now c.requires.seat;
+  none = λ k some few w. absurd (omega (arith, some, few));
+}

@@ -1,5 +1,5 @@
 -- The bytes so far are those that are gone, and are held as a line without a feed.
-use Rattle.std.proofs.Common.{◌≡◌, IfSome}
+use Rattle.std.proofs.Common.{◌≡◌}
 use Rattle.console.specs.Lines.{IsUnread, left_of}
 use Rattle.console.proofs.LineLemmas.{Reads}
 use Rattle.console.proofs.lines.Unread.next_line.Given as goal
@@ -7,4 +7,4 @@ use Rattle.console.proofs.lines.Unread.next_line.Given as goal
 abbrev pub invariant-loop : goal.invariant-loop
 invariant-loop g l =
     IsUnread l.self × (g.S.Source.failures l.reader ≡ g.S.Source.failures l.fn.reader)
-    × IfSome (left_of l.fn.self (g.S.Source.remaining l.fn.reader)) (Reads (left_of l.self (g.S.Source.remaining l.reader)) l.held)
+    × Reads (left_of l.fn.self (g.S.Source.remaining l.fn.reader)) (left_of l.self (g.S.Source.remaining l.reader)) l.held

@@ -1,0 +1,8 @@
+use Rattle.rounds.proofs.Going.{goes_none}
+use Rattle.rounds.proofs.round.wins.Goals as goal
+
+pub returns-in-Wins-clause-goes_on : goal.returns-in-Wins-clause-goes_on
+returns-in-Wins-clause-goes_on g c = goes_none g.T.Gate.keeps c.args.bench.now.slots.now c.args.own.now.seat c.requires.own.seat
+
+pub returns-in-Loses-clause-goes_on : goal.returns-in-Loses-clause-goes_on
+returns-in-Loses-clause-goes_on g c = goes_none g.T.Gate.keeps c.args.bench.now.slots.now c.args.own.now.seat c.requires.own.seat
