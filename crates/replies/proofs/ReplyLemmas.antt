@@ -107,12 +107,6 @@ check_refused {B} bytes goal b known read r refusal is right err =
     (elim right [ inl none ↦ inl none | inr shows ↦ inr (shows_check goal b read (refused refusal) is.0 shows) ]) err in
     (read, is.1, here)
 
--- what is said of the input that was read is said of the reader's input
-pub check_shown : {B : Type 0} (bytes : B → List ℕ) (goal : Goal) (b : PlainBoard) (known : Option (List ℕ)) (read : List ℕ) (text : B)
-    → IsInput known read → ShowsTree goal b (without_line_feed read) (answered (bytes text))
-    → OfInput known (λ input. GivesIfRead bytes (ShowsCheck goal b input) (Ok {E = Trouble} text))
-check_shown bytes goal b known read text is shows = (read, is.1, shows_check goal b read (answered (bytes text)) is.0 shows)
-
 -- an input that wasn't taken is too long, or memory is wanting, or a read failed
 pub check_unread : {B : Type 0} (bytes : B → List ℕ) (goal : Goal) (b : PlainBoard) (known : Option (List ℕ)) (r : Result B Trouble) (fault : InputFault)
     → (fault ≡ input.TooLong → IsTooLong known) → IsErr r × IsErrAnd r (λ trouble. trouble ≡ trouble_of fault)

@@ -1,6 +1,6 @@
 use Rattle.std.proofs.Common.{◌∙◌, ap, refl, rules, Ok, vec_items}
 use Rattle.replies.specs.Output.{IsSoundText, ShowsAnswer, ShowsKeys, ShowsPlanFound, answered}
-use Rattle.command_line.specs.declared.line.Action.TheVariants.{Solve, Keys, Show, Tree, Check}
+use Rattle.command_line.specs.declared.line.Action.TheVariants.{Solve, Keys, Moves, Show, Tree, Check}
 use Rattle.replies.proofs.ReplyLemmas.{fault_gives, gives_reply, gives_unread, refusal_gives}
 use Rattle.replies.proofs.replying.reply_told.Goals as goal
 
@@ -62,3 +62,9 @@ returns-in_ok-board_drawn-in-Show-clause-given g c =
     let sound : IsSoundText c.args.line.now.fen.now c.in_ok-position.position = search rules in
     gives_unread vec_items c.args.line.now (g.S.Source.remaining c.args.reader.now) c.in_ok-position.position Show (Ok c.into_bytes-in-Show.result) sound c.in-Show.is refl
     (ap answered (ap vec_items c.into_bytes-in-Show.ensures.value ∙ c.in_ok-board_drawn-in-Show.ensures))
+
+pub returns-in_ok-moves_text-in-Moves-clause-given : goal.returns-in_ok-moves_text-in-Moves-clause-given
+returns-in_ok-moves_text-in-Moves-clause-given g c =
+    let sound : IsSoundText c.args.line.now.fen.now c.in_ok-position.position = search rules in
+    gives_unread vec_items c.args.line.now (g.S.Source.remaining c.args.reader.now) c.in_ok-position.position Moves (Ok c.into_bytes.result) sound c.in-Moves.is refl
+    (search rules)
