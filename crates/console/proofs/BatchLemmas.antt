@@ -129,10 +129,10 @@ nothing_more written mid after text grown none = subst (Appends written after) (
 front_answered : (s : Solver) (status : ℕ) (left now : Option (List ℕ)) (front texts : List (List ℕ)) → (status ≡ 0 → ⊥) → All IsFed front
     → AllZip (RepliesTo s) front texts → Consumes left now (joined front) → OfInput left (AnswersLines s.goal s.limits status texts)
 front_answered s status None now front texts other fed zip gone =
-    (joined front, tt, front, [], ap lines_of (sym (append-nil (joined front))) ∙ fed_front front [] fed, zip, λ e. absurd (other e))
+    (joined front, tt, (front, [], ap lines_of (sym (append-nil (joined front))) ∙ fed_front front [] fed, zip, λ e. absurd (other e)))
 front_answered s status (Some xs) None front texts other fed zip gone = absurd gone
 front_answered s status (Some xs) (Some ys) front texts other fed zip gone =
-    (xs, refl, front, lines_of ys, ap lines_of gone ∙ fed_front front ys fed, zip, λ e. absurd (other e))
+    (xs, refl, (front, lines_of ys, ap lines_of gone ∙ fed_front front ys fed, zip, λ e. absurd (other e)))
 
 -- the same with one line more
 one_answered : (s : Solver) (status : ℕ) (left now : Option (List ℕ)) (front texts : List (List ℕ)) (line text : List ℕ) → (status ≡ 0 → ⊥) → All IsFed front
@@ -141,21 +141,25 @@ one_answered : (s : Solver) (status : ℕ) (left now : Option (List ℕ)) (front
 one_answered s status None now front texts line text other fed zip gone (one, first) reply = (
   joined front ++ line,
   tt,
-  front ++ line ∷ [],
-  [],
-  fed_front front line fed ∙ ap (λ l. front ++ l) one ∙ sym (append-nil (front ++ line ∷ [])),
-  AllZip-push (RepliesTo s) front texts line text zip reply,
-  λ e. absurd (other e),
+  (
+    front ++ line ∷ [],
+    [],
+    fed_front front line fed ∙ ap (λ l. front ++ l) one ∙ sym (append-nil (front ++ line ∷ [])),
+    AllZip-push (RepliesTo s) front texts line text zip reply,
+    λ e. absurd (other e),
+  ),
 )
 one_answered s status (Some xs) None front texts line text other fed zip gone first reply = absurd gone
 one_answered s status (Some xs) (Some ys) front texts line text other fed zip gone (one, (rest, first)) reply = (
   xs,
   refl,
-  front ++ line ∷ [],
-  rest,
-  ap lines_of gone ∙ fed_front front ys fed ∙ ap (λ l. front ++ l) first ∙ sym (append_assoc front (line ∷ []) rest),
-  AllZip-push (RepliesTo s) front texts line text zip reply,
-  λ e. absurd (other e),
+  (
+    front ++ line ∷ [],
+    rest,
+    ap lines_of gone ∙ fed_front front ys fed ∙ ap (λ l. front ++ l) first ∙ sym (append_assoc front (line ∷ []) rest),
+    AllZip-push (RepliesTo s) front texts line text zip reply,
+    λ e. absurd (other e),
+  ),
 )
 
 -- bytes that are gone, and then the last ones
@@ -180,11 +184,13 @@ lines_end s s' left step written reads writes same r w (front, texts, fed, zip, 
   (
     joined front ++ line,
     gone_then_last left step.left (joined front) line gone last,
-    front ++ lines_of line,
-    [],
-    fed_front front line fed ∙ sym (append-nil (front ++ lines_of line)),
-    zip_all (RepliesTo s) front (lines_of line) texts others zip (same_replies s s' (lines_of line) others same replies),
-    λ _. refl,
+    (
+      front ++ lines_of line,
+      [],
+      fed_front front line fed ∙ sym (append-nil (front ++ lines_of line)),
+      zip_all (RepliesTo s) front (lines_of line) texts others zip (same_replies s s' (lines_of line) others same replies),
+      λ _. refl,
+    ),
   ),
   (
     subst (Appends written step.written_after) (ap (λ l. joined texts ++ l) is ∙ joined_all texts others)

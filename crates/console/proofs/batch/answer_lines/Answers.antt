@@ -29,6 +29,17 @@ loop-preserved g c =
           (g.K.Sink.contents c.args.writer.now) so_far.same so_far.kept step;
     }
 
+pub returns-in-Ok-false : goal.returns-in-Ok-false
+returns-in-Ok-false g c =
+    let so_far = c.loop.invariant in
+    record {
+      lines = lines_end c.args.desk.now.solver c.loop.desk.solver (left_of c.args.desk.now.unread (g.S.Source.remaining c.args.reader.now))
+          (step_of c.loop.desk c.answer_next.new.desk g.S.Source.remaining g.S.Source.failures c.loop.reader c.answer_next.new.reader
+          g.K.Sink.contents g.K.Sink.failures c.loop.writer c.answer_next.new.writer)
+          (g.K.Sink.contents c.args.writer.now) (g.S.Source.failures c.args.reader.now) (g.K.Sink.failures c.args.writer.now) so_far.same so_far.reads so_far.writes
+          so_far.kept (rw c.in-Ok-false.field-0-test at c.in-Ok-false.ensures.step);
+    }
+
 pub returns-in-Err : goal.returns-in-Err
 returns-in-Err g c =
     let so_far = c.loop.invariant in

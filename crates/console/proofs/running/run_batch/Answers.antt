@@ -29,6 +29,14 @@ returns-in-Some-ReadFailed-clause-runs g c =
     (fresh_left c.in-Ok.desk.unread (g.S.Source.remaining c.args.reader.now) opened.3 opened.4) answers
     (inr (inl (omega (arith, unread), omega (arith, unfailed), refl, written)))
 
+pub returns-in-Ok-clause-runs : goal.returns-in-Ok-clause-runs
+returns-in-Ok-clause-runs g c =
+    let opened = c.in-Ok.ensures in
+    let (texts, answers, (cut, (unread, failed))) = rw c.in-Some-WriteFailed.field-0-is at c.in-Some-WriteFailed.ensures.lines in
+    batch_ran c.in-Ok.desk.solver c.args.batch.goal c.args.batch.limits _ _ texts opened.0.0.0 opened.1 opened.2
+    (fresh_left c.in-Ok.desk.unread (g.S.Source.remaining c.args.reader.now) opened.3 opened.4) answers
+    (inl (omega (arith, unread), inr (cut, omega (arith, failed), refl)))
+
 pub returns-clause-runs : goal.returns-clause-runs
 returns-clause-runs g c =
     batch_refused c.args.batch.goal c.args.batch.limits _ c.in-Err.fault (omega arith) c.in-Err.ensures (rw (← c.from.ensures) c.refuse_and_tell.ensures.refuses)
