@@ -1,5 +1,5 @@
 -- A batch, line by line.
-use Rattle.std.proofs.Common.{◌≡◌, ◌≢◌, ◌∙◌, ◌==◌, ◌+◌, ◌-◌, ◌<◌, ◌⊎◌, ℕ, Bool, true, false, List, [], ◌∷◌, ◌++◌, Option, None, Some, Result, Ok, Err, IfSome, IsErr, IsErrAnd, Vec, vec_items, length, take, drop, ap, inl, inr, refl, sym, subst, append_assoc, append-nil, length-append, ne_eqb, not, arith, All, MatchBool, if◌then◌else◌}
+use Rattle.std.proofs.Common.{◌≡◌, ◌≢◌, ◌∙◌, ◌+◌, ◌-◌, ◌<◌, ◌⊎◌, ℕ, Bool, true, false, List, [], ◌∷◌, ◌++◌, Option, None, Some, Result, Ok, Err, IfSome, IsErr, IsErrAnd, Vec, vec_items, length, take, drop, ap, inl, inr, refl, sym, subst, append_assoc, append-nil, length-append, ne_eqb, not, arith, All, MatchBool}
 use Rattle.std.proofs.lemmas.Bool.{le-ltb, lt-ltb}
 use Rattle.std.proofs.lemmas.List.{flat_map_more}
 use Rattle.std.proofs.lemmas.List.Elements.{AllZip-push, All-head, All-nil, All-push, All-tail}
@@ -22,7 +22,7 @@ use Rattle.replies.specs.Refusal.{refusal_of_fen, refusal_of_solve}
 use Rattle.replies.specs.declared.refusal.Refusal.{Refusal}
 use Rattle.replies.specs.declared.refusal.Refusal.TheVariants.{TooLong}
 use Rattle.console.specs.Batch.{AnswersLines, EndsBatch, IsLineReply, IsReplyText, RunsBatch, is_remark, joined, lines_of, onto, said_in}
-use Rattle.console.specs.Desk.{Fails, GivesNext, GivesSaid, IsFirstOf, RepliesTo, SameSolver, Step, TakesLines, TakesStep, WritesUntil, stop_status}
+use Rattle.console.specs.Desk.{Fails, GivesNext, GivesSaid, IsFirstOf, RepliesTo, SameSolver, Step, TakesLines, TakesStep}
 use Rattle.console.specs.Lines.{HasNoFeed, IsFed, IsLastOf, IsReadAs, TakesLine, left_of}
 use Rattle.console.specs.Run.{Ending, Finishes, Refuses, Run, no_memory}
 use Rattle.rounds.specs.declared.task.SolveFault.{SolveFault}
@@ -261,8 +261,7 @@ first_taken (Some xs) (Some ys) false line some (fed, gone) =
 pub step_ended : (s : Solver) (step : Step) (taken : Taken) → TakesLine step.left step.left_after taken → GivesNext s taken.next None
     → Appends step.written step.written_after [] → Fails step 0 0 → TakesStep s step (Ok false)
 step_ended s step taken (line, how, read) gives grown fails =
-    let none : line ≡ [] = gives line read in
-    (
+    let none : line ≡ [] = gives line read in (
       line,
       [],
       empty_last step.left step.left_after taken.is_last line none how,
@@ -276,8 +275,7 @@ pub step_written : (s : Solver) (step : Step) (is_last : Bool) (next : Next) (te
     → GivesNext s next (Some text) → Appends step.written step.written_after (vec_items text) → Fails step 0 0 → TakesStep s step (Ok (not is_last))
 step_written s step false next text (line, (fed, gone), read) gives grown fails = (line, vec_items text, fed, gone, (gives line read).1, grown, fails)
 step_written s step true next text (line, (none, last), read) gives grown fails =
-    let (some, reply) = gives line read in
-    (
+    let (some, reply) = gives line read in (
       line,
       vec_items text,
       (none, last),

@@ -1,6 +1,6 @@
 -- Lines, byte by byte.
-use Rattle.std.proofs.Common.{◌≡◌, ◌≢◌, ◌∙◌, ◌==◌, ◌+◌, ◌-◌, ◌<◌, ◌≤◌, ℕ, zero, suc, Bool, true, false, List, [], ◌∷◌, ◌++◌, Option, None, Some, Ok, IfSome, All, length, take, drop, get_or, ap, refl, sym, subst, append_assoc, append-nil, length-append, ne_eqb, arith, if◌then◌else◌}
-use Rattle.std.proofs.lemmas.List.Elements.{All-head, All-tail, All-push, All-nil, All-get_or}
+use Rattle.std.proofs.Common.{◌≡◌, ◌≢◌, ◌∙◌, ◌+◌, ◌-◌, ◌<◌, ◌≤◌, ℕ, zero, suc, true, false, List, [], ◌∷◌, ◌++◌, Option, None, Some, length, take, drop, get_or, ap, refl, sym, subst, length-append, ne_eqb, arith}
+use Rattle.std.proofs.lemmas.List.Elements.{All-push, All-nil, All-get_or}
 use lib.Seq.{take-append_seam, get_or-append_seam}
 use Rattle.std.proofs.KnownBytes.{Consumes-nil, Consumes-trans, Consumes-whole}
 use Rattle.std.specs.Io.KnownBytes.{Consumes, IsAtEnd}

@@ -8,7 +8,7 @@ use Rattle.command_line.specs.declared.line.Order.{Order}
 use Rattle.command_line.specs.declared.line.Order.TheVariants.{One, Batch}
 use Rattle.replies.specs.Output.{MayRead, fault_of}
 use Rattle.console.specs.Batch.{RunsBatch}
-use Rattle.console.specs.Run.{Run, Writes, GivesUp, MayTell, RunsLine, failures_of}
+use Rattle.console.specs.Run.{Run, Writes, GivesUp, RunsLine, failures_of}
 
 -- the run is one of the order
 abbrev pub RunsOrder : Order → Run → Type 0

@@ -1,4 +1,4 @@
-use Rattle.std.proofs.Common.{arith, rules}
+use Rattle.std.proofs.Common.{rules}
 use Rattle.std.proofs.lemmas.Option.{IfSome_then}
 use Rattle.console.specs.Lines.{left_of}
 use Rattle.console.proofs.LineLemmas.{moved_on}

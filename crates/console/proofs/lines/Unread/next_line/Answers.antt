@@ -1,6 +1,6 @@
 use Rattle.std.proofs.Common.{◌∙◌}
 use Rattle.console.specs.Lines.{left_of}
-use Rattle.console.proofs.LineLemmas.{reads_first, reads_more, reads_last, reads_ended}
+use Rattle.console.proofs.LineLemmas.{reads_more, reads_last, reads_ended}
 use Rattle.console.proofs.lines.Unread.next_line.Goals as goal
 
 pub returns-in_default-clause-takes : goal.returns-in_default-clause-takes
