@@ -27,12 +27,9 @@ use Rattle.text_laws.proofs.Faults.{no_sound_fault}
 use Rattle.answer_laws.proofs.OneAnswer.{one_fewest}
 use Rattle.answer_laws.proofs.Heights.{best_is_read}
 use Rattle.output_laws.specs.Outputs.{IsForcedWithin}
+use Rattle.output_laws.proofs.Shown.{in_none}
 
 -- ---- limits
-
-in_none : {F : Type 0} (o : Option F) (A : Type 0) (P : F → Type 0) → o ≡ None → MatchOption o A P → A
-in_none None A P e m = m
-in_none (Some f) A P e m = cc
 
 some_or_none : {X : Type 0} (r : Bool) (x : X) (rest : Option X) → cond r (Some x) rest ≡ None → r ≡ false
 some_or_none true x rest e = cc

@@ -4,6 +4,12 @@ use Rattle.std.specs.Option.{MatchOption}
 use Rattle.board.specs.Board.{PlainBoard}
 use Rattle.board.proofs.FenParts.{one_board}
 use Rattle.rules.specs.declared.goal.Goal.{Goal}
+use Rattle.rules.specs.Reading.{IsSoundFault}
+use Rattle.decision.specs.declared.answer.Answer.{Answer}
+use Rattle.decision.specs.Answer.{IsAnswer}
+use Rattle.rounds.specs.declared.keys.Key.{Key}
+use Rattle.rounds.specs.declared.task.SolveFault.{SolveFault}
+use Rattle.rounds.specs.Keys.{ListsKeys}
 use Rattle.wintree.specs.Plan.{Plan}
 use Rattle.wintree.specs.Text.{text as plan_text}
 use Rattle.wintree.specs.Wins.{Wins, height}
@@ -11,12 +17,14 @@ use Rattle.wintree.proofs.Listings.{one_list}
 use Rattle.wintree.proofs.OneText.{one_text}
 use Rattle.trees.proofs.Unique.{one_best}
 use Rattle.command_line.specs.declared.line.Line.{Line}
+use Rattle.command_line.specs.declared.line.Limits.{Limits}
 use Rattle.command_line.specs.declared.line.Action.{Action}
 use Rattle.command_line.specs.declared.line.Action.TheVariants.{Solve, Keys, Moves, Show, Tree, Check}
 use Rattle.replies.specs.Input.{without_line_feed}
 use Rattle.replies.specs.Refusal.{refusal_of_fen, refusal_of_solve, refusal_of_tree}
-use Rattle.replies.specs.Output.{Reply, answered, refused, line_of, answer_text, keys_text, moves_text, checked_text, fault_of, ShowsBest, ShowsPlan, ShowsTree, Shows, IsOutput}
+use Rattle.replies.specs.Output.{Reply, answered, refused, line_of, answer_text, keys_text, moves_text, checked_text, fault_of, ShowsBest, ShowsPlan, ShowsTree, Shows, IsSoundText, IsOutput}
 use Rattle.text_laws.proofs.Faults.{one_sound_fault, no_sound_fault, one_tree_fault, no_tree_fault}
+use Rattle.output_laws.specs.Outputs.{NamesAsMany, SearchesAlike}
 use Rattle.answer_laws.proofs.OneAnswer.{one_answer, one_list_of_keys}
 
 -- ---- parts
@@ -94,3 +102,33 @@ other_input b (Check goal) input other reply none shows = absurd (none goal refl
 pub any_input : (line : Line) (input other : List ℕ) (reply : Reply) → ((goal : Goal) → line.action ≡ Check goal → ⊥) → IsOutput line input reply → IsOutput line other reply
 any_input line input other reply none (inl (b, is, shows)) = inl (b, is, other_input b line.action input other reply none shows)
 any_input line input other reply none (inr wrong) = inr wrong
+
+-- ---- workers and slots
+
+to_none : {F : Type 0} (o : Option F) (A : Type 0) (P : F → Type 0) → o ≡ None → A → MatchOption o A P
+to_none None A P e a = a
+to_none (Some f) A P e a = cc
+
+pub in_none : {F : Type 0} (o : Option F) (A : Type 0) (P : F → Type 0) → o ≡ None → MatchOption o A P → A
+in_none None A P e m = m
+in_none (Some f) A P e m = cc
+
+-- what is shown within limits that aren't refused is shown within others of as many plies
+shown_within : (P : Goal → ℕ → Type 0) (goal goal' : Goal) (one other : Limits) (f : SolveFault → Type 0) → (goal ≡ goal') × NamesAsMany one other → MatchOption (fault_of one) (P goal one.limit) f → MatchOption (fault_of other) (P goal' other.limit) f
+shown_within P goal goal' one other f (same, many) shows =
+    to_none (fault_of other) _ f many.also (subst (P goal') many.plies (subst (λ g. P g one.limit) same (in_none (fault_of one) _ f many.taken shows)))
+
+shown_alike : (b : PlainBoard) (action other : Action) (input : List ℕ) (reply : Reply) → SearchesAlike action other → Shows b action input reply → Shows b other input reply
+shown_alike b (Solve goal one) (Solve goal' other) input reply alike shows =
+    shown_within (λ g limit. (answer : Answer) × IsAnswer g b limit answer × (reply ≡ answered (answer_text g answer))) goal goal' one other _ alike shows
+shown_alike b (Keys goal one) (Keys goal' other) input reply alike shows =
+    shown_within (λ g limit. (keys : List Key) × ListsKeys g b limit keys × (reply ≡ answered (keys_text limit keys))) goal goal' one other _ alike shows
+shown_alike b (Tree goal one) (Tree goal' other) input reply alike shows =
+    shown_within (λ g limit. ShowsBest g b limit reply) goal goal' one other _ alike shows
+shown_alike b action other input reply alike shows = absurd alike
+
+pub any_workers : (line other : Line) (input : List ℕ) (x y : Reply) → line.fen.now ≡ other.fen.now → SearchesAlike line.action other.action → IsOutput line input x → IsOutput other input y → x ≡ y
+any_workers line other input x y same alike (inl (b, is, shows)) output =
+    one_output other input x y (inl (b, subst (λ fen. IsSoundText fen b) same is, shown_alike b line.action other.action input x alike shows)) output
+any_workers line other input x y same alike (inr (fault, wrong, e)) output =
+    one_output other input x y (inr (fault, subst (λ fen. IsSoundFault fen fault) same wrong, e)) output

@@ -7,7 +7,8 @@ use Rattle.decision.specs.declared.answer.Answer.TheVariants.{Mate}
 use Rattle.decision.specs.Answer.{IsFewest}
 use Rattle.command_line.specs.declared.line.Line.{Line}
 use Rattle.command_line.specs.declared.line.Limits.{Limits}
-use Rattle.command_line.specs.declared.line.Action.TheVariants.{Solve, Tree, Check}
+use Rattle.command_line.specs.declared.line.Action.{Action}
+use Rattle.command_line.specs.declared.line.Action.TheVariants.{Solve, Keys, Tree, Check}
 use Rattle.replies.specs.Output.{Reply, answered, answer_text, checked_text, fault_of, IsSoundText, IsOutput}
 
 -- a line has one output for an input
@@ -17,6 +18,23 @@ OneOutput = (line : Line) (input : List ℕ) (x y : Reply) → IsOutput line inp
 -- what is printed for a line that is no `check` doesn't depend on the input
 abbrev pub InputOfCheckAlone : Type 0
 InputOfCheckAlone = (line : Line) (input other : List ℕ) (reply : Reply) → ((goal : Goal) → line.action ≡ Check goal → ⊥) → IsOutput line input reply → IsOutput line other reply
+
+-- two limits name as many plies, and neither is refused
+pub record NamesAsMany (one other : Limits) : Type 0 where
+  pub plies : one.limit ≡ other.limit
+  pub taken : fault_of one ≡ None
+  pub also : fault_of other ≡ None
+
+-- the two are one command to search, for the same goal and as many plies, by any workers and with any slots
+abbrev pub SearchesAlike : Action → Action → Type 0
+SearchesAlike (Solve goal one) (Solve goal' other) = (goal ≡ goal') × NamesAsMany one other
+SearchesAlike (Keys goal one) (Keys goal' other) = (goal ≡ goal') × NamesAsMany one other
+SearchesAlike (Tree goal one) (Tree goal' other) = (goal ≡ goal') × NamesAsMany one other
+SearchesAlike _ _ = ⊥
+
+-- the workers and the slots change nothing that is printed
+abbrev pub AnyWorkers : Type 0
+AnyWorkers = (line other : Line) (input : List ℕ) (x y : Reply) → line.fen.now ≡ other.fen.now → SearchesAlike line.action other.action → IsOutput line input x → IsOutput other input y → x ≡ y
 
 -- from the sound position of the text the goal is forced in so many plies and no fewer, which are within limits that aren't refused
 pub record IsForcedWithin (fen : List ℕ) (goal : Goal) (limits : Limits) (plies : ℕ) : Type 0 where
