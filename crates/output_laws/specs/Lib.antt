@@ -1,2 +1,3 @@
 -- to be believed
 pub mod Outputs
+pub mod Runs
