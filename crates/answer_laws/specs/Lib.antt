@@ -1,0 +1,4 @@
+-- to be believed
+pub mod Answers
+pub mod Turned
+pub mod Plans

@@ -1,0 +1,3 @@
+pub mod Shown
+pub mod Checked
+pub mod OneRun

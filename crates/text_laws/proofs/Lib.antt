@@ -1,0 +1,4 @@
+pub mod RowTexts
+pub mod RowFacts
+pub mod PositionTexts
+pub mod Faults
