@@ -1,6 +1,7 @@
 // Preloaded into a program, refuses its request for memory number FAIL_AT, and each thread that it asks for from number THREADS_FROM
 // on. At the end it writes to the file FAIL_LOG how many requests for memory there were, 1 where something was refused, and how many
-// blocks of memory were never given back.
+// blocks of memory were never given back; and to the file THREADS_LOG how many nanoseconds of a processor each thread took that was
+// started, in the order of their starts.
 #define _GNU_SOURCE
 #include <dlfcn.h>
 #include <errno.h>
@@ -8,6 +9,7 @@
 #include <stdio.h>
 #include <stdlib.h>
 #include <sys/syscall.h>
+#include <time.h>
 #include <unistd.h>
 
 extern void *__libc_malloc(size_t);
@@ -58,20 +60,45 @@ void free(void *block) {
     __libc_free(block);
 }
 
+// What a thread runs, and what it took. There is room for so many, and those after them aren't told of.
+enum { MOST_THREADS = 1024 };
+static struct thread { void *(*start)(void *); void *given_to; long took; } started[MOST_THREADS];
+static long threads = 0;
+
+static void *run(void *it) {
+    struct thread *thread = it;
+    void *result = thread->start(thread->given_to);
+    struct timespec time;
+    clock_gettime(CLOCK_THREAD_CPUTIME_ID, &time);
+    thread->took = time.tv_sec * 1000000000L + time.tv_nsec;
+    return result;
+}
+
 int pthread_create(pthread_t *thread, const pthread_attr_t *settings, void *(*start)(void *), void *given_to) {
-    static long threads = 0;
     const char *number = getenv("THREADS_FROM");
-    if (number && __atomic_add_fetch(&threads, 1, __ATOMIC_SEQ_CST) >= atol(number)) {
+    long place = __atomic_fetch_add(&threads, 1, __ATOMIC_SEQ_CST);
+    if (number && place + 1 >= atol(number)) {
         refused = 1;
         return EAGAIN;
     }
     int (*create)(pthread_t *, const pthread_attr_t *, void *(*)(void *), void *) = dlsym(RTLD_NEXT, "pthread_create");
-    return create(thread, settings, start, given_to);
+    if (place >= MOST_THREADS) return create(thread, settings, start, given_to);
+    started[place] = (struct thread){start, given_to, 0};
+    return create(thread, settings, run, &started[place]);
+}
+
+static void report_threads(void) {
+    const char *name = getenv("THREADS_LOG");
+    FILE *log = name ? fopen(name, "w") : NULL;
+    if (!log) return;
+    for (long i = 0; i < threads && i < MOST_THREADS; i++) fprintf(log, "%ld\n", started[i].took);
+    fclose(log);
 }
 
 static void report(void) {
     long requests = seen, was_refused = refused, left = live;
     fail_at = 0; // what is requested from here on is this report's own
+    report_threads();
     const char *name = getenv("FAIL_LOG");
     FILE *log = name ? fopen(name, "w") : NULL;
     if (!log) return;

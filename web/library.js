@@ -25,6 +25,7 @@ class Instance {
   static #decoder = new TextDecoder();
   #calls;
   #top;
+  #lent = false;
 
   constructor(code) {
     this.#calls = new WebAssembly.Instance(code, {}).exports;
@@ -33,11 +34,13 @@ class Instance {
 
   /** What the call of this name answers, and its number of bytes at the room. */
   call(name, values) {
+    if (!this.#lent) throw new Error("a call is owed memory");
     return BigInt.asUintN(64, this.#calls[`page_${name}`](...values));
   }
 
-  /** Bytes that nothing else has, where a word of any size may stand. */
+  /** Bytes that nothing else has, where a word of any size may stand: none of those that are lent. */
   taken(length) {
+    if (this.#lent) throw new Error("what is left is lent");
     const at = this.#top;
     this.#top = (at + BigInt(length) + 15n) & ~15n;
     return at;
@@ -65,6 +68,8 @@ class Instance {
   lend(at) {
     const buffer = this.#calls.memory.buffer;
     const left = (BigInt(buffer.byteLength) - this.#top) & ~15n;
+    if (left <= 0n) throw new Error("nothing is left to lend");
+    this.#lent = true;
     const words = new DataView(buffer, Number(at), 16);
     words.setBigUint64(0, this.#top, true);
     words.setBigUint64(8, left, true);

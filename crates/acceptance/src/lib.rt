@@ -6,6 +6,8 @@ mod boards;
 #[cfg(test)]
 mod deciding;
 #[cfg(test)]
+mod expansions;
+#[cfg(test)]
 mod held;
 #[cfg(test)]
 mod leaves;

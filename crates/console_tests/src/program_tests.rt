@@ -28,12 +28,13 @@ fn owned<R: AllocGlobal>(rt: &R, words: &[&str]) -> Result<Vec<String>, AllocErr
     Ok(all)
 }
 
-/// Runs the words, with a tree for an input.
-fn tell<R: Threads + Wait + Abort + AllocGlobal + Eprint + Clock + Sync>(
+/// Runs the words over an input.
+fn tell_of<R: Threads + Wait + Abort + AllocGlobal + Eprint + Clock + Sync>(
     rt: &R,
     words: io::Result<Vec<String>>,
+    input: &[u8],
 ) -> Told {
-    let mut reader = Counted::new(b"c4c5{a6a5:b1a1#}".as_slice());
+    let mut reader = Counted::new(input);
     let mut writer = Counted::new(Vec::new(rt.alloc()));
     let mut errors = Vec::new(rt.alloc());
     let status = run_program(rt, words, &mut reader, &mut writer, &mut errors);
@@ -42,6 +43,14 @@ fn tell<R: Threads + Wait + Abort + AllocGlobal + Eprint + Clock + Sync>(
         output: writer.device,
         errors,
     }
+}
+
+/// Runs the words, with a tree for an input.
+fn tell<R: Threads + Wait + Abort + AllocGlobal + Eprint + Clock + Sync>(
+    rt: &R,
+    words: io::Result<Vec<String>>,
+) -> Told {
+    tell_of(rt, words, b"c4c5{a6a5:b1a1#}")
 }
 
 /// Runs the words, and expects a status, an output and what is told.
@@ -99,6 +108,22 @@ fn explains_fields_and_shapes(rt: HostRuntime) -> Result<(), Fail> {
             "a position has one space, between the board and the side: here are 2",
         ),
         (
+            " k5/6/1K4/6/6/5R w",
+            "a position has one space, between the board and the side: here are 2",
+        ),
+        (
+            "k5/6/1K4/6/6/5R w ",
+            "a position has one space, between the board and the side: here are 2",
+        ),
+        (
+            "",
+            "a position has two fields, the board and the side: here is one; write ' w' or ' b' behind the board",
+        ),
+        (
+            "k5/6/1K4/6/6/5R w - - 0 1 2",
+            "a position has two fields, the board and the side: here are 7; leave out ' - - 0 1 2'",
+        ),
+        (
             "k5/6/1K4/6/5R w",
             "a board of 5 ranks has 5 squares in each: here rank 5 has 6",
         ),
@@ -107,8 +132,66 @@ fn explains_fields_and_shapes(rt: HostRuntime) -> Result<(), Fail> {
             "a board of 6 ranks has 6 squares in each: here rank 2 has 7",
         ),
         (
+            "k5/6/1K4/6/6/4R w",
+            "a board of 6 ranks has 6 squares in each: here rank 1 has 5",
+        ),
+        (
+            "k5/5/1K4/7/6/5R w",
+            "a board of 6 ranks has 6 squares in each: here rank 5 has 5",
+        ),
+        (
+            "k5/6/1K4/9/6/5R w",
+            "a board of 6 ranks has 6 squares in each: here rank 3 has 9",
+        ),
+        (
+            "k5/6/1K4/6/0k4/5R w",
+            "a board of 6 ranks has 6 squares in each: here rank 2 has 5",
+        ),
+        (
+            "6/6/6/6/6/6/6 w",
+            "a board has six ranks of six squares or five of five, with / between them: here are 7",
+        ),
+        (
             "k5 w",
             "a board has six ranks of six squares or five of five, with / between them: here are 1",
+        ),
+    ] {
+        expect_sentence(&rt, fen, sentence)?;
+    }
+    Ok(())
+}
+
+// Each letter of a game stands before the one that is foreign, and where two places are wrong the first is told.
+#[test]
+fn explains_letters_and_runs(rt: HostRuntime) -> Result<(), Fail> {
+    for (fen, sentence) in [
+        (
+            "kqrnp1/1KQRNP/6/6/6/2b3 w",
+            "rank 1 has 'b': the units of Los Alamos chess are K Q R N P, and in lower case Black's",
+        ),
+        (
+            "kqrbn/p3P/5/3N1/KQRBx w",
+            "rank 1 has 'x': the units of Gardner minichess are K Q R B N P, and in lower case Black's",
+        ),
+        (
+            "k5/6/1K2y1/6/6/4xR w",
+            "rank 4 has 'y': the units of Los Alamos chess are K Q R N P, and in lower case Black's",
+        ),
+        (
+            "k\u{e9}3/6/1K4/6/6/5R w",
+            "rank 6 has '\\xc3': the units of Los Alamos chess are K Q R N P, and in lower case Black's",
+        ),
+        (
+            "k5/33/1K4/6/42/5R w",
+            "rank 5 has '33': write each run of empty squares as one digit from 1 to 6",
+        ),
+        (
+            "k5/6/1K4/6/06/5R w",
+            "rank 2 has '0': write each run of empty squares as one digit from 1 to 6",
+        ),
+        (
+            "k4/5/1K3/5/113 w",
+            "rank 1 has '11': write each run of empty squares as one digit from 1 to 5",
         ),
     ] {
         expect_sentence(&rt, fen, sentence)?;
@@ -132,12 +215,24 @@ fn explains_boards(rt: HostRuntime) -> Result<(), Fail> {
             "the side to move is w or b: here is 'x'",
         ),
         (
+            "k5/6/1K4/6/6/5R w'",
+            "the side to move is w or b: here is 'w\\''",
+        ),
+        (
             "6/6/1K4/6/6/K4R w",
             "each side has one king, K and k: here are 2 K and 0 k",
         ),
         (
+            "k4k/6/1K4/6/6/5R w",
+            "each side has one king, K and k: here are 1 K and 2 k",
+        ),
+        (
             "k5/QQQQQQ/QQQQQQ/6/6/K5 w",
             "a side has at most 12 units in Los Alamos chess: here White has 13 and Black 1",
+        ),
+        (
+            "kqrbn/nbrqp/p4/4P/KQRBN w",
+            "a side has at most 10 units in Gardner minichess: here White has 6 and Black 11",
         ),
         (
             "k3P/5/1K3/5/5 w",
@@ -148,12 +243,54 @@ fn explains_boards(rt: HostRuntime) -> Result<(), Fail> {
             "rank 1 has a pawn: pawns stand on ranks 2 to 5 alone",
         ),
         (
+            "k5/6/1K4/6/6/4RP w",
+            "rank 1 has a pawn: pawns stand on ranks 2 to 5 alone",
+        ),
+        (
+            "k4p/1p4/1K4/6/1P4/5R w",
+            "rank 6 has a pawn: pawns stand on ranks 2 to 5 alone",
+        ),
+        (
             "k4R/6/1K4/6/6/6 w",
             "Black is in check, and White is to move: write b for the side, or move a unit",
+        ),
+        (
+            "K4r/6/1k4/6/6/6 b",
+            "White is in check, and Black is to move: write w for the side, or move a unit",
         ),
     ] {
         expect_sentence(&rt, fen, sentence)?;
     }
+    Ok(())
+}
+
+// Each sentence of a batch is that of its own line, by the number that the line has in the input.
+#[test]
+fn explains_lines_of_a_batch(rt: HostRuntime) -> Result<(), Fail> {
+    let mut input = String::new(rt.alloc());
+    input.push_str("k5/6/1K4/6/6/5R w\nk5/6/1K4/6/6/5R x\n")?;
+    for _ in 0..257 {
+        input.push('y')?;
+    }
+    input.push_str("\n# four\n\nk5/6/1K4/6/6/4R w\r\nK4r/6/1k4/6/6/6 b")?;
+    let output = "mate 1 f1f6
+refused: Side
+refused: TooLong
+# four
+
+refused: Shape
+refused: OtherInCheck
+";
+    let errors = "error: line 2: the side to move is w or b: here is 'x'
+error: line 3: a line has at most 256 bytes
+error: line 6: a board of 6 ranks has 6 squares in each: here rank 1 has 5
+error: line 7: White is in check, and Black is to move: write w for the side, or move a unit
+";
+    let words = owned(&rt, &["minimate", "batch", "--limit", "1"])?;
+    let told = tell_of(&rt, Ok(words), input.as_bytes());
+    assert_eq!(rt; told.status, 0);
+    assert_eq!(rt; told.output.as_slice(), output.as_bytes());
+    assert_eq!(rt; told.errors.as_slice(), errors.as_bytes());
     Ok(())
 }
 
@@ -203,6 +340,13 @@ fn explains_words_that_are_no_line(rt: HostRuntime) -> Result<(), Fail> {
     assert_eq!(rt; told.status, 2);
     let quote = "error: a position is one word, so quote it: 'k5/6/1K4/6/6/5R w'\n";
     assert!(rt; told.errors.as_slice().ends_with(quote.as_bytes()));
+    let cut = owned(&rt, &["minimate", "moves", FEN, "4k/5/5/5/K4", "b"])?;
+    let told = tell(&rt, Ok(cut));
+    let quote = "error: a position is one word, so quote it: '4k/5/5/5/K4 b'\n";
+    assert!(rt; told.errors.as_slice().ends_with(quote.as_bytes()));
+    let quoted = owned(&rt, &["minimate", "moves", FEN, "w", "b"])?;
+    let told = tell(&rt, Ok(quoted));
+    assert!(rt; !told.errors.as_slice().ends_with(b"'\n"));
     Ok(())
 }
 

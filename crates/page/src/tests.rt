@@ -42,6 +42,21 @@ fn solves_into_the_room(rt: HostRuntime) {
     assert_eq!(rt; &room, b"mate 3 c4c5\n\x07\x07");
 }
 
+// A table of the most slots takes 32 MiB, so the arena has all that is lent.
+#[test]
+fn lends_all_to_the_table(rt: HostRuntime) {
+    let terms = Terms {
+        stale: false,
+        limit: 3,
+        slots: 1_048_576,
+    };
+    let mut room = [7u8; 12];
+    let memory = lent(&rt, rt.alloc(), 67_108_864);
+    let count = page_solve(memory, ROOK_MATES_IN_THREE, terms, &mut room);
+    assert_eq!(rt; count, 12);
+    assert_eq!(rt; &room, b"mate 3 c4c5\n");
+}
+
 #[test]
 fn writes_a_tree_into_the_room(rt: HostRuntime) {
     let mut room = [7u8; 18];

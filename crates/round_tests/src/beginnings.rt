@@ -1,9 +1,9 @@
 //! That each job is begun once, and by more than one thread.
-use crate::solves::{expected, read, solved};
+use crate::solves::{expected, read, root, solved};
 use decision::Answer;
 use entry::MateLore;
 use moves::Goal;
-use rounds::{Gate, solve};
+use rounds::{Gate, Task, keys_over, make_table, solve};
 use slots::{Seat, Slots};
 use std::alloc::{AllocError, Global};
 use std::process::Abort;
@@ -21,7 +21,7 @@ struct Record {
     all: AtomicU64,
 }
 
-fn counters(alloc: Global) -> Result<Vec<AtomicU64>, AllocError> {
+pub(crate) fn counters(alloc: Global) -> Result<Vec<AtomicU64>, AllocError> {
     let mut row = Vec::with_capacity(alloc, 17)?;
     for _ in 0..17 {
         row.push(AtomicU64::new(0))?;
@@ -29,7 +29,7 @@ fn counters(alloc: Global) -> Result<Vec<AtomicU64>, AllocError> {
     Ok(row)
 }
 
-fn count(row: &Vec<AtomicU64>, job: usize) -> u64 {
+pub(crate) fn count(row: &Vec<AtomicU64>, job: usize) -> u64 {
     match row.get(job) {
         Some(begun) => begun.load(Ordering::SeqCst),
         None => 99,
@@ -132,14 +132,17 @@ enum Until {
     Partner,
     // All others have, where it is the first.
     All,
+    // All others have, where it has this number.
+    AllOf(u16),
 }
 
-// How many of the 17 jobs have begun before it, at least, when it is let go; the job has so many before it.
-fn awaited(until: Until, before: u64) -> u64 {
+// How many of the 17 jobs have begun before it, at least, when the job is let go; it has so many before it.
+fn awaited(until: Until, job: u16, before: u64) -> u64 {
     match until {
         Until::Others(others) => others,
         Until::Partner if before < 16 && before % 2 == 0 => before + 1,
         Until::All if before == 0 => 16,
+        Until::AllOf(held) if job == held => 16,
         _ => 0,
     }
 }
@@ -154,15 +157,32 @@ struct Hold {
 }
 
 impl Gate for Hold {
-    fn begin(&self, round: u8, _job: u16, slots: &Slots<MateLore>, _seat: &mut Seat) {
+    fn begin(&self, round: u8, job: u16, slots: &Slots<MateLore>, _seat: &mut Seat) {
         if round != 1 {
             return;
         }
         self.slots.store(slots.len() as u64, Ordering::SeqCst);
         let before = self.begun.fetch_add(1, Ordering::SeqCst);
-        if !comes_above(&self.begun, awaited(self.until, before)) {
+        if !comes_above(&self.begun, awaited(self.until, job, before)) {
             self.gave_up.store(true, Ordering::SeqCst);
         }
+    }
+}
+
+impl Hold {
+    // No job has begun.
+    fn new(until: Until) -> Hold {
+        Hold {
+            until,
+            begun: AtomicU64::new(0),
+            slots: AtomicU64::new(0),
+            gave_up: AtomicBool::new(false),
+        }
+    }
+
+    // Whether all jobs could be held so long, and the table had this size.
+    fn is_kept(&self, slots: usize) -> bool {
+        !self.gave_up.load(Ordering::SeqCst) && self.slots.load(Ordering::SeqCst) == slots as u64
     }
 }
 
@@ -174,16 +194,8 @@ fn held<R: Threads + Wait + Abort + Sync>(
     slots: usize,
     until: Until,
 ) -> bool {
-    let gate = Hold {
-        until,
-        begun: AtomicU64::new(0),
-        slots: AtomicU64::new(0),
-        gave_up: AtomicBool::new(false),
-    };
-    let answer = solved(rt, alloc, workers, slots, &gate);
-    answer == expected()
-        && !gate.gave_up.load(Ordering::SeqCst)
-        && gate.slots.load(Ordering::SeqCst) == slots as u64
+    let gate = Hold::new(until);
+    solved(rt, alloc, workers, slots, &gate) == expected() && gate.is_kept(slots)
 }
 
 // A thread that holds a job begins no other, so each is held by its own: by a worker, or by the caller's.
@@ -204,4 +216,33 @@ fn a_thread_goes_on_after_its_first_job(rt: HostRuntime) {
 #[test]
 fn the_jobs_of_a_thread_that_is_held_are_stolen(rt: HostRuntime) {
     assert!(rt; held(&rt, rt.alloc(), 1, 64, Until::All));
+}
+
+// The jobs 0, 1 and 2 are the first that are dealt to each of three threads. Whichever of these is held at its own, or another that
+// has stolen it, the rest begin all others: so they look for jobs at each thread.
+#[test]
+fn jobs_are_stolen_from_each_thread(rt: HostRuntime) {
+    for (workers, job) in [(1, 0), (1, 1), (2, 2)] {
+        assert!(rt; held(&rt, rt.alloc(), workers, 64, Until::AllOf(job)));
+    }
+}
+
+// The keys are searched by a thread for each seat too: each of them is held at a job.
+#[test]
+fn each_thread_holds_a_job_of_the_keys_at_once(rt: HostRuntime) {
+    let position = root(&rt);
+    for workers in [1, 2, 16] {
+        let gate = Hold::new(Until::Others(u64::from(workers)));
+        let (table, mut seats) = make_table(rt.alloc(), 1, workers, 64).expect(&rt, "a table");
+        let task = Task {
+            position: &position,
+            goal: Goal::Mate,
+            limit: 3,
+            gate: &gate,
+        };
+        let keys = keys_over(&rt, rt.alloc(), &task, &table, &mut seats).expect(&rt, "keys");
+        assert!(rt; keys.len() == 1 && gate.is_kept(64));
+        // each job by one of the threads, and again by the caller's own
+        assert!(rt; gate.begun.load(Ordering::SeqCst) == 34);
+    }
 }

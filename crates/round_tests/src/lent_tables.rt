@@ -16,7 +16,12 @@ use std::test::*;
 use std::thread::Threads;
 
 // A table of so many slots, with seats for so many workers and the caller's thread.
-fn table(rt: &impl Abort, alloc: Global, workers: u8, slots: usize) -> (Slots<MateLore>, Vec<Seat>)
+pub(crate) fn table(
+    rt: &impl Abort,
+    alloc: Global,
+    workers: u8,
+    slots: usize,
+) -> (Slots<MateLore>, Vec<Seat>)
     ensures { All (IsSeatOf result.0) result.1.items }
 {
     match make_table(alloc, 1, workers, slots) {

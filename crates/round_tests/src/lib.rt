@@ -6,6 +6,8 @@ mod all_keys;
 #[cfg(test)]
 mod beginnings;
 #[cfg(test)]
+mod ends;
+#[cfg(test)]
 mod helping;
 #[cfg(test)]
 mod kept_entries;

@@ -50,6 +50,29 @@ fn trees_are_read_and_written_again(rt: HostRuntime) -> Result<(), Fail> {
     Ok(())
 }
 
+/// A tree of three plies with so many replies to its first move, one above 0.
+fn wide(alloc: Global, count: usize) -> Result<Vec<u8>, Fail> {
+    let mut bytes = Vec::new(alloc);
+    bytes.extend_from_slice(b"c4c5{a3a4:a1a2#")?;
+    for _ in 1..count {
+        bytes.extend_from_slice(b",a3a4:a1a2#")?;
+    }
+    bytes.extend_from_slice(b"}")?;
+    Ok(bytes)
+}
+
+// The text of the last is longer than a MiB.
+#[test]
+fn wide_nodes_are_read_and_written_again(rt: HostRuntime) -> Result<(), Fail> {
+    for count in [61, 500, 100_000] {
+        let text = wide(rt.alloc(), count)?;
+        let (found, again) = written_again(rt.alloc(), text.as_slice())?;
+        assert_eq!(rt; found, 2);
+        assert!(rt; again.as_slice() == text.as_slice());
+    }
+    Ok(())
+}
+
 #[test]
 fn faults_name_the_offset(rt: HostRuntime) -> Result<(), Fail> {
     for (text, offset) in [
