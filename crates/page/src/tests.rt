@@ -42,19 +42,19 @@ fn solves_into_the_room(rt: HostRuntime) {
     assert_eq!(rt; &room, b"mate 3 c4c5\n\x07\x07");
 }
 
-// A table of the most slots takes 32 MiB, so the arena has all that is lent.
+// Such a table takes some MiB, so the arena has all that is lent.
 #[test]
 fn lends_all_to_the_table(rt: HostRuntime) {
     let terms = Terms {
         stale: false,
         limit: 3,
-        slots: 1_048_576,
+        slots: 100_000,
     };
-    let mut room = [7u8; 12];
-    let memory = lent(&rt, rt.alloc(), 67_108_864);
+    let mut room = [7u8; 18];
+    let memory = lent(&rt, rt.alloc(), 33_554_432);
     let count = page_solve(memory, ROOK_MATES_IN_THREE, terms, &mut room);
     assert_eq!(rt; count, 12);
-    assert_eq!(rt; &room, b"mate 3 c4c5\n");
+    assert_eq!(rt; &room, b"mate 3 c4c5\n\x07\x07\x07\x07\x07\x07");
 }
 
 #[test]
