@@ -6,3 +6,4 @@ pub mod Program
 -- inside
 pub mod Lines
 pub mod Desk
+pub mod Signs

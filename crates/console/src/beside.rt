@@ -6,6 +6,7 @@ ghost use Rattle.rounds.specs.Limits.{task_fault, IsTaskRefusal};
 ghost use Rattle.rounds.specs.Seats.{AreSeats};
 ghost use Rattle.replies.specs.Outcome.{GivesReply, reads_failed};
 ghost use Rattle.replies.specs.Output.{input_of, MayRead};
+ghost use Rattle.console.specs.Signs.{IsLastRound};
 
 use crate::watch::{Course, Watch, show};
 use board::Position;
@@ -60,7 +61,9 @@ impl Source for Nothing {
 }
 
 /// The last round up to the limit.
-fn last_round(limits: Limits) -> u8 {
+fn last_round(limits: Limits) -> u8
+    ensures { 0 < limits.limit → limits.limit < 256 → IsLastRound limits.limit result }
+{
     let limit = search_of(limits).limit;
     limit - (1 - limit % 2).min(limit)
 }

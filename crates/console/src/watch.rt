@@ -1,5 +1,8 @@
 //! What is known of a search while it lasts, and the thread that shows it on standard error.
-ghost use Rattle.std.specs.Prelude.{IfOk, length};
+ghost use Rattle.std.specs.Prelude.{◌≡◌, ℕ, IfOk, IfSome, length, string_bytes};
+ghost use Rattle.progress.specs.Text.{drawn_text, sign_text};
+ghost use Rattle.progress.specs.declared.sign.Sign.{Sign};
+ghost use Rattle.console.specs.Signs.{IsRoundAfter, IsSignOf};
 
 use board::Position;
 use entry::MateLore;
@@ -46,7 +49,9 @@ fn byte_of(number: &AtomicU64) -> u8 {
 }
 
 /// The plies of the round after one of so many.
-fn next_round(plies: u8) -> u8 {
+fn next_round(plies: u8) -> u8
+    ensures { IsRoundAfter plies result }
+{
     if plies == 0 {
         1
     } else {
@@ -106,7 +111,10 @@ impl Watch {
     }
 
     /// The sign of a job of which this is known, drawn.
-    fn text_of(&self, seconds: u64, job: usize, known: u8) -> Option<String> {
+    fn text_of(&self, seconds: u64, job: usize, known: u8) -> Option<String>
+        ensures { IfSome result (λ text. (none : ℕ) × (sign : Sign) × IsSignOf self.now seconds job known none sign
+            × (string_bytes text ≡ drawn_text (sign_text sign))) }
+    {
         let first = *self.moves.get(job)?;
         let none = byte_of(&self.none);
         let work = if known == WINS {
@@ -122,11 +130,10 @@ impl Watch {
             Course::Rounds => next_round(none),
             Course::Keys(_) => next_round(known),
         };
-        let none = if none == 0 { None } else { Some(none) };
         let sign = Sign {
             seconds,
             line: self.line,
-            none,
+            none: if none == 0 { None } else { Some(none) },
             round,
             work,
         };
