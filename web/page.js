@@ -29,6 +29,8 @@ function takeText(fen) {
   const fault = lines(parts.library.fault(fen));
   Object.assign(game, { fen, isSound: !fault.length, moves: [], positions: [fen], at: 0, picked: null });
   if ($("fen").value !== fen) $("fen").value = fen;
+  const listed = PROBLEMS.findIndex((one) => one.fen === fen && one.goal === $("goal").value);
+  $("problems").value = listed < 0 ? "" : String(listed);
   $("fen").setAttribute("aria-invalid", String(!game.isSound));
   $("fault").textContent = fault.length ? `Refused, ${fault[0].slice("refused: ".length)}: ${fault[1].slice("error: ".length)}.` : "";
   forgetAnswer();
