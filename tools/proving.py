@@ -171,7 +171,7 @@ class Check:
 
     def __init__(self, room, rt, jobs):
         self.room, self.jobs, self.began = room, jobs, time.monotonic()
-        self.status, self.seconds, self.memory = None, 0.0, 0
+        self.status, self.seconds, self.clock, self.memory = None, 0.0, 0.0, 0
         words = ["run" if room.is_program else "lib", "--jobs", str(jobs), *(["--", *FIRST_RUN] if room.is_program else [])]
         with open(room.log, "w", encoding="utf-8") as log:
             how = {"stdin": subprocess.DEVNULL, "stdout": log, "stderr": subprocess.STDOUT, "start_new_session": True}
@@ -183,6 +183,7 @@ class Check:
         if pid:
             self.status = self.process.returncode = os.waitstatus_to_exitcode(status)
             self.seconds, self.memory = usage.ru_utime + usage.ru_stime, 1024 * usage.ru_maxrss
+            self.clock = time.monotonic() - self.began
         return pid != 0
 
     def end(self):
