@@ -26,7 +26,7 @@ const LEAF: u8 = 3;
 const LOOKED_FROM: u8 = 6;
 
 /// From so many plies on an attacker's position is searched round by round.
-const ROUNDS_FROM: u8 = 7;
+const ROUNDS_FROM: u8 = 11;
 
 /// Whether the table knows of a position below that ends the search: on the attacker's turn one that wins, on the defender's
 /// one that escapes.

@@ -3,6 +3,7 @@ use Rattle.std.proofs.Common.{◌≡◌, ℕ, ◌+◌, ◌*◌, ◌/◌, ◌%◌
 use Rattle.std.specs.Bool.{Decides}
 use Rattle.std.specs.Str.{bytes_eq}
 use Rattle.std.proofs.lemmas.Bool.{false≢true}
+use Rattle.std.proofs.lemmas.Option.{same_Some}
 use Rattle.std.proofs.lemmas.Bool.Decides.{Decides-and}
 use Rattle.std.proofs.lemmas.Slice.Eq.{bytes_eq-Decides}
 use Rattle.entry.specs.declared.entries.Entry.{Entry}
@@ -39,71 +40,17 @@ preferred_other b r e old new p q k h = (
       ],
 )
 
--- ---- what is preferred, by the intervals that stand in the words
-
-below_kept : (a b below : ℕ) → no_byte a ≡ no_byte b → below ≡ a / 2 ^ 48 → a ≡ b % 2 ^ 48 + 2 ^ 48 * below
-below_kept a b below e h = omega arith
-
-three_words : (words : List ℕ) → length words ≡ 3 → words ≡ get_or words 0 0 ∷ get_or words 1 0 ∷ get_or words 2 0 ∷ []
-three_words [] h = absurd (omega arith)
-three_words (a ∷ []) h = absurd (omega arith)
-three_words (a ∷ b ∷ []) h = absurd (omega arith)
-three_words (a ∷ b ∷ c ∷ []) h = refl
-three_words (a ∷ b ∷ c ∷ d ∷ rest) h = absurd (omega arith)
-
--- words with a packing's key and an interval are a packing
-packing_by_key : (e : Entry) (i : Bounds) (old new : List ℕ) → length old ≡ 3 → Packing e new → key_words old ≡ key_words new → IsBounds i → i.below ≡ top_of old 1 → top_of old 2 ≡ upto_byte i.upto → Packing (entry_of e.position e.attacker e.goal i) old
-packing_by_key e i old new long p same is below upto =
-    let f = fields_of e new p in
-    let w0 : get_or old 0 0 ≡ first_word e = ap (λ (l : List ℕ). get_or l 0 0) same ∙ ap (λ (l : List ℕ). get_or l 0 0) p.words in
-    let w1 : get_or old 1 0 ≡ second_word (entry_of e.position e.attacker e.goal i) =
-    below_kept (get_or old 1 0) (get_or new 1 0) i.below (ap (λ (l : List ℕ). get_or l 1 0) same) below ∙ ap (λ n. n + 2 ^ 48 * i.below) f.packed.middle in
-    let w2 : get_or old 2 0 ≡ third_word (entry_of e.position e.attacker e.goal i) =
-    below_kept (get_or old 2 0) (get_or new 2 0) (upto_byte i.upto) (ap (λ (l : List ℕ). get_or l 2 0) same) (sym upto) ∙ ap (λ n. n + 2 ^ 48 * upto_byte i.upto) f.packed.high in
-    record { position = p.position; interval = is; words = three_words old long ∙ (λ k. w0 k ∷ w1 k ∷ w2 k ∷ []) }
-
-some_same : (i j : Bounds) → Some i ≡ Some j → i ≡ j
-some_same i j e = ap (λ o. unwrap_or o i) e
+-- ---- by the intervals that were read of the words
 
 module _ (old new : List ℕ) (i j : Bounds) (of_old : (e : Entry) → Packing e old → Some i ≡ Some e.interval) (of_new : (e : Entry) → Packing e new → Some j ≡ Some e.interval) where
-  pub stays_same : (b : Bool) → length old ≡ 3 → key_words old ≡ key_words new → IsBounds i → i.below ≡ top_of old 1 → top_of old 2 ≡ upto_byte i.upto → SaysAll i j → (IsTrue b ↔ ((e : Entry) × Packing e new)) → IsTrue b ↔ ArePreferred old new
-  stays_same b long same is below upto says h = (
-    λ t.
-        let comes = h.0 t in
-        let p = packing_by_key comes.0 i old new long comes.1 same is below upto in
-        let at = some_same j comes.0.interval (of_new comes.0 comes.1) in
-        (preferred_same true _ comes.0 old new p comes.1 same (λ _. subst (SaysAll i) at says, λ _. refl)).0 refl,
-    λ w. h.1 (w.comes, w.new_packing),
-  )
+  read_of : (P : Bounds → Bounds → Type 0) (b : Bool) (r e : Entry) → Packing r old → Packing e new → IsTrue b ↔ P i j → IsTrue b ↔ P r.interval e.interval
+  read_of P b r e p q says = subst (λ (z : Bounds × Bounds). IsTrue b ↔ P z.0 z.1) (λ k. (same_Some _ _ (of_old r p) k, same_Some _ _ (of_new e q) k)) says
 
-  pub goes_same : key_words old ≡ key_words new → (SaysAll i j → ⊥) → ArePreferred old new → ⊥
-  goes_same same less w =
-      let x = some_same i w.stands.interval (of_old w.stands w.old_packing) in
-      let y = some_same j w.comes.interval (of_new w.comes w.new_packing) in
-      elim w.preferred [
-        | inl s ↦ less (subst (λ (z : Bounds × Bounds). SaysAll z.0 z.1) (λ k. (sym x k, sym y k)) s.1)
-        | inr s ↦ s.0 (same_question w.stands w.comes old new w.old_packing w.new_packing same)
-      ]
+  pub stays_same : (b : Bool) (r e : Entry) → Packing r old → Packing e new → key_words old ≡ key_words new → IsTrue b ↔ SaysAll i j → IsTrue b ↔ ArePreferred old new
+  stays_same b r e p q same says = preferred_same b r e old new p q same (read_of SaysAll b r e p q says)
 
-  pub stays_other : (b : Bool) → (key_words old ≡ key_words new → ⊥) → weight j < weight i → ((e : Entry) × Packing e old) → (IsTrue b ↔ ((e : Entry) × Packing e new)) → IsTrue b ↔ ArePreferred old new
-  stays_other b other more stands h = (
-    λ t.
-        let comes = h.0 t in
-        let x = some_same i stands.0.interval (of_old stands.0 stands.1) in
-        let y = some_same j comes.0.interval (of_new comes.0 comes.1) in
-        let weighs = subst (λ (z : Bounds × Bounds). weight z.1 < weight z.0) (λ k. (x k, y k)) more in
-        (preferred_other true stands.0 comes.0 old new stands.1 comes.1 other (λ _. weighs, λ _. refl)).0 refl,
-    λ w. h.1 (w.comes, w.new_packing),
-  )
-
-  pub goes_other : (key_words old ≡ key_words new → ⊥) → (weight j < weight i → ⊥) → ArePreferred old new → ⊥
-  goes_other other less w =
-      let x = some_same i w.stands.interval (of_old w.stands w.old_packing) in
-      let y = some_same j w.comes.interval (of_new w.comes w.new_packing) in
-      elim w.preferred [
-        | inl s ↦ other (same_key w.stands w.comes old new w.old_packing w.new_packing s.0)
-        | inr s ↦ less (subst (λ (z : Bounds × Bounds). weight z.1 < weight z.0) (λ k. (sym x k, sym y k)) s.1)
-      ]
+  pub stays_other : (b : Bool) (r e : Entry) → Packing r old → Packing e new → (key_words old ≡ key_words new → ⊥) → IsTrue b ↔ (weight j < weight i) → IsTrue b ↔ ArePreferred old new
+  stays_other b r e p q other more = preferred_other b r e old new p q other (read_of (λ x y. weight y < weight x) b r e p q more)
 
 -- ---- the test
 

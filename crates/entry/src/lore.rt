@@ -26,6 +26,10 @@ impl Lore for MateLore {
         worth::prefers(old, new)
     }
 
+    fn stays(old: [u64; 3], new: [u64; 3]) -> bool {
+        worth::stays(old, new)
+    }
+
     ghost no_zeros_preferred = { zeros_give_way };
 
     ghost no_zeros = { zeros_apart };

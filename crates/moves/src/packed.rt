@@ -1,5 +1,6 @@
 //! A position in three words.
 ghost use Rattle.std.specs.Prelude.{◌≡◌, ◌<◌, ◌+◌, ◌*◌, ◌↔◌, ℕ, Some, None, true};
+ghost use Rattle.board.specs.declared.game.Kind.TheVariants.{King};
 ghost use Rattle.board.specs.Board.{unit_on, is_of_side, IsPosition};
 ghost use Rattle.board.specs.Games.{squares_of};
 ghost use Rattle.moves.specs.Words.{man_of, unpacked, IsPacked};
@@ -13,7 +14,7 @@ use crate::codec::{read_words, write_words};
 use crate::sets::{Class, Sets};
 use crate::words::{code_of, code_on, put, turned, unit_of};
 use board::{Game, Position, Side, Unit};
-use cells::{cell_of, cells, square_in};
+use cells::{cell_of, cells, lowest, square_in};
 use rules::{Move, Square};
 use std::marker::Model;
 
@@ -114,11 +115,19 @@ impl Board {
     }
 
     /// The unit on a square.
-    fn unit_at(&self, square: Square) -> Option<Unit>
+    pub fn unit_at(&self, square: Square) -> Option<Unit>
         requires { IsOnBoard self.now.game square }
         ensures { result ≡ unit_at self.now square }
     {
         unit_of(self.code_at(square))
+    }
+
+    /// Where the side's king stands.
+    pub fn king(&self, side: Side) -> Square
+        ensures on_board { IsOnBoard self.now.game result }
+        ensures king { unit_at self.now result ≡ Some (record { side = side; kind = King }) }
+    {
+        square_in(lowest(self.sets.kings & self.of_side(side)))
     }
 
     /// The words of the board.

@@ -1,5 +1,5 @@
 -- Second pass, the claim and the written words: one seat at most writes, what it has written stands, and at rest the words are what the history leaves.
-use Rattle.std.proofs.Common.{◌≡◌, ◌≢◌, ℕ, ◌%◌, ◌<◌, List, [], ◌∷◌, ◌++◌, length, take, set, sym, ap, ◌∙◌, subst, length-append}
+use Rattle.std.proofs.Common.{◌≡◌, ◌≢◌, ℕ, ◌%◌, ◌<◌, List, [], ◌∷◌, ◌++◌, length, take, set, Some, sym, ap, ◌∙◌, subst, inl, length-append}
 use Rattle.std.proofs.lemmas.List.{take_more_set}
 use mathlib.Core.Option as option
 use lib.ListN.{get_elem?}
@@ -18,8 +18,8 @@ pub put_more : (put words : List ℕ) (word : ℕ) → put ≡ take (length put)
 put_more put words word e room = ap (λ l. l ++ word ∷ []) e ∙ (sym (take_more_set words (length put) word room) ∙ ap (λ n. take n (set words (length put) word)) (sym (length-append put (word ∷ []))))
 
 -- where new words may be put, they may be stored
-pub yields_may : (way : Way) (stood put : List ℕ) (m : Machine) → Yields way stood put → (length stood ≡ 3 → stood ≡ words_of m.holds) → MayReply way m (Offered put Stored)
-yields_may way stood put m yields was = λ r e. yields r (λ full. was full ∙ ap words_of e)
+pub yields_may : (meets : List ℕ → Type 0) (way : Way) (stood put : List ℕ) (m : Machine) → Yields meets way stood put → (length stood ≡ 3 → stood ≡ words_of m.holds) → ((w : List ℕ) → m.holds ≡ Some w → meets w) → MayReply way m (Offered put Stored)
+yields_may meets way stood put m yields was lore = λ r e. yields r (λ full. was full ∙ ap words_of e) (inl (lore r e))
 
 -- what the writer has half done stays so, where others change nothing under its claim
 still_claims : (gate gate' : ℕ) (words words' holds holds' : List ℕ) (writer writer' seat : ℕ)

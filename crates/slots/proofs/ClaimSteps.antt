@@ -18,8 +18,8 @@ use Rattle.slots.specs.declared.views.View.{View}
 use Rattle.slots.specs.Machine.{Way, fresh, run, standing, part, call}
 use Rattle.slots.specs.Rule.{way_at, note, glance, gate_at, words_at, TableHolds, words_of}
 use prog.Atomic.{either}
-use Rattle.slots.specs.Steps.{Lists, halfway, ended, Ends, EndsBusy, claimed, written, published, IsBusy, Yields}
-use Rattle.slots.proofs.Histories.{part-own}
+use Rattle.slots.specs.Steps.{Lists, halfway, ended, Ends, EndsBusy, claimed, written, published, IsBusy, IsWhole, Yields}
+use Rattle.slots.proofs.Histories.{part-own, standing-meets}
 use Rattle.slots.proofs.ClaimPass.{yields_may}
 use Rattle.slots.proofs.SlotKeeps.{HalfDone, claim_kept, put_kept, end_kept}
 use Rattle.slots.proofs.Words.{gate_set, word_set, others_at}
@@ -39,11 +39,11 @@ module _ (way : Way) (meets : List ℕ → Type 0) (n : ℕ) where
   odd_way k r w ne = ap (λ (b : Bool). if b then way.prefers r w else false) (ne_eqb (k % 2) 0 ne)
 
   -- an even slot, where the words that were read aren't preferred
-  pub even_yields : (k : ℕ) (stood words : List ℕ) → k % 2 ≡ 0 → length stood ≡ 3 → way.prefers stood words ≡ false → Yields (way_at k way) stood words
-  even_yields k stood words even full never = λ r same. even_way k r words even ∙ (ap (λ z. way.prefers z words) (sym (same full)) ∙ never)
+  pub even_yields : (k : ℕ) (stood words : List ℕ) → k % 2 ≡ 0 → length stood ≡ 3 → (IsWhole meets stood → way.prefers stood words ≡ false) → Yields meets (way_at k way) stood words
+  even_yields k stood words even full never = λ r same whole. even_way k r words even ∙ (ap (λ z. way.prefers z words) (sym (same full)) ∙ never (subst (IsWhole meets) (sym (same full)) whole))
 
-  pub odd_yields : (k : ℕ) (stood words : List ℕ) → k % 2 ≡ 1 → Yields (way_at k way) stood words
-  odd_yields k stood words odd = λ r same. odd_way k r words (λ e. omega arith)
+  pub odd_yields : (k : ℕ) (stood words : List ℕ) → k % 2 ≡ 1 → Yields meets (way_at k way) stood words
+  odd_yields k stood words odd = λ r same whole. odd_way k r words (λ e. omega arith)
 
   pub inside_table : (s : St) (r : Rule s) (k i : ℕ) → k < n → i < 4 → 4 * k + i < length s.words
   inside_table s r k i lt inn = let wide = r.wide in omega arith
@@ -120,7 +120,7 @@ module _ (way : Way) (meets : List ℕ → Type 0) (n : ℕ) where
       )
 
   pub publishes : (slots id : ℕ) (me : Me ℕ View) (k at : ℕ) (stood put : List ℕ) (new : ℕ) (done : Act) → k < n → length me.0.notes ≡ n → me.0.seated ≡ true
-      → me.0.half ≡ Writing at stood put → Yields (way_at k way) stood put → me.0.slot ≡ k → length put ≡ 3 → new ≡ at + 1 → done ≡ Offered put store.TheVariants.Stored → meets put
+      → me.0.half ≡ Writing at stood put → Yields meets (way_at k way) stood put → me.0.slot ≡ k → length put ≡ 3 → new ≡ at + 1 → done ≡ Offered put store.TheVariants.Stored → meets put
       → Allows Rule slots id me (4 * k) (λ _. new) (λ _. published way done me)
   publishes slots id me k at stood put new done lt room seated is yields there whole up act ok s r _ here' _ =
       let v : View = me.0 in
@@ -148,6 +148,6 @@ module _ (way : Way) (meets : List ℕ → Type 0) (n : ℕ) where
             (end_kept (way_at k way) meets (part k r.history) g ws (map (glance k) s.views) q id (glance k v) (at_map (glance k) s.views id v here') at stood put half yields whole ok x refl m.low m.high c.0 c.1)),
         (
           refl,
-          subst (λ (z : ℕ × Act). Ends way z.0 z.1 v w) (λ j. (sym there j, sym act j)) (m, l, refl, adds way meets n s r id k v lt here' seated stored (yields_may (way_at k way) stood put (run fresh (part k r.history)) yields half.1.4)),
+          subst (λ (z : ℕ × Act). Ends way z.0 z.1 v w) (λ j. (sym there j, sym act j)) (m, l, refl, adds way meets n s r id k v lt here' seated stored (yields_may meets (way_at k way) stood put (run fresh (part k r.history)) yields half.1.4 (λ w e. standing-meets meets fresh (part k r.history) q.claim.lore w e (λ e'. absurd (cc))))),
         ),
       )

@@ -1,5 +1,5 @@
 -- The steps of the third pass at the table: words are read, and the gate is read to end.
-use Rattle.std.proofs.Common.{◌≡◌, ◌≢◌, ℕ, ◌+◌, ◌*◌, ◌%◌, ◌<◌, ◌≤◌, true, false, true≢false, List, [], ◌∷◌, ◌++◌, length, take, get_or, Option, Some, None, refl, sym, ap, ◌∙◌, subst, inr, arith}
+use Rattle.std.proofs.Common.{◌≡◌, ◌≢◌, ℕ, ◌+◌, ◌*◌, ◌%◌, ◌<◌, ◌≤◌, true, false, true≢false, List, [], ◌∷◌, ◌++◌, length, take, get_or, Option, Some, None, refl, sym, ap, ◌∙◌, subst, inl, inr, arith}
 use Rattle.std.proofs.lemmas.List.{take_all}
 use mathlib.Core.Logic.{dite}
 use native.Mathlib.Decide.{ℕ_discrete}
@@ -13,7 +13,7 @@ use Rattle.slots.specs.declared.views.Half.TheVariants.{Reading}
 use Rattle.slots.specs.declared.views.View.{View}
 use Rattle.slots.specs.Machine.{Way, Machine, fresh, machine_after, MayReply, run, standing, part, StoresMeet}
 use Rattle.slots.specs.Rule.{way_at, note, gate_at, words_at, TableHolds, words_of}
-use Rattle.slots.specs.Steps.{halfway, ended, Ends, EndsBusy, HitFits, read, looked, IsBusy, IsProbeReply, zeros}
+use Rattle.slots.specs.Steps.{halfway, ended, Ends, EndsBusy, HitFits, read, looked, IsBusy, IsProbeReply, IsWhole, zeros}
 use Rattle.slots.proofs.Histories.{standing-meets}
 use Rattle.slots.proofs.ReadsPass.{got_more}
 use Rattle.slots.proofs.SlotKeeps.{HalfDone}
@@ -51,13 +51,13 @@ module _ (way : Way) (meets : List ℕ → Type 0) (n : ℕ) where
   abbrev pub Answers : ℕ → List ℕ → Act → Type 0
   Answers k got done = (m : Machine) → got ≡ words_of m.holds → ((w : List ℕ) → m.holds ≡ Some w → meets w) → MayReply (way_at k way) m done × (machine_after m done ≡ m) × StoresMeet meets done × HitFits way.key meets done
 
-  pub kept_may : (k : ℕ) (got words : List ℕ) → k % 2 ≡ 0 → way.prefers got words ≡ true → way.prefers zeros words ≡ false → (m : Machine) (o : Option (List ℕ)) → m.holds ≡ o → got ≡ words_of o
+  pub kept_may : (k : ℕ) (got words : List ℕ) → k % 2 ≡ 0 → (IsWhole meets got → way.prefers got words ≡ true) → way.prefers zeros words ≡ false → (m : Machine) (o : Option (List ℕ)) → m.holds ≡ o → got ≡ words_of o → ((w : List ℕ) → m.holds ≡ Some w → meets w)
       → MayReply (way_at k way) m (Offered words (store.TheVariants.Kept got))
-  kept_may k got words even likes never m None e w = absurd (true≢false (sym likes ∙ (ap (λ z. way.prefers z words) w ∙ never)))
-  kept_may k got words even likes never m (Some x) e w = (e ∙ ap Some (sym w), even_way way meets n k got words even ∙ likes)
+  kept_may k got words even likes never m None e w lore = absurd (true≢false (sym (likes (inr w)) ∙ (ap (λ z. way.prefers z words) w ∙ never)))
+  kept_may k got words even likes never m (Some x) e w lore = (e ∙ ap Some (sym w), even_way way meets n k got words even ∙ likes (inl (subst meets (sym w) (lore x e))))
 
-  pub kept_answers : (k : ℕ) (got words : List ℕ) → k % 2 ≡ 0 → way.prefers got words ≡ true → way.prefers zeros words ≡ false → Answers k got (Offered words (store.TheVariants.Kept got))
-  kept_answers k got words even likes never = λ m w _. (kept_may k got words even likes never m m.holds refl w, refl, tt, tt)
+  pub kept_answers : (k : ℕ) (got words : List ℕ) → k % 2 ≡ 0 → (IsWhole meets got → way.prefers got words ≡ true) → way.prefers zeros words ≡ false → Answers k got (Offered words (store.TheVariants.Kept got))
+  kept_answers k got words even likes never = λ m w lore. (kept_may k got words even likes never m m.holds refl w lore, refl, tt, tt)
 
   pub answer_may : (j : ℕ) (m : Machine) (got : List ℕ) (act : Act) → IsProbeReply way.key got act → (o : Option (List ℕ)) → m.holds ≡ o → got ≡ words_of o → ((w : List ℕ) → m.holds ≡ Some w → meets w) → (meets zeros → ⊥)
       → MayReply (way_at j way) m act × (machine_after m act ≡ m) × StoresMeet meets act × HitFits way.key meets act
@@ -105,7 +105,7 @@ module _ (way : Way) (meets : List ℕ → Type 0) (n : ℕ) where
   looks_probe slots id me k at got busy done law lt room seated is there whole isbusy answer =
       looks slots id me k at got busy done (λ m e lore. answer_may k m got done answer m.holds refl e lore law) lt room seated is there whole isbusy
 
-  pub looks_store : (slots id : ℕ) (me : Me ℕ View) (k at : ℕ) (got words : List ℕ) (busy done : Act) → k % 2 ≡ 0 → way.prefers got words ≡ true → way.prefers zeros words ≡ false → k < n → length me.0.notes ≡ n → me.0.seated ≡ true
+  pub looks_store : (slots id : ℕ) (me : Me ℕ View) (k at : ℕ) (got words : List ℕ) (busy done : Act) → k % 2 ≡ 0 → (IsWhole meets got → way.prefers got words ≡ true) → way.prefers zeros words ≡ false → k < n → length me.0.notes ≡ n → me.0.seated ≡ true
       → me.0.half ≡ Reading at got → me.0.slot ≡ k → length got ≡ 3 → IsBusy busy → done ≡ Offered words (store.TheVariants.Kept got)
       → Allows Rule slots id me (4 * k) (λ x. x) (looked way meets busy done me)
   looks_store slots id me k at got words busy done even likes never lt room seated is there whole isbusy act =

@@ -12,7 +12,7 @@ use Rattle.slots.specs.declared.views.Half.TheVariants.{Idle, Writing}
 use Rattle.slots.specs.Machine.{Way, Machine, fresh, machine_after, MayReply, run, IsLegal, stores, standing, StoresMeet}
 use Rattle.slots.specs.Steps.{Yields}
 use Rattle.slots.specs.Rule.{words_of, Glance, Had, Passed, Claims, StillRead, SlotHolds}
-use Rattle.slots.proofs.Histories.{run-snoc, follows-snoc}
+use Rattle.slots.proofs.Histories.{run-snoc, follows-snoc, standing-meets}
 use Rattle.slots.proofs.GatePass.{higher, gate_keeps}
 use Rattle.slots.proofs.ClaimPass.{put_more, yields_may, claim_keeps}
 use Rattle.slots.proofs.ReadsPass.{reads_keep}
@@ -83,7 +83,7 @@ module _ (way : Way) (meets : List ℕ → Type 0) where
 
   -- the store ends
   pub end_kept : (history : List Call) (gate : ℕ) (words : List ℕ) (seats : List Glance) (r : SlotHolds way meets history gate words seats) (id : ℕ) (old : Glance) → get_elem? seats id ≡ option.some old
-      → (at : ℕ) (stood put : List ℕ) → HalfDone gate words (words_of (standing history)) r.claim.writer id (Writing at stood put) → Yields way stood put → length put ≡ length words → meets put → (c : Call) → c.act ≡ Offered put Stored → (low high : ℕ) → low ≤ high → high ≤ gate
+      → (at : ℕ) (stood put : List ℕ) → HalfDone gate words (words_of (standing history)) r.claim.writer id (Writing at stood put) → Yields meets way stood put → length put ≡ length words → meets put → (c : Call) → c.act ≡ Offered put Stored → (low high : ℕ) → low ≤ high → high ≤ gate
       → SlotHolds way meets (history ++ c ∷ []) (gate + 1) words (set seats id record { seated = old.seated; note = record { low = low; high = high }; half = Idle })
   end_kept history gate words seats r id old here at stood put mine yields full ok c is low high a b =
       let now : run fresh (history ++ c ∷ []) ≡ machine_after (run fresh history) (Offered put Stored) = run-snoc fresh history c ∙ ap (machine_after (run fresh history)) is in
@@ -91,7 +91,7 @@ module _ (way : Way) (meets : List ℕ → Type 0) where
       let whole : put ≡ words = mine.1.3 ∙ take_all (length put) words (omega arith) in
       let more : stores (history ++ c ∷ []) ≡ stores history + 1 = ap (λ (m : Machine). m.stores) now in
       moved history gate words seats r id record { seated = old.seated; note = record { low = low; high = high }; half = Idle } (history ++ c ∷ []) (gate + 1) words r.claim.writer
-      (follows-snoc way fresh history c r.reads.legal (subst (MayReply way (run fresh history)) (sym is) (yields_may way stood put (run fresh history) yields mine.1.4)))
+      (follows-snoc way fresh history c r.reads.legal (subst (MayReply way (run fresh history)) (sym is) (yields_may meets way stood put (run fresh history) yields mine.1.4 (λ w e. standing-meets meets fresh history r.claim.lore w e (λ e'. absurd (cc))))))
       (omega arith)
       (λ _. sym whole ∙ ap (λ (m : Machine). words_of m.holds) (sym now))
       (λ i d at'. ⊎_elim (r.claim.lore i d) (λ (t : c ≡ d). subst (λ (z : Call). StoresMeet meets z.act) t (subst (StoresMeet meets) (sym is) ok)) (at_snoc history c d i at'))

@@ -1,5 +1,6 @@
 // Which three words may stand in a slot.
 ghost use Rattle.std.specs.Prelude.{◌≡◌, ℕ, Bool, false, List, [], ◌∷◌};
+ghost use Rattle.slots.specs.Steps.{IsWhole};
 
 /// What the user of a table knows of its entries, each of three words.
 pub trait Lore {
@@ -19,6 +20,14 @@ pub trait Lore {
     /// Whether the old words stay. It answers for any words, also for such as can't stand in a slot.
     fn prefers(old: [u64; 3], new: [u64; 3]) -> bool
         ensures { result ≡ prefers old new };
+
+    /// The same of words that may stand in a slot, offered where whole words stand. Of others it may say anything, so it
+    /// needn't look at all of them: a store that read a mixture doesn't end by what this says.
+    fn stays(old: [u64; 3], new: [u64; 3]) -> bool
+        ensures { meets new → IsWhole meets old → result ≡ prefers old new }
+    {
+        Self::prefers(old, new)
+    }
 
     // Three zero words are never preferred: they stand for nothing.
     ghost no_zeros_preferred: { (new : List ℕ) → prefers (0 ∷ 0 ∷ 0 ∷ []) new ≡ false };

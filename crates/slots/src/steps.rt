@@ -2,7 +2,7 @@
 ghost use Rattle.std.specs.Prelude.{◌≡◌, ℕ, ◌+◌, ◌^◌, ◌<◌, ◌≤◌, ◌%◌, [], ◌∷◌, length, true, List};
 ghost use Rattle.slots.specs.declared.calls.Act.TheVariants.{Asked, Offered};
 ghost use Rattle.slots.specs.declared.views.Half.TheVariants.{Reading, Writing};
-ghost use Rattle.slots.specs.Steps.{begun, offered, read, looked, claimed, written, published, confirmed, Along, IsProbeReply, Yields};
+ghost use Rattle.slots.specs.Steps.{begun, offered, read, looked, claimed, written, published, confirmed, Along, IsProbeReply, IsWhole, Yields};
 ghost use Rattle.slots.specs.Rule.{way_at, after_telling};
 ghost use Rattle.slots.specs.Promise.{way_of, slots_of, IsTaken, IsSeatOf};
 
@@ -75,7 +75,7 @@ impl<L: Lore, A: Allocator> Slots<L, A> {
     ) -> u64
         requires told { (K.busy ≡ Offered words Store.Busy) × (K.done ≡ Offered words (Store.Kept got)) }
         requires seat { IsTaken self.now seat.old × (slot < slots_of self.now) × (slot % 2 ≡ 0)
-            × (L.prefers got words ≡ true) }
+            × (IsWhole L.meets got → L.prefers got words ≡ true) }
         requires half { (at : ℕ) × (seat.old.me.0.half ≡ Reading at got) × (seat.old.me.0.slot ≡ slot)
             × (length got ≡ 3) }
         ensures seat { (seat.new.table_id ≡ seat.old.table_id) × (seat.new.id ≡ seat.old.id) }
@@ -123,7 +123,7 @@ impl<L: Lore, A: Allocator> Slots<L, A> {
         requires told { K.done ≡ Offered words Store.Stored }
         requires seat { IsTaken self.now seat.old × (slot < slots_of self.now) × (gate + 2 < 2 ^ 64) }
         requires half { (stood : List ℕ) × (seat.old.me.0.half ≡ Writing (gate + 1) stood words)
-            × (seat.old.me.0.slot ≡ slot) × Yields (way_at slot (way_of L.key L.prefers)) stood words × L.meets words
+            × (seat.old.me.0.slot ≡ slot) × Yields L.meets (way_at slot (way_of L.key L.prefers)) stood words × L.meets words
             × (length words ≡ 3) }
         ensures seat { (seat.new.table_id ≡ seat.old.table_id) × (seat.new.id ≡ seat.old.id) }
         ensures step { published (way_of L.key L.prefers) (Offered words Store.Stored) seat.old.me seat.new.me }

@@ -42,7 +42,7 @@ impl<L: Lore, A: Allocator> Slots<L, A> {
     ) -> Store
         requires seat { IsTaken self.now seat.old × (slot < slots_of self.now) × (gate + 2 < 2 ^ 64) × (done ≤ 4) }
         requires half { (got : List ℕ) × (seat.old.me.0.half ≡ Reading gate got) × (seat.old.me.0.slot ≡ slot)
-            × Yields (way_at slot (way_of L.key L.prefers)) got words }
+            × Yields L.meets (way_at slot (way_of L.key L.prefers)) got words }
         requires lore { L.meets words }
         ensures seat { IsSeatOf self.now seat.new × (seat.new.id ≡ seat.old.id) }
         ensures call { Done (way_of L.key L.prefers) slot (Offered words result) 5 seat.old.me.0 seat.new.me.0 }
@@ -88,7 +88,7 @@ impl<L: Lore, A: Allocator> Slots<L, A> {
             return self.put(seat, slot, words, gate, 1, pause);
         }
         let got = self.gather(seat, slot, pause);
-        if L::prefers(got, words) {
+        if L::stays(got, words) {
             let last = self.keep::<Brand>(seat, slot, words, got);
             return if last == gate {
                 Store::Kept(got)
