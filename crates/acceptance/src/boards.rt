@@ -1,5 +1,5 @@
 //! Calls on boards of three words, on positions worked out by hand.
-use board::{Game, Side, fen_text};
+use board::{Game, Kind, Side, fen_text};
 use moves::{
     Board, Move, Square, gives_check, has_lawful_move, is_lawful, read_sound, read_words,
     write_words,
@@ -24,6 +24,16 @@ fn shows_words(rt: HostRuntime) {
         gardner.words(),
         [0x0005_0066_6661_2453, 0x0000_00CC_CCC0_0000, 0x7_8AB9]
     );
+}
+
+#[test]
+fn finds_kings_and_other_units(rt: HostRuntime) {
+    let board = board(&rt, "r3k/3bp/1bPpP/R2KQ/4B b");
+    let [d2, e5] = [Square { file: 3, rank: 1 }, Square { file: 4, rank: 4 }];
+    assert_eq!(rt; (board.king(Side::White), board.king(Side::Black)), (d2, e5));
+    let queen = Square { file: 4, rank: 1 };
+    assert!(rt; board.unit_at(queen).is_some_and(|unit| unit.kind == Kind::Queen && unit.side == Side::White));
+    assert!(rt; board.unit_at(Square { file: 1, rank: 4 }).is_none());
 }
 
 #[test]
