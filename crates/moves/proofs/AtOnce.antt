@@ -48,6 +48,11 @@ no_move_of : (b : PlainBoard) → IsReached MateOrStale b → (m : Ply) → IsLa
 no_move_of b (inl mated) = mated.no_move
 no_move_of b (inr stale) = stale.no_move
 
+-- where the goal wants the side to move, it has no move
+pub no_move_at : (goal : Goal) (b : PlainBoard) → IsReached goal b → (m : Ply) → IsLawful b m → ⊥
+no_move_at Mate b mated = mated.no_move
+no_move_at MateOrStale b r = no_move_of b r
+
 stale_exactly : (b : PlainBoard) (check some : Bool) → (IsTrue check ↔ IsInCheck b b.mover) → (IsTrue some ↔ ((m : Ply) × IsLawful b m)) → IsTrue (not some) ↔ IsReached MateOrStale b
 stale_exactly b check true h k = (λ is. absurd (false≢true is), λ r. absurd (let w = k.0 refl in no_move_of b r w.0 w.1))
 stale_exactly b check false h k = (λ _. still b check false h k refl, λ _. refl)

@@ -32,8 +32,7 @@ pub record Attains (goal : Goal) (b : PlainBoard) (m : Ply) : Type 0 where
   pub move : IsMove b m next
   pub reached : IsReached goal next
 
--- a guard is of the mover's king, and where there is none, the other king isn't attacked; a watch serves a mate alone, which is a check
+-- a guard is of the mover's king, and where there is none, the other king isn't attacked
 pub record Seeks (b : PlainBoard) (quest : Quest) : Type 0 where
   pub guards : MatchOption quest.guard (IsInCheck b (other_side b.mover) → ⊥) (Guards b)
   pub watches : IfSome quest.watch (Watches b)
-  pub mate : IfSome quest.watch (λ _. quest.goal ≡ Mate)

@@ -25,8 +25,8 @@ use board::Unit;
 use cells::{cell_of, lowest, square_in, without};
 use rules::{Goal, Move, PROMOTIONS, Square, is_king, is_promoted_well};
 
-/// The goal, for a mate a watch on the other king, if that isn't attacked already, and else what the mover's king asks of each move:
-/// mates are so few that one is asked last whether it leaves the own king attacked.
+/// The goal, a watch on the other king, if that isn't attacked already, and what the mover's king asks of each move, but for a mate
+/// under a watch: mates are so few that one is asked last whether it leaves the own king attacked.
 #[derive(Clone, Copy)]
 pub(crate) struct Quest {
     goal: Goal,
@@ -127,9 +127,9 @@ fn hopeful(board: &Board, quest: Quest, unit: Unit, from: Square) -> u64
     ensures reached { (i : ℕ) → Has result i → IsTarget board.now unit from i }
     ensures all { (m : Ply) → m.from ≡ from → Attains quest.goal board.now m → Has result (cell_of m.to) }
 {
-    match quest.watch {
-        Some(watch) => checking(board, watch, unit, from),
-        None => targets(board, unit, cell_of(from)),
+    match (quest.goal, quest.watch) {
+        (Goal::Mate, Some(watch)) => checking(board, watch, unit, from),
+        _ => targets(board, unit, cell_of(from)),
     }
 }
 
@@ -200,13 +200,10 @@ fn guard_if_checked(board: &Board) -> Option<Guard>
 pub fn reaches_at_once(board: &Board, goal: Goal) -> bool
     ensures { IsTrue result ↔ Forces goal board.now.mover board.now 1 }
 {
-    let watch = match goal {
-        Goal::Mate => watch_of(board),
-        Goal::MateOrStale => None,
-    };
-    let guard = match watch {
-        Some(_) => guard_if_checked(board),
-        None => Some(guard_of(board)),
+    let watch = watch_of(board);
+    let guard = match (goal, watch) {
+        (Goal::Mate, Some(_)) => guard_if_checked(board),
+        _ => Some(guard_of(board)),
     };
     attains_any(board, Quest { goal, guard, watch })
 }

@@ -3,12 +3,9 @@ use Rattle.std.proofs.lemmas.Bool.{false≢true}
 use Rattle.board.specs.Board.{PlainBoard}
 use Rattle.rules.specs.Reach.{IsInCheck}
 use Rattle.rules.specs.Moves.{Promotes, IsPromotion, IsLawful, after}
-use Rattle.rules.specs.declared.goal.Goal.{Goal}
-use Rattle.rules.specs.declared.goal.Goal.TheVariants.{Mate}
 use Rattle.rules.specs.Forces.{IsReached}
-use Rattle.moves.specs.declared.checks.Watch.{Watch}
 use Rattle.rules.proofs.Keeps.{one_after}
-use Rattle.moves.proofs.AtOnce.{move_by}
+use Rattle.moves.proofs.AtOnce.{move_by, no_move_at}
 use Rattle.moves.proofs.Guarding.{promotes_well, not_attacked_safe}
 use Rattle.moves.proofs.at_once.attains.Goals as goal
 
@@ -36,11 +33,9 @@ returns-then-escapes c = (
       let b = c.args.board.now in
       let m = c.args.m in
       let u = c.args.unit in
-      let mate : c.args.quest.goal ≡ Mate = subst (λ o. IfSome o (λ (_ : Watch). c.args.quest.goal ≡ Mate)) c.in-Some.is c.requires.seeks.mate in
-      let mated = subst (λ (g : Goal). IsReached g w.next) mate w.reached in
       let same : w.next ≡ after b m u = one_after b m w.next _ w.move (move_by b m u c.requires.stands (w.next, w.move)) in
       let step = c.escapes.ensures c.if-escapes.true in
-      absurd (mated.no_move step.0 (subst (λ q. IsLawful q step.0) (sym same) step.1)),
+      absurd (no_move_at c.args.quest.goal w.next w.reached step.0 (subst (λ q. IsLawful q step.0) (sym same) step.1)),
 )
 
 pub moved-next-requires : goal.moved-next-requires

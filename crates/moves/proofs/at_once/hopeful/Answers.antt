@@ -1,8 +1,6 @@
-use Rattle.std.proofs.Common.{◌≡◌, Some, IfSome, sym, ap, subst, ◌∙◌}
+use Rattle.std.proofs.Common.{◌≡◌, Some, sym, ap, subst, ◌∙◌}
 use Rattle.board.specs.Board.{PlainBoard}
-use Rattle.moves.specs.declared.checks.Watch.{Watch}
 use Rattle.rules.specs.declared.goal.Goal.{Goal}
-use Rattle.rules.specs.declared.goal.Goal.TheVariants.{Mate}
 use Rattle.rules.specs.Squares.{unit_at}
 use Rattle.rules.specs.Reach.{IsInCheck}
 use Rattle.rules.specs.Forces.{IsReached}
@@ -14,18 +12,17 @@ use Rattle.moves.proofs.AtOnce.{pseudo_by, move_by}
 use Rattle.moves.proofs.Checking.{IsTarget-move}
 use Rattle.moves.proofs.at_once.hopeful.Goals as goal
 
-pub returns-in-Some-clause-all : goal.returns-in-Some-clause-all
-returns-in-Some-clause-all c = λ m at w.
+pub returns-in-Mate-Some-clause-all : goal.returns-in-Mate-Some-clause-all
+returns-in-Mate-Some-clause-all c = λ m at w.
     let b = c.args.board.now in
     let u = c.args.unit in
     let stands : unit_at b m.from ≡ Some u = ap (unit_at b) at ∙ c.requires.stands in
-    let mate : c.args.quest.goal ≡ Mate = subst (λ o. IfSome o (λ (_ : Watch). c.args.quest.goal ≡ Mate)) c.in-Some.is c.requires.seeks.mate in
-    let mated = subst (λ (g : Goal). IsReached g w.next) mate w.reached in
+    let mated = subst (λ (g : Goal). IsReached g w.next) c.in-Mate-Some.is-0 w.reached in
     c.checking.ensures.all m (pseudo_by b m u stands (w.next, w.move)) at
     (subst (λ (q : PlainBoard). IsInCheck q q.mover) (one_after b m w.next _ w.move (move_by b m u stands (w.next, w.move))) mated.check)
 
-pub returns-in-None-clause-all : goal.returns-in-None-clause-all
-returns-in-None-clause-all c = λ m at w.
+pub returns-in_default-clause-all : goal.returns-in_default-clause-all
+returns-in_default-clause-all c = λ m at w.
     let b = c.args.board.now in
     let u = c.args.unit in
     let stands : unit_at b m.from ≡ Some u = ap (unit_at b) at ∙ c.requires.stands in
