@@ -243,7 +243,7 @@ fn play<J: Count + Send + Sync, T: Gate, R: Threads + Wait + Sync>(
 pub(crate) fn round<J: Count + Send + Sync, T: Gate, R: Threads + Wait + Sync>(
     rt: &R,
     alloc: Global,
-    search: &Search<'_, T>,
+    search: &Search<'_, &T>,
     plies: u8,
     seats: &mut Vec<Seat>,
 ) -> Result<Option<u16>, AllocError>
