@@ -135,9 +135,7 @@ impl<T: Gate> Decider<Global> for &T {
 /// What all threads of a round read.
 #[derive(Drop)]
 pub(crate) struct Bench<'a, T: Gate> {
-    pub root: &'a Root,
-    pub slots: &'a Slots<MateLore>,
-    pub gate: &'a T,
+    pub search: &'a Search<'a, &'a T>,
     /// The least job known to win.
     pub least: &'a Least<RootJobs>,
     pub plies: u8,
