@@ -23,7 +23,7 @@ pub may_lower : {T : Type 0} (b : Bench T) (n job : ℕ) → IsBench n b → job
     → (job < b.least.now.jobs) × RootJobWins b.least.now.wins.goal b.least.now.wins.position b.least.now.wins.plies job
 may_lower b n job is below win = (
   omega (arith, is.jobs, below),
-  subst (λ (w : RootJobs). RootJobWins w.goal w.position w.plies job) (sym is.wins) (b.root.now.moves.items, is.root, win),
+  subst (λ (w : RootJobs). RootJobWins w.goal w.position w.plies job) (sym is.wins) (b.search.now.root.moves.items, is.root, win),
 )
 
 -- one thread more is dealt its part

@@ -17,15 +17,15 @@ use Rattle.rounds.specs.Verdicts.{AreRight}
 
 -- the jobs are the lawful moves, so many, the round is one that is searched, and the word is that of its jobs
 pub record IsBench {T : Type 0} (n : ℕ) (b : Bench T) : Type 0 where
-  pub root : IsRoot b.root.now
-  pub count : length b.root.now.moves.items ≡ n
+  pub root : IsRoot b.search.now.root
+  pub count : length b.search.now.root.moves.items ≡ n
   pub plies : IsLimit b.plies
-  pub wins : b.least.now.wins ≡ root_jobs b.root.now b.plies
+  pub wins : b.least.now.wins ≡ root_jobs b.search.now.root b.plies
   pub jobs : b.least.now.jobs ≡ n
 
 -- the job wins in the round
 abbrev pub WinsHere : {T : Type 0} → Bench T → ℕ → Type 0
-WinsHere b job = WinsIn b.root.now b.plies job
+WinsHere b job = WinsIn b.search.now.root b.plies job
 
 -- each job that the row finds to win is known: the number isn't above it
 abbrev pub KnowsWins : List Verdict → ℕ → Type 0
@@ -43,7 +43,7 @@ pub record IsPart {T J : Type 0} (n : ℕ) (b : Bench T) (s : Part J) : Type 0 w
 -- right verdict for each job, and its seat of the word knows of each win that it found
 pub record IsShare {T J : Type 0} (n : ℕ) (b : Bench T) (s : Share J) : Type 0 where
   pub bench : IsBench n b
-  pub seat : IsSeatOf b.slots.now s.seat
+  pub seat : IsSeatOf b.search.now.slots.now s.seat
   pub stop : s.scout.stop.least.now ≡ b.least.now
   pub row : length s.row.items ≡ n
   pub right : AreRight (WinsHere b) s.row.items

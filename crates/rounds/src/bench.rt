@@ -1,15 +1,16 @@
-//! What is solved, what all threads of a round read, and what stops the search of a job.
+//! What is solved, how its jobs are decided, what all threads of a round read, and what stops the search of a job.
 ghost use Rattle.std.specs.Prelude.{◌≡◌};
 ghost use Rattle.least.specs.Promise.{IsJobSeatOf};
 
-use crate::task::Gate;
+use crate::task::{Gate, NoGate, job_ended};
 use arrayvec::ArrayVec;
 use board::Position;
-use decision::{Question, Stop};
+use decision::{Question, Stop, decide_on};
 use entry::MateLore;
 use least::{JobSeat, Least, Wins};
 use moves::{Board, Goal, Move, after, lawful_on};
-use slots::Slots;
+use slots::{Seat, Slots};
+use std::alloc::{Allocator, Global};
 
 /// The position, with its lawful moves: the jobs, by number.
 #[derive(Drop)]
@@ -83,18 +84,58 @@ impl Wins for RootJobs {
 
 /// What all rounds of a solve share.
 #[derive(Drop)]
-pub(crate) struct Search<'a, T: Gate> {
+pub(crate) struct Search<'a, D, A: Allocator = Global> {
     pub root: Root,
-    pub slots: &'a Slots<MateLore>,
-    pub gate: &'a T,
+    pub slots: &'a Slots<MateLore, A>,
+    pub gate: D,
+}
+
+/// How the jobs of a search over a table by this allocator are decided.
+pub(crate) trait Decider<A: Allocator> {
+    ghost use Rattle.std.specs.Prelude.{ℕ, ◌↔◌, IsTrue};
+    ghost use Rattle.atomic_table.specs.Seated.{TableId};
+    ghost use Rattle.atomic_table.specs.declared.shared.Seat.{Seat};
+    ghost use Rattle.slots.specs.declared.views.View.{View};
+    ghost use Rattle.slots.specs.Promise.{IsSeatOf};
+    ghost use Rattle.rounds.specs.Limits.{IsLimit};
+    ghost use Rattle.rounds.specs.Roots.{IsJobOf, WinsIn};
+    ghost use Rattle.rounds.specs.Going.{GoesOn};
+
+    /// What calls of others than the search do to a seat. Where it isn't said there are none.
+    ghost keeps: { TableId → Seat ℕ View → Seat ℕ View → Type 0 } = { λ _ _ _. ⊥ };
+
+    /// Whether the job wins within so many plies.
+    fn decide(search: &Search<'_, Self, A>, seat: &mut Seat, job: u16, plies: u8) -> bool
+        requires seat { IsSeatOf search.now.slots.now seat.old }
+        requires job { IsJobOf search.now.root job }
+        requires plies { IsLimit plies }
+        ensures seat { IsSeatOf search.now.slots.now seat.new }
+        ensures goes_on { GoesOn keeps search.now.slots.now seat.old seat.new }
+        ensures wins { IsTrue result ↔ WinsIn search.now.root plies job }
+    {
+        let q = search.root.question_of(job);
+        decide_on(search.slots, seat, &q, plies - 1).yes
+    }
+}
+
+impl<A: Allocator> Decider<A> for NoGate {}
+
+impl<T: Gate> Decider<Global> for &T {
+    ghost keeps = { T.keeps };
+
+    fn decide(search: &Search<'_, Self>, seat: &mut Seat, job: u16, plies: u8) -> bool {
+        search.gate.begin(plies, job, search.slots, seat);
+        let q = search.root.question_of(job);
+        let yes = decide_on(search.slots, seat, &q, plies - 1).yes;
+        search.gate.end(plies, job_ended(job, yes));
+        yes
+    }
 }
 
 /// What all threads of a round read.
 #[derive(Drop)]
 pub(crate) struct Bench<'a, T: Gate> {
-    pub root: &'a Root,
-    pub slots: &'a Slots<MateLore>,
-    pub gate: &'a T,
+    pub search: &'a Search<'a, &'a T>,
     /// The least job known to win.
     pub least: &'a Least<RootJobs>,
     pub plies: u8,

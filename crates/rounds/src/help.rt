@@ -122,8 +122,8 @@ fn after_first_reply(memory: &Memory, q: &Question, plies: u8) -> Option<Questio
 /// with the first.
 pub(crate) fn help<J: Count, T: Gate>(bench: &Bench<'_, T>, out: &Out<J>, seat: &mut Seat)
     requires bench { IsBench J.jobs bench.now }
-    requires seat { IsSeatOf bench.now.slots.now seat.old }
-    ensures { Continues bench.now.slots.now seat.old seat.new }
+    requires seat { IsSeatOf bench.now.search.now.slots.now seat.old }
+    ensures { Continues bench.now.search.now.slots.now seat.old seat.new }
 {
     if bench.plies < HELPED_FROM {
         return;
@@ -135,7 +135,8 @@ pub(crate) fn help<J: Count, T: Gate>(bench: &Bench<'_, T>, out: &Out<J>, seat: 
         stop: HelpStop { out, job },
         memory: Memory::new(),
     };
-    let asked = bench.root.question_of(job);
+    let search = bench.search;
+    let asked = search.root.question_of(job);
     let Some(q) = after_first_reply(&scout.memory, &asked, bench.plies - 1) else {
         return;
     };
@@ -148,6 +149,6 @@ pub(crate) fn help<J: Count, T: Gate>(bench: &Bench<'_, T>, out: &Out<J>, seat: 
         }
         let place = moves.len() - 1 - taken;
         let below = q.after(moves[place]);
-        decide_until(bench.slots, seat, &mut scout, &below, bench.plies - 3);
+        decide_until(search.slots, seat, &mut scout, &below, bench.plies - 3);
     }
 }

@@ -1,20 +1,20 @@
 //! The keys of a position: its first moves that force the goal, each with the plies that it takes.
 ghost use Rattle.std.specs.Prelude.{◌≡◌, ◌<◌, ◌≤◌, ℕ, All, IfErr, IfOk, MatchOption, None, length, vec_capacity};
 ghost use Rattle.slots.specs.Promise.{IsSeatOf};
+ghost use Rattle.decision.specs.Calls.{Continues};
 ghost use Rattle.rounds.specs.Limits.{task_fault, IsTaskRefusal, IsLimit};
 ghost use Rattle.rounds.specs.Roots.{IsRoot, IsJobOf, TakesIn};
 ghost use Rattle.rounds.specs.Seats.{AreSeats};
 ghost use Rattle.rounds.specs.Keys.{ListsKeys};
 ghost use Rattle.rounds.specs.Going.{GoesOn, SeatsGoOn};
 
-use crate::bench::{Root, Search};
+use crate::bench::{Decider, Root, Search};
 use crate::solving::look_at;
-use crate::task::{Gate, SolveFault, Task, job_ended};
-use decision::decide_on;
+use crate::task::{Asked, Gate, NoGate, SolveFault, Task};
 use entry::MateLore;
 use moves::Move;
 use slots::{Seat, Slots};
-use std::alloc::{AllocError, Global};
+use std::alloc::{AllocError, Allocator, Global};
 use std::sync::Wait;
 use std::sync::atomic::{AtomicU64, Ordering};
 use std::thread;
@@ -28,22 +28,23 @@ pub struct Key {
 }
 
 /// The fewest plies, up to the limit, within which the job wins: rounds of 1, 3, 5 and so on.
-fn plies_of<T: Gate>(search: &Search<'_, T>, seat: &mut Seat, job: u16, limit: u8) -> Option<u8>
+fn plies_of<D: Decider<A>, A: Allocator>(
+    search: &Search<'_, D, A>,
+    seat: &mut Seat,
+    job: u16,
+    limit: u8,
+) -> Option<u8>
     requires seat { IsSeatOf search.now.slots.now seat.old }
     requires job { IsJobOf search.now.root job }
     requires limit { IsLimit limit }
     ensures seat { IsSeatOf search.now.slots.now seat.new }
-    ensures goes_on { GoesOn T.keeps search.now.slots.now seat.old seat.new }
+    ensures goes_on { GoesOn D.keeps search.now.slots.now seat.old seat.new }
     ensures plies { MatchOption result ((n : ℕ) → n ≤ limit → TakesIn search.now.root n job → ⊥)
         (λ n. (n ≤ limit) × TakesIn search.now.root n job) }
 {
     for number in 0..(limit + 1) / 2 {
         let plies = 2 * number + 1;
-        search.gate.begin(plies, job, search.slots, seat);
-        let q = search.root.question_of(job);
-        let yes = decide_on(search.slots, seat, &q, plies - 1).yes;
-        search.gate.end(plies, job_ended(job, yes));
-        if yes {
+        if D::decide(search, seat, job, plies) {
             return Some(plies);
         }
     }
@@ -51,12 +52,12 @@ fn plies_of<T: Gate>(search: &Search<'_, T>, seat: &mut Seat, job: u16, limit: u
 }
 
 /// Decides jobs until all were taken by some thread: what it finds stands in the table alone.
-fn help<T: Gate>(search: &Search<'_, T>, next: &AtomicU64, limit: u8, seat: &mut Seat)
+fn help<D: Decider<Global>>(search: &Search<'_, D>, next: &AtomicU64, limit: u8, seat: &mut Seat)
     requires seat { IsSeatOf search.now.slots.now seat.old }
     requires root { IsRoot search.now.root }
     requires limit { IsLimit limit }
     ensures seat { IsSeatOf search.now.slots.now seat.new }
-    ensures goes_on { GoesOn T.keeps search.now.slots.now seat.old seat.new }
+    ensures goes_on { GoesOn D.keeps search.now.slots.now seat.old seat.new }
 {
     let jobs = search.root.jobs();
     for _ in 0..jobs {
@@ -71,9 +72,9 @@ fn help<T: Gate>(search: &Search<'_, T>, next: &AtomicU64, limit: u8, seat: &mut
 }
 
 /// All threads decide the jobs, each job by one of them. No answer rests on it.
-fn prepare<T: Gate, R: Threads + Wait + Sync>(
+fn prepare<D: Decider<Global> + Sync, R: Threads + Wait + Sync>(
     rt: &R,
-    search: &Search<'_, T>,
+    search: &Search<'_, D>,
     limit: u8,
     seats: &mut Vec<Seat>,
 )
@@ -82,7 +83,7 @@ fn prepare<T: Gate, R: Threads + Wait + Sync>(
     requires seats { All (IsSeatOf search.now.slots.now) seats.old.items }
     ensures seats { AreSeats search.now.slots.now (length seats.old.items) seats.new.items }
     ensures capacity { vec_capacity seats.new ≡ vec_capacity seats.old }
-    ensures go_on { SeatsGoOn T.keeps search.now.slots.now seats.old.items seats.new.items }
+    ensures go_on { SeatsGoOn D.keeps search.now.slots.now seats.old.items seats.new.items }
 {
     let threads = seats.len();
     if threads < 2 {
@@ -96,23 +97,23 @@ fn prepare<T: Gate, R: Threads + Wait + Sync>(
         &|_, seat: &mut Seat|
             requires { IsRoot search.now.root × IsLimit limit × IsSeatOf search.now.slots.now seat.now }
             ensures { IsSeatOf search.entry.now.slots.now seat.exit.now
-                × GoesOn T.keeps search.entry.now.slots.now seat.entry.now seat.exit.now }
+                × GoesOn D.keeps search.entry.now.slots.now seat.entry.now seat.exit.now }
         { help(search, &next, limit, seat) },
     );
 }
 
 /// All keys, decided by one seat.
-fn keys_of<T: Gate>(
-    alloc: Global,
-    search: &Search<'_, T>,
+fn keys_of<D: Decider<A>, A: Allocator, B: Allocator>(
+    alloc: B,
+    search: &Search<'_, D, A>,
     limit: u8,
     seat: &mut Seat,
-) -> Result<Vec<Key>, AllocError>
+) -> Result<Vec<Key, B>, AllocError>
     requires seat { IsSeatOf search.now.slots.now seat.old }
     requires root { IsRoot search.now.root }
     requires limit { IsLimit limit }
     ensures seat { IsSeatOf search.now.slots.now seat.new }
-    ensures goes_on { GoesOn T.keeps search.now.slots.now seat.old seat.new }
+    ensures goes_on { GoesOn D.keeps search.now.slots.now seat.old seat.new }
     ensures lists { IfOk result (λ keys. ListsKeys search.now.root.goal search.now.root.board limit keys.items) }
 {
     let mut keys = Vec::new(alloc);
@@ -154,4 +155,31 @@ pub fn keys_over<T: Gate, R: Threads + Wait + Sync>(
     let keys = keys_of(alloc, &search, task.limit, &mut own);
     seats.push_reserved(own);
     keys.map_err(|_| SolveFault::NoMemory)
+}
+
+/// Each first move that forces the goal within the limit, in order, with the fewest plies that it takes: searched by the
+/// caller's own thread, with no lock, over a table that is lent. After a fault the table and the seat serve the next call.
+pub fn keys_alone<A: Allocator, B: Allocator>(
+    alloc: B,
+    asked: &Asked<'_>,
+    slots: &Slots<MateLore, A>,
+    seat: &mut Seat,
+) -> Result<Vec<Key, B>, SolveFault>
+    requires { IsSeatOf slots.now seat.old }
+    ensures lists { IfOk result (λ keys. ListsKeys asked.now.goal asked.now.position.now asked.now.limit keys.items) }
+    ensures accepted { IfOk result (λ _. task_fault asked.now.limit 1 ≡ None) }
+    ensures refused { IfErr result (IsTaskRefusal asked.now.limit 1) }
+    ensures seat { IsSeatOf slots.now seat.new }
+    ensures continues { Continues slots.now seat.old seat.new }
+{
+    look_at(asked.limit, 1)?;
+    let search = Search {
+        root: Root::of(asked.position, asked.goal),
+        slots,
+        gate: NoGate,
+    };
+    let Ok(keys) = keys_of(alloc, &search, asked.limit, seat) else {
+        return Err(SolveFault::NoMemory);
+    };
+    Ok(keys)
 }

@@ -5,13 +5,11 @@ mod bench;
 mod deal;
 mod help;
 mod keys;
-mod own_keys;
 mod round;
 mod share;
 mod solving;
 mod task;
 
-pub use keys::{Key, keys_over};
-pub use own_keys::{Asked, keys_alone};
+pub use keys::{Key, keys_alone, keys_over};
 pub use solving::{MOST_WORKERS, make_table, make_table_in, solve, solve_over};
-pub use task::{Ended, Gate, NoGate, SolveFault, Task, kept_seats_go_on, no_gate_keeps_on};
+pub use task::{Asked, Ended, Gate, NoGate, SolveFault, Task, kept_seats_go_on, no_gate_keeps_on};

@@ -7,7 +7,7 @@ ghost use Rattle.rounds.specs.Limits.{IsLimit};
 ghost use Rattle.rounds.specs.Shares.{IsBench, WinsHere, IsPart, IsShare, AreDealt, seats_back};
 ghost use Rattle.rounds.specs.Going.{GoesOn, EachGoesOn, SeatsGoOn};
 
-use crate::bench::{Bench, RootJobs, Search};
+use crate::bench::{Bench, Decider, RootJobs, Search};
 use crate::deal::{Count, Thief, deal};
 use crate::help::{Out, all_outs};
 use crate::share::{Part, Share, Verdict};
@@ -40,7 +40,7 @@ fn deal_out<'a, 'b, J: Count, T: Gate>(
         let Some(jobs) = job_seats.pop() else {
             unreachable!()
         };
-        let local = deal(alloc, from, step, bench.root.jobs())?;
+        let local = deal(alloc, from, step, bench.search.root.jobs())?;
         let out = &outs[usize::from(from)];
         parts.push(Part::new(alloc, bench, jobs, local, out)?)?;
     }
@@ -70,7 +70,7 @@ fn seat_all<'a, 'b, J: Count, T: Gate>(
     mut shares: Vec<Share<'a, 'b, J>>,
 ) -> Vec<Share<'a, 'b, J>>
     requires parts { All (IsPart J.jobs bench.now) parts.items }
-    requires seats { AreSeats bench.now.slots.now (length parts.items) seats.old.items }
+    requires seats { AreSeats bench.now.search.now.slots.now (length parts.items) seats.old.items }
     requires none { shares.items ≡ [] }
     requires room { length parts.items ≤ vec_capacity shares }
     ensures taken { (seats.new.items ≡ []) × (vec_capacity seats.new ≡ vec_capacity seats.old) }
@@ -111,7 +111,7 @@ fn work_all<J: Count + Send + Sync, T: Gate, R: Threads + Wait + Sync>(
     requires { All (IsShare J.jobs bench.now) shares.old.items }
     ensures count { length shares.new.items ≡ length shares.old.items }
     ensures shares { All (IsShare J.jobs bench.now) shares.new.items }
-    ensures go_on { EachGoesOn T.keeps bench.now.slots.now shares.old.items shares.new.items }
+    ensures go_on { EachGoesOn T.keeps bench.now.search.now.slots.now shares.old.items shares.new.items }
 {
     let threads = shares.len();
     if threads == 0 {
@@ -124,7 +124,7 @@ fn work_all<J: Count + Send + Sync, T: Gate, R: Threads + Wait + Sync>(
         &|_, share: &mut Share<'_, '_, J>|
             requires { IsShare J.jobs bench.now share.now }
             ensures { IsShare J.jobs bench.entry.now share.exit.now
-                × GoesOn T.keeps bench.entry.now.slots.now share.entry.now.seat share.exit.now.seat }
+                × GoesOn T.keeps bench.entry.now.search.now.slots.now share.entry.now.seat share.exit.now.seat }
         { share.work(rt, bench, thieves, outs) },
     );
 }
@@ -165,13 +165,13 @@ fn wins<J: Count, T: Gate>(
     requires own { IsShare J.jobs bench.now own.old }
     requires job { job < J.jobs }
     ensures own { IsShare J.jobs bench.now own.new }
-    ensures goes_on { GoesOn T.keeps bench.now.slots.now own.old.seat own.new.seat }
+    ensures goes_on { GoesOn T.keeps bench.now.search.now.slots.now own.old.seat own.new.seat }
     ensures wins { IsTrue result ↔ WinsHere bench.now job }
 {
     match found(bench, shares, own, job) {
         Verdict::Wins => true,
         Verdict::Loses => false,
-        Verdict::Open => own.decide(bench, job),
+        Verdict::Open => <&T>::decide(bench.search, &mut own.seat, job, bench.plies),
     }
 }
 
@@ -184,10 +184,10 @@ fn settle<J: Count, T: Gate>(
     requires shares { All (IsShare J.jobs bench.now) shares.now.items }
     requires own { IsShare J.jobs bench.now own.old }
     ensures own { IsShare J.jobs bench.now own.new }
-    ensures goes_on { GoesOn T.keeps bench.now.slots.now own.old.seat own.new.seat }
-    ensures end { EndsRound bench.now.root.now bench.now.plies result }
+    ensures goes_on { GoesOn T.keeps bench.now.search.now.slots.now own.old.seat own.new.seat }
+    ensures end { EndsRound bench.now.search.now.root bench.now.plies result }
 {
-    for job in 0..bench.root.jobs() {
+    for job in 0..bench.search.root.jobs() {
         if wins(bench, shares, own, job) {
             return Some(job);
         }
@@ -204,8 +204,8 @@ fn settle_all<J: Count, T: Gate>(
     requires shares { All (IsShare J.jobs bench.now) shares.old.items }
     ensures count { length shares.new.items ≡ length shares.old.items }
     ensures shares { All (IsShare J.jobs bench.now) shares.new.items }
-    ensures go_on { EachGoesOn T.keeps bench.now.slots.now shares.old.items shares.new.items }
-    ensures end { EndsRound bench.now.root.now bench.now.plies result }
+    ensures go_on { EachGoesOn T.keeps bench.now.search.now.slots.now shares.old.items shares.new.items }
+    ensures end { EndsRound bench.now.search.now.root bench.now.plies result }
 {
     let mut own = shares.take_last();
     let first = settle(bench, shares, &mut own);
@@ -222,11 +222,11 @@ fn play<J: Count + Send + Sync, T: Gate, R: Threads + Wait + Sync>(
     job_seats: Vec<JobSeat<RootJobs>>,
 ) -> Result<Option<u16>, AllocError>
     requires bench { IsBench J.jobs bench.now }
-    requires seats { AreCallers bench.now.slots.now seats.old.items }
+    requires seats { AreCallers bench.now.search.now.slots.now seats.old.items }
     requires job_seats { AreJobSeats bench.now.least.now (length seats.old.items) job_seats.items }
-    ensures end { IfOk result (EndsRound bench.now.root.now bench.now.plies) }
-    ensures seats { AreSeats bench.now.slots.now (length seats.old.items) seats.new.items }
-    ensures go_on { SeatsGoOn T.keeps bench.now.slots.now seats.old.items seats.new.items }
+    ensures end { IfOk result (EndsRound bench.now.search.now.root bench.now.plies) }
+    ensures seats { AreSeats bench.now.search.now.slots.now (length seats.old.items) seats.new.items }
+    ensures go_on { SeatsGoOn T.keeps bench.now.search.now.slots.now seats.old.items seats.new.items }
 {
     let outs = all_outs(alloc, seats.len())?;
     let parts = deal_out::<J, T>(alloc, bench, &outs, job_seats)?;
@@ -243,7 +243,7 @@ fn play<J: Count + Send + Sync, T: Gate, R: Threads + Wait + Sync>(
 pub(crate) fn round<J: Count + Send + Sync, T: Gate, R: Threads + Wait + Sync>(
     rt: &R,
     alloc: Global,
-    search: &Search<'_, T>,
+    search: &Search<'_, &T>,
     plies: u8,
     seats: &mut Vec<Seat>,
 ) -> Result<Option<u16>, AllocError>
@@ -260,9 +260,7 @@ pub(crate) fn round<J: Count + Send + Sync, T: Gate, R: Threads + Wait + Sync>(
     match Least::make(alloc, &root.wins_within(plies), root.jobs(), callers) {
         Ok((least, job_seats)) => {
             let bench = Bench {
-                root,
-                slots: search.slots,
-                gate: search.gate,
+                search,
                 least: &least,
                 plies,
             };

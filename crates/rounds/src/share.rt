@@ -5,7 +5,7 @@ use crate::bench::{Bench, JobStop, RootJobs};
 use crate::deal::{Count, Owner, Thief, next_job};
 use crate::help::{Out, help};
 use crate::task::{Gate, job_ended};
-use decision::{Memory, Scout, decide_on, decide_until};
+use decision::{Memory, Scout, decide_until};
 use least::JobSeat;
 use slots::Seat;
 use std::alloc::{AllocError, Global};
@@ -48,7 +48,7 @@ impl<'a, 'b, J: Count> Part<'a, 'b, J> {
         ensures part { IfOk result (IsPart J.jobs bench.now) }
         ensures local { IfOk result (λ part. part.local ≡ local) }
     {
-        let count = bench.root.jobs();
+        let count = bench.search.root.jobs();
         let row = Vec::from_elem(alloc, Verdict::Open, usize::from(count))?;
         let stop = JobStop {
             least: bench.least,
@@ -71,7 +71,7 @@ impl<'a, 'b, J: Count> Part<'a, 'b, J> {
     /// The share, with its seat.
     pub(crate) fn seated<T: Gate>(self, bench: &Bench<'_, T>, seat: Seat) -> Share<'a, 'b, J>
         requires part { IsPart J.jobs bench.now self }
-        requires seat { IsSeatOf bench.now.slots.now seat }
+        requires seat { IsSeatOf bench.now.search.now.slots.now seat }
         ensures share { IsShare J.jobs bench.now result }
         ensures seat { result.seat ≡ seat }
     {
@@ -103,7 +103,7 @@ pub(crate) struct Share<'a, 'b, J: Count> {
 }
 
 impl<'a, 'b, J: Count> Share<'a, 'b, J> {
-    ghost use Rattle.std.specs.Prelude.{◌<◌, ◌↔◌, IsTrue};
+    ghost use Rattle.std.specs.Prelude.{◌<◌};
     ghost use Rattle.rounds.specs.Verdicts.{IsRight};
     ghost use Rattle.rounds.specs.Shares.{WinsHere, IsShare};
     ghost use Rattle.rounds.specs.Going.{GoesOn};
@@ -118,29 +118,12 @@ impl<'a, 'b, J: Count> Share<'a, 'b, J> {
         self.row[usize::from(job)]
     }
 
-    /// Whether the job wins, whatever else is known by then.
-    pub(crate) fn decide<T: Gate>(&mut self, bench: &Bench<'_, T>, job: u16) -> bool
-        requires share { IsShare J.jobs bench.now self.old }
-        requires job { job < J.jobs }
-        ensures share { IsShare J.jobs bench.now self.new }
-        ensures goes_on { GoesOn T.keeps bench.now.slots.now self.old.seat self.new.seat }
-        ensures wins { IsTrue result ↔ WinsHere bench.now job }
-    {
-        bench
-            .gate
-            .begin(bench.plies, job, bench.slots, &mut self.seat);
-        let q = bench.root.question_of(job);
-        let yes = decide_on(bench.slots, &mut self.seat, &q, bench.plies - 1).yes;
-        bench.gate.end(bench.plies, job_ended(job, yes));
-        yes
-    }
-
     /// Decides a job, unless one below it wins by then.
     fn take_up<T: Gate>(&mut self, bench: &Bench<'_, T>, job: u16)
         requires share { IsShare J.jobs bench.now self.old }
         requires job { job < J.jobs }
         ensures share { IsShare J.jobs bench.now self.new }
-        ensures goes_on { GoesOn T.keeps bench.now.slots.now self.old.seat self.new.seat }
+        ensures goes_on { GoesOn T.keeps bench.now.search.now.slots.now self.old.seat self.new.seat }
     {
         let stop = &mut self.scout.stop;
         if bench.least.is_below(&mut stop.seat, job) {
@@ -148,17 +131,18 @@ impl<'a, 'b, J: Count> Share<'a, 'b, J> {
         }
         stop.job = job;
         self.out.enter(job);
-        bench
+        let search = bench.search;
+        search
             .gate
-            .begin(bench.plies, job, bench.slots, &mut self.seat);
-        let q = bench.root.question_of(job);
+            .begin(bench.plies, job, search.slots, &mut self.seat);
+        let q = search.root.question_of(job);
         let plies = bench.plies - 1;
-        let decided = decide_until(bench.slots, &mut self.seat, &mut self.scout, &q, plies);
+        let decided = decide_until(search.slots, &mut self.seat, &mut self.scout, &q, plies);
         self.out.leave();
         let Some(decision) = decided else {
             return;
         };
-        bench.gate.end(bench.plies, job_ended(job, decision.yes));
+        search.gate.end(bench.plies, job_ended(job, decision.yes));
         if decision.yes {
             let stop = &mut self.scout.stop;
             bench.least.lower(&mut stop.seat, job);
@@ -172,7 +156,7 @@ impl<'a, 'b, J: Count> Share<'a, 'b, J> {
     fn take_all<T: Gate, R: Wait>(&mut self, rt: &R, bench: &Bench<'_, T>, thieves: &Vec<Thief<J>>)
         requires { IsShare J.jobs bench.now self.old }
         ensures share { IsShare J.jobs bench.now self.new }
-        ensures goes_on { GoesOn T.keeps bench.now.slots.now self.old.seat self.new.seat }
+        ensures goes_on { GoesOn T.keeps bench.now.search.now.slots.now self.old.seat self.new.seat }
     {
         for _ in rt.forever() {
             let Some(job) = next_job(rt, &mut self.local, thieves) else {
@@ -185,7 +169,7 @@ impl<'a, 'b, J: Count> Share<'a, 'b, J> {
     fn help_all<T: Gate>(&mut self, bench: &Bench<'_, T>, outs: &Vec<Out<J>>)
         requires { IsShare J.jobs bench.now self.old }
         ensures share { IsShare J.jobs bench.now self.new }
-        ensures goes_on { GoesOn T.keeps bench.now.slots.now self.old.seat self.new.seat }
+        ensures goes_on { GoesOn T.keeps bench.now.search.now.slots.now self.old.seat self.new.seat }
     {
         for out in outs {
             help(bench, out, &mut self.seat);
@@ -202,7 +186,7 @@ impl<'a, 'b, J: Count> Share<'a, 'b, J> {
     )
         requires { IsShare J.jobs bench.now self.old }
         ensures share { IsShare J.jobs bench.now self.new }
-        ensures goes_on { GoesOn T.keeps bench.now.slots.now self.old.seat self.new.seat }
+        ensures goes_on { GoesOn T.keeps bench.now.search.now.slots.now self.old.seat self.new.seat }
     {
         self.take_all(rt, bench, thieves);
         self.help_all(bench, outs);

@@ -109,7 +109,7 @@ pub fn make_table_in<A: Allocator + Copy>(
 fn play_rounds<T: Gate, R: Threads + Wait + Sync>(
     rt: &R,
     alloc: Global,
-    search: &Search<'_, T>,
+    search: &Search<'_, &T>,
     limit: u8,
     seats: &mut Vec<Seat>,
 ) -> Result<Answer, AllocError>

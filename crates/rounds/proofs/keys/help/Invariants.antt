@@ -7,5 +7,5 @@ abbrev pub invariant-loop : goal.invariant-loop
 invariant-loop g l =
     record {
       seat : IsSeatOf l.search.slots.now l.seat;
-      goes_on : GoesOn g.T.Gate.keeps l.search.slots.now l.fn.seat l.seat;
+      goes_on : GoesOn g.D.Decider.keeps l.search.slots.now l.fn.seat l.seat;
     }

@@ -7,7 +7,7 @@ use Rattle.rounds.proofs.keys.keys_of.Goals.{in-Some+in_ok-push-in-Some, in-None
 
 pub returns-in_err-push-in-Some-clause-goes_on : goal.returns-in_err-push-in-Some-clause-goes_on
 returns-in_err-push-in-Some-clause-goes_on g c =
-    goes_more g.T.Gate.keeps c.args.search.now.slots.now c.args.seat.now c.loop-job.seat c.plies_of.new.seat c.loop-job.invariant.goes_on c.plies_of.ensures.goes_on
+    goes_more g.D.Decider.keeps c.args.search.now.slots.now c.args.seat.now c.loop-job.seat c.plies_of.new.seat c.loop-job.invariant.goes_on c.plies_of.ensures.goes_on
 
 pub loop-job-preserved : goal.loop-job-preserved
 loop-job-preserved g c =
@@ -16,7 +16,7 @@ loop-job-preserved g c =
     let below : c.loop-job.job < length r.moves.items = omega (arith, c.loop-job-test.true, c.jobs-job-end.ensures.value) in
     let is = move_at r.moves.items c.deref.result.now c.from.result c.loop-job.job c.index-deref-from.result c.deref.ensures.0 c.from.ensures c.index-deref-from.is in
     let seat = c.plies_of.ensures.seat in
-    let on = goes_more g.T.Gate.keeps c.args.search.now.slots.now c.args.seat.now c.loop-job.seat c.plies_of.new.seat i.goes_on c.plies_of.ensures.goes_on in
+    let on = goes_more g.D.Decider.keeps c.args.search.now.slots.now c.args.seat.now c.loop-job.seat c.plies_of.new.seat i.goes_on c.plies_of.ensures.goes_on in
     elim c.match-plies_of.branch [
       | in-Some+in_ok-push-in-Some w ↦
           let takes = w.in-Some.ensures.plies in
@@ -38,7 +38,7 @@ returns-clause-lists g c =
 pub loop-job-init : goal.loop-job-init
 loop-job-init g c = record {
   seat = c.requires.seat;
-  goes_on = goes_none g.T.Gate.keeps c.args.search.now.slots.now c.args.seat.now c.requires.seat;
+  goes_on = goes_none g.D.Decider.keeps c.args.search.now.slots.now c.args.seat.now c.requires.seat;
   ordered = search rules;
   exact = search rules;
 }

@@ -10,7 +10,7 @@ abbrev pub invariant-loop-job : goal.invariant-loop-job
 invariant-loop-job g l =
     record {
       seat : IsSeatOf l.search.slots.now l.seat;
-      goes_on : GoesOn g.T.Gate.keeps l.search.slots.now l.fn.seat l.seat;
+      goes_on : GoesOn g.D.Decider.keeps l.search.slots.now l.fn.seat l.seat;
       ordered : InOrder (Before l.search.root) first_of (IsKey l.search.root l.limit) l.keys.items;
       exact : Picks (Before l.search.root) first_of (IsKey l.search.root l.limit) (take l.job l.search.root.moves.items) l.keys.items;
     }

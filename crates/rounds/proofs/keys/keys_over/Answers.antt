@@ -9,7 +9,7 @@ pub returns-in_err-look_at-clause-go_on : goal.returns-in_err-look_at-clause-go_
 returns-in_err-look_at-clause-go_on g c = seats_none g.T.Gate.keeps c.args.slots.now c.args.seats.now.items c.requires
 
 pub keys_of-keys-requires-clause-seat : goal.keys_of-keys-requires-clause-seat
-keys_of-keys-requires-clause-seat g c κs within = (All-popped (IsSeatOf c.args.slots.now) _ _ _ c.take_last-own.ensures.items c.prepare.ensures.seats.1).1
+keys_of-keys-requires-clause-seat g c = (All-popped (IsSeatOf c.args.slots.now) _ _ _ c.take_last-own.ensures.items c.prepare.ensures.seats.1).1
 
 pub returns-clause-seats : goal.returns-clause-seats
 returns-clause-seats g c = (

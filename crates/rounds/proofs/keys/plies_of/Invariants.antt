@@ -9,6 +9,6 @@ abbrev pub invariant-loop-number : goal.invariant-loop-number
 invariant-loop-number g l =
     record {
       seat : IsSeatOf l.search.slots.now l.seat;
-      goes_on : GoesOn g.T.Gate.keeps l.search.slots.now l.fn.seat l.seat;
+      goes_on : GoesOn g.D.Decider.keeps l.search.slots.now l.fn.seat l.seat;
       none : (k : ℕ) → 0 < k → k ≤ 2 * l.number → WinsIn l.search.root k l.job → ⊥;
     }

@@ -8,6 +8,6 @@ abbrev pub invariant-loop-job : goal.invariant-loop-job
 invariant-loop-job g l =
     record {
       own : IsShare g.J.Count.jobs l.fn.bench l.own;
-      goes_on : GoesOn g.T.Gate.keeps l.fn.bench.slots.now l.fn.own.seat l.own.seat;
+      goes_on : GoesOn g.T.Gate.keeps l.fn.bench.search.now.slots.now l.fn.own.seat l.own.seat;
       none : (k : ℕ) → k < l.job → WinsHere l.fn.bench k → ⊥;
     }

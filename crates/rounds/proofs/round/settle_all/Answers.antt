@@ -18,8 +18,8 @@ returns-clause-shares g c =
 
 pub returns-clause-go_on : goal.returns-clause-go_on
 returns-clause-go_on g c =
-    each_last g.T.Gate.keeps c.args.bench.now.slots.now c.args.shares.now.items c.push_reserved.new.self.items c.take_last-own.new.self.items c.take_last-own.result c.settle-first.new.own
+    each_last g.T.Gate.keeps c.args.bench.now.search.now.slots.now c.args.shares.now.items c.push_reserved.new.self.items c.take_last-own.new.self.items c.take_last-own.result c.settle-first.new.own
     c.take_last-own.ensures.items c.push_reserved.ensures.items
-    (All-weaker (IsShare g.J.Count.jobs c.args.bench.now) (λ s. IsSeatOf c.args.bench.now.slots.now s.seat) (λ s h. h.seat) _
+    (All-weaker (IsShare g.J.Count.jobs c.args.bench.now) (λ s. IsSeatOf c.args.bench.now.search.now.slots.now s.seat) (λ s h. h.seat) _
     (All-popped (IsShare g.J.Count.jobs c.args.bench.now) _ _ _ c.take_last-own.ensures.items c.requires.shares).0)
     c.settle-first.ensures.goes_on

@@ -6,5 +6,5 @@ abbrev pub invariant-loop-out : goal.invariant-loop-out
 invariant-loop-out g l =
     record {
       share : IsShare g.J.Count.jobs l.fn.bench l.self;
-      goes_on : GoesOn g.T.Gate.keeps l.fn.bench.slots.now l.fn.self.seat l.self.seat;
+      goes_on : GoesOn g.T.Gate.keeps l.fn.bench.search.now.slots.now l.fn.self.seat l.self.seat;
     }
