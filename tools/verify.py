@@ -157,7 +157,7 @@ class Rules:
         if not replies:
             return self.is_reached(board)
         # The reply that refuted last is tried first.
-        for text, after in sorted(replies, key=lambda reply: reply[0] != self.last):
+        for text, after in [reply for reply in replies if reply[0] == self.last] + replies:
             if not self.is_forced(after, plies - 1):
                 self.last = text
                 return False
