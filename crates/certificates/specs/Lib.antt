@@ -1,0 +1,3 @@
+-- to be believed
+pub mod Claims
+pub mod Answers
