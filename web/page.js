@@ -263,7 +263,8 @@ function begin(asked) {
   $("stop").disabled = false;
   $("onward").hidden = true;
   parts.search.begin(asked);
-  meet($("state"));
+  if (coveredHeight()) meetAnswer();
+  else meet($("state"));
 }
 
 function onward(asked, known, limit) {
@@ -282,19 +283,19 @@ function askKey(answer, { move, plies }) {
 function answered(asked, reply) {
   parts.answers.answer(asked, reply);
   show();
-  meet($("answer"));
+  meetAnswer();
 }
 
 function built(asked, tree) {
   parts.answers.showTree(tree);
   show();
-  meet($("answer"));
+  meetAnswer();
 }
 
 function listed(asked, keys) {
   parts.answers.list(keys);
   show();
-  meet($("answer"));
+  meetAnswer();
 }
 
 function ended(asked, words, known) {
@@ -306,6 +307,13 @@ function ended(asked, words, known) {
 
 function say(words) {
   if ($("state").textContent !== words) $("state").textContent = words;
+}
+
+/** Brings the answer into view: on a phone so that the tree is seen too. */
+function meetAnswer() {
+  keepBelowBoard();
+  if (coveredHeight()) $("told").scrollIntoView({ block: "start" });
+  else meet($("answer"));
 }
 
 /** Brings what is said into view, below the board where that stays at the top of the window. */
