@@ -13,6 +13,7 @@ import chromium
 from page_drive import DONE, ONE_PAWN, TEXT, THIRD, VALUE, address, top
 
 SHOW_TREE = checking.loaded("show_tree")
+ONE_FILE = checking.loaded("one_file", os.path.join(top(), "one_file.py"))
 SVG = "{http://www.w3.org/2000/svg}"
 
 
@@ -191,12 +192,29 @@ def kept_files(drive):
 
 
 def from_file(drive):
-    """Opened as a file the page says what is wanted."""
+    """Opened as a file the page says what is wanted, and the page that is one file solves."""
     tab = chromium.Tab(drive.browser, f"file://{os.path.join(top(), 'index.html')}")
     tab.wait("document.getElementById('state')?.textContent")
     said = tab.value(TEXT.format("state"))
-    drive.note("python3 -m http.server --directory web" in said and "http://localhost:8000" in said, f"a file says: {said}")
+    drive.note("out/minimate.html" in said and "python3 -m http.server --directory web" in said, f"a file says: {said}")
     tab.ask("Page.close")
+    with tempfile.TemporaryDirectory() as folder:
+        path = os.path.join(folder, "minimate.html")
+        with open(path, "w", encoding="utf-8") as file:
+            file.write(ONE_FILE.page(top(), [os.path.join(top(), "out", name) for name in ("minimate64.wasm", "minimate32.wasm")]))
+        first, url = drive.tab, drive.url
+        drive.url = f"file://{path}"
+        drive.tab = drive.opened(address(THIRD))
+        drive.solve()
+        drive.expect("one file solves", "answer", "Mate in 2 moves (3 plies): 1. Kc5")
+        drive.press(".move")
+        drive.same("and plays", drive.line(), "1. Kc5 |")
+        drive.press("#undo")
+        drive.comes("and undoes", drive.line, "")
+        drive.same("no fault of it", drive.tab.faults(), [])
+        drive.tab.ask("Page.close")
+    drive.tab, drive.url = first, url
+    drive.tab.ask("Page.bringToFront")
 
 
 def on_paper(drive):

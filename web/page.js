@@ -323,6 +323,12 @@ function meet(element) {
   if (!isSeen) element.scrollIntoView({ block: "start" });
 }
 
+/** Keeps a move of the tree in view, while the tree is what is read. */
+function meetMove(button) {
+  const box = $("tree").getBoundingClientRect();
+  if (box.bottom > coveredHeight() && box.top < innerHeight) button.scrollIntoView({ block: "nearest" });
+}
+
 function coveredHeight() {
   const isOver = getComputedStyle($("stage")).position === "sticky" && getComputedStyle($("stage").parentElement).display === "flex";
   return isOver ? $("stage").offsetHeight : 0;
@@ -415,7 +421,7 @@ async function start() {
   const said = (words, seconds) => (say(words), ($("time").textContent = seconds));
   parts.search = new Search({ said, answered, listed, built, ended });
   parts.search.solver = new Solver(code, (data) => parts.search.told(data));
-  parts.answers = new Answers(parts.rules, { played: playPath, key: askKey, onward, met: meet });
+  parts.answers = new Answers(parts.rules, { played: playPath, key: askKey, onward, met: meetMove });
   parts.board = new Board($("board"), { pressed, dropped, emptied: (square) => isSetting() && setSquares([[square, null]]) });
   parts.steps = new Steps({ restored, opened: takeAddress });
   listProblems();

@@ -23,6 +23,7 @@ export class TreeView {
   #start = null;
   #count = 0;
   #unfolding = 0;
+  #marked = null;
 
   /** Told are `played(path)`, the moves from the root up to the one that was chosen, and `folded()`. */
   constructor(place, rules, tells) {
@@ -58,7 +59,9 @@ export class TreeView {
     }
     const button = this.#button(path);
     button?.setAttribute("aria-current", "true");
-    if (!button) return;
+    const wasMarked = button === this.#marked;
+    this.#marked = button;
+    if (!button || wasMarked) return;
     if (this.#place.contains(document.activeElement)) this.#focus(button);
     this.#reveal(button);
   }
