@@ -163,6 +163,12 @@ def folded(drive):
     for key, folds in (("-", 1), ("+", open_moves)):
         tab.key(key, 0, key)
         drive.same(f"by the key {key}", tab.value(seen), folds)
+    drive.go("1K1k1/qR3/5/5/5 w", limit=7)
+    drive.solve()
+    told = int(re.fullmatch(r"Unfold all (\d+) lines", drive.said("unfold"))[1])
+    drive.press("#unfold")
+    drive.comes("all lines of four moves", lambda: tab.value("document.querySelectorAll('.tree li').length"), told)
+    drive.same("their tree wins", height_of("1K1k1/qR3/5/5/5 w", tab.value(LINES), tab.value(DEPTHS)), 7)
 
 
 def walked(drive):
@@ -242,10 +248,12 @@ def told_in_words(drive):
     drive.note(re.fullmatch(said, drive.said("state")), f"Escape stops it: {drive.said('state')}")
     drive.note(not tab.value(RUNS), "no more to stop")
     drive.same("what it would go on with", len(drive.texts("#onward button")), 3)
+    known = int(re.search(r"within (\d+)", drive.said("state"))[1])
+    tab.value("window.told = []; new MutationObserver(() => told.push(document.getElementById('state').textContent)).observe(document.getElementById('state'), { childList: true })")
     drive.press("#onward button:last-child")
-    known = int(re.search(r"within (\d+)", drive.said("state"))[1]) if "known" in drive.said("state") else 1
-    drive.comes("it goes on behind what is known", lambda: drive.said("state").startswith("Searching mate within "), True)
-    drive.note(int(re.search(r"within (\d+)", drive.said("state"))[1]) >= known, "not from the beginning")
+    time.sleep(1)
+    tried = [int(found[1]) for found in (re.match(r"Searching mate within (\d+)", words) for words in tab.value("told")) if found]
+    drive.note(tried and min(tried) > known, f"it goes on behind {known} plies, not from the beginning: {tried}")
     drive.press("#stop")
     drive.note(drive.said("state").startswith("Stopped after "), "the button stops it")
     drive.go(THIRD)
