@@ -59,13 +59,14 @@ class Drive:
 
     def chosen(self, name, value):
         """Chooses a value of a list, as a hand does."""
-        words = f"const list = document.getElementById('{name}'); list.value = '{value}'; list.dispatchEvent(new Event('change', {{ bubbles: true }}))"
-        self.tab.value(f"(() => {{ {words} }})()")
+        told = "list.dispatchEvent(new Event('change', { bubbles: true }))"
+        self.tab.value(f"(() => {{ const list = document.getElementById('{name}'); list.value = '{value}'; {told}; }})()")
 
     def go(self, fen, goal="mate", limit=3, line=""):
         """Another problem, by the address."""
-        self.tab.value(f"location.hash = '{address(fen, goal, limit, line)}'")
-        self.waited(f"{VALUE.format('fen')} === '{fen}' && location.hash === {json.dumps(address(fen, goal, limit, line))}", f"the address gives {fen}")
+        words = address(fen, goal, limit, line)
+        self.tab.value(f"location.hash = '{words}'")
+        self.waited(f"{VALUE.format('fen')} === '{fen}' && location.hash === {json.dumps(words)}", f"the address gives {fen}")
 
     def solve(self, button="solve"):
         """Asks, and waits for the end."""
@@ -92,12 +93,13 @@ class Drive:
 
     def texts(self, selector):
         """The texts of all such elements that are seen."""
-        return self.tab.value(f"[...document.querySelectorAll({json.dumps(selector)})].filter((one) => one.offsetParent !== null).map((one) => one.textContent)")
+        seen = "filter((one) => one.offsetParent !== null).map((one) => one.textContent)"
+        return self.tab.value(f"[...document.querySelectorAll({json.dumps(selector)})].{seen}")
 
     def line(self):
         """The line with a bar behind the move that is on the board."""
-        words = "[...document.querySelectorAll('.ply')].map((one) => one.textContent + (one.hasAttribute('aria-current') ? ' |' : '')).join(' ')"
-        return self.tab.value(words)
+        words = "map((one) => one.textContent + (one.hasAttribute('aria-current') ? ' |' : '')).join(' ')"
+        return self.tab.value(f"[...document.querySelectorAll('.ply')].{words}")
 
     def arrows(self):
         """Each arrow, as its kind and its move."""
@@ -105,8 +107,8 @@ class Drive:
 
     def box(self, selector):
         """Left, top, right and bottom in the window."""
-        words = f"(({{ left, top, right, bottom }}) => [left, top, right, bottom])(document.querySelector({json.dumps(selector)}).getBoundingClientRect())"
-        return self.tab.value(words)
+        found = f"document.querySelector({json.dumps(selector)}).getBoundingClientRect()"
+        return self.tab.value(f"(({{ left, top, right, bottom }}) => [left, top, right, bottom])({found})")
 
     # What is checked
 

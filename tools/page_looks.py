@@ -49,10 +49,13 @@ LIVE = {"turn": "status", "state": "status", "about": "status", "answer": "statu
 PRESSED = {"button", "gridcell", "textbox", "combobox", "spinbutton", "radio", "grid", "radiogroup"}
 TARGETS = """[...document.querySelectorAll('button, input:not([type=radio]), select, .choice span, #tray label > :last-child, [data-square]')]
 .filter((one) => one.getClientRects().length).map((one) => { const { left, top, right, bottom } = one.getBoundingClientRect();
-return { name: one.id || one.dataset.square || one.textContent || one.className.baseVal, box: [left, top, right, bottom], board: Boolean(one.dataset.square),
-tree: Boolean(one.closest('#tree')), stage: Boolean(one.closest('#stage')) }; })"""
-READ = """['turn', 'state', 'time', 'about', 'answer', 'fault', 'within'].map((name) => document.getElementById(name)).filter((one) => one.textContent && one.getClientRects().length)
-.map((one) => { const { left, top, right, bottom } = one.getBoundingClientRect(); return { name: one.id, box: [left, top, right, bottom], stage: Boolean(one.closest('#stage')) }; })"""
+return { name: one.id || one.dataset.square || one.textContent, box: [left, top, right, bottom], stage: Boolean(one.closest('#stage')) }; })"""
+READ = """['turn', 'state', 'time', 'about', 'answer', 'fault', 'within'].map((name) => document.getElementById(name))
+.filter((one) => one.textContent && one.getClientRects().length)
+.map((one) => { const { left, top, right, bottom } = one.getBoundingClientRect();
+return { name: one.id, box: [left, top, right, bottom], stage: Boolean(one.closest('#stage')) }; })"""
+# The controls that are seen, by name.
+CONTROLS = """[...document.querySelectorAll('button[id], input[id], select[id]')].filter((one) => one.getClientRects().length).map((one) => '#' + one.id)"""
 
 
 def looks(drive):
@@ -91,8 +94,9 @@ def in_view(drive):
     drive.solve()
     height = tab.value("innerHeight")
     _, top, _, bottom = drive.box("#answer")
-    _, _, _, stage = drive.box("#stage")
-    drive.note((drive.hand == "mouse" or top >= stage) and 0 <= top and bottom <= height, f"the answer is in view: {top} to {bottom} of {height}, the board ends at {stage}")
+    stage = drive.box("#stage")[3]
+    is_clear = drive.hand == "mouse" or top >= stage
+    drive.note(is_clear and 0 <= top and bottom <= height, f"the answer is in view: {top} to {bottom} of {height}, the board ends at {stage}")
     drive.press("#unfold")
     drive.tab.wait("document.getElementById('unfold').disabled")
     moves = tab.value("document.querySelectorAll('.move').length")
@@ -102,15 +106,18 @@ def in_view(drive):
         _, top, _, bottom = drive.box("#board")
         drive.note(top >= 0 and bottom <= height, f"the board stays in view behind move {number}: {top} to {bottom}")
         _, top, _, bottom = drive.box('.move[aria-current="true"]')
-        _, _, _, stage = drive.box("#stage")
-        drive.note((drive.hand == "mouse" or top >= stage - 1) and bottom <= height + 1, f"and the move too: {top} to {bottom}, the board ends at {stage}")
+        stage = drive.box("#stage")[3]
+        is_clear = drive.hand == "mouse" or top >= stage - 1
+        drive.note(is_clear and bottom <= height + 1, f"and the move too: {top} to {bottom}, the board ends at {stage}")
     drive.same("the move on the board is its own", tab.value("document.querySelector('.move[aria-current]').dataset.path"), path)
     drive.press("#fold")
 
 
-def overlap(one, other):
-    """Whether two boxes share more than a pixel each way."""
-    return min(one[2], other[2]) - max(one[0], other[0]) > 1 and min(one[3], other[3]) - max(one[1], other[1]) > 1
+def meet(one, other):
+    """Whether two boxes share more than a pixel each way. What scrolls below the board doesn't meet what stands with it."""
+    (left, above, right, below), (left2, above2, right2, below2) = one["box"], other["box"]
+    is_shared = min(right, right2) - max(left, left2) > 1 and min(below, below2) - max(above, above2) > 1
+    return is_shared and one["stage"] == other["stage"]
 
 
 def thumbs(drive):
@@ -136,10 +143,9 @@ def check_targets(drive, what):
     # Half a pixel is the browser's own rounding.
     small = [(it["name"], it["box"]) for it in targets if min(it["box"][2] - it["box"][0], it["box"][3] - it["box"][1]) < 43.5]
     drive.same(f"{what}: targets that are too small", small, [])
-    # What scrolls below the board is told apart from what stands with it.
-    pairs = [(a["name"], b["name"]) for i, a in enumerate(targets) for b in targets[i + 1 :] if a["stage"] == b["stage"] and overlap(a["box"], b["box"])]
+    pairs = [(a["name"], b["name"]) for i, a in enumerate(targets) for b in targets[i + 1 :] if meet(a, b)]
     drive.same(f"{what}: targets on each other", pairs, [])
-    hidden = [(a["name"], b["name"]) for a in targets for b in read if a["stage"] == b["stage"] and overlap(a["box"], b["box"])]
+    hidden = [(a["name"], b["name"]) for a in targets for b in read if meet(a, b)]
     drive.same(f"{what}: targets on what is read", hidden, [])
     drive.note(len(targets) > 50 and len(read) > 1, f"{what}: {len(targets)} targets, {len(read)} texts")
 
@@ -162,8 +168,7 @@ def spoken(drive):
     drive.same("nothing without a name", [role for role, name in met if not name], [])
     drive.same("the squares", sum(role == "gridcell" for role, _ in met), 36)
     known = {selector for selector, _, _ in SPOKEN}
-    controls = tab.value("[...document.querySelectorAll('button[id], input[id], select[id]')].filter((one) => one.getClientRects().length).map((one) => '#' + one.id)")
-    drive.same("controls that the list forgets", sorted(set(controls) - known - {"#there", "#unfold", "#fold"}), [])
+    drive.same("controls that the list forgets", sorted(set(tab.value(CONTROLS)) - known - {"#there", "#unfold", "#fold"}), [])
 
 
 def by_keyboard(drive):
@@ -189,5 +194,6 @@ def by_keyboard(drive):
     drive.same("a square has the focus", tab.value("document.activeElement.dataset.square.length"), 2)
     place = tab.value("document.activeElement.dataset.square")
     tab.key("ArrowRight", 39)
-    drive.note(tab.value("document.activeElement.dataset.square") != place and drive.line() == "1. Kc5 |", "by the keyboard the arrows go from square to square")
+    reached = tab.value("document.activeElement.dataset.square")
+    drive.note(reached != place and drive.line() == "1. Kc5 |", "by the keyboard the arrows go from square to square")
     tab.value("document.activeElement.blur()")

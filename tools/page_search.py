@@ -11,6 +11,15 @@ SHOW_TREE = checking.loaded("show_tree")
 LINES = "[...document.querySelectorAll('.line')].map((one) => [...one.querySelectorAll('.move')].map((it) => it.textContent).join(' '))"
 DEPTHS = """[...document.querySelectorAll('.line')].map((one) => {
 let depth = 0; for (let up = one; (up = up.parentElement.closest('li')); ) depth += 1; return depth; })"""
+PLIES = r"\d+ pl(?:y|ies) \(\d+ moves?\)"
+# Lends the page's way of writing moves to this tool.
+WRITER = """Promise.all([import('./rules.js'), import('./library.js'), import('./notation.js')])
+.then(async ([{ Rules }, { Library, compiled, moduleName }, { moveWritten }]) => {
+const rules = new Rules(new Library(await compiled(moduleName())));
+window.written = (fen, move) => moveWritten(rules, fen, move); })"""
+# Keeps all that is said of the search from then on.
+OBSERVED = """(() => { const state = document.getElementById('state'); window.told = [];
+new MutationObserver(() => told.push(state.textContent)).observe(state, { childList: true }); })()"""
 RUNS = "!document.getElementById('stop').disabled"
 
 
@@ -155,7 +164,8 @@ def folded(drive):
     drive.same("unfolded, as many as before", tab.value(seen), open_moves)
     told = int(re.fullmatch(r"Unfold all (\d+) lines", drive.said("unfold"))[1])
     drive.press("#unfold")
-    drive.comes("all lines are there", lambda: tab.value("[...document.querySelectorAll('.tree li')].filter((one) => one.offsetParent !== null).length"), told)
+    lines = "[...document.querySelectorAll('.tree li')].filter((one) => one.offsetParent !== null).length"
+    drive.comes("all lines are there", lambda: tab.value(lines), told)
     drive.shot("unfolded")
     drive.press("#fold")
     drive.same("folded again", tab.value(seen), open_moves)
@@ -230,7 +240,8 @@ def told_in_words(drive):
     tab = drive.tab
     drive.go(HARD, limit=63)
     drive.press("#solve")
-    pattern = rf"Searching mate within \d+ plies \(\d+ moves\), {lawful_moves(HARD)} first moves to try. None within \d+ pl(y|ies) \(\d+ moves?\). The limit is 63 plies \(32 moves\)"
+    known = rf"{lawful_moves(HARD)} first moves to try. None within {PLIES}. The limit is 63 plies \(32 moves\)"
+    pattern = f"Searching mate within {PLIES}, {known}"
     drive.comes("what is searched is told", lambda: bool(re.fullmatch(pattern, drive.said("state"))), True)
     drive.same("no wheel turns", tab.value("document.getAnimations().length"), 0)
     drive.play("a5a6")
@@ -244,12 +255,12 @@ def told_in_words(drive):
     drive.mode("play")
     drive.waited(TEXT.format("time") + ".startsWith('2')", "two seconds are over")
     tab.key("Escape", 27)
-    said = r"Stopped after \d+ seconds?. It is known that there is no mate within \d+ pl(y|ies) \(\d+ moves?\)"
+    said = rf"Stopped after \d+ seconds?. It is known that there is no mate within {PLIES}"
     drive.note(re.fullmatch(said, drive.said("state")), f"Escape stops it: {drive.said('state')}")
     drive.note(not tab.value(RUNS), "no more to stop")
     drive.same("what it would go on with", len(drive.texts("#onward button")), 3)
     known = int(re.search(r"within (\d+)", drive.said("state"))[1])
-    tab.value("window.told = []; new MutationObserver(() => told.push(document.getElementById('state').textContent)).observe(document.getElementById('state'), { childList: true })")
+    tab.value(OBSERVED)
     drive.press("#onward button:last-child")
     time.sleep(1)
     tried = [int(found[1]) for found in (re.match(r"Searching mate within (\d+)", words) for words in tab.value("told")) if found]
@@ -278,11 +289,11 @@ def bare_kings(drive):
 
 def written(drive):
     """Moves are written as tools/show_tree writes them, whose table was made by hand."""
-    words = "Promise.all([import('./rules.js'), import('./library.js'), import('./notation.js')])"
-    drive.tab.value(f"{words}.then(async ([{{ Rules }}, {{ Library, compiled, moduleName }}, {{ moveWritten }}]) => {{ const rules = new Rules(new Library(await compiled(moduleName()))); window.written = (fen, move) => moveWritten(rules, fen, move); }})")
+    drive.tab.value(WRITER)
     for fen, move, wanted in SHOW_TREE.SHORT:
         drive.same(f"{move} of {fen}", drive.tab.value(f"written('{fen}', '{move}')").rstrip("+#"), wanted)
-    for fen, move, wanted in (("k5/6/2K3/6/6/1R4 w", "b1a1", "Ra1+"), ("k5/6/2K3/6/6/1R4 w", "b1b5", "Rb5="), ("k4/2P2/1K3/5/5 w", "c4c5q", "c5=Q#"), ("k5/6/2K3/6/6/1R4 w", "c4c5", "Kc5")):
+    marked = [(THIRD, "b1a1", "Ra1+"), (THIRD, "b1b5", "Rb5="), (ONE_PAWN, "c4c5q", "c5=Q#"), (THIRD, "c4c5", "Kc5")]
+    for fen, move, wanted in marked:
         drive.same(f"{move} of {fen} with its mark", drive.tab.value(f"written('{fen}', '{move}')"), wanted)
 
 

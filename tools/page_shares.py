@@ -2,6 +2,7 @@
 
 import base64
 import os
+import re
 import struct
 import tempfile
 import time
@@ -187,7 +188,8 @@ def kept_files(drive):
     """All files of the page are kept: none is forgotten in the list."""
     names = [name for name in os.listdir(top()) if name.rsplit(".", 1)[-1] in ("html", "css", "js") and name != "offline.js"]
     wanted = sorted(["./", *names, "out/minimate32.wasm", "out/minimate64.wasm"])
-    listed = drive.tab.value("fetch('offline.js').then((it) => it.text()).then((text) => [...text.match(/FILES = \\[([^\\]]*)\\]/)[1].matchAll(/\"([^\"]+)\"/g)].map((it) => it[1]))")
+    with open(os.path.join(top(), "offline.js"), encoding="ascii") as file:
+        listed = re.findall(r'^  "([^"]+)",$', file.read(), flags=re.M)
     drive.same("the files that are kept", sorted(listed), wanted)
 
 
@@ -201,7 +203,8 @@ def from_file(drive):
     with tempfile.TemporaryDirectory() as folder:
         path = os.path.join(folder, "minimate.html")
         with open(path, "w", encoding="utf-8") as file:
-            file.write(ONE_FILE.page(top(), [os.path.join(top(), "out", name) for name in ("minimate64.wasm", "minimate32.wasm")]))
+            modules = [os.path.join(top(), "out", name) for name in ("minimate64.wasm", "minimate32.wasm")]
+            file.write(ONE_FILE.page(top(), modules))
         first, url = drive.tab, drive.url
         drive.url = f"file://{path}"
         drive.tab = drive.opened(address(THIRD))

@@ -118,7 +118,8 @@ export class Answers {
   #showFolding() {
     if (!this.shown?.root) return;
     const lines = countLines(this.shown.root);
-    $("unfold").textContent = lines > MOST_LINES ? `Unfold ${MOST_LINES.toLocaleString("en")} of ${count(lines, "line")}` : `Unfold all ${count(lines, "line")}`;
+    const part = lines > MOST_LINES ? `${MOST_LINES.toLocaleString("en")} of` : "all";
+    $("unfold").textContent = `Unfold ${part} ${count(lines, "line")}`;
     $("unfold").disabled = !this.#view.isFolded;
   }
 
