@@ -54,6 +54,11 @@ READ = """['turn', 'state', 'time', 'about', 'answer', 'fault', 'within'].map((n
 .filter((one) => one.textContent && one.getClientRects().length)
 .map((one) => { const { left, top, right, bottom } = one.getBoundingClientRect();
 return { name: one.id, box: [left, top, right, bottom], stage: Boolean(one.closest('#stage')) }; })"""
+TWICE = "[...document.querySelectorAll('[id]')].map((one) => one.id).filter((id, index, all) => all.indexOf(id) !== index)"
+DANGLING = """['aria-controls', 'aria-describedby', 'for'].flatMap((kind) => [...document.querySelectorAll(`[${kind}]`)]
+.flatMap((one) => one.getAttribute(kind).split(' '))).filter((id) => !document.getElementById(id))"""
+PAGE = """[document.documentElement.lang, document.title,
+[...document.querySelectorAll('[tabindex]')].filter((one) => one.tabIndex > 0).length]"""
 # The controls that are seen, by name.
 CONTROLS = """[...document.querySelectorAll('button[id], input[id], select[id]')].filter((one) => one.getClientRects().length).map((one) => '#' + one.id)"""
 
@@ -167,6 +172,9 @@ def spoken(drive):
     met = [(node["role"]["value"], node.get("name", {}).get("value", "")) for node in nodes if node.get("role", {}).get("value") in PRESSED]
     drive.same("nothing without a name", [role for role, name in met if not name], [])
     drive.same("the squares", sum(role == "gridcell" for role, _ in met), 36)
+    drive.same("names of parts that stand twice", tab.value(TWICE), [])
+    drive.same("parts that are named and aren't there", tab.value(DANGLING), [])
+    drive.same("a language, a title and no order of its own", tab.value(PAGE), ["en", "minimate", 0])
     known = {selector for selector, _, _ in SPOKEN}
     drive.same("controls that the list forgets", sorted(set(tab.value(CONTROLS)) - known - {"#there", "#unfold", "#fold"}), [])
 
