@@ -108,14 +108,25 @@ def in_view(drive):
     for number in (1, moves // 2, moves - 1):
         path = tab.value(f"document.querySelectorAll('.move')[{number}].dataset.path")
         drive.press(f'.move[data-path="{path}"]')
-        _, top, _, bottom = drive.box("#board")
-        drive.note(top >= 0 and bottom <= height, f"the board stays in view behind move {number}: {top} to {bottom}")
-        _, top, _, bottom = drive.box('.move[aria-current="true"]')
-        stage = drive.box("#stage")[3]
-        is_clear = drive.hand == "mouse" or top >= stage - 1
-        drive.note(is_clear and bottom <= height + 1, f"and the move too: {top} to {bottom}, the board ends at {stage}")
+        both_seen(drive, f"move {number}")
     drive.same("the move on the board is its own", tab.value("document.querySelector('.move[aria-current]').dataset.path"), path)
+    tab.key("ArrowUp", 38)
+    tab.key("Enter", 13, "\r")
+    both_seen(drive, "the move above")
+    tab.key("ArrowLeft", 37)
+    both_seen(drive, "a step back")
     drive.press("#fold")
+
+
+def both_seen(drive, what):
+    """The board, and the move of the tree that it shows."""
+    height = drive.tab.value("innerHeight")
+    _, top, _, bottom = drive.box("#board")
+    drive.note(top >= 0 and bottom <= height, f"the board is in view at {what}: {top} to {bottom}")
+    _, top, _, bottom = drive.box('.move[aria-current="true"]')
+    stage = drive.box("#stage")[3]
+    is_clear = drive.hand == "mouse" or top >= stage - 1
+    drive.note(is_clear and bottom <= height + 1, f"and so is {what}: {top} to {bottom}, the board ends at {stage}")
 
 
 def meet(one, other):

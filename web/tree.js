@@ -25,7 +25,7 @@ export class TreeView {
   #unfolding = 0;
   #marked = null;
 
-  /** Told are `played(path)`, the moves from the root up to the one that was chosen, and `folded()`. */
+  /** Told are `played(path)`, the moves from the root up to the one that was chosen, `folded()`, and `met(button)` of a move to be seen. */
   constructor(place, rules, tells) {
     this.#place = place;
     this.#rules = rules;
@@ -63,7 +63,7 @@ export class TreeView {
     this.#marked = button;
     if (!button || wasMarked) return;
     if (this.#place.contains(document.activeElement)) this.#focus(button);
-    this.#reveal(button);
+    this.#tells.met(button);
   }
 
   /** Whether there is a line that is folded. */
@@ -96,14 +96,6 @@ export class TreeView {
     const [, ...folds] = this.#place.querySelectorAll(".fold");
     for (const fold of folds) this.#unfold(fold, false, true);
     this.#tells.folded();
-  }
-
-  // Brings a move into view: the tree scrolls alone where it can, so that the board stays where it is.
-  #reveal(button) {
-    const [inner, outer] = [button.getBoundingClientRect(), this.#place.getBoundingClientRect()];
-    if (this.#place.scrollHeight <= this.#place.clientHeight + 1) return this.#tells.met(button);
-    if (inner.top < outer.top) this.#place.scrollTop -= outer.top - inner.top;
-    if (inner.bottom > outer.bottom) this.#place.scrollTop += inner.bottom - outer.bottom;
   }
 
   #button(path) {
@@ -177,7 +169,7 @@ export class TreeView {
   #go(button) {
     if (!button) return;
     this.#focus(button);
-    this.#reveal(button);
+    this.#tells.met(button);
   }
 
   #focus(button) {
