@@ -251,18 +251,23 @@ function ask(wants) {
   setMode("play");
   view.picked = null;
   show();
-  if (!isSound()) return say("The position is refused: mend it first");
-  if (!limitOf(view.state.limit)) return say("The plies are a whole number from 1 to 63");
+  if (!isSound()) return reproach("The position is refused: mend it first");
+  if (!limitOf(view.state.limit)) return reproach("The plies are a whole number from 1 to 63");
   const { fen, goal, moves, at, limit } = view.state;
   const problem = { fen, goal, moves: moves.slice(0, at) };
   parts.answers.clear();
   begin({ wants, fen: here(), isStale: goal === "stale", limit: limitOf(limit), firsts: lawful().length, problem });
 }
 
+function reproach(words) {
+  say(words);
+  meetAnswer();
+}
+
 function begin(asked) {
+  parts.search.begin(asked);
   $("stop").disabled = false;
   $("onward").hidden = true;
-  parts.search.begin(asked);
   if (coveredHeight()) meetAnswer();
   else meet($("state"));
 }
@@ -274,7 +279,7 @@ function onward(asked, known, limit) {
 }
 
 function askKey(answer, { move, plies }) {
-  if (parts.search.isRunning) return say("Another search is under way: stop it first");
+  if (parts.search.isRunning) return reproach("Another search is under way: stop it first");
   const name = moveWritten(parts.rules, answer.fen, move);
   const replies = parts.rules.moves(parts.rules.after(answer.fen, move)).length;
   begin({ ...answer, wants: "key", known: 0, move, plies, name, replies });
