@@ -15,6 +15,10 @@ import time
 import checking
 
 LEFT = {"button": "left", "clickCount": 1}
+CONTROL, SHIFT = 2, 8
+REACH = """((one) => { const { x, y, width, height } = one.getBoundingClientRect();
+const there = document.elementFromPoint(x + width / 2, y + height / 2);
+if (!there || !one.contains(there)) one.scrollIntoView({ block: 'nearest' }); })(document.querySelector(%s))"""
 WORDS = ["--headless=new", "--no-sandbox", "--disable-gpu", "--hide-scrollbars", "--no-first-run", "--remote-debugging-pipe"]
 
 
@@ -27,11 +31,22 @@ class Quiet(http.server.SimpleHTTPRequestHandler):
         pass
 
 
+class Server:
+    """Serves a folder on a free port of this machine, until it is ended or this program ends."""
+
+    def __init__(self, folder):
+        self.server = http.server.ThreadingHTTPServer(("127.0.0.1", 0), functools.partial(Quiet, directory=folder))
+        threading.Thread(target=self.server.serve_forever, daemon=True).start()
+        self.url = f"http://127.0.0.1:{self.server.server_address[1]}/"
+
+    def end(self):
+        self.server.shutdown()
+        self.server.server_close()
+
+
 def serve(folder):
     """Serves the folder on a free port of this machine, until this program ends."""
-    server = http.server.ThreadingHTTPServer(("127.0.0.1", 0), functools.partial(Quiet, directory=folder))
-    threading.Thread(target=server.serve_forever, daemon=True).start()
-    return f"http://127.0.0.1:{server.server_address[1]}/"
+    return Server(folder).url
 
 
 class Browser:
@@ -116,8 +131,17 @@ class Tab:
     def size(self, width, height, is_phone=False):
         self.ask("Emulation.setDeviceMetricsOverride", width=width, height=height, deviceScaleFactor=1, mobile=is_phone)
 
-    def scheme(self, name):
-        self.ask("Emulation.setEmulatedMedia", features=[{"name": "prefers-color-scheme", "value": name}])
+    def fingers(self, is_on):
+        """Whether the screen takes fingers."""
+        self.ask("Emulation.setTouchEmulationEnabled", enabled=is_on, maxTouchPoints=1)
+
+    def scheme(self, name, media=""):
+        self.ask("Emulation.setEmulatedMedia", media=media, features=[{"name": "prefers-color-scheme", "value": name}])
+
+    def step(self, by):
+        """The browser's own Back, by -1, and Forward, by 1."""
+        history = self.ask("Page.getNavigationHistory")
+        self.ask("Page.navigateToHistoryEntry", entryId=history["entries"][history["currentIndex"] + by]["id"])
 
     def shot(self, path):
         got = self.ask("Page.captureScreenshot", format="png", captureBeyondViewport=False)
@@ -125,8 +149,8 @@ class Tab:
             picture.write(base64.b64decode(got["data"]))
 
     def reach(self, selector):
-        """Scrolls an element into view."""
-        self.value(f"document.querySelector({json.dumps(selector)}).scrollIntoView({{ block: 'nearest' }})")
+        """Scrolls an element into view, where its middle can't be pressed yet."""
+        self.value(REACH % json.dumps(selector))
 
     def middle(self, selector):
         """The middle of an element."""
@@ -153,8 +177,26 @@ class Tab:
             self.mouse("mouseMoved", place, button="left", buttons=1)
         self.mouse("mouseReleased", last, **LEFT)
 
-    def key(self, name, code=0, text=""):
-        words = {"key": name, "windowsVirtualKeyCode": code}
+    def touch(self, kind, places):
+        self.ask("Input.dispatchTouchEvent", type=kind, touchPoints=[{"x": x, "y": y} for x, y in places])
+
+    def tap(self, selector):
+        self.reach(selector)
+        self.touch("touchStart", [self.middle(selector)])
+        self.touch("touchEnd", [])
+
+    def draw(self, start, end):
+        """A finger goes from one element to another."""
+        self.reach(end)
+        self.reach(start)
+        first, last = self.middle(start), self.middle(end)
+        self.touch("touchStart", [first])
+        for part in (0.3, 0.6, 1):
+            self.touch("touchMove", [[a + (b - a) * part for a, b in zip(first, last)]])
+        self.touch("touchEnd", [])
+
+    def key(self, name, code=0, text="", modifiers=0):
+        words = {"key": name, "windowsVirtualKeyCode": code, "modifiers": modifiers}
         self.ask("Input.dispatchKeyEvent", type="keyDown", **words, **({"text": text} if text else {}))
         self.ask("Input.dispatchKeyEvent", type="keyUp", **words)
 
@@ -162,6 +204,13 @@ class Tab:
         """Writes the text into a field in the place of what stands there."""
         self.value(f"document.querySelector({json.dumps(selector)}).select()")
         self.ask("Input.insertText", text=text)
+
+    def spoken(self, selector):
+        """The role and the name by which a screen reader meets an element."""
+        root = self.ask("DOM.getDocument")["root"]["nodeId"]
+        found = self.ask("DOM.querySelector", nodeId=root, selector=selector)["nodeId"]
+        node = self.ask("Accessibility.getPartialAXTree", nodeId=found, fetchRelatives=False)["nodes"][0]
+        return node.get("role", {}).get("value"), node.get("name", {}).get("value")
 
     def faults(self):
         """What the page has thrown, or told as an error."""

@@ -2,10 +2,13 @@
 import { drawn, unitDrawn } from "./units.js";
 
 const FAR_ENOUGH = 5;
+// Under a finger the unit is drawn larger, and above the finger, which covers the square.
+const FINGER = { size: 1.5, above: 1.1 };
+const HAND = { size: 1, above: 0.5 };
 
-/** The name of the square at this point of the window, or null outside the board. */
+/** The square at this point of the window, or null outside the board. */
 function squareAt(x, y) {
-  return document.elementFromPoint(x, y)?.closest?.("[data-square]")?.dataset.square ?? null;
+  return document.elementFromPoint(x, y)?.closest?.("[data-square]") ?? null;
 }
 
 function ghost(letter, size) {
@@ -14,21 +17,31 @@ function ghost(letter, size) {
   return picture;
 }
 
+function markTarget(square) {
+  for (const old of document.querySelectorAll("[data-square].target")) old.classList.remove("target");
+  square?.classList.add("target");
+}
+
 /** Follows the pointer until it is let go, and tells of the square there; of a press without a drag it tells by `pressed`. */
-export function follow(event, letter, size, { dropped, pressed }) {
+export function follow(event, letter, squareSize, { dropped, pressed }) {
   const [x, y, id] = [event.clientX, event.clientY, event.pointerId];
+  const held = event.pointerType === "touch" ? FINGER : HAND;
+  const size = squareSize * held.size;
   let picture = null;
   const move = (now) => {
     if (now.pointerId !== id) return;
     if (!picture && letter && Math.hypot(now.clientX - x, now.clientY - y) >= FAR_ENOUGH) picture = ghost(letter, size);
-    if (picture) picture.style.transform = `translate(${now.clientX - size / 2}px, ${now.clientY - size / 2}px)`;
+    if (!picture) return;
+    picture.style.transform = `translate(${now.clientX - size / 2}px, ${now.clientY - size * held.above}px)`;
+    markTarget(squareAt(now.clientX, now.clientY));
   };
   const end = (now) => {
     if (now.pointerId !== id) return;
     for (const [name, does] of [["pointermove", move], ["pointerup", end], ["pointercancel", end]]) removeEventListener(name, does);
     picture?.remove();
+    markTarget(null);
     if (now.type === "pointercancel") return;
-    if (picture) dropped(squareAt(now.clientX, now.clientY));
+    if (picture) dropped(squareAt(now.clientX, now.clientY)?.dataset.square ?? null);
     else pressed?.();
   };
   for (const [name, does] of [["pointermove", move], ["pointerup", end], ["pointercancel", end]]) addEventListener(name, does);

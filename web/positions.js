@@ -18,6 +18,13 @@ export function sideOf(fen) {
   return fen.endsWith(" b") ? "b" : "w";
 }
 
+export const SIDES = { w: "White", b: "Black" };
+
+/** The same board with the other side to move. */
+export function turned(fen) {
+  return fen.slice(0, -1) + (sideOf(fen) === "w" ? "b" : "w");
+}
+
 /** The text of a board that was set up. */
 export function textOf(rows, side) {
   const text = rows.map((row) => row.map((letter) => letter ?? ".").join("").replace(/\.+/g, (run) => run.length));
@@ -26,6 +33,19 @@ export function textOf(rows, side) {
 
 export function emptyRows(width) {
   return Array.from({ length: width }, () => Array(width).fill(null));
+}
+
+/** The rows as a board of this width, with what fits: squares keep their names, Los Alamos has no bishops, and no pawn stands on an end. */
+export function fitted(rows, width) {
+  const fits = (letter, row) => !(width === 6 && /b/i.test(letter)) && !(/p/i.test(letter) && (row === 0 || row === width - 1));
+  const squares = emptyRows(width);
+  for (const [row, line] of squares.entries()) {
+    for (const column of line.keys()) {
+      const letter = rows[row + rows.length - width]?.[column] ?? null;
+      line[column] = letter && fits(letter, row) ? letter : null;
+    }
+  }
+  return squares;
 }
 
 /** The name of the square in this row and column, as `a1`. */
@@ -41,12 +61,4 @@ export function placeOf(width, name) {
 export function letterAt(rows, name) {
   const { row, column } = placeOf(rows.length, name);
   return rows[row][column];
-}
-
-/** A move as people write it, as `Rb1-a1` or `c4xc5=Q`. */
-export function moveWritten(rows, move) {
-  const [from, to, becomes] = [move.slice(0, 2), move.slice(2, 4), move.slice(4)];
-  const letter = letterAt(rows, from)?.toUpperCase() ?? "";
-  const link = letterAt(rows, to) ? "x" : "-";
-  return `${letter === "P" ? "" : letter}${from}${link}${to}${becomes ? "=" + becomes.toUpperCase() : ""}`;
 }

@@ -5,9 +5,9 @@ import { drawn, lettersOf, unitDrawn, unitName } from "./units.js";
 /** Fills the tray for a board of this width; told is `dropped(letter, square)`. */
 export function fillTray(place, width, squareSize, dropped) {
   const choices = (isWhite) => lettersOf(width, isWhite).map((letter) => choice(letter, unitName(letter), picture(letter), squareSize, dropped));
-  const empty = Object.assign(document.createElement("span"), { className: "empty", textContent: "✕" });
-  place.style.setProperty("--columns", lettersOf(width, true).length + 1);
-  place.replaceChildren(...choices(true), choice("", "empty square", empty, squareSize, dropped), ...choices(false));
+  const empty = Object.assign(document.createElement("span"), { className: "empty", textContent: "✕ Empty square" });
+  place.style.setProperty("--columns", lettersOf(width, true).length);
+  place.replaceChildren(...choices(true), ...choices(false), choice("", "empty square", empty, squareSize, dropped));
   place.querySelector("input").checked = true;
 }
 

@@ -1,32 +1,11 @@
 // The tree of moves as lines that fold. A line is a reply with the move that meets it; lines are made as they are unfolded.
-import { moveWritten, rowsOf, sideOf } from "./positions.js";
+import { moveWritten, numbered } from "./notation.js";
+import { SIDES, sideOf } from "./positions.js";
+import { countLines } from "./tree_text.js";
+import { count } from "./words.js";
 
-const MOVE = /[a-f][1-6][a-f][1-6][qrbn]?/y;
-
-/** The tree of a text: a move, how its line ends, and each reply with the tree that meets it. */
-export function treeOf(text) {
-  let at = 0;
-  const move = () => {
-    MOVE.lastIndex = at;
-    const found = MOVE.exec(text);
-    if (!found) throw new Error(`no move at offset ${at} of the tree`);
-    at = MOVE.lastIndex;
-    return found[0];
-  };
-  const tree = () => {
-    const node = { move: move(), end: "", replies: [] };
-    if (text[at] !== "{") return { ...node, end: text[at++] };
-    while (text[at] !== "}") {
-      at += 1;
-      const reply = move();
-      at += 1;
-      node.replies.push({ move: reply, tree: tree() });
-    }
-    at += 1;
-    return node;
-  };
-  return tree();
-}
+// So long lines are made before the page may do something else.
+const MOST_MILLISECONDS = 30;
 
 function element(name, attributes, ...inside) {
   const made = document.createElement(name);
@@ -35,27 +14,36 @@ function element(name, attributes, ...inside) {
   return made;
 }
 
+const pause = () => new Promise((go) => setTimeout(go));
+
 export class TreeView {
   #place;
-  #library;
+  #rules;
   #tells;
+  #start = null;
   #count = 0;
+  #unfolding = 0;
+  #marked = null;
 
-  /** Told is `played(path)`: the moves from the root up to the one that was chosen. */
-  constructor(place, library, tells) {
+  /** Told are `played(path)`, the moves from the root up to the one that was chosen, `folded()`, and `met(button)` of a move to be seen. */
+  constructor(place, rules, tells) {
     this.#place = place;
-    this.#library = library;
+    this.#rules = rules;
     this.#tells = tells;
     place.addEventListener("keydown", (event) => this.#key(event));
   }
 
   clear() {
+    this.#unfolding += 1;
     this.#place.replaceChildren();
   }
 
-  show(fen, node) {
+  /** Shows a tree at a position, which stands so many plies behind a problem with that side to move. */
+  show({ fen, side, ply }, node) {
+    this.#unfolding += 1;
     this.#count = 0;
-    const list = element("ul", { class: "tree" }, this.#line({ fen, path: [], number: 1 }, null, node));
+    this.#start = { side, ply };
+    const list = element("ul", { class: "tree" }, this.#line({ fen, path: [] }, null, node));
     this.#place.replaceChildren(list);
     list.querySelector(".move").setAttribute("tabindex", "0");
     const first = list.querySelector(".fold");
@@ -71,14 +59,43 @@ export class TreeView {
     }
     const button = this.#button(path);
     button?.setAttribute("aria-current", "true");
-    if (button) this.#reveal(button);
+    const wasMarked = button === this.#marked;
+    this.#marked = button;
+    if (!button || wasMarked) return;
+    if (this.#place.contains(document.activeElement)) this.#focus(button);
+    this.#tells.met(button);
   }
 
-  // Scrolls the tree alone, so that the board stays where it is.
-  #reveal(button) {
-    const [inner, outer] = [button.getBoundingClientRect(), this.#place.getBoundingClientRect()];
-    if (inner.top < outer.top) this.#place.scrollTop -= outer.top - inner.top;
-    if (inner.bottom > outer.bottom) this.#place.scrollTop += inner.bottom - outer.bottom;
+  /** Whether there is a line that is folded. */
+  get isFolded() {
+    return this.#place.querySelector('.fold[aria-expanded="false"]') !== null;
+  }
+
+  /** Unfolds lines from above, until so many are made. The page stays live meanwhile, and another tree or a fold ends it. */
+  async unfoldAll(most) {
+    const turn = (this.#unfolding += 1);
+    const folds = [...this.#place.querySelectorAll(".fold")];
+    let lines = this.#place.querySelectorAll("li").length;
+    let since = performance.now();
+    for (let at = 0; at < folds.length && lines < most && turn === this.#unfolding; at += 1) {
+      const list = folds[at].list;
+      const had = list.childElementCount;
+      this.#unfold(folds[at], true, true);
+      if (!had) folds.push(...list.querySelectorAll(".fold"));
+      lines += list.childElementCount - had;
+      if (performance.now() - since < MOST_MILLISECONDS) continue;
+      await pause();
+      since = performance.now();
+    }
+    this.#tells.folded();
+  }
+
+  /** Folds all lines but the first replies. */
+  foldAll() {
+    this.#unfolding += 1;
+    const [, ...folds] = this.#place.querySelectorAll(".fold");
+    for (const fold of folds) this.#unfold(fold, false, true);
+    this.#tells.folded();
   }
 
   #button(path) {
@@ -86,71 +103,78 @@ export class TreeView {
   }
 
   // A line: the reply, if it isn't the first, and the move that meets it.
-  #line({ fen, path, number }, reply, node) {
+  #line({ fen, path }, reply, node) {
     const line = element("span", { class: "line" });
     const item = element("li", {}, line);
     let here = { fen, path };
     const said = reply ? [[reply, ""]] : [];
     const moves = [...said, [node.move, node.end]].map(([move, end], index) => {
-      const button = this.#move(here, move, end, reply && index === 0 ? number - 1 : number);
-      here = { fen: this.#library.after(here.fen, move).trim(), path: [...here.path, move] };
+      const button = this.#move(here, move, end, index === 0);
+      here = { fen: this.#rules.after(here.fen, move), path: [...here.path, move] };
       return button;
     });
     const leaf = () => element("span", { class: "leaf", "aria-hidden": "true" });
-    line.append(node.replies.length ? this.#fold(item, here, number, node) : leaf(), ...moves);
+    line.append(node.replies.length ? this.#fold(item, here, node) : leaf(), ...moves);
     return item;
   }
 
-  #move({ fen, path }, move, end, number) {
-    const side = sideOf(fen) === "w" ? "White" : "Black";
-    const written = moveWritten(rowsOf(fen), move);
+  #move({ fen, path }, move, end, isFirstOfLine) {
     const isReply = path.length % 2 === 1;
-    const ends = { "#": "mate", "=": "stalemate" }[end];
-    const label = [`${side} ${written}`, ends].filter(Boolean).join(", ");
+    const written = moveWritten(this.#rules, fen, move, end);
+    const ends = { "#": "mate", "=": "stalemate", "+": "check" }[written.slice(-1)];
+    const label = [`${SIDES[sideOf(fen)]} ${written.replace(/[+#]$|=$/, "")}`, ends].filter(Boolean).join(", ");
     const words = { type: "button", class: `move ${isReply ? "reply" : "attack"}`, tabindex: "-1", "aria-label": label };
-    const button = element("button", { ...words, "data-path": [...path, move].join(" ") }, `${number}${isReply ? "…" : "."} ${written}${end}`);
+    const number = numbered(this.#start.side, this.#start.ply + path.length, isFirstOfLine);
+    const button = element("button", { ...words, "data-path": [...path, move].join(" ") }, `${number}${written}`);
     button.addEventListener("click", () => this.#tells.played([...path, move]));
     return button;
   }
 
-  #fold(item, here, number, node) {
+  #fold(item, here, node) {
     const id = `lines${(this.#count += 1)}`;
-    const words = node.replies.length === 1 ? "the reply" : `the ${node.replies.length} replies`;
-    const said = { "aria-expanded": "false", "aria-controls": id, "aria-label": `Show ${words}` };
+    const words = { "aria-label": count(node.replies.length, "reply", "replies"), title: `${count(countLines(node) - 1, "line")} below` };
+    const said = { "aria-expanded": "false", "aria-controls": id, ...words };
     const fold = element("button", { type: "button", class: "fold", tabindex: "-1", ...said });
     const list = element("ul", { id, hidden: "" });
     item.append(list);
-    fold.fill = () => list.append(...node.replies.map((one) => this.#line({ ...here, number: number + 1 }, one.move, one.tree)));
+    fold.list = list;
+    fold.fill = () => list.append(...node.replies.map((one) => this.#line(here, one.move, one.tree)));
     fold.addEventListener("click", () => this.#unfold(fold, fold.getAttribute("aria-expanded") === "false"));
     return fold;
   }
 
-  #unfold(fold, isOpen) {
-    const list = fold.closest("li").querySelector(":scope > ul");
+  #unfold(fold, isOpen, isOneOfMany = false) {
+    const list = fold.list;
     if (isOpen && !list.childElementCount) fold.fill();
     list.hidden = !isOpen;
     fold.setAttribute("aria-expanded", String(isOpen));
+    if (!isOneOfMany) this.#tells.folded();
   }
 
-  // Up and down go from move to move, left and right fold and unfold.
+  // Up and down go from move to move, plus and minus unfold and fold. Left and right walk the line, as anywhere on the page.
   #key(event) {
     const button = event.target.closest(".move");
     if (!button || event.ctrlKey || event.altKey || event.metaKey) return;
     const fold = button.parentElement.querySelector(".fold");
     const shown = [...this.#place.querySelectorAll(".move")].filter((one) => one.offsetParent !== null);
     const at = shown.indexOf(button);
-    if (event.key === "ArrowDown") this.#focus(shown[at + 1]);
-    else if (event.key === "ArrowUp") this.#focus(shown[at - 1]);
-    else if (event.key === "ArrowRight" && fold) this.#unfold(fold, true);
-    else if (event.key === "ArrowLeft" && fold) this.#unfold(fold, false);
+    if (event.key === "ArrowDown") this.#go(shown[at + 1]);
+    else if (event.key === "ArrowUp") this.#go(shown[at - 1]);
+    else if (event.key === "+" && fold) this.#unfold(fold, true);
+    else if (event.key === "-" && fold) this.#unfold(fold, false);
     else return;
     event.preventDefault();
   }
 
-  #focus(button) {
+  #go(button) {
     if (!button) return;
+    this.#focus(button);
+    this.#tells.met(button);
+  }
+
+  #focus(button) {
     for (const one of this.#place.querySelectorAll('.move[tabindex="0"]')) one.setAttribute("tabindex", "-1");
     button.setAttribute("tabindex", "0");
-    button.focus();
+    button.focus({ preventScroll: true });
   }
 }
