@@ -30,9 +30,15 @@ fn shows_words(rt: HostRuntime) {
 fn finds_kings_and_other_units(rt: HostRuntime) {
     let board = board(&rt, "r3k/3bp/1bPpP/R2KQ/4B b");
     let [d2, e5] = [Square { file: 3, rank: 1 }, Square { file: 4, rank: 4 }];
-    assert_eq!(rt; (board.king(Side::White), board.king(Side::Black)), (d2, e5));
+    assert_eq!(rt;
+        (board.king(Side::White), board.king(Side::Black)),
+        (d2, e5)
+    );
     let queen = Square { file: 4, rank: 1 };
-    assert!(rt; board.unit_at(queen).is_some_and(|unit| unit.kind == Kind::Queen && unit.side == Side::White));
+    assert!(rt;
+        board.unit_at(queen).is_some_and(|unit| unit.kind == Kind::Queen
+            && unit.side == Side::White)
+    );
     assert!(rt; board.unit_at(Square { file: 1, rank: 4 }).is_none());
 }
 

@@ -121,6 +121,31 @@ fn trees_of_longer_mates_win(rt: HostRuntime) -> Result<(), Fail> {
     Ok(())
 }
 
+/// How many replies the tree's text has to its first move.
+fn replies_in(text: &[u8]) -> u8 {
+    let mut depth: u8 = 0;
+    let mut replies: u8 = 1;
+    for byte in text {
+        match *byte {
+            b'{' => depth = depth.saturating_add(1),
+            b'}' => depth = depth.saturating_sub(1),
+            b',' if depth == 1 => replies = replies.saturating_add(1),
+            _ => {}
+        }
+    }
+    replies
+}
+
+// The defender has 62 replies to b5a3. Another program counts them, finds no mate in three plies, and says yes to the tree's five.
+#[test]
+fn a_tree_of_many_replies_wins(rt: HostRuntime) -> Result<(), Fail> {
+    let root = position(&rt, "k1KRQq/pNnQ2/PPq3/4q1/pppppp/1RNRN1 w");
+    let built = tree_of(&rt, &root, Goal::Mate, 65536)?;
+    assert_eq!(rt; built.plies, Some(5));
+    assert_eq!(rt; replies_in(built.text.as_slice()), 62);
+    Ok(())
+}
+
 // A position has one best tree, so several threads give the one that a single thread gives. Mates of an independent program.
 #[test]
 fn threads_build_the_tree_that_one_builds(rt: HostRuntime) -> Result<(), Fail> {
