@@ -243,6 +243,7 @@ def told_in_words(drive):
     known = rf"{lawful_moves(LONG)} first moves to try. None within {PLIES}. The limit is 63 plies \(32 moves\)"
     pattern = f"Searching mate within {PLIES}, {known}"
     drive.comes("what is searched is told", lambda: bool(re.fullmatch(pattern, drive.said("state"))), True)
+    drive.shot("searching")
     drive.same("no wheel turns", tab.value("document.getAnimations().length"), 0)
     drive.play("b2c2")
     drive.square("b4")
@@ -251,7 +252,6 @@ def told_in_words(drive):
     time.sleep(0.3)
     drive.note(tab.value(RUNS), "presses on the board don't end it")
     drive.note(re.match(r"Searching mate within \d+ plies", drive.said("state")), "it is still told")
-    drive.shot("searching")
     drive.mode("play")
     drive.waited(TEXT.format("time") + ".startsWith('2')", "two seconds are over")
     tab.key("Escape", 27)
