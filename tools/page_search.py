@@ -244,6 +244,10 @@ def told_in_words(drive):
     pattern = f"Searching mate within {PLIES}, {known}"
     drive.comes("what is searched is told", lambda: bool(re.fullmatch(pattern, drive.said("state"))), True)
     drive.shot("searching")
+    drive.same("the button as it is read out", list(tab.spoken("#stop")), ["button", "Stop"])
+    left, top, right, bottom = drive.box("#stop")
+    is_clear = drive.hand == "mouse" or (top >= drive.box("#stage")[3] and min(right - left, bottom - top) >= 43.5)
+    drive.note(is_clear and bottom <= tab.value("innerHeight"), f"the button is in view: {top} to {bottom}")
     drive.same("no wheel turns", tab.value("document.getAnimations().length"), 0)
     drive.play("b2c2")
     drive.square("b4")
