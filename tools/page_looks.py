@@ -27,7 +27,6 @@ SPOKEN = [
     ("#limit", "spinbutton", "Within plies"),
     ("#solve", "button", "Solve"),
     ("#keys", "button", "All keys"),
-    ("#stop", "button", "Stop"),
     ("#tree", "group", TREE),
     ("#link", "button", "Copy link"),
     ("#copytext", "button", "Copy solution"),

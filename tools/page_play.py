@@ -142,6 +142,20 @@ def set_otherwise(drive):
     drive.mode("play")
 
 
+def set_up_behind_moves(drive):
+    """What is set up behind a move is what the board shows, with the same side to move; Undo gives the problem and its line back."""
+    drive.go(THIRD)
+    drive.play("c4c5")
+    drive.mode("set")
+    drive.same("Black is to move", drive.tab.value(VALUE.format("side")), "b")
+    drive.press('#tray label:has(input[value="N"])')
+    drive.square("f1")
+    drive.same("the board with a knight", (drive.fen(), drive.line()), ("k5/2K3/6/6/6/1R3N b", ""))
+    drive.press("#undo")
+    drive.comes("the problem and its line", lambda: (drive.fen(), drive.line()), (THIRD, "1. Kc5 |"))
+    drive.mode("play")
+
+
 def listed(drive):
     """A problem of the list brings its position, goal and limit. Queen and rook mate on the fifth rank, the only others don't."""
     tab = drive.tab

@@ -5,7 +5,7 @@ import time
 
 import check_tree
 import checking
-from page_drive import DONE, FIVE, HARD, KINGS, ONE_PAWN, TEXT, THIRD, VALUE, lawful_moves
+from page_drive import DONE, FIVE, KINGS, LONG, ONE_PAWN, TEXT, THIRD, VALUE, lawful_moves
 
 SHOW_TREE = checking.loaded("show_tree")
 LINES = "[...document.querySelectorAll('.line')].map((one) => [...one.querySelectorAll('.move')].map((it) => it.textContent).join(' '))"
@@ -238,20 +238,24 @@ def onward(drive):
 def told_in_words(drive):
     """A long search says in words what is searched and known. Presses on the board don't end it; Escape and Stop do."""
     tab = drive.tab
-    drive.go(HARD, limit=63)
+    drive.go(LONG, limit=63)
     drive.press("#solve")
-    known = rf"{lawful_moves(HARD)} first moves to try. None within {PLIES}. The limit is 63 plies \(32 moves\)"
+    known = rf"{lawful_moves(LONG)} first moves to try. None within {PLIES}. The limit is 63 plies \(32 moves\)"
     pattern = f"Searching mate within {PLIES}, {known}"
     drive.comes("what is searched is told", lambda: bool(re.fullmatch(pattern, drive.said("state"))), True)
+    drive.shot("searching")
+    drive.same("the button as it is read out", list(tab.spoken("#stop")), ["button", "Stop"])
+    left, top, right, bottom = drive.box("#stop")
+    is_clear = drive.hand == "mouse" or (top >= drive.box("#stage")[3] and min(right - left, bottom - top) >= 43.5)
+    drive.note(is_clear and bottom <= tab.value("innerHeight"), f"the button is in view: {top} to {bottom}")
     drive.same("no wheel turns", tab.value("document.getAnimations().length"), 0)
-    drive.play("a5a6")
+    drive.play("b2c2")
     drive.square("b4")
     drive.mode("set")
     drive.square("f6")
     time.sleep(0.3)
     drive.note(tab.value(RUNS), "presses on the board don't end it")
     drive.note(re.match(r"Searching mate within \d+ plies", drive.said("state")), "it is still told")
-    drive.shot("searching")
     drive.mode("play")
     drive.waited(TEXT.format("time") + ".startsWith('2')", "two seconds are over")
     tab.key("Escape", 27)
@@ -267,7 +271,7 @@ def told_in_words(drive):
     drive.note(tried and min(tried) > known, f"it goes on behind {known} plies, not from the beginning: {tried}")
     drive.press("#stop")
     drive.note(drive.said("state").startswith("Stopped after "), "the button stops it")
-    drive.go(HARD, limit=63)
+    drive.go(LONG, limit=63)
     drive.press("#solve")
     drive.comes("it searches again", lambda: "None within" in drive.said("state"), True)
     drive.press("#keys")

@@ -81,7 +81,7 @@ function showProblem() {
   const { fen, goal, limit } = view.state;
   const fault = parts.rules.fault(fen);
   const listed = PROBLEMS.findIndex((one) => one.fen === fen && one.goal === goal);
-  const values = { fen, goal, limit, problems: listed < 0 ? "" : String(listed), side: sideOf(fen) };
+  const values = { fen, goal, limit, problems: listed < 0 ? "" : String(listed), side: sideOf(here()) };
   for (const [name, value] of Object.entries(values)) setValue(name, value);
   $("fen").setAttribute("aria-invalid", String(fault.length > 0));
   $("fault").textContent = fault.length ? `Refused, ${fault[0].slice("refused: ".length)}: ${fault[1].slice("error: ".length)}.` : "";

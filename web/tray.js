@@ -27,10 +27,11 @@ function choice(letter, name, shown, squareSize, dropped) {
   label.title = name;
   label.append(input, shown);
   label.addEventListener("pointerdown", (event) => {
-    if (event.button !== 0 || !letter) return;
+    if (event.button !== 0) return;
+    input.checked = true;
+    if (!letter) return;
     // Else the browser selects text on the way, and takes the next press for a drag of its own.
     event.preventDefault();
-    input.checked = true;
     follow(event, letter, squareSize(), { dropped: (square) => square && dropped(letter, square) });
   });
   return label;
