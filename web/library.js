@@ -20,7 +20,7 @@ export async function compiled(url) {
 }
 
 /** A new instance of the module, whose memory is laid out for one call. */
-class Instance {
+export class Instance {
   static #encoder = new TextEncoder();
   static #decoder = new TextDecoder();
   #calls;
