@@ -1,0 +1,10 @@
+use Rattle.std.proofs.Common.{◌≡◌, ◌≤◌, ◌++◌, take, replicate}
+use Rattle.verifying.specs.Words.{line_text}
+use Rattle.verifying.proofs.words.read_words.Given as goal
+
+-- what was read is the words' text, and the Zs of the next word
+abbrev pub invariant-loop-byte : goal.invariant-loop-byte
+invariant-loop-byte l = record {
+  read : take l.byte-index l.line ≡ line_text l.words.items ++ replicate l.fifties 90;
+  few : l.fifties ≤ l.byte-index;
+}

@@ -1,0 +1,156 @@
+//! The claims of a certificate, in the order of their lines.
+ghost use Rattle.std.specs.Prelude.{◌≡◌, ◌<◌, ◌++◌, ◌∷◌, [], Contains, IfOk, IfSome, IsTrue, OnErr, OnOk, length, slice_get, Some};
+
+use certificates::Claim;
+use moves::Board;
+use std::alloc::{AllocError, Global};
+use std::marker::Model;
+
+/// A place of the index where no claim's number stands.
+const FREE: u32 = u32::MAX;
+
+/// Claims, and an index from positions to the places of their claims. What it finds is compared, so nothing rests on the index but
+/// that a claim which is there is found.
+#[derive(Drop)]
+pub(crate) struct Claims {
+    alloc: Global,
+    list: Vec<Claim>,
+    index: Vec<u32>,
+}
+
+impl Model for Claims {
+    ghost use Rattle.std.specs.Prelude.{List};
+    ghost use Rattle.certificates.specs.declared.claim.Claim.{Claim};
+
+    ghost Value = { List Claim };
+
+    ghost view = { λ claims. claims.list.items };
+}
+
+/// Where a search of the index begins: each bit of the words counts.
+fn first_place(words: &[u64; 3], places: usize) -> usize
+    requires { 0 < places }
+    ensures { result < places }
+{
+    let first = words[0].wrapping_mul(0x9E37_79B9_7F4A_7C15);
+    let second = words[1].wrapping_mul(0xC2B2_AE3D_27D4_EB4F).rotate_left(21);
+    let third = words[2].wrapping_mul(0x1656_67B1_9E37_79F9).rotate_left(42);
+    let mixed = (first ^ second ^ third).wrapping_mul(0xD6E8_FEB8_6659_FD93);
+    (mixed >> 32) as usize % places
+}
+
+/// Puts the number into the first free place for the words, if there is one.
+fn enter(index: &mut Vec<u32>, words: &[u64; 3], number: u32) {
+    let places = index.len();
+    if places == 0 {
+        return;
+    }
+    let mut place = first_place(words, places);
+    for _ in 0..places {
+        if index[place] == FREE {
+            index[place] = number;
+            return;
+        }
+        place = (place + 1) % places;
+    }
+}
+
+/// An index with so many places, in which the claims stand.
+fn index_of(alloc: Global, list: &[Claim], places: usize) -> Result<Vec<u32>, AllocError> {
+    let mut index = vec![in alloc; FREE; places]?;
+    for number in 0..list.len() {
+        if number < FREE as usize {
+            enter(&mut index, &list[number].position.words(), number as u32);
+        }
+    }
+    Ok(index)
+}
+
+/// Whether the claim is about the position.
+fn is_about(claim: &Claim, position: &Board) -> bool
+    ensures { IsTrue result → claim.now.position ≡ position.now }
+{
+    let words = claim.position.words();
+    let others = position.words();
+    words == others
+}
+
+impl Claims {
+    /// No claims.
+    pub(crate) fn new(alloc: Global) -> Claims
+        ensures { result ≡ [] }
+    {
+        Claims {
+            alloc,
+            list: Vec::new(alloc),
+            index: Vec::new(alloc),
+        }
+    }
+
+    /// How many there are.
+    pub(crate) fn len(&self) -> usize
+        ensures { result ≡ length self.now }
+    {
+        self.list.len()
+    }
+
+    /// The claim at this place.
+    pub(crate) fn claim(&self, place: usize) -> Claim
+        requires { place < length self.now }
+        ensures { slice_get self.now place ≡ Some result }
+    {
+        let claim = &self.list[place];
+        Claim {
+            position: claim.position.copied(),
+            plies: claim.plies,
+        }
+    }
+
+    /// The plies of a claim about the position, if the index finds one.
+    pub(crate) fn find(&self, position: &Board) -> Option<u8>
+        ensures { IfSome result (λ plies. Contains self.now (record { position = position.now; plies = plies })) }
+    {
+        let words = position.words();
+        let places = self.index.len();
+        if places == 0 {
+            return None;
+        }
+        let mut place = first_place(&words, places);
+        for _ in 0..places {
+            let claim = self.list.get(self.index[place] as usize)?;
+            if is_about(claim, position) {
+                return Some(claim.plies);
+            }
+            place = (place + 1) % places;
+        }
+        None
+    }
+
+    /// Makes the index so large that a quarter of it stays free.
+    fn make_room(&mut self) -> Result<(), AllocError>
+        ensures same { self.new ≡ self.old }
+        ensures few { OnOk result (length self.old < 4294967295) }
+    {
+        let wanted = self.list.len() + 1;
+        if wanted >= FREE as usize {
+            return Err(AllocError);
+        }
+        if wanted > self.index.len() / 4 * 3 {
+            self.index = index_of(self.alloc, self.list.as_slice(), wanted * 4)?;
+        }
+        Ok(())
+    }
+
+    /// Adds a claim at the end.
+    pub(crate) fn push(&mut self, position: Board, plies: u8) -> Result<(), AllocError>
+        ensures ok { OnOk result (self.new ≡ self.old ++ record { position = position; plies = plies } ∷ []) }
+        ensures err { OnErr result (self.new ≡ self.old) }
+    {
+        self.make_room()?;
+        let words = position.words();
+        let number = self.list.len() as u32;
+        self.list.push(Claim { position, plies })?;
+        enter(&mut self.index, &words, number);
+        Ok(())
+    }
+}

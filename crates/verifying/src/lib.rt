@@ -1,0 +1,15 @@
+//! The checker of certificates, which trusts no solver: it reads claims line by line, and looks three plies ahead.
+#![tactic(auto)]
+
+mod claims;
+mod fault;
+mod leaf;
+mod lines;
+mod no_claims;
+mod none;
+mod verify;
+mod words;
+mod yes_claims;
+
+pub use fault::Fault;
+pub use none::verify_none;

@@ -1,0 +1,86 @@
+//! The words of a claim's line.
+ghost use Rattle.std.specs.Prelude.{◌≡◌, ◌≢◌, ◌<◌, ◌≤◌, ◌∷◌, ◌++◌, [], ℕ, IfOk, IsTrue, MatchOption, length, replicate};
+ghost use Rattle.verifying.specs.Words.{letter_of, word_text, line_text};
+
+use std::alloc::AllocError;
+
+/// What a line says of a move or of a reply.
+#[derive(Clone, Copy, PartialEq, Eq, Debug)]
+pub(crate) enum Word {
+    /// `.`: no claim is needed, as the checker looks three plies ahead.
+    Seen,
+    /// `=`: a claim that was made before says it.
+    Claimed,
+    /// `-`: the defender has no reply.
+    Stalemated,
+    /// A place in a list, from 0: a letter, after a Z for each 50.
+    Place(usize),
+}
+
+/// The place below 50 of the letter.
+fn place_of(letter: u8) -> Option<u8>
+    ensures { MatchOption result
+        ((n : ℕ) → n < 50 → letter ≢ letter_of n)
+        (λ n. (n < 50) × (letter ≡ letter_of n)) }
+{
+    if letter >= b'a' && letter <= b'z' {
+        return Some(letter - b'a');
+    }
+    if letter >= b'A' && letter <= b'X' {
+        return Some(letter - b'A' + 26);
+    }
+    None
+}
+
+/// The sign that the byte is.
+fn sign_of(byte: u8) -> Option<Word>
+    ensures { MatchOption result
+        ((byte ≢ 46) × (byte ≢ 61) × (byte ≢ 45))
+        (λ word. word_text word ≡ byte ∷ []) }
+{
+    match byte {
+        b'.' => Some(Word::Seen),
+        b'=' => Some(Word::Claimed),
+        b'-' => Some(Word::Stalemated),
+        _ => None,
+    }
+}
+
+/// The word that ends with the byte, after so many Zs.
+fn word_of(fifties: usize, byte: u8) -> Option<Word>
+    requires { fifties ≤ 8192 }
+    ensures { MatchOption result
+        ((word : Word) → word_text word ≢ replicate fifties 90 ++ byte ∷ [])
+        (λ word. word_text word ≡ replicate fifties 90 ++ byte ∷ []) }
+{
+    match place_of(byte) {
+        Some(place) => Some(Word::Place(fifties * 50 + place as usize)),
+        None => {
+            if fifties > 0 {
+                return None;
+            }
+            sign_of(byte)
+        }
+    }
+}
+
+/// Puts the words of the line into the list, in place of what it held. Answers whether the line is one of words.
+pub(crate) fn read_words(line: &[u8], words: &mut Vec<Word>) -> Result<bool, AllocError>
+    requires { length line.now ≤ 8192 }
+    ensures { IfOk result (λ all. IsTrue all → line.now ≡ line_text words.new.items) }
+{
+    words.clear();
+    let mut fifties = 0;
+    for byte in line {
+        if *byte == b'Z' {
+            fifties += 1;
+            continue;
+        }
+        let Some(word) = word_of(fifties, *byte) else {
+            return Ok(false);
+        };
+        words.push(word)?;
+        fifties = 0;
+    }
+    Ok(fifties == 0)
+}

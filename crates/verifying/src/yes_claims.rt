@@ -1,0 +1,154 @@
+//! Yes claims: that the attacker forces the goal within the claim's plies.
+ghost use Rattle.std.specs.Prelude.{◌≡◌, ◌≤◌, ◌<◌, IfOk, IfSome, IsTrue, length};
+ghost use Rattle.board.specs.Board.{PlainBoard};
+ghost use Rattle.rules.specs.Squares.{Ply};
+ghost use Rattle.rules.specs.Moves.{IsMove, IsLawful};
+ghost use Rattle.certificates.specs.Claims.{ClaimsSoFew, MetBy, WinsBy};
+ghost use Rattle.verifying.specs.Wins.{WinsAfter};
+ghost use Rattle.verifying.specs.Growing.{Extends};
+
+use crate::claims::Claims;
+use crate::leaf::{LEAF, is_forced_within, is_reached};
+use crate::words::Word;
+use certificates::Claim;
+use moves::{Board, Goal, Move, after, lawful_on};
+use std::alloc::AllocError;
+
+/// The greatest place that tells a claim's plies: twice that and one more are 63.
+const MOST_PLACE: usize = 31;
+
+/// Makes a claim about the position, which has none yet. The place tells its plies, at most those that are left.
+fn claim_anew(
+    claims: &mut Claims,
+    position: Board,
+    left: u8,
+    place: usize,
+) -> Result<bool, AllocError>
+    ensures more { Extends claims.old claims.new }
+    ensures claimed { IfOk result (λ yes. IsTrue yes → ClaimsSoFew claims.new position left) }
+{
+    if place > MOST_PLACE || claims.find(&position).is_some() {
+        return Ok(false);
+    }
+    let plies = 2 * place as u8 + 1;
+    if plies > left {
+        return Ok(false);
+    }
+    claims.push(position, plies)?;
+    Ok(true)
+}
+
+/// Whether a claim says that the goal is forced within the plies that are left.
+fn has_claim(claims: &Claims, position: &Board, left: u8) -> bool
+    ensures { IsTrue result → ClaimsSoFew claims.now position.now left }
+{
+    match claims.find(position) {
+        Some(plies) => plies <= left,
+        None => false,
+    }
+}
+
+/// Whether the attacker, to move at the position, forces the goal within the plies that are left, as the word says.
+fn meets(
+    claims: &mut Claims,
+    goal: Goal,
+    position: Board,
+    left: u8,
+    word: Word,
+) -> Result<bool, AllocError>
+    ensures more { Extends claims.old claims.new }
+    ensures met { IfOk result (λ yes. IsTrue yes → MetBy goal claims.new position left) }
+{
+    match word {
+        Word::Seen => Ok(is_forced_within(&position, goal, left.min(LEAF))),
+        Word::Claimed => Ok(has_claim(claims, &position, left)),
+        Word::Place(place) => claim_anew(claims, position, left, place),
+        Word::Stalemated => Ok(false),
+    }
+}
+
+/// Whether each reply of the defender is met within the plies that are left, as the words say, one each.
+fn all_met(
+    claims: &mut Claims,
+    goal: Goal,
+    board: &Board,
+    left: u8,
+    words: &[Word],
+) -> Result<bool, AllocError>
+    ensures more { Extends claims.old claims.new }
+    ensures met { IfOk result (λ yes. IsTrue yes
+        → (r : Ply) (p : PlainBoard) → IsMove board.now r p → MetBy goal claims.new p left) }
+{
+    let replies = lawful_on(board);
+    if words.len() != replies.len() {
+        return Ok(false);
+    }
+    for i in 0..replies.len() {
+        let reply = replies.as_slice()[i];
+        if !meets(claims, goal, after(board, reply), left, words[i])? {
+            return Ok(false);
+        }
+    }
+    Ok(true)
+}
+
+/// Whether the attacker's move, after which the defender is to move, wins within the plies, as the words say.
+fn wins_after(
+    claims: &mut Claims,
+    goal: Goal,
+    board: &Board,
+    plies: u8,
+    words: &[Word],
+) -> Result<bool, AllocError>
+    ensures more { Extends claims.old claims.new }
+    ensures wins { IfOk result (λ yes. IsTrue yes → WinsAfter goal claims.new board.now plies) }
+{
+    let replies = lawful_on(board);
+    if replies.is_empty() {
+        return Ok(words.is_empty() && is_reached(board, goal));
+    }
+    if plies < 3 {
+        return Ok(false);
+    }
+    all_met(claims, goal, board, plies - 2, words)
+}
+
+/// The lawful move whose place the first of the words tells.
+fn named_move(board: &Board, words: &[Word]) -> Option<Move>
+    ensures { IfSome result (λ m. IsLawful board.now m × (0 < length words.now)) }
+{
+    if words.is_empty() {
+        return None;
+    }
+    let Word::Place(place) = words[0] else {
+        return None;
+    };
+    let moves = lawful_on(board);
+    if place >= moves.len() {
+        return None;
+    }
+    Some(moves.as_slice()[place])
+}
+
+/// The attacker's move that wins within the claim's plies, as the words say.
+pub(crate) fn winning_move(
+    claims: &mut Claims,
+    goal: Goal,
+    claim: &Claim,
+    words: &[Word],
+) -> Result<Option<Move>, AllocError>
+    ensures more { Extends claims.old claims.new }
+    ensures wins { IfOk result (λ found. IfSome found (WinsBy goal claims.new claim.now.position claim.now.plies)) }
+{
+    let Some(m) = named_move(&claim.position, words) else {
+        return Ok(None);
+    };
+    if claim.plies == 0 {
+        return Ok(None);
+    }
+    let board = after(&claim.position, m);
+    if !wins_after(claims, goal, &board, claim.plies, &words[1..])? {
+        return Ok(None);
+    }
+    Ok(Some(m))
+}
