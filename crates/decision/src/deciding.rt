@@ -1,5 +1,5 @@
 //! Whether an attacker forces the goal within so many plies.
-ghost use Rattle.std.specs.Prelude.{◌≡◌, ◌<◌, ◌≤◌, ◌↔◌, IsTrue, IfSome, All, MatchOption};
+ghost use Rattle.std.specs.Prelude.{◌≡◌, ◌<◌, ◌≤◌, ◌↔◌, IsTrue, IfSome, MatchOption};
 ghost use Rattle.rules.specs.Squares.{Ply};
 ghost use Rattle.rules.specs.Moves.{IsLawful};
 ghost use Rattle.rules.specs.Forces.{Forces};
@@ -8,7 +8,6 @@ ghost use Rattle.decision.specs.Calls.{added, Continues, KnowsHistory};
 ghost use Rattle.decision.specs.Callers.{adds, Searches};
 ghost use Rattle.decision.specs.Questions.{question, IsForced};
 ghost use Rattle.decision.specs.Decisions.{Decides, AsksBelow, IsDecided};
-ghost use Rattle.decision.specs.Below.{Tells, Asked};
 
 use crate::asking::{ask, first_slot, settled};
 use crate::caller::Caller;
@@ -18,39 +17,14 @@ use crate::memory::Memory;
 use crate::order::in_order;
 use crate::question::Question;
 use crate::scout::{Never, Scout, Stop};
-use crate::searching::visit;
+use crate::searching::{try_moves, visit};
 use crate::storing::{keep, known_after};
 use arrayvec::ArrayVec;
 use board::{Position, Side};
 use entry::MateLore;
-use moves::{Board, Goal, Move};
+use moves::{Board, Goal};
 use slots::{Seat, Slots};
 use std::alloc::Allocator;
-
-/// Tries the moves of the given position in turn, until one ends the search. The table is asked of each position below.
-fn try_given<S: Stop, A: Allocator>(
-    caller: &mut Caller<'_, A>,
-    scout: &mut Scout<S>,
-    q: &Question,
-    n: u8,
-    moves: &[Move],
-) -> Option<bool>
-    requires plies { (0 < n) × (n ≤ 63) }
-    requires lawful { All (IsLawful q.now.position) moves.now }
-    ensures goes_on { Searches S.stays caller.old caller.new scout.old scout.new }
-    ensures tells { MatchOption result (S.told scout.new.stop) (Tells q.now n moves.now) }
-    ensures asked { IfSome result
-        (λ yes. Asked q.now (slots_of caller.old.slots.now) (number caller.old.seat.now) moves.now yes (adds caller.old caller.new)) }
-{
-    let own = q.is_own_turn();
-    for m in moves {
-        let yes = visit(caller, scout, &q.after(*m), n - 1)?;
-        if yes == own {
-            return Some(own);
-        }
-    }
-    Some(!own)
-}
 
 /// The answer by the positions below.
 fn search_given<S: Stop, A: Allocator>(
@@ -73,7 +47,7 @@ fn search_given<S: Stop, A: Allocator>(
     if moves.is_empty() {
         return Some(answer_now(q));
     }
-    try_given(caller, scout, q, n, moves.as_slice())
+    try_moves(caller, scout, q, n, moves.as_slice())
 }
 
 /// The decision, or `None` where it was told to stop.

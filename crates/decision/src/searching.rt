@@ -1,10 +1,10 @@
 //! The search below the given position: the table is asked of each position but those of the last plies.
-ghost use Rattle.std.specs.Prelude.{◌≡◌, ◌<◌, ◌≤◌, ◌-◌, ◌↔◌, IsTrue, All, MatchOption};
+ghost use Rattle.std.specs.Prelude.{◌≡◌, ◌<◌, ◌≤◌, ◌-◌, ◌↔◌, IsTrue, IfSome, All, MatchOption};
 ghost use Rattle.rules.specs.Moves.{IsLawful};
 ghost use Rattle.slots.specs.Promise.{slots_of, number};
 ghost use Rattle.decision.specs.Callers.{GoesOn, adds, Searches};
 ghost use Rattle.decision.specs.Questions.{IsForced, IsKnownOf};
-ghost use Rattle.decision.specs.Below.{is_own, IsCut, Tells};
+ghost use Rattle.decision.specs.Below.{is_own, IsCut, Tells, Asked};
 ghost use Rattle.decision.specs.Decisions.{IsAsked};
 
 use crate::asking::{decided, look};
@@ -51,9 +51,9 @@ fn is_cut<A: Allocator>(caller: &mut Caller<'_, A>, q: &Question, n: u8, moves: 
     false
 }
 
-/// Tries the moves in turn, until one ends the search.
+/// Tries the moves in turn, until one ends the search. The table is asked of each position below.
 #[cycle(searching)]
-fn try_moves<S: Stop, A: Allocator>(
+pub(crate) fn try_moves<S: Stop, A: Allocator>(
     caller: &mut Caller<'_, A>,
     scout: &mut Scout<S>,
     q: &Question,
@@ -64,6 +64,8 @@ fn try_moves<S: Stop, A: Allocator>(
     requires lawful { All (IsLawful q.now.position) moves.now }
     ensures goes_on { Searches S.stays caller.old caller.new scout.old scout.new }
     ensures tells { MatchOption result (S.told scout.new.stop) (Tells q.now n moves.now) }
+    ensures asked { IfSome result
+        (λ yes. Asked q.now (slots_of caller.old.slots.now) (number caller.old.seat.now) moves.now yes (adds caller.old caller.new)) }
 {
     let own = q.is_own_turn();
     for m in moves {

@@ -2,12 +2,14 @@ use Rattle.std.proofs.Common.{◌-◌, Bool, All, length, sym, ◌∙◌, subst,
 use Rattle.std.proofs.lemmas.Bool.Decides.{Decides-eqb}
 use Rattle.std.proofs.lemmas.List.{take_all}
 use Rattle.rules.specs.Moves.{IsLawful}
+use Rattle.slots.specs.Promise.{slots_of, number}
+use Rattle.decision.specs.Callers.{adds}
 use Rattle.decision.specs.Questions.{IsForced}
 use Rattle.decision.specs.Orders.{ListsAll}
-use Rattle.decision.specs.Below.{is_own, IsPassed}
+use Rattle.decision.specs.Below.{is_own, IsPassed, IsAskedAfter}
 use Rattle.decision.proofs.Callers.{goes_none, goes_more}
 use Rattle.decision.proofs.Replies.{known_is_right, forced_later}
-use Rattle.decision.proofs.Decided.{asked_then}
+use Rattle.decision.proofs.Decided.{asked_then, asked_later, after_next}
 use Rattle.decision.proofs.Below.{none_listed, some_listed, all_listed, not_empty, ended_answer, now_for, tells_answer, passed_after, cut_after, goes_by, ends_by, beq_same, beq_apart, not_self}
 use Rattle.decision.proofs.searching.+searching.Goals as goal
 
@@ -101,6 +103,17 @@ try_moves-returns-then-yes-own-clause-tells g t c = record {
   passed = λ apart. absurd (apart c.is_own_turn-own.ensures);
 }
 
+pub try_moves-returns-then-yes-own-clause-asked : goal.try_moves-returns-then-yes-own-clause-asked
+try_moves-returns-then-yes-own-clause-asked g t c = record {
+  one = λ _. (
+    c.m-item.result,
+    c.after.ensures.0,
+    c.after.ensures.1,
+    asked_later c.args.caller.now c.loop-m.caller c.visit.new.caller c.loop-m.invariant.goes_on.caller c.visit.ensures.goes_on.caller c.args.q.now c.m-item.result c.after.result c.after.ensures c.visit.ensures.asked,
+  );
+  all = λ apart. absurd (apart c.is_own_turn-own.ensures);
+}
+
 pub try_moves-loop-m-preserved : goal.try_moves-loop-m-preserved
 try_moves-loop-m-preserved g t c = record {
   goes_on = record {
@@ -109,6 +122,8 @@ try_moves-loop-m-preserved g t c = record {
   };
   passed = passed_after c.args.q.now (c.args.n - 1) c.is_own_turn-own.result c.args.moves.now c.loop-m.m-index c.m-item.result c.after.result c.loop-m-test.true c.m-item.is c.after.ensures c.loop-m.invariant.passed
       (goes_by c.is_own_turn-own.result c.in_ok-yes.yes _ c.in_ok-yes.ensures.answer (beq_apart _ _ c.if-yes-own.false));
+  asked = after_next c.args.caller.now c.loop-m.caller c.visit.new.caller c.loop-m.invariant.goes_on.caller c.visit.ensures.goes_on.caller c.args.q.now c.args.moves.now c.loop-m.m-index c.m-item.result c.after.result
+      c.loop-m-test.true c.m-item.is c.after.ensures c.loop-m.invariant.asked c.visit.ensures.asked;
 }
 
 pub try_moves-returns-clause-tells : goal.try_moves-returns-clause-tells
@@ -117,6 +132,13 @@ try_moves-returns-clause-tells g t c = record {
   passed = λ _.
       subst (λ (own : Bool). All (IsPassed c.args.q.now (c.args.n - 1) own) c.args.moves.now) c.is_own_turn-own.ensures
       (subst (All (IsPassed c.args.q.now (c.args.n - 1) c.is_own_turn-own.result)) (take_all c.loop-m.m-index c.args.moves.now c.loop-m-test.false) c.loop-m.invariant.passed);
+}
+
+pub try_moves-returns-clause-asked : goal.try_moves-returns-clause-asked
+try_moves-returns-clause-asked g t c = record {
+  one = λ same. absurd (not_self c.is_own_turn-own.result (same ∙ sym c.is_own_turn-own.ensures));
+  all = λ _. subst (All (IsAskedAfter c.args.q.now (slots_of c.args.caller.now.slots.now) (number c.args.caller.now.seat.now) (adds c.args.caller.now c.loop-m.caller))) (take_all c.loop-m.m-index c.args.moves.now c.loop-m-test.false)
+      c.loop-m.invariant.asked;
 }
 
 pub visit-returns-in-Some-clause-answer : goal.visit-returns-in-Some-clause-answer
