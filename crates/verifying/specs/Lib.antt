@@ -1,5 +1,4 @@
--- to be believed
-pub mod Words
 -- inside
+pub mod Words
 pub mod Growing
 pub mod Wins

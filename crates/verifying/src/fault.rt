@@ -6,16 +6,16 @@ use thiserror::Error;
 #[derive(Debug, Clone, Copy, PartialEq, Eq, Error)]
 pub enum Fault {
     /// The first line is no answer.
-    #[error("the first line is no answer")]
+    #[error("Answer")]
     Answer,
     /// The line isn't there, is no claim's, or says what isn't so.
-    #[error("line {0} shows no claim")]
+    #[error("Claim at line {0}")]
     Claim(u64),
     /// A line has more than 8,192 bytes.
-    #[error("a line is too long")]
+    #[error("TooLong")]
     TooLong,
     /// There is no memory for the claims.
-    #[error("out of memory")]
+    #[error("NoMemory")]
     NoMemory,
 }
 
