@@ -236,7 +236,7 @@ def onward(drive):
 
 
 def told_in_words(drive):
-    """A long search says in words what is searched and known. Presses on the board don't end it; Escape and Stop do."""
+    """A long search says in words what is searched and known, with its button in view. Presses on the board don't end it."""
     tab = drive.tab
     drive.go(LONG, limit=63)
     drive.press("#solve")
@@ -257,6 +257,14 @@ def told_in_words(drive):
     drive.note(tab.value(RUNS), "presses on the board don't end it")
     drive.note(re.match(r"Searching mate within \d+ plies", drive.said("state")), "it is still told")
     drive.mode("play")
+    drive.press("#stop")
+
+
+def stopped(drive):
+    """Escape and Stop end a search, and what is known of it is gone on with."""
+    tab = drive.tab
+    drive.go(LONG, limit=63)
+    drive.press("#solve")
     drive.waited(TEXT.format("time") + ".startsWith('2')", "two seconds are over")
     tab.key("Escape", 27)
     said = rf"Stopped after \d+ seconds?. It is known that there is no mate within {PLIES}"
@@ -271,6 +279,11 @@ def told_in_words(drive):
     drive.note(tried and min(tried) > known, f"it goes on behind {known} plies, not from the beginning: {tried}")
     drive.press("#stop")
     drive.note(drive.said("state").startswith("Stopped after "), "the button stops it")
+
+
+def searched_again(drive):
+    """A search takes the place of another that is under way, and of one that was stopped."""
+    tab = drive.tab
     drive.go(LONG, limit=63)
     drive.press("#solve")
     drive.comes("it searches again", lambda: "None within" in drive.said("state"), True)

@@ -232,7 +232,8 @@ def on_paper(drive):
     left = [name for name in ("solve", "link", "undo", "flip", "unfold", "fen") if tab.value(f"({seen})('{name}')")]
     drive.same("what is no use on paper", left, [])
     drive.same("the position in words", drive.said("paper"), f"{THIRD}, mate within 3 plies")
-    drive.same("light though the system is dark", tab.value("getComputedStyle(document.body).backgroundColor"), "rgb(255, 255, 255)")
+    colours = tab.value("[getComputedStyle(document.body).backgroundColor, getComputedStyle(document.body).color]")
+    drive.same("light though the system is dark", colours, ["rgb(255, 255, 255)", "rgb(35, 37, 31)"])
     drive.shot("print")
     made = base64.b64decode(tab.ask("Page.printToPDF")["data"])
     drive.same("it can be printed", made[:5], b"%PDF-")
