@@ -4,6 +4,8 @@
 #[cfg(test)]
 mod boards;
 #[cfg(test)]
+mod certificates;
+#[cfg(test)]
 mod deciding;
 #[cfg(test)]
 mod expansions;
