@@ -66,7 +66,11 @@ fn cost_of_reply(q: &Question, m: Move, next: &Board) -> u16
 /// What counts against the attacker's move to the board `next`: that it gives no check, then how many replies it leaves, and then how
 /// seldom it won.
 fn cost_of_move(memory: &Memory, n: u8, m: Move, next: &Board) -> u16 {
-    let replies = if n < COUNTED_FROM { 0 } else { count_lawful(next).min(127) };
+    let replies = if n < COUNTED_FROM {
+        0
+    } else {
+        count_lawful(next).min(127)
+    };
     let quiet = if mover_in_check(next) { 0 } else { 0x8000 };
     let seldom = u8::MAX - memory.wins_of(m);
     quiet + replies * 256 + u16::from(seldom)

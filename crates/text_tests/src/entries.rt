@@ -137,7 +137,11 @@ fn preferences(rt: HostRuntime) {
 fn stays_as_preferred(rt: HostRuntime) {
     let known = [0x8000000000000030, 0x0003000100000000, 0x0003000007000000];
     let less = [0x8000000000000030, 0x0000000100000000, 0x0003000007000000];
-    assert!(rt; MateLore::stays(known, FIRST) && MateLore::stays(known, known) && MateLore::stays(known, less));
+    assert!(rt;
+        MateLore::stays(known, FIRST)
+            && MateLore::stays(known, known)
+            && MateLore::stays(known, less)
+    );
     assert!(rt; !MateLore::stays(FIRST, known) && !MateLore::stays(less, known));
     assert!(rt; !MateLore::stays([0, 0, 0], FIRST) && !MateLore::stays([0, 0, 0], known));
 }

@@ -1,5 +1,6 @@
 //! Certificates that nothing is forced within a limit.
-ghost use Rattle.std.specs.Prelude.{◌<◌, IfOk};
+ghost use Rattle.std.specs.Prelude.{◌≡◌, ◌<◌, IfOk};
+ghost use Rattle.decision.specs.declared.answer.Answer.TheVariants.{NoneWithin};
 ghost use Rattle.certificates.specs.Answers.{Certifies};
 
 use crate::claims::Claims;
@@ -20,7 +21,8 @@ pub fn verify_none(
     text: &[u8],
 ) -> Result<Answer, Fault>
     requires { 0 < limit }
-    ensures { IfOk result (λ answer. Certifies goal board.now answer) }
+    ensures answer { IfOk result (λ answer. answer ≡ NoneWithin limit) }
+    ensures certified { IfOk result (λ answer. Certifies goal board.now answer) }
 {
     let mut claims = Claims::new(alloc);
     claims.push(board.copied(), limit - 1 + limit % 2)?;
