@@ -4,7 +4,7 @@
 #[cfg(test)]
 mod boards;
 #[cfg(test)]
-mod certificates;
+mod claims;
 #[cfg(test)]
 mod deciding;
 #[cfg(test)]
