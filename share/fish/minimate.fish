@@ -7,6 +7,8 @@ complete -c minimate -n __fish_use_subcommand -a check -d 'Check a tree of moves
 complete -c minimate -n __fish_use_subcommand -a moves -d 'List the lawful moves'
 complete -c minimate -n __fish_use_subcommand -a show -d 'Draw the board'
 complete -c minimate -n __fish_use_subcommand -a batch -d 'Solve each position that is read from the input'
+complete -c minimate -n __fish_use_subcommand -a help -d 'Print the help of a command'
+complete -c minimate -n '__fish_seen_subcommand_from help; and not __fish_seen_subcommand_from solve keys tree check moves show batch' -a 'solve keys tree check moves show batch'
 complete -c minimate -n '__fish_seen_subcommand_from solve' -l limit -x -a '' -d 'The most plies to the goal'
 complete -c minimate -n '__fish_seen_subcommand_from solve' -l workers -x -a '' -d 'How many threads search'
 complete -c minimate -n '__fish_seen_subcommand_from solve' -l slots -x -a '' -d 'How many slots the table of decided positions has'
