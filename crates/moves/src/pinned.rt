@@ -12,7 +12,7 @@ use crate::packed::Board;
 use crate::seen::along;
 use crate::sets::Class;
 use board::Side;
-use cells::{WAYS, Way, lowest, slanted_lines, straight_lines, without};
+use cells::{WAYS, Way, lowest, ray, slanted_lines, straight_lines, without};
 
 /// The cell of the first unit that way from the king, if one of the riders stands next behind it.
 fn pinned_along(board: &Board, way: Way, cell: u8, riders: u64) -> u64
@@ -20,6 +20,9 @@ fn pinned_along(board: &Board, way: Way, cell: u8, riders: u64) -> u64
     ensures { (i r : ℕ) → (unit_at board.now (place_in i) ≡ None → ⊥) → Has riders r
         → Rides board.now way cell i → Rides board.now way i r → Has result i }
 {
+    if ray(board.game(), way, cell) & riders == 0 {
+        return 0;
+    }
     let first = along(board, way, cell) & board.taken();
     if first == 0 || along(board, way, lowest(first)) & riders == 0 {
         return 0;
@@ -54,7 +57,9 @@ pub(crate) fn pinned(board: &Board, side: Side, cell: u8) -> u64
 {
     let riders = board.of_side(side.other())
         & (board.set(Class::Straight) | board.set(Class::Slanted));
-    if riders == 0 {
+    let game = board.game();
+    let lines = straight_lines(game, cell) | slanted_lines(game, cell);
+    if riders & lines == 0 {
         return 0;
     }
     let mut set = 0;

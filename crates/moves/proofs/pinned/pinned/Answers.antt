@@ -1,4 +1,4 @@
-use Rattle.std.proofs.Common.{◌≡◌, ℕ, ◌↔◌, All, take, true, inl, inr, subst, arith}
+use Rattle.std.proofs.Common.{◌≡◌, ℕ, ◌↔◌, All, take, true, inl, inr, sym, subst, arith}
 use Rattle.std.specs.Int.RustNames.{bit_and, bit_or}
 use Rattle.std.proofs.lemmas.List.{take_all}
 use Rattle.std.proofs.lemmas.List.Elements.{All-more, All-contains}
@@ -9,17 +9,25 @@ use Rattle.cells.specs.declared.tables.TheConstants.{WAYS}
 use Rattle.rules.specs.Squares.{unit_at}
 use Rattle.cells.specs.Mailbox.{place_in, IsCell}
 use Rattle.cells.specs.CellSets.{Has}
-use Rattle.cells.proofs.Masks.{Has-or, Has-zero}
+use Rattle.cells.specs.Ways.{IsOnStraight, IsOnSlanted}
+use Rattle.cells.proofs.Masks.{Has-and, Has-or, Has-zero}
+use Rattle.moves.proofs.Riding.{rides-ray, ray-beyond}
+use Rattle.moves.proofs.Shadows.{on_lines}
 use Rattle.moves.proofs.Pinning.{HoldsPins, pins-along, ways-all}
 use Rattle.moves.proofs.pinned.pinned.Goals as goal
 
-pub returns-then-riders-eq0 : goal.returns-then-riders-eq0
-returns-then-riders-eq0 c = λ i cell w.
+pub returns-then-riders-lines-eq0 : goal.returns-then-riders-lines-eq0
+returns-then-riders-lines-eq0 c = λ i cell w.
     let b = c.args.board.now in
     let owns : (j : ℕ) → Has c.of_side.result j ↔ (IsCell b.game j × (is_of_side (other_side c.args.side) (unit_at b (place_in j)) ≡ true)) =
     subst (λ s. (j : ℕ) → Has c.of_side.result j ↔ (IsCell b.game j × (is_of_side s (unit_at b (place_in j)) ≡ true))) c.other.ensures c.of_side.ensures in
     let p = pins-along b c.args.side c.of_side.result c.set.result c.set-2.result owns c.set.ensures c.set-2.ensures c.args.cell i c.requires cell w in
-    absurd (Has-zero p.rider (subst (λ n. Has n p.rider) c.if-riders-eq0.true p.has))
+    let ray = ray-beyond b.game p.way c.args.cell i p.rider (rides-ray b p.way c.args.cell i p.to_unit) (rides-ray b p.way i p.rider p.to_rider) in
+    let there : Has (bit_or c.straight_lines.result c.slanted_lines.result) p.rider = (Has-or c.straight_lines.result c.slanted_lines.result p.rider).1 (elim (on_lines b.game p.way c.args.cell p.rider ray) [
+      | inl on ↦ inl ((c.straight_lines.ensures p.rider).1 (subst (λ g. IsOnStraight g c.args.cell p.rider) (sym c.game-game.ensures.value) on))
+      | inr on ↦ inr ((c.slanted_lines.ensures p.rider).1 (subst (λ g. IsOnSlanted g c.args.cell p.rider) (sym c.game-game.ensures.value) on))
+    ]) in
+    absurd (Has-zero p.rider (subst (λ n. Has n p.rider) c.if-riders-lines-eq0.true ((Has-and _ _ p.rider).1 (p.has, there))))
 
 pub loop-way-preserved : goal.loop-way-preserved
 loop-way-preserved c =

@@ -1,11 +1,25 @@
-use Rattle.std.proofs.Common.{subst}
+use Rattle.std.proofs.Common.{◌≡◌, ℕ, ◌↔◌, subst}
+use Rattle.std.specs.Int.RustNames.{bit_and}
+use Rattle.board.specs.declared.game.Game.{Game}
+use Rattle.board.specs.Board.{PlainBoard}
+use Rattle.cells.specs.declared.tables.Way.{Way}
 use Rattle.cells.specs.CellSets.{Has}
-use Rattle.cells.specs.Ways.{Rides}
+use Rattle.cells.specs.Ways.{IsOnRay, Rides}
 use Rattle.cells.proofs.Masks.{Has-and, Has-zero}
-use Rattle.moves.proofs.Riding.{cell-rides}
+use Rattle.moves.proofs.Riding.{cell-rides, ray-beyond, ray-of, rides-ray}
 use Rattle.moves.proofs.Pinning.{one_unit}
 use Rattle.moves.proofs.pinned.pinned_along.Goals as goal
 use Rattle.moves.proofs.pinned.pinned_along.Goals.{then-first-eq0-via-then-first-eq0, then-first-eq0-via-else-first-eq0+then-along-riders-eq0}
+
+-- a rider behind the unit stands on the ray
+behind_on_ray : (b : PlainBoard) (way : Way) (g : Game) (cell i r ray riders : ℕ) → g ≡ b.game → ((j : ℕ) → Has ray j ↔ IsOnRay g way cell j) → Has riders r → Rides b way cell i → Rides b way i r → Has (bit_and ray riders) r
+behind_on_ray b way g cell i r ray riders e of has to_unit to_rider =
+    (Has-and ray riders r).1 ((ray-of b way cell ray g e of r).1 (ray-beyond b.game way cell i r (rides-ray b way cell i to_unit) (rides-ray b way i r to_rider)), has)
+
+pub returns-then-ray-riders-eq0 : goal.returns-then-ray-riders-eq0
+returns-then-ray-riders-eq0 c = λ i r taken has to_unit to_rider.
+    let b = c.args.board.now in
+    absurd (Has-zero r (subst (λ n. Has n r) c.if-ray-riders-eq0.true (behind_on_ray b c.args.way c.game.result c.args.cell i r c.ray.result c.args.riders c.game.ensures.value c.ray.ensures has to_unit to_rider)))
 
 pub along-requires-else-first-eq0 : goal.along-requires-else-first-eq0
 along-requires-else-first-eq0 c =
