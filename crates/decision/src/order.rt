@@ -8,7 +8,7 @@ use crate::memory::{Memory, pair_of};
 use crate::question::Question;
 use arrayvec::ArrayVec;
 use board::{Kind, Side};
-use moves::{Board, Move, after, count_lawful, list_lawful, mover_in_check};
+use moves::{Board, Move, after, count_lawful, count_steps, list_lawful, mover_in_check};
 
 /// The costs of moves, by their two squares: those of less cost are tried first.
 #[derive(Drop)]
@@ -16,7 +16,7 @@ struct Costs {
     of_pair: [u16; 1296],
 }
 
-/// From so many plies on the replies to an attacker's move are counted.
+/// From so many plies on what an attacker's move leaves the defender to do is counted.
 const COUNTED_FROM: u8 = 4;
 
 /// What a unit is worth, in pawns.
@@ -53,25 +53,36 @@ fn off_middle(board: &Board, side: Side) -> u16
     u16::from((2 * king.file + 1).abs_diff(width)) + u16::from((2 * king.rank + 1).abs_diff(width))
 }
 
-/// What counts against the defender's reply to the board `next`: each move that it leaves the attacker, and how far its king is from the
+/// How much the side to move can do: in check its lawful moves, and else the steps of its units but for the king's, which are counted
+/// in a third of the time and order as well.
+fn freedom(board: &Board, is_check: bool) -> u16 {
+    if is_check {
+        count_lawful(board)
+    } else {
+        count_steps(board)
+    }
+}
+
+/// What counts against the defender's reply to the board `next`: what it leaves the attacker to do, and how far its king is from the
 /// middle then; what it takes counts for it.
 fn cost_of_reply(q: &Question, m: Move, next: &Board) -> u16
     requires { IsLawful q.now.position m }
 {
-    let left = count_lawful(next).min(511);
+    let left = freedom(next, mover_in_check(next)).min(511);
     let off = off_middle(next, q.position.mover());
     16 * left + 8 * off + 64 * (9 - worth_taken(&q.position, m))
 }
 
-/// What counts against the attacker's move to the board `next`: that it gives no check, then how many replies it leaves, and then how
-/// seldom it won.
+/// What counts against the attacker's move to the board `next`: that it gives no check, then what it leaves the defender to do, and
+/// then how seldom it won.
 fn cost_of_move(memory: &Memory, n: u8, m: Move, next: &Board) -> u16 {
+    let is_check = mover_in_check(next);
     let replies = if n < COUNTED_FROM {
         0
     } else {
-        count_lawful(next).min(127)
+        freedom(next, is_check).min(127)
     };
-    let quiet = if mover_in_check(next) { 0 } else { 0x8000 };
+    let quiet = if is_check { 0 } else { 0x8000 };
     let seldom = u8::MAX - memory.wins_of(m);
     quiet + replies * 256 + u16::from(seldom)
 }
