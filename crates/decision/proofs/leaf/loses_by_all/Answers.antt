@@ -6,7 +6,7 @@ use Rattle.decision.specs.Orders.{ListsAll}
 use Rattle.decision.specs.Below.{IsPassed}
 use Rattle.decision.proofs.Below.{ended_answer, gone_answer, none_listed, some_listed, not_empty, passes_other, passed_after, cut_after, All-listed}
 use Rattle.decision.proofs.LastPlies.{other_stuck}
-use Rattle.decision.proofs.leaf.loses_in_two.Goals as goal
+use Rattle.decision.proofs.leaf.loses_by_all.Goals as goal
 
 pub after-requires : goal.after-requires
 after-requires c =

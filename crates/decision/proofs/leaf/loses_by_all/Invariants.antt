@@ -1,6 +1,6 @@
 use Rattle.std.proofs.Common.{take, All, false}
 use Rattle.decision.specs.Below.{IsPassed}
-use Rattle.decision.proofs.leaf.loses_in_two.Given as goal
+use Rattle.decision.proofs.leaf.loses_by_all.Given as goal
 
 -- each reply so far is met
 abbrev pub invariant-loop-m : goal.invariant-loop-m
