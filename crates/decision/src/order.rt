@@ -1,5 +1,5 @@
 //! Which moves are tried first. No answer depends on it.
-ghost use Rattle.std.specs.Prelude.{◌<◌, ◌≤◌, All, IfSome, length};
+ghost use Rattle.std.specs.Prelude.{◌≡◌, ◌<◌, ◌≤◌, All, IfSome, length};
 ghost use Rattle.std.specs.List.Sorted.{IsPermutation};
 ghost use Rattle.rules.specs.Moves.{IsLawful};
 ghost use Rattle.decision.specs.Orders.{ListsAll};
@@ -8,7 +8,9 @@ use crate::memory::{Memory, pair_of};
 use crate::question::Question;
 use arrayvec::ArrayVec;
 use board::{Kind, Side};
-use moves::{Board, Move, after, count_lawful, count_steps, list_lawful, mover_in_check};
+use moves::{
+    Board, CheckWatch, Move, after, count_lawful, count_steps, list_lawful, mover_in_check,
+};
 
 /// The costs of moves, by their two squares: those of less cost are tried first.
 #[derive(Drop)]
@@ -16,7 +18,7 @@ struct Costs {
     of_pair: [u16; 1296],
 }
 
-/// From so many plies on what an attacker's move leaves the defender to do is counted.
+/// From so many plies on what an attacker's move leaves the defender to do is counted, and boards are made for it.
 const COUNTED_FROM: u8 = 4;
 
 /// What a unit is worth, in pawns.
@@ -75,39 +77,68 @@ fn cost_of_reply(q: &Question, m: Move, next: &Board) -> u16
 
 /// What counts against the attacker's move to the board `next`: that it gives no check, then what it leaves the defender to do, and
 /// then how seldom it won.
-fn cost_of_move(memory: &Memory, n: u8, m: Move, next: &Board) -> u16 {
+fn cost_of_move(memory: &Memory, m: Move, next: &Board) -> u16 {
     let is_check = mover_in_check(next);
-    let replies = if n < COUNTED_FROM {
-        0
-    } else {
-        freedom(next, is_check).min(127)
-    };
+    let replies = freedom(next, is_check).min(127);
     let quiet = if is_check { 0 } else { 0x8000 };
     let seldom = u8::MAX - memory.wins_of(m);
     quiet + replies * 256 + u16::from(seldom)
 }
 
+/// What counts against the attacker's move in the last three plies: that it can't give check, and then how seldom it won.
+fn cost_of_last(memory: &Memory, q: &Question, watch: &Option<CheckWatch>, m: Move) -> u16
+    requires watch { IfSome watch.now (λ w. w ≡ q.now.position) }
+    requires lawful { IsLawful q.now.position m }
+{
+    let is_quiet = match watch {
+        Some(watch) => !watch.may_check(m),
+        None => true,
+    };
+    let quiet = if is_quiet { 0x8000 } else { 0 };
+    quiet + u16::from(u8::MAX - memory.wins_of(m))
+}
+
 /// What counts against the move.
-fn cost(memory: &Memory, q: &Question, n: u8, m: Move) -> u16
+fn cost(memory: &Memory, q: &Question, m: Move) -> u16
     requires { IsLawful q.now.position m }
 {
     let next = after(&q.position, m);
     if q.is_own_turn() {
-        cost_of_move(memory, n, m, &next)
+        cost_of_move(memory, m, &next)
     } else {
         cost_of_reply(q, m, &next)
     }
 }
 
-/// The costs of the moves. Where moves have the same two squares, it is that of the last.
-fn costs_of(memory: &Memory, q: &Question, n: u8, moves: &[Move]) -> Costs
+/// Tells the costs of the moves above the last three plies.
+fn tell_above(costs: &mut Costs, memory: &Memory, q: &Question, moves: &[Move])
     requires { All (IsLawful q.now.position) moves.now }
 {
-    let mut costs = Costs { of_pair: [0; 1296] };
     for m in moves {
-        costs.of_pair[pair_of(*m)] = cost(memory, q, n, *m);
+        costs.of_pair[pair_of(*m)] = cost(memory, q, *m);
     }
-    costs
+}
+
+/// Tells the costs of the attacker's moves in the last three plies. No board is made.
+fn tell_last(costs: &mut Costs, memory: &Memory, q: &Question, moves: &[Move])
+    requires { All (IsLawful q.now.position) moves.now }
+{
+    let watch = CheckWatch::of(&q.position);
+    for m in moves {
+        costs.of_pair[pair_of(*m)] = cost_of_last(memory, q, &watch, *m);
+    }
+}
+
+/// Tells the costs of the moves. Where moves have the same two squares, it is that of the last.
+// The costs are lent, since they take longer to copy than most moves to judge.
+fn tell(costs: &mut Costs, memory: &Memory, q: &Question, n: u8, moves: &[Move])
+    requires { All (IsLawful q.now.position) moves.now }
+{
+    if n < COUNTED_FROM && q.is_own_turn() {
+        tell_last(costs, memory, q, moves);
+    } else {
+        tell_above(costs, memory, q, moves);
+    }
 }
 
 /// Puts the lawful moves into the list in place of what it held, those of least cost first.
@@ -116,7 +147,8 @@ pub fn in_order(memory: &Memory, q: &Question, n: u8, moves: &mut ArrayVec<Move,
     ensures { ListsAll q.now.position moves.new.items }
 {
     list_lawful(&q.position, moves);
-    let costs = costs_of(memory, q, n, moves.as_slice());
+    let mut costs = Costs { of_pair: [0; 1296] };
+    tell(&mut costs, memory, q, n, moves.as_slice());
     moves
         .as_mut_slice()
         .sort_unstable_by_key(|m: &Move| costs.of_pair[pair_of(*m)]);

@@ -5,8 +5,8 @@ use Rattle.decision.specs.Orders.{ListsAll}
 use Rattle.decision.proofs.Below.{all_listed, lists_permuted, refilled}
 use Rattle.decision.proofs.order.in_order.Goals as goal
 
-pub costs_of-costs-requires : goal.costs_of-costs-requires
-costs_of-costs-requires c =
+pub tell-requires : goal.tell-requires
+tell-requires c =
     subst (All (IsLawful c.args.q.now.position)) (sym c.as_slice.ensures.value) (all_listed c.args.q.now.position c.list_lawful.new.moves.items c.list_lawful.ensures.exact)
 
 pub returns : goal.returns

@@ -1,4 +1,4 @@
-use Rattle.std.proofs.Common.{◌≡◌, ◌≢◌, arith, rules, sym, subst, ap, ◌∙◌, bit_and}
+use Rattle.std.proofs.Common.{◌≡◌, arith, rules, sym, subst, ap, ◌∙◌, bit_and}
 use mathlib.Core.Logic.{dite}
 use native.Mathlib.Decide.{ℕ_discrete}
 use Rattle.board.specs.Board.{IsPosition}
