@@ -9,7 +9,8 @@ use crate::question::Question;
 use arrayvec::ArrayVec;
 use board::{Kind, Side};
 use moves::{
-    Board, CheckWatch, Move, after, count_lawful, count_steps, list_lawful, mover_in_check,
+    Board, CheckWatch, Move, after, count_king_moves, count_lawful, count_steps, list_lawful,
+    mover_in_check,
 };
 
 /// The costs of moves, by their two squares: those of less cost are tried first.
@@ -55,13 +56,13 @@ fn off_middle(board: &Board, side: Side) -> u16
     u16::from((2 * king.file + 1).abs_diff(width)) + u16::from((2 * king.rank + 1).abs_diff(width))
 }
 
-/// How much the side to move can do: in check its lawful moves, and else the steps of its units but for the king's, which are counted
-/// in a third of the time and order as well.
+/// How much the side to move can do: in check its lawful moves, and else its king's and the steps of its other units, whether pinned
+/// or not, which are sooner counted and order as well.
 fn freedom(board: &Board, is_check: bool) -> u16 {
     if is_check {
         count_lawful(board)
     } else {
-        count_steps(board)
+        count_steps(board).saturating_add(count_king_moves(board))
     }
 }
 

@@ -1,10 +1,11 @@
 -- How far the mover's units go, but for its king.
-use Rattle.std.specs.Prelude.{◌≡◌, ◌↔◌, ℕ, ◌+◌, suc, true, Some, count_ones}
+use Rattle.std.specs.Prelude.{◌≡◌, ◌↔◌, ℕ, ◌+◌, suc, true, Some, None, count_ones}
 use Rattle.board.specs.declared.game.Kind.TheVariants.{King}
 use Rattle.board.specs.declared.game.Unit.{Unit as Man}
 use Rattle.board.specs.Board.{PlainBoard, is_of_side}
-use Rattle.rules.specs.Squares.{unit_at}
+use Rattle.rules.specs.Squares.{Place, unit_at}
 use Rattle.rules.specs.Reach.{Reaches}
+use Rattle.rules.specs.Moves.{IsLawful}
 use Rattle.cells.specs.Mailbox.{place_in, IsCell}
 use Rattle.cells.specs.CellSets.{Has}
 
@@ -26,3 +27,11 @@ pub data CountsBelow (b : PlainBoard) : ℕ → ℕ → Type 0 where
 -- there are n such steps on the board
 abbrev pub CountsSteps : PlainBoard → ℕ → Type 0
 CountsSteps b n = CountsBelow b 64 n
+
+-- the mover's king has n lawful moves: to so many cells
+pub record CountsKingMoves (b : PlainBoard) (n : ℕ) : Type 0 where
+  pub king : Place
+  pub stands : unit_at b king ≡ Some (record { side = b.mover; kind = King })
+  pub cells : ℕ
+  pub reached : (i : ℕ) → Has cells i ↔ (IsCell b.game i × IsLawful b (record { from = king; to = place_in i; promotion = None }))
+  pub count : n ≡ count_ones cells

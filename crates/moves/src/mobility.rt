@@ -1,4 +1,5 @@
-//! How far the mover's units go, whatever becomes of its king: a count that is quicker than that of the lawful moves.
+//! How far the mover's units go, whatever becomes of its king, and how far the king itself: counts that are quicker than that of the lawful
+//! moves.
 ghost use Rattle.std.specs.Prelude.{◌≡◌, ◌↔◌, ℕ, true};
 ghost use Rattle.board.specs.Board.{IsPosition, is_of_side};
 ghost use Rattle.rules.specs.Squares.{unit_at};
@@ -6,12 +7,15 @@ ghost use Rattle.cells.specs.Mailbox.{place_in, IsCell};
 ghost use Rattle.cells.specs.CellSets.{Has};
 ghost use Rattle.moves.specs.Sets.{StandsAs};
 ghost use Rattle.moves.specs.declared.sets.Class.TheVariants.{Crowned};
-ghost use Rattle.moves.specs.Mobility.{IsStep, CountsSteps};
+ghost use Rattle.moves.specs.Mobility.{IsStep, CountsSteps, CountsKingMoves};
 
+use crate::board_list::guard_of;
 use crate::packed::Board;
+use crate::safe::safe_cells;
 use crate::sets::Class;
 use crate::targets::targets;
-use cells::{except, lowest, without};
+use board::{Kind, Unit};
+use cells::{except, lowest, square_in, without};
 
 /// The cells to which the mover's unit in the cell goes, which isn't its king.
 fn steps_from(board: &Board, cell: u8) -> u64
@@ -39,4 +43,16 @@ pub fn count_steps(board: &Board) -> u16
         count += steps_from(board, cell).count_ones() as u16;
     }
     count
+}
+
+/// How many lawful moves the mover's king has.
+pub fn count_king_moves(board: &Board) -> u16
+    ensures { CountsKingMoves board.now result }
+{
+    let guard = guard_of(board);
+    let king = Unit {
+        side: board.mover(),
+        kind: Kind::King,
+    };
+    safe_cells(board, guard, king, square_in(guard.king)).count_ones() as u16
 }
