@@ -2,6 +2,8 @@
 #![tactic(auto)]
 
 #[cfg(test)]
+mod at_a_glance;
+#[cfg(test)]
 mod boards;
 #[cfg(test)]
 mod claims;

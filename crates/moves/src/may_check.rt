@@ -27,7 +27,7 @@ impl Model for CheckWatch {
 }
 
 impl CheckWatch {
-    /// The watch of a board, if the king that isn't the mover's isn't attacked already.
+    /// The watch of a board, if the king of the side that waits isn't attacked.
     pub fn of(board: &Board) -> Option<CheckWatch>
         ensures { IfSome result (λ watch. watch ≡ board.now) }
     {
@@ -38,8 +38,8 @@ impl CheckWatch {
         })
     }
 
-    /// Whether the lawful move may give check: each does that is a promotion, or that of a unit which alone keeps a rider of the mover
-    /// from the king, or that comes to where the unit takes on the king's square. It never misses a check.
+    /// Whether the lawful move may give check: a promotion, a unit that uncovers a rider, one that comes to where it takes on the king's
+    /// square. It never misses a check.
     pub fn may_check(&self, m: Move) -> bool
         requires { IsLawful self.now m }
         ensures { GivesCheck self.now m → IsTrue result }
