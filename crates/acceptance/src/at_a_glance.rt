@@ -22,13 +22,14 @@ fn counts_steps_but_for_the_kings(rt: HostRuntime) {
     }
 }
 
-// By hand: the first position, a king in a corner, and one beside the other side's king.
+// By hand: the first position, a king in a corner, one beside the other side's king, and one in check.
 #[test]
 fn counts_moves_of_the_king(rt: HostRuntime) {
     let counts = [
-        ("rnqknr/pppppp/6/6/PPPPPP/RNQKNR w", 0),
-        ("5k/6/6/6/6/K5 w", 3),
-        ("k5/6/1K4/6/6/5R b", 1),
+        ("rnqknr/pppppp/6/6/PPPPPP/RNQKNR w", Some(0)),
+        ("5k/6/6/6/6/K5 w", Some(3)),
+        ("k5/6/1K4/6/6/5R b", Some(1)),
+        ("4r1/6/6/6/6/k3K1 w", None),
     ];
     for (text, count) in counts {
         assert_eq!(rt; count_king_moves(&board(&rt, text)), count, "{text}");

@@ -10,7 +10,6 @@ use arrayvec::ArrayVec;
 use board::{Kind, Side};
 use moves::{
     Board, CheckWatch, Move, after, count_king_moves, count_lawful, count_steps, list_lawful,
-    mover_in_check,
 };
 
 /// The costs of moves, by their two squares: those of less cost are tried first.
@@ -56,13 +55,25 @@ fn off_middle(board: &Board, side: Side) -> u16
     u16::from((2 * king.file + 1).abs_diff(width)) + u16::from((2 * king.rank + 1).abs_diff(width))
 }
 
+/// How much a side can do, and whether it is in check.
+#[derive(Clone, Copy)]
+struct Freedom {
+    is_check: bool,
+    moves: u16,
+}
+
 /// How much the side to move can do: in check its lawful moves, and else its king's and the steps of its other units, whether pinned
 /// or not, which are sooner counted and order as well.
-fn freedom(board: &Board, is_check: bool) -> u16 {
-    if is_check {
-        count_lawful(board)
-    } else {
-        count_steps(board).saturating_add(count_king_moves(board))
+fn freedom_of(board: &Board) -> Freedom {
+    match count_king_moves(board) {
+        Some(moves) => Freedom {
+            is_check: false,
+            moves: count_steps(board).saturating_add(moves),
+        },
+        None => Freedom {
+            is_check: true,
+            moves: count_lawful(board),
+        },
     }
 }
 
@@ -71,7 +82,7 @@ fn freedom(board: &Board, is_check: bool) -> u16 {
 fn cost_of_reply(q: &Question, m: Move, next: &Board) -> u16
     requires { IsLawful q.now.position m }
 {
-    let left = freedom(next, mover_in_check(next)).min(511);
+    let left = freedom_of(next).moves.min(511);
     let off = off_middle(next, q.position.mover());
     16 * left + 8 * off + 64 * (9 - worth_taken(&q.position, m))
 }
@@ -79,9 +90,9 @@ fn cost_of_reply(q: &Question, m: Move, next: &Board) -> u16
 /// What counts against the attacker's move to the board `next`: that it gives no check, then what it leaves the defender to do, and
 /// then how seldom it won.
 fn cost_of_move(memory: &Memory, m: Move, next: &Board) -> u16 {
-    let is_check = mover_in_check(next);
-    let replies = freedom(next, is_check).min(127);
-    let quiet = if is_check { 0 } else { 0x8000 };
+    let left = freedom_of(next);
+    let replies = left.moves.min(127);
+    let quiet = if left.is_check { 0 } else { 0x8000 };
     let seldom = u8::MAX - memory.wins_of(m);
     quiet + replies * 256 + u16::from(seldom)
 }

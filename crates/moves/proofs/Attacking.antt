@@ -25,14 +25,14 @@ use Rattle.moves.proofs.Kings.{king_of, check_from, check_at}
 use Rattle.moves.proofs.Looking.{Aims-attacked, AttacksFrom-struck, struck_played}
 use Rattle.moves.proofs.Seeing.{rook_step, bishop_step, queen_step}
 
-own_foe : (side : Side) (o : Option Man) (u : Man) → is_of_side (other_side side) o ≡ true → o ≡ Some u → u.side ≡ other_side side
+pub own_foe : (side : Side) (o : Option Man) (u : Man) → is_of_side (other_side side) o ≡ true → o ≡ Some u → u.side ≡ other_side side
 own_foe side None u e s = cc
 own_foe side (Some v) u e s = ap (λ (x : Man). x.side) (sym (same_Some v u s)) ∙ foe side v.side v.kind e
   where
     foe : (s t : Side) (k : Kind) → is_of_side (other_side s) (Some (record { side = t; kind = k })) ≡ true → t ≡ other_side s
     foe s t k h = foe-side s t k h
 
-foe_own : (side : Side) (u : Man) → u.side ≡ other_side side → is_of_side (other_side side) (Some u) ≡ true
+pub foe_own : (side : Side) (u : Man) → u.side ≡ other_side side → is_of_side (other_side side) (Some u) ≡ true
 foe_own side u e = side-foe side u.side u.kind e
 
 module _ (b : PlainBoard) (is : IsPosition b) (side : Side) (i : ℕ) (c : IsCell b.game i) where

@@ -11,7 +11,8 @@ ghost use Rattle.moves.specs.Targets.{IsTarget};
 ghost use Rattle.moves.specs.Looking.{Aims};
 ghost use Rattle.moves.specs.Checking.{Watches};
 
-use crate::look::{king_attacked, king_cell};
+use crate::attacked::{attacked, calm_steps};
+use crate::look::king_cell;
 use crate::packed::Board;
 use crate::pinned::pinned;
 use crate::seen::seen;
@@ -21,7 +22,7 @@ use cells::{cell_of, common, has};
 use rules::Square;
 
 /// The cell of the king that isn't the mover's, the cells of the units that alone keep a rider of the mover from it, the cells
-/// that it reaches, those that a knight of the mover would reach from there, and those that riders see from there.
+/// to which it steps calmly, those that a knight of the mover would reach from there, and those that riders see from there.
 #[derive(Clone, Copy)]
 pub(crate) struct Watch {
     pub(crate) king: u8,
@@ -39,13 +40,10 @@ pub(crate) fn watch_of(board: &Board) -> Option<Watch>
     let own = board.mover();
     let foe = own.other();
     let king = king_cell(board, foe)?;
-    if king_attacked(board, king, foe) {
+    let attacked = attacked(board, foe);
+    if has(attacked, king) {
         return None;
     }
-    let other_king = Unit {
-        side: foe,
-        kind: Kind::King,
-    };
     let knight = Unit {
         side: own,
         kind: Kind::Knight,
@@ -53,7 +51,7 @@ pub(crate) fn watch_of(board: &Board) -> Option<Watch>
     Some(Watch {
         king,
         uncovers: pinned(board, foe, king),
-        steps: targets(board, other_king, king),
+        steps: calm_steps(board, foe, king, attacked),
         leaps: targets(board, knight, king),
         straight: seen(board, foe, Kind::Rook, king),
         slanted: seen(board, foe, Kind::Bishop, king),

@@ -13,10 +13,9 @@ ghost use Rattle.moves.specs.Checking.{Watches};
 use crate::checks::Watch;
 use crate::look::open_lines;
 use crate::packed::Board;
-use crate::safe::is_calm;
 use crate::sets::Class;
 use board::{Side, Unit};
-use cells::{cell_of, except, has, lowest, single, slanted_lines, straight_lines, without};
+use cells::{cell_of, except, has, single, slanted_lines, straight_lines};
 use rules::Move;
 
 /// The cells on the lines of this one, if a rider of the other side stands on them too.
@@ -59,13 +58,5 @@ pub(crate) fn escapes(board: &Board, watch: Watch, m: Move, unit: Unit) -> bool
     if has(watch.uncovers, cell_of(m.from)) {
         return false;
     }
-    let mut left = except(watch.steps, barred(board, m, unit));
-    'cells: while left != 0 {
-        let cell = lowest(left);
-        left = without(left, cell);
-        if is_calm(board, cell, unit.side.other()) {
-            return true;
-        }
-    }
-    false
+    except(watch.steps, barred(board, m, unit)) != 0
 }

@@ -1,21 +1,21 @@
 //! How far the mover's units go, whatever becomes of its king, and how far the king itself: counts that are quicker than that of the lawful
 //! moves.
-ghost use Rattle.std.specs.Prelude.{◌≡◌, ◌↔◌, ℕ, true};
+ghost use Rattle.std.specs.Prelude.{◌≡◌, ◌↔◌, ℕ, MatchOption, true};
 ghost use Rattle.board.specs.Board.{IsPosition, is_of_side};
 ghost use Rattle.rules.specs.Squares.{unit_at};
+ghost use Rattle.rules.specs.Reach.{IsInCheck};
 ghost use Rattle.cells.specs.Mailbox.{place_in, IsCell};
 ghost use Rattle.cells.specs.CellSets.{Has};
 ghost use Rattle.moves.specs.Sets.{StandsAs};
 ghost use Rattle.moves.specs.declared.sets.Class.TheVariants.{Crowned};
 ghost use Rattle.moves.specs.Mobility.{IsStep, CountsSteps, CountsKingMoves};
 
-use crate::board_list::guard_of;
+use crate::attacked::{attacked, calm_steps};
+use crate::look::king_cell;
 use crate::packed::Board;
-use crate::safe::safe_cells;
 use crate::sets::Class;
 use crate::targets::targets;
-use board::{Kind, Unit};
-use cells::{except, lowest, square_in, without};
+use cells::{except, has, lowest, without};
 
 /// The cells to which the mover's unit in the cell goes, which isn't its king.
 fn steps_from(board: &Board, cell: u8) -> u64
@@ -45,14 +45,18 @@ pub fn count_steps(board: &Board) -> u16
     count
 }
 
-/// How many lawful moves the mover's king has.
-pub fn count_king_moves(board: &Board) -> u16
-    ensures { CountsKingMoves board.now result }
+/// How many lawful moves the mover's king has, or none where it is in check.
+pub fn count_king_moves(board: &Board) -> Option<u16>
+    ensures { MatchOption result (IsInCheck board.now board.now.mover)
+        (λ n. (IsInCheck board.now board.now.mover → ⊥) × CountsKingMoves board.now n) }
 {
-    let guard = guard_of(board);
-    let king = Unit {
-        side: board.mover(),
-        kind: Kind::King,
+    let side = board.mover();
+    let Some(king) = king_cell(board, side) else {
+        unreachable!()
     };
-    safe_cells(board, guard, king, square_in(guard.king)).count_ones() as u16
+    let attacked = attacked(board, side);
+    if has(attacked, king) {
+        return None;
+    }
+    Some(calm_steps(board, side, king, attacked).count_ones() as u16)
 }

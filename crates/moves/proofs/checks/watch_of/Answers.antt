@@ -7,22 +7,27 @@ use Rattle.rules.specs.Reach.{IsInCheck}
 use Rattle.cells.specs.Mailbox.{place_in, IsCell}
 use Rattle.moves.specs.Looking.{Aims}
 use Rattle.moves.specs.Pinned.{IsPinned}
+use Rattle.moves.specs.Safe.{IsCalm}
 use Rattle.moves.specs.Targets.{IsTarget}
 use Rattle.cells.specs.CellSets.{Has}
+use Rattle.moves.proofs.Kings.{check_at}
 use Rattle.moves.proofs.checks.watch_of.Goals as goal
 
 pub returns : goal.returns
 returns c =
     let b = c.args.board.now in
     let k = c.in_ok-king.king in
-    let foe : c.other-foe.result ≡ other_side b.mover = c.other-foe.ensures ∙ ap other_side c.mover-own.ensures.value in
+    let s = c.other-foe.result in
+    let foe : s ≡ other_side b.mover = c.other-foe.ensures ∙ ap other_side c.mover-own.ensures.value in
+    let cell = c.in_ok-king.ensures.0 in
+    let safe : IsInCheck b s → ⊥ = λ check. false≢true (sym c.if-has.false ∙ c.has.ensures.1 ((c.attacked-attacked.ensures k).1 (cell, check_at b c.mover-own.ensures.position s (place_in k) cell.on_board c.in_ok-king.ensures.1 check))) in
     record {
-      cell = c.in_ok-king.ensures.0;
+      cell = cell;
       king = subst (λ s. unit_at b (place_in k) ≡ Some (record { side = s; kind = King })) foe c.in_ok-king.ensures.1;
-      safe = λ check. false≢true (sym c.if-king_attacked.false ∙ c.king_attacked.ensures.1 (subst (IsInCheck b) (sym foe) check));
+      safe = λ check. safe (subst (IsInCheck b) (sym foe) check);
       uncovers = subst (λ s. (i : ℕ) → IsCell b.game i → IsPinned b s (place_in k) (place_in i) → Has c.pinned.result i) foe c.pinned.ensures;
-      steps = λ i h. subst (λ s. IsTarget b (record { side = s; kind = King }) (place_in k) i) foe ((c.targets.ensures i).0 h);
-      leaps = λ i t. (c.targets-2.ensures i).1 (subst (λ s. IsTarget b (record { side = s; kind = Knight }) (place_in k) i) (sym c.mover-own.ensures.value) t);
+      steps = λ i h. subst (λ s. IsTarget b (record { side = s; kind = King }) (place_in k) i × IsCalm b (place_in i) s) foe ((c.calm_steps.ensures i).0 h);
+      leaps = λ i t. (c.targets.ensures i).1 (subst (λ s. IsTarget b (record { side = s; kind = Knight }) (place_in k) i) (sym c.mover-own.ensures.value) t);
       straight = λ i cell aims. (c.seen.ensures i).1 (cell, subst (λ s. Aims b (record { side = s; kind = Rook }) (place_in k) (place_in i)) (sym foe) aims);
       slanted = λ i cell aims. (c.seen-2.ensures i).1 (cell, subst (λ s. Aims b (record { side = s; kind = Bishop }) (place_in k) (place_in i)) (sym foe) aims);
     }

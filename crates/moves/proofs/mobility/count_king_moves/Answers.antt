@@ -1,35 +1,63 @@
-use Rattle.std.proofs.Common.{◌≡◌, ℕ, refl, sym, ap, subst, ◌∙◌, Some, None}
+use Rattle.std.proofs.Common.{◌≡◌, ℕ, refl, sym, ap, subst, ◌∙◌, ◌↔◌, Some, None}
+use Rattle.std.proofs.lemmas.Bool.{false≢true}
 use Rattle.board.specs.declared.game.Kind.TheVariants.{King, Pawn}
 use Rattle.board.specs.declared.game.Unit.{Unit as Man}
+use Rattle.board.specs.Games.{other_side}
+use Rattle.rules.specs.Reach.{IsAttacked, IsInCheck}
 use Rattle.rules.specs.Squares.{Ply, unit_at}
-use Rattle.cells.specs.Mailbox.{place_in}
+use Rattle.cells.specs.Mailbox.{cell_of, place_in}
 use Rattle.cells.specs.CellSets.{Has}
 use Rattle.cells.proofs.CellNumbers.{cell_of-place_in}
-use Rattle.moves.specs.Safe.{IsNamed}
+use Rattle.moves.specs.Pinned.{IsPinned}
+use Rattle.moves.specs.Safe.{IsNamed, IsCalm}
+use Rattle.moves.specs.Targets.{IsTarget}
+use Rattle.moves.proofs.AtOnce.{pseudo_by}
+use Rattle.moves.proofs.Guarding.{no_kingless}
+use Rattle.moves.proofs.Kings.{king_of, check_at, check_from}
+use Rattle.moves.proofs.SafeCells.{calm_lawful, lawful_calm}
+use Rattle.moves.proofs.Shadows.{pinned_attacks}
 use Rattle.moves.proofs.mobility.count_king_moves.Goals as goal
+
+pub unreachable-requires : goal.unreachable-requires
+unreachable-requires c = no_kingless c.args.board.now c.mover-side.ensures.position c.mover-side.result c.in_default.ensures
+
+pub returns-then-has : goal.returns-then-has
+returns-then-has c =
+    let b = c.args.board.now in
+    let k = c.in-Some.king in
+    let cell = c.in-Some.ensures.0 in
+    let check = check_from b c.mover-side.result (place_in k) cell.on_board c.in-Some.ensures.1 ((c.attacked-attacked.ensures k).0 (c.has.ensures.0 c.if-has.true)).1 in
+    subst (IsInCheck b) c.mover-side.ensures.value check
 
 pub returns : goal.returns
 returns c =
     let b = c.args.board.now in
-    let from = c.square_in.result in
-    let g = c.guard_of-guard.ensures.guards in
-    let s = c.safe_cells.ensures in
-    let king : Man = record { side = c.mover.result; kind = King } in
-    let to : ℕ → Ply = λ i. record { from = from; to = place_in i; promotion = None } in
-    let named : (i : ℕ) → IsNamed b.game king (to i) = λ i. record {
-      named = ((λ e. cc), λ p. absurd (pawn p.0));
-      allowed = tt;
-    } in
-    record {
-      king = from;
-      stands = ap (unit_at b) c.square_in.ensures ∙ g.king;
-      cells = c.safe_cells.result;
-      reached = λ i. (
-        λ h. ((s.cells i h).0, s.lawful i (to i) h refl refl (named i)),
-        λ w. subst (Has c.safe_cells.result) (cell_of-place_in b.game i w.0) (s.all (to i) refl w.1),
-      );
-      count = refl;
-    }
+    let is = c.mover-side.ensures.position in
+    let k = c.in-Some.king in
+    let s = place_in k in
+    let on = c.in-Some.ensures.0.on_board in
+    let me = c.mover-side.ensures.value in
+    let set = c.calm_steps.result in
+    let stands : unit_at b s ≡ king_of b.mover = c.in-Some.ensures.1 ∙ ap king_of me in
+    let out : IsInCheck b b.mover → ⊥ = λ check. false≢true (sym c.if-has.false ∙ c.has.ensures.1 ((c.attacked-attacked.ensures k).1 (c.in-Some.ensures.0, subst (λ x. IsAttacked b s (other_side x)) (sym me) (check_at b is b.mover s on stands check)))) in
+    let king : Man = record { side = b.mover; kind = King } in
+    let steps : (i : ℕ) → Has set i ↔ (IsTarget b king s i × IsCalm b (place_in i) b.mover) = subst (λ x. (i : ℕ) → Has set i ↔ (IsTarget b (record { side = x; kind = King }) s i × IsCalm b (place_in i) x)) me c.calm_steps.ensures in
+    let to : ℕ → Ply = λ i. record { from = s; to = place_in i; promotion = None } in
+    let named : (i : ℕ) → IsNamed b.game king (to i) = λ i. record { named = ((λ e. cc), λ p. absurd (pawn p.0)); allowed = tt } in
+    let free : (i : ℕ) → IsPinned b b.mover (place_in i) s → ⊥ = λ i w. out (check_from b b.mover s on stands (w.from, pinned_attacks b is b.mover (place_in i) s w)) in (
+      out,
+      record {
+        king = s;
+        stands = stands;
+        cells = set;
+        reached = λ i. (
+          λ h. let (target, calm) = (steps i).0 h in
+          (target.0, calm_lawful b king s (place_in i) is refl refl stands (free i) on target.0.on_board target.1 calm (to i) refl refl (named i)),
+          λ (cell, l). (steps i).1 ((cell, (pseudo_by b (to i) king stands l).reaches), lawful_calm b king s (place_in i) is refl refl stands (to i) refl refl l),
+        );
+        count = refl;
+      },
+    )
   where
     pawn : King ≡ Pawn → ⊥
     pawn e = cc

@@ -1,0 +1,66 @@
+//! All cells that a side attacks.
+ghost use Rattle.std.specs.Prelude.{◌↔◌, ℕ};
+ghost use Rattle.board.specs.declared.game.Kind.TheVariants.{King};
+ghost use Rattle.board.specs.Board.{IsPosition};
+ghost use Rattle.board.specs.Games.{other_side};
+ghost use Rattle.cells.specs.Mailbox.{place_in, IsCell};
+ghost use Rattle.cells.specs.CellSets.{Has};
+ghost use Rattle.moves.specs.Looking.{IsSwept, AreAttacked};
+ghost use Rattle.moves.specs.Safe.{IsCalm};
+ghost use Rattle.moves.specs.Targets.{IsTarget};
+
+use crate::packed::Board;
+use crate::seen::seen;
+use crate::sets::Class;
+use crate::targets::targets;
+use board::{Kind, Side, Unit};
+use cells::{except, lowest, without};
+
+/// The cells where units of the kind would take from these.
+// One kind a call, so that no turn of the loop asks which.
+#[inline(always)]
+fn swept(board: &Board, side: Side, kind: Kind, units: u64) -> u64
+    requires { (i : ℕ) → Has units i → IsCell board.now.game i }
+    ensures { (j : ℕ) → Has result j ↔ IsSwept board.now (record { side = side; kind = kind }) units j }
+{
+    let mut left = units;
+    let mut set = 0;
+    'units: while left != 0 {
+        let cell = lowest(left);
+        left = without(left, cell);
+        set |= seen(board, side, kind, cell);
+    }
+    set
+}
+
+/// The cells that the other side's units attack.
+pub(crate) fn attacked(board: &Board, side: Side) -> u64
+    requires { IsPosition board.now }
+    ensures { AreAttacked board.now (other_side side) result }
+{
+    let other = side.other();
+    let foes = board.of_side(other);
+    swept(board, other, Kind::Rook, foes & board.set(Class::Straight))
+        | swept(board, other, Kind::Bishop, foes & board.set(Class::Slanted))
+        | swept(board, other, Kind::Knight, foes & board.set(Class::Horsed))
+        | swept(board, other, Kind::King, foes & board.set(Class::Crowned))
+        | swept(board, other, Kind::Pawn, foes & board.set(Class::Foot))
+}
+
+/// Of the cells that the side's king reaches from this one, those where no king stands and that the other side doesn't attack.
+pub(crate) fn calm_steps(board: &Board, side: Side, king: u8, attacked: u64) -> u64
+    requires cell { IsCell board.now.game king }
+    requires position { IsPosition board.now }
+    requires attacked { AreAttacked board.now (other_side side) attacked }
+    ensures { (i : ℕ) → Has result i ↔ (IsTarget board.now (record { side = side; kind = King }) (place_in king) i
+        × IsCalm board.now (place_in i) side) }
+{
+    let unit = Unit {
+        side,
+        kind: Kind::King,
+    };
+    except(
+        targets(board, unit, king),
+        attacked | board.set(Class::Crowned),
+    )
+}
