@@ -1,6 +1,7 @@
 -- The units that attack a cell, by the sets.
-use Rattle.std.proofs.Common.{◌≡◌, ℕ, ◌<◌, ◌^◌, sym, ap, subst, ◌∙◌, ◌↔◌, ◌⊎◌, inl, inr, true, Option, Some, None}
+use Rattle.std.proofs.Common.{◌≡◌, ℕ, ◌<◌, ◌^◌, arith, sym, ap, subst, ◌∙◌, ◌↔◌, ◌⊎◌, inl, inr, true, Option, Some, None}
 use Rattle.std.specs.Int.RustNames.{bit_and, bit_or}
+use Rattle.std.proofs.lemmas.Bool.{cases_eq}
 use Rattle.std.proofs.lemmas.Option.{same_Some}
 use Rattle.board.specs.declared.game.Side.{Side}
 use Rattle.board.specs.declared.game.Kind.{Kind}
@@ -15,7 +16,7 @@ use Rattle.moves.specs.declared.sets.Class.TheVariants.{Crowned, Straight, Slant
 use Rattle.rules.specs.Squares.{unit_at}
 use Rattle.rules.specs.Reach.{AttacksFrom, IsAttacked, IsInCheck}
 use Rattle.cells.specs.Mailbox.{cell_of, place_in, IsCell}
-use Rattle.moves.specs.Looking.{Aims, IsStruck}
+use Rattle.moves.specs.Looking.{Aims, IsStruck, AreAttacked}
 use Rattle.cells.specs.CellSets.{Has}
 use Rattle.moves.specs.Sets.{IsOf, Holds}
 use Rattle.cells.proofs.CellNumbers.{IsCell-cell_of, place_in-cell_of}
@@ -170,3 +171,14 @@ module _ (b : PlainBoard) (is : IsPosition b) (side : Side) (i set : ℕ) (c : I
 
   pub no-check-none : set ≡ 0 → IsInCheck b side → ⊥
   no-check-none zero check = none-attacks b is side i c set are zero (check_at b is side (place_in i) c.on_board king check)
+
+-- what is attacked has an attacker
+pub some_checkers : (b : PlainBoard) (is : IsPosition b) (side : Side) (i : ℕ) → IsCell b.game i → (set : ℕ) → ((j : ℕ) → Has set j ↔ (IsCell b.game j × AttacksFrom b (other_side side) (place_in j) (place_in i))) → IsAttacked b (place_in i) (other_side side) → 0 < set
+some_checkers b is side i cell set are attacked = elim (cases_eq set 0) [
+  | inl none ↦ absurd (none-attacks b is side i cell set are none attacked)
+  | inr some ↦ omega (arith, some)
+]
+
+-- a king whose cell isn't attacked is out of check
+pub unattacked : (b : PlainBoard) (is : IsPosition b) (k set : ℕ) → IsCell b.game k → unit_at b (place_in k) ≡ king_of b.mover → AreAttacked b (other_side b.mover) set → (Has set k → ⊥) → IsInCheck b b.mover → ⊥
+unattacked b is k set cell king are none check = none ((are k).1 (cell, check_at b is b.mover (place_in k) cell.on_board king check))

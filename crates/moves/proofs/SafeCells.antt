@@ -30,7 +30,8 @@ use Rattle.moves.proofs.KingSteps.{attacked_then, steps_safely}
 use Rattle.cells.proofs.Masks.{lowest-has}
 use Rattle.moves.proofs.Laying.{unit_at-to, unit_at-from, unit_at-other}
 use Rattle.rules.proofs.Keeps.{IsRankAhead, to_on_board}
-use Rattle.moves.proofs.Kings.{king_of}
+use Rattle.moves.proofs.Kings.{king_of, check_from}
+use Rattle.moves.proofs.Shadows.{pinned_attacks}
 use Rattle.moves.proofs.Pins.{place_cases, promotes_no_king, own_or_other, no_unit, stays_safe}
 use Rattle.moves.proofs.AtOnce.{pseudo_by, move_by}
 use Rattle.moves.proofs.Checking.{IsTarget-move}
@@ -248,4 +249,34 @@ module _ (b : PlainBoard) (u : Man) (s t : Place) (is : IsPosition b) (king : u.
         safe = λ a.
             let here : IsAttacked b m.to (other_side b.mover) = subst (λ x. IsAttacked b m.to (other_side x)) owner (subst (λ x. IsAttacked b x (other_side u.side)) (sym to) a) in
             (move_by b m u at l).safe (attacked_then b m u is p king here);
+      }
+
+module _ (b : PlainBoard) (u : Man) (s : Place) (is : IsPosition b) (king : u.kind ≡ King) (owner : u.side ≡ b.mover) (stands : unit_at b s ≡ Some u) (set : ℕ)
+    (are : (i : ℕ) → Has set i ↔ (IsTarget b (record { side = u.side; kind = King }) s i × IsCalm b (place_in i) u.side)) where
+  pub calm_target : (i : ℕ) → Has set i → IsTarget b u s i
+  calm_target i h = let man : record { side = u.side; kind = King } ≡ u = λ k. record { side = u.side; kind = sym king k } in subst (λ x. IsTarget b x s i) man ((are i).0 h).0
+
+  -- the king moves to calm cells alone
+  pub calm_all : (m : Ply) → m.from ≡ s → IsLawful b m → Has set (cell_of m.to)
+  calm_all m from l =
+      let at : unit_at b m.from ≡ Some u = ap (unit_at b) from ∙ stands in
+      let p = pseudo_by b m u at l in
+      let here : place_in (cell_of m.to) ≡ m.to = place_in-cell_of b.game m.to (to_on_board b m u p) in
+      let man : u ≡ record { side = u.side; kind = King } = λ k. record { side = u.side; kind = king k } in
+      (are (cell_of m.to)).1 (
+        subst (λ x. IsTarget b x s (cell_of m.to)) man (subst (λ x. IsTarget b u x (cell_of m.to)) from (IsTarget-move b m u p)),
+        subst (λ x. IsCalm b x u.side) (sym here) (lawful_calm b u s m.to is king owner stands m from refl l),
+      )
+
+  -- and out of check to all of them
+  pub calm_safe : IsOnBoard b.game s → (IsInCheck b b.mover → ⊥) → HasSafe b u s set
+  calm_safe on out =
+      let mine : unit_at b s ≡ king_of b.mover = stands ∙ λ k. Some (record { side = owner k; kind = king k }) in
+      let free : (t : Place) → IsPinned b b.mover t s → ⊥ = λ t w. out (check_from b b.mover s on mine (w.from, pinned_attacks b is b.mover t s w)) in
+      record {
+        cells = calm_target;
+        lawful = λ i m h from to named.
+            let (t, calm) = (are i).0 h in
+            calm_lawful b u s (place_in i) is king owner stands (free (place_in i)) on t.0.on_board (calm_target i h).1 calm m from to named;
+        all = calm_all;
       }

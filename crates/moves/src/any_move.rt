@@ -6,12 +6,13 @@ ghost use Rattle.rules.specs.Moves.{IsLawful, IsMated};
 ghost use Rattle.cells.specs.Mailbox.{place_in, IsCell};
 ghost use Rattle.moves.specs.Guard.{Guards};
 
+use crate::attacked::attacked;
 use crate::board_list::{Guard, blocked, guard_in_check, guard_of};
 use crate::look::{attackers, king_cell};
 use crate::packed::Board;
 use crate::safe::{free_cells, may_go, tried};
 use board::{Kind, Unit};
-use cells::{lowest, square_in, without};
+use cells::{has, lowest, square_in, without};
 use rules::Square;
 
 /// Whether one of the unit's moves is lawful, each of which is tested.
@@ -96,11 +97,12 @@ pub(crate) fn is_mated(board: &Board) -> bool
     let Some(king) = king_cell(board, side) else {
         unreachable!()
     };
-    let checkers = attackers(board, king, side);
-    if checkers == 0 {
+    let attacked = attacked(board, side);
+    if !has(attacked, king) {
         return false;
     }
-    let guard = guard_in_check(board, king, checkers);
+    let checkers = attackers(board, king, side);
+    let guard = guard_in_check(board, king, attacked, checkers);
     !has_king_move(board, guard) && !has_move(board, blocked(board, guard, checkers))
 }
 

@@ -2,6 +2,7 @@
 ghost use Rattle.std.specs.Prelude.{◌≡◌, ◌≤◌, ◌+◌, ◌*◌, ◌<◌, ◌↔◌, IsTrue, Some, MatchOption, true, false};
 ghost use Rattle.arrayvec.specs.ArrayVec.{array_vec_len};
 ghost use Rattle.board.specs.declared.game.Kind.TheVariants.{King, Pawn};
+ghost use Rattle.board.specs.Games.{other_side};
 ghost use Rattle.board.specs.Board.{IsPosition, is_of_side};
 ghost use Rattle.rules.specs.Squares.{Ply, IsOnBoard, square_number, unit_at};
 ghost use Rattle.rules.specs.Reach.{Reaches, IsInCheck};
@@ -10,9 +11,11 @@ ghost use Rattle.rules.specs.Order.{ListsLawful};
 ghost use Rattle.rules.specs.Listing.{ListsBelow, ListsFrom};
 ghost use Rattle.cells.specs.Mailbox.{place_in, IsCell};
 ghost use Rattle.moves.specs.Guard.{Guards, Checkers};
+ghost use Rattle.moves.specs.Looking.{AreAttacked};
 ghost use Rattle.moves.specs.Pinned.{IsPinned};
 ghost use Rattle.moves.specs.Safe.{IsNamed};
 
+use crate::attacked::attacked;
 use crate::blocks::blocks;
 use crate::look::{attackers, is_attacked, king_attacked, king_cell};
 use crate::packed::Board;
@@ -24,12 +27,13 @@ use board::{Game, Kind, Unit};
 use cells::{cell_of, has, lowest, square_in, without};
 use rules::{Move, PROMOTIONS, Square, is_king, is_promoted_well, promotes};
 
-/// What the mover's king asks of each move: the cell where it stands, whether it is in check, where it isn't, the cells of the
+/// What the mover's king asks of each move: the cell where it stands, the cells that the other side attacks, whether it is in check, where it isn't, the cells of the
 /// units that are pinned to it, cells to which a unit other than the king must come, and cells to which a rider that gives check
 /// may come once the king has gone.
 #[derive(Clone, Copy)]
 pub(crate) struct Guard {
     pub(crate) king: u8,
+    pub(crate) attacked: u64,
     pub(crate) checked: bool,
     pub(crate) pins: u64,
     pub(crate) blocks: u64,
@@ -227,12 +231,18 @@ pub(crate) fn guard_of(board: &Board) -> Guard
     let Some(king) = king_cell(board, side) else {
         unreachable!()
     };
-    let checkers = attackers(board, king, side);
-    if checkers != 0 {
-        return blocked(board, guard_in_check(board, king, checkers), checkers);
+    let attacked = attacked(board, side);
+    if has(attacked, king) {
+        let checkers = attackers(board, king, side);
+        return blocked(
+            board,
+            guard_in_check(board, king, attacked, checkers),
+            checkers,
+        );
     }
     Guard {
         king,
+        attacked,
         checked: false,
         pins: pinned(board, side, king),
         blocks: u64::MAX,
@@ -241,10 +251,11 @@ pub(crate) fn guard_of(board: &Board) -> Guard
 }
 
 /// The guard of the mover's king, which these units check. Where other units must come isn't told yet.
-pub(crate) fn guard_in_check(board: &Board, king: u8, checkers: u64) -> Guard
+pub(crate) fn guard_in_check(board: &Board, king: u8, attacked: u64, checkers: u64) -> Guard
     requires position { IsPosition board.now }
     requires cell { IsCell board.now.game king }
     requires king { unit_at board.now (place_in king) ≡ Some (record { side = board.now.mover; kind = King }) }
+    requires attacked { AreAttacked board.now (other_side board.now.mover) attacked }
     requires some { 0 < checkers }
     requires checkers { Checkers board.now king checkers }
     ensures guards { Guards board.now result }
@@ -253,6 +264,7 @@ pub(crate) fn guard_in_check(board: &Board, king: u8, checkers: u64) -> Guard
 {
     Guard {
         king,
+        attacked,
         checked: true,
         pins: 0,
         blocks: u64::MAX,

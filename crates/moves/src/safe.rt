@@ -11,6 +11,7 @@ ghost use Rattle.moves.specs.Targets.{IsTarget};
 ghost use Rattle.moves.specs.Guard.{Guards};
 ghost use Rattle.moves.specs.Safe.{IsNamed, HasSafe, IsCalm};
 
+use crate::attacked::calm_steps;
 use crate::board_list::{Guard, is_lawful_to};
 use crate::look::is_attacked;
 use crate::packed::Board;
@@ -47,6 +48,15 @@ pub(crate) fn is_calm(board: &Board, cell: u8, side: Side) -> bool
     !has(board.set(Class::Crowned), cell) && !is_attacked(board, cell, side)
 }
 
+/// Whether no king stands in the cell, and no unit attacks it of the side that waits.
+fn is_calm_for(board: &Board, guard: Guard, cell: u8) -> bool
+    requires guards { Guards board.now guard }
+    requires cell { IsCell board.now.game cell }
+    ensures { IsTrue result ↔ IsCalm board.now (place_in cell) board.now.mover }
+{
+    !has(board.set(Class::Crowned) | guard.attacked, cell)
+}
+
 /// Whether a move of the unit may leave its king in check: it is the king, which may be in check, or it may be pinned.
 fn is_bound(guard: Guard, unit: Unit, from: Square) -> bool
     ensures piece { result ≡ false → unit.kind ≡ King → ⊥ }
@@ -72,7 +82,7 @@ pub(crate) fn may_go(board: &Board, guard: Guard, unit: Unit, from: Square, to: 
 {
     if is_king(Some(unit)) {
         let cell = cell_of(to);
-        if !is_calm(board, cell, unit.side) {
+        if !is_calm_for(board, guard, cell) {
             return false;
         }
         if !has(guard.shadow, cell) {
@@ -92,14 +102,15 @@ pub(crate) fn tried(board: &Board, guard: Guard, unit: Unit, from: Square) -> u6
     requires guards { Guards board.now guard }
     requires on_board { IsOnBoard board.now.game from }
     requires stands { unit_at board.now from ≡ Some unit }
+    requires owner { unit.side ≡ board.now.mover }
     ensures reached { (i : ℕ) → Has result i → IsTarget board.now unit from i }
     ensures all { (m : Ply) → m.from ≡ from → IsLawful board.now m → Has result (cell_of m.to) }
 {
-    let reached = targets(board, unit, cell_of(from));
+    let cell = cell_of(from);
     if is_king(Some(unit)) {
-        return reached;
+        return calm_steps(board, unit.side, cell, guard.attacked);
     }
-    common(reached, guard.blocks)
+    common(targets(board, unit, cell), guard.blocks)
 }
 
 /// The cells to which the unit moves lawfully, by a test of each.
@@ -122,8 +133,7 @@ fn sifted(board: &Board, guard: Guard, unit: Unit, from: Square) -> u64
     safe
 }
 
-/// The cells to which the unit moves lawfully, where it can't leave its king in check: it isn't the king, which isn't in check,
-/// nor pinned to it.
+/// The cells to which the unit moves lawfully, where a glance tells: the king isn't in check, nor is the unit pinned to it.
 pub(crate) fn free_cells(board: &Board, guard: Guard, unit: Unit, from: Square) -> Option<u64>
     requires position { IsPosition board.now }
     requires guards { Guards board.now guard }
@@ -132,10 +142,14 @@ pub(crate) fn free_cells(board: &Board, guard: Guard, unit: Unit, from: Square) 
     requires owner { unit.side ≡ board.now.mover }
     ensures { IfSome result (HasSafe board.now unit from) }
 {
+    let cell = cell_of(from);
+    if is_king(Some(unit)) && !guard.checked {
+        return Some(calm_steps(board, unit.side, cell, guard.attacked));
+    }
     if is_bound(guard, unit, from) {
         return None;
     }
-    let reached = targets(board, unit, cell_of(from));
+    let reached = targets(board, unit, cell);
     Some(except(reached, board.set(Class::Crowned)))
 }
 

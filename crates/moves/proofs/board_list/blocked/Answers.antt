@@ -13,6 +13,7 @@ pub returns : goal.returns
 returns c = record {
   cell = c.requires.guards.cell;
   king = c.requires.guards.king;
+  attacked = c.requires.guards.attacked;
   checked = c.requires.guards.checked;
   pins = c.requires.guards.pins;
   blocks = c.blocks-2.ensures;

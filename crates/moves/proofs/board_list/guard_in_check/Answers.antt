@@ -11,6 +11,7 @@ returns-clause-guards c =
     record {
       cell = c.requires.cell;
       king = c.requires.king;
+      attacked = c.requires.attacked;
       checked = (λ _. check-some b c.requires.position b.mover c.args.king c.args.checkers c.requires.cell c.requires.king c.requires.checkers c.ranges.checkers.fits (λ e. omega (arith, e, some)), λ _. refl);
       pins = λ out. absurd (false≢true (sym out));
       blocks = HasBlocks-all b;

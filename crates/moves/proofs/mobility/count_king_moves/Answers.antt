@@ -1,21 +1,18 @@
-use Rattle.std.proofs.Common.{◌≡◌, ℕ, refl, sym, ap, subst, ◌∙◌, ◌↔◌, Some, None}
+use Rattle.std.proofs.Common.{◌≡◌, ℕ, refl, sym, ap, subst, ◌∙◌, ◌↔◌, None}
 use Rattle.std.proofs.lemmas.Bool.{false≢true}
 use Rattle.board.specs.declared.game.Kind.TheVariants.{King, Pawn}
 use Rattle.board.specs.declared.game.Unit.{Unit as Man}
 use Rattle.board.specs.Games.{other_side}
 use Rattle.rules.specs.Reach.{IsAttacked, IsInCheck}
 use Rattle.rules.specs.Squares.{Ply, unit_at}
-use Rattle.cells.specs.Mailbox.{cell_of, place_in}
+use Rattle.cells.specs.Mailbox.{place_in}
 use Rattle.cells.specs.CellSets.{Has}
 use Rattle.cells.proofs.CellNumbers.{cell_of-place_in}
-use Rattle.moves.specs.Pinned.{IsPinned}
 use Rattle.moves.specs.Safe.{IsNamed, IsCalm}
 use Rattle.moves.specs.Targets.{IsTarget}
-use Rattle.moves.proofs.AtOnce.{pseudo_by}
 use Rattle.moves.proofs.Guarding.{no_kingless}
 use Rattle.moves.proofs.Kings.{king_of, check_at, check_from}
-use Rattle.moves.proofs.SafeCells.{calm_lawful, lawful_calm}
-use Rattle.moves.proofs.Shadows.{pinned_attacks}
+use Rattle.moves.proofs.SafeCells.{calm_safe}
 use Rattle.moves.proofs.mobility.count_king_moves.Goals as goal
 
 pub unreachable-requires : goal.unreachable-requires
@@ -42,18 +39,17 @@ returns c =
     let out : IsInCheck b b.mover → ⊥ = λ check. false≢true (sym c.if-has.false ∙ c.has.ensures.1 ((c.attacked-attacked.ensures k).1 (c.in-Some.ensures.0, subst (λ x. IsAttacked b s (other_side x)) (sym me) (check_at b is b.mover s on stands check)))) in
     let king : Man = record { side = b.mover; kind = King } in
     let steps : (i : ℕ) → Has set i ↔ (IsTarget b king s i × IsCalm b (place_in i) b.mover) = subst (λ x. (i : ℕ) → Has set i ↔ (IsTarget b (record { side = x; kind = King }) s i × IsCalm b (place_in i) x)) me c.calm_steps.ensures in
+    let safe = calm_safe b king s is refl refl stands set steps on out in
     let to : ℕ → Ply = λ i. record { from = s; to = place_in i; promotion = None } in
-    let named : (i : ℕ) → IsNamed b.game king (to i) = λ i. record { named = ((λ e. cc), λ p. absurd (pawn p.0)); allowed = tt } in
-    let free : (i : ℕ) → IsPinned b b.mover (place_in i) s → ⊥ = λ i w. out (check_from b b.mover s on stands (w.from, pinned_attacks b is b.mover (place_in i) s w)) in (
+    let named : (i : ℕ) → IsNamed b.game king (to i) = λ i. record { named = ((λ e. cc), λ p. absurd (pawn p.0)); allowed = tt } in (
       out,
       record {
         king = s;
         stands = stands;
         cells = set;
         reached = λ i. (
-          λ h. let (target, calm) = (steps i).0 h in
-          (target.0, calm_lawful b king s (place_in i) is refl refl stands (free i) on target.0.on_board target.1 calm (to i) refl refl (named i)),
-          λ (cell, l). (steps i).1 ((cell, (pseudo_by b (to i) king stands l).reaches), lawful_calm b king s (place_in i) is refl refl stands (to i) refl refl l),
+          λ h. ((safe.cells i h).0, safe.lawful i (to i) h refl refl (named i)),
+          λ w. subst (Has set) (cell_of-place_in b.game i w.0) (safe.all (to i) refl w.1),
         );
         count = refl;
       },

@@ -19,11 +19,11 @@ use Rattle.moves.proofs.safe.may_go.Goals as goal
 calm_at : (r : Bool) (b : PlainBoard) (cell : ℕ) (t : Place) (side : Side) → IsOnBoard b.game t → cell ≡ cell_of t → (IsTrue r ↔ IsCalm b (place_in cell) side) → IsTrue r ↔ IsCalm b t side
 calm_at r b cell t side on at h = subst (λ s. IsTrue r ↔ IsCalm b s side) (ap place_in at ∙ place_in-cell_of b.game t on) h
 
-pub returns-then-not-is_calm-clause-none : goal.returns-then-not-is_calm-clause-none
-returns-then-not-is_calm-clause-none c = λ _ m from to l.
+pub returns-then-not-is_calm_for-clause-none : goal.returns-then-not-is_calm_for-clause-none
+returns-then-not-is_calm_for-clause-none c = λ _ m from to l.
     let b = c.args.board.now in
-    let calm = calm_at c.is_calm.result b c.cell_of-cell.result c.args.to c.args.unit.side c.requires.to_on_board c.cell_of-cell.ensures.value c.is_calm.ensures in
-    false≢true (sym c.if-not-is_calm.true ∙ calm.1 (lawful_calm b c.args.unit c.args.from c.args.to c.requires.position (c.is_king.ensures.0 c.if-is_king.true) c.requires.owner c.requires.stands m from to l))
+    let calm = calm_at c.is_calm_for.result b c.cell_of-cell.result c.args.to c.args.unit.side c.requires.to_on_board c.cell_of-cell.ensures.value (subst (λ s. IsTrue c.is_calm_for.result ↔ IsCalm b (place_in c.cell_of-cell.result) s) (sym c.requires.owner) c.is_calm_for.ensures) in
+    false≢true (sym c.if-not-is_calm_for.true ∙ calm.1 (lawful_calm b c.args.unit c.args.from c.args.to c.requires.position (c.is_king.ensures.0 c.if-is_king.true) c.requires.owner c.requires.stands m from to l))
 
 pub returns-then-not-has-clause-all : goal.returns-then-not-has-clause-all
 returns-then-not-has-clause-all c = λ _.
@@ -32,10 +32,10 @@ returns-then-not-has-clause-all c = λ _.
     let s = c.args.from in
     let t = c.args.to in
     let king = c.is_king.ensures.0 c.if-is_king.true in
-    let calm = calm_at c.is_calm.result b c.cell_of-cell.result t u.side c.requires.to_on_board c.cell_of-cell.ensures.value c.is_calm.ensures in
+    let calm = calm_at c.is_calm_for.result b c.cell_of-cell.result t u.side c.requires.to_on_board c.cell_of-cell.ensures.value (subst (λ s. IsTrue c.is_calm_for.result ↔ IsCalm b (place_in c.cell_of-cell.result) s) (sym c.requires.owner) c.is_calm_for.ensures) in
     let free : IsPinned b b.mover t s → ⊥ = λ w. false≢true (sym c.if-not-has.true ∙ c.has.ensures.1 (subst (Has c.args.guard.shadow) (sym c.cell_of-cell.ensures.value)
     (in_shadow b c.args.guard u s t c.requires.position c.requires.guards c.requires.from_on_board c.requires.to_on_board c.requires.stands c.requires.owner king w))) in
-    calm_lawful b u s t c.requires.position king c.requires.owner c.requires.stands free c.requires.from_on_board c.requires.to_on_board c.requires.reaches (calm.0 c.if-not-is_calm.false)
+    calm_lawful b u s t c.requires.position king c.requires.owner c.requires.stands free c.requires.from_on_board c.requires.to_on_board c.requires.reaches (calm.0 c.if-not-is_calm_for.false)
 
 pub returns-then-not-has-clause-found : goal.returns-then-not-has-clause-found
 returns-then-not-has-clause-found c = λ _.
@@ -44,11 +44,11 @@ returns-then-not-has-clause-found c = λ _.
     let s = c.args.from in
     let t = c.args.to in
     let king = c.is_king.ensures.0 c.if-is_king.true in
-    let calm = calm_at c.is_calm.result b c.cell_of-cell.result t u.side c.requires.to_on_board c.cell_of-cell.ensures.value c.is_calm.ensures in
+    let calm = calm_at c.is_calm_for.result b c.cell_of-cell.result t u.side c.requires.to_on_board c.cell_of-cell.ensures.value (subst (λ s. IsTrue c.is_calm_for.result ↔ IsCalm b (place_in c.cell_of-cell.result) s) (sym c.requires.owner) c.is_calm_for.ensures) in
     let free : IsPinned b b.mover t s → ⊥ = λ w. false≢true (sym c.if-not-has.true ∙ c.has.ensures.1 (subst (Has c.args.guard.shadow) (sym c.cell_of-cell.ensures.value)
     (in_shadow b c.args.guard u s t c.requires.position c.requires.guards c.requires.from_on_board c.requires.to_on_board c.requires.stands c.requires.owner king w))) in
     let (m, from, to, named) = named_move b.game u s t in
-    (m, calm_lawful b u s t c.requires.position king c.requires.owner c.requires.stands free c.requires.from_on_board c.requires.to_on_board c.requires.reaches (calm.0 c.if-not-is_calm.false) m from to named)
+    (m, calm_lawful b u s t c.requires.position king c.requires.owner c.requires.stands free c.requires.from_on_board c.requires.to_on_board c.requires.reaches (calm.0 c.if-not-is_calm_for.false) m from to named)
 
 -- no king stands where the set has none
 no_king_at : (b : PlainBoard) (set cell : ℕ) (t : Place) → IsOnBoard b.game t → cell ≡ cell_of t → Holds b Crowned set → (Has set cell → ⊥) → IsSomeKing (unit_at b t) → ⊥
