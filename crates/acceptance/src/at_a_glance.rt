@@ -1,5 +1,5 @@
-//! What is told of moves at a glance: how far units go, and how far the king.
-use moves::{Board, count_king_moves, count_steps, read_sound};
+//! What is told of moves at a glance: how far units go, how far the king, and whether one move is lawful.
+use moves::{Board, Move, Square, after_if_lawful, count_king_moves, count_steps, read_sound};
 use std::process::Abort;
 
 fn board(rt: &impl Abort, text: &str) -> Board {
@@ -33,5 +33,35 @@ fn counts_moves_of_the_king(rt: HostRuntime) {
     ];
     for (text, count) in counts {
         assert_eq!(rt; count_king_moves(&board(&rt, text)), count, "{text}");
+    }
+}
+
+fn square(file: u8, rank: u8) -> Square {
+    Square { file, rank }
+}
+
+// By hand: the king may leave its pinned knight behind; the knight may not go, nor the king where it stands, nor the other side's king,
+// nor what isn't there.
+#[test]
+fn makes_a_lawful_move_alone(rt: HostRuntime) {
+    let before = board(&rt, "4r1/6/6/6/4N1/k3K1 w");
+    let moves = [
+        (square(4, 0), square(3, 0), true),
+        (square(4, 1), square(2, 2), false),
+        (square(4, 0), square(4, 1), false),
+        (square(0, 0), square(0, 1), false),
+        (square(1, 1), square(1, 2), false),
+    ];
+    let after = board(&rt, "4r1/6/6/6/4N1/k2K2 b").words();
+    for (from, to, is_lawful) in moves {
+        let m = Move {
+            from,
+            to,
+            promotion: None,
+        };
+        match after_if_lawful(&before, m) {
+            Some(next) => assert!(rt; is_lawful && next.words() == after),
+            None => assert!(rt; !is_lawful),
+        }
     }
 }

@@ -8,9 +8,7 @@ use crate::memory::Memory;
 use crate::order::in_order;
 use crate::question::Question;
 use arrayvec::ArrayVec;
-use moves::{
-    Board, Goal, Move, has_lawful_move, is_lawful_on, list_lawful, mover_in_check, reaches_at_once,
-};
+use moves::{Board, Goal, Move, has_lawful_move, list_lawful, mover_in_check, reaches_at_once};
 
 /// Whether the side to move is where the goal wants it.
 fn is_reached(board: &Board, goal: Goal) -> bool
@@ -47,10 +45,10 @@ fn refutes(memory: &mut Memory, q: &Question, m: Move) -> bool
     requires { is_own q.now ≡ false }
     ensures { IsTrue result → IsForced q.now 2 → ⊥ }
 {
-    if !is_lawful_on(&q.position, m) {
+    let Some(next) = q.after_if_lawful(m) else {
         return false;
-    }
-    !wins_at_once(memory, &q.after(m))
+    };
+    !wins_at_once(memory, &next)
 }
 
 /// One of the replies that refuted last, if it does again: where it does, no list is made.

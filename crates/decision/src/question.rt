@@ -1,5 +1,5 @@
 //! What is asked: whether the attacker forces the goal from a position.
-ghost use Rattle.std.specs.Prelude.{◌≡◌};
+ghost use Rattle.std.specs.Prelude.{◌≡◌, MatchOption};
 ghost use Rattle.board.specs.Board.{IsPosition};
 ghost use Rattle.board.specs.Games.{is_same_side};
 ghost use Rattle.rules.specs.Moves.{IsLawful};
@@ -7,7 +7,7 @@ ghost use Rattle.decision.specs.Questions.{key_for, LeadsTo};
 
 use board::Side;
 use entry::{Interval, key_of, pack_board};
-use moves::{Board, Goal, Move, after};
+use moves::{Board, Goal, Move, after, after_if_lawful};
 
 /// Whether the attacker forces the goal from the position.
 #[derive(Drop)]
@@ -34,6 +34,20 @@ impl Question {
             attacker: self.attacker,
             goal: self.goal,
         }
+    }
+
+    /// The same of the position after the move, if the move is lawful.
+    pub(crate) fn after_if_lawful(&self, m: Move) -> Option<Question>
+        ensures { MatchOption result (IsLawful self.now.position m → ⊥) (LeadsTo self.now m) }
+    {
+        let Some(position) = after_if_lawful(&self.position, m) else {
+            return None;
+        };
+        Some(Question {
+            position,
+            attacker: self.attacker,
+            goal: self.goal,
+        })
     }
 
     /// Whether the attacker is to move.

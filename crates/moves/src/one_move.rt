@@ -1,15 +1,18 @@
-//! Whether one move is lawful on a board. No list is made.
-ghost use Rattle.std.specs.Prelude.{◌↔◌, IsTrue};
+//! Whether one move is lawful on a board, and the board after it. No list is made.
+ghost use Rattle.std.specs.Prelude.{◌≡◌, ◌↔◌, IsTrue, MatchOption, Some};
 ghost use Rattle.board.specs.Board.{IsPosition};
-ghost use Rattle.rules.specs.Squares.{IsOnBoard};
-ghost use Rattle.rules.specs.Moves.{IsLawful};
+ghost use Rattle.rules.specs.Squares.{IsOnBoard, unit_at};
+ghost use Rattle.rules.specs.Reach.{Reaches};
+ghost use Rattle.rules.specs.Moves.{IsMove, IsLawful};
 
-use crate::board_list::{guard_of, is_lawful_to, own_unit};
+use crate::board_list::own_unit;
+use crate::look::is_checked;
 use crate::packed::Board;
+use crate::sets::Class;
 use crate::targets::targets;
-use board::Game;
+use board::{Game, Unit};
 use cells::{cell_of, has};
-use rules::Move;
+use rules::{Move, is_promoted_well};
 
 /// Whether the board has both squares of the move.
 fn has_squares(game: Game, m: Move) -> bool
@@ -18,25 +21,56 @@ fn has_squares(game: Game, m: Move) -> bool
     m.from.is_on_board(game) && m.to.is_on_board(game)
 }
 
-/// Whether the move is lawful, on a board laid out that has both squares.
-fn is_lawful_in(board: &Board, m: Move) -> bool
+/// The board after the unit's move to a square that it reaches, if the move is lawful.
+fn after_to(board: &Board, m: Move, unit: Unit) -> Option<Board>
     requires position { IsPosition board.now }
     requires squares { IsOnBoard board.now.game m.from × IsOnBoard board.now.game m.to }
-    ensures { IsTrue result ↔ IsLawful board.now m }
+    requires stands { unit_at board.now m.from ≡ Some unit }
+    requires owner { unit.side ≡ board.now.mover }
+    requires reaches { Reaches board.now unit m.from m.to (unit_at board.now m.to) }
+    ensures { MatchOption result (IsLawful board.now m → ⊥) (λ next. IsMove board.now m next) }
+{
+    if has(board.set(Class::Crowned), cell_of(m.to)) {
+        return None;
+    }
+    if !is_promoted_well(board.game(), unit, m) {
+        return None;
+    }
+    let next = board.moved(m, unit);
+    if is_checked(&next, unit.side) {
+        return None;
+    }
+    Some(next)
+}
+
+/// The board after the move, if the move is lawful, on a board that has both squares.
+fn after_in(board: &Board, m: Move) -> Option<Board>
+    requires position { IsPosition board.now }
+    requires squares { IsOnBoard board.now.game m.from × IsOnBoard board.now.game m.to }
+    ensures { MatchOption result (IsLawful board.now m → ⊥) (λ next. IsMove board.now m next) }
 {
     let Some(unit) = own_unit(board, m.from) else {
-        return false;
+        return None;
     };
-    let to = cell_of(m.to);
-    if !has(targets(board, unit, cell_of(m.from)), to) {
-        return false;
+    if !has(targets(board, unit, cell_of(m.from)), cell_of(m.to)) {
+        return None;
     }
-    is_lawful_to(board, guard_of(board), m, unit, board.unit_in(to))
+    after_to(board, m, unit)
+}
+
+/// The board after the move, if the move is lawful.
+pub fn after_if_lawful(board: &Board, m: Move) -> Option<Board>
+    ensures { MatchOption result (IsLawful board.now m → ⊥) (λ next. IsMove board.now m next) }
+{
+    if !has_squares(board.game(), m) {
+        return None;
+    }
+    after_in(board, m)
 }
 
 /// Whether the move is lawful. No list is made.
 pub fn is_lawful_on(board: &Board, m: Move) -> bool
     ensures { IsTrue result ↔ IsLawful board.now m }
 {
-    has_squares(board.game(), m) && is_lawful_in(board, m)
+    after_if_lawful(board, m).is_some()
 }

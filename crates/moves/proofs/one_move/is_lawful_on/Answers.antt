@@ -1,13 +1,12 @@
-use Rattle.std.proofs.Common.{sym, ◌∙◌}
+use Rattle.std.proofs.Common.{◌↔◌, IsTrue, Option, Some, None, MatchOption, refl, sym, subst}
 use Rattle.std.proofs.lemmas.Bool.{false≢true}
-use Rattle.rules.proofs.Keeps.{to_on_board}
+use Rattle.std.specs.Option.{is_some}
+use Rattle.rules.specs.Moves.{IsLawful}
 use Rattle.moves.proofs.one_move.is_lawful_on.Goals as goal
 
-pub returns-else-has_squares : goal.returns-else-has_squares
-returns-else-has_squares c = (
-  λ yes. absurd (false≢true (sym c.if-has_squares.false ∙ yes)),
-  λ l.
-      let b = c.args.board.now in
-      let pseudo = l.1.pseudo in
-      c.has_squares.ensures.1 (rw (c.game.ensures.value) (pseudo.on_board, to_on_board b c.args.m l.1.unit pseudo)),
-)
+some_if : {X : Type 0} (A : X → Type 0) (L : Type 0) (o : Option X) → MatchOption o (L → ⊥) A → ((x : X) → A x → L) → IsTrue (is_some o) ↔ L
+some_if A L None none found = (λ never. absurd (false≢true never), λ l. absurd (none l))
+some_if A L (Some x) is found = (λ _. found x is, λ _. refl)
+
+pub returns : goal.returns
+returns c = subst (λ r. IsTrue r ↔ IsLawful c.args.board.now c.args.m) (sym c.is_some.ensures) (some_if _ (IsLawful c.args.board.now c.args.m) c.after_if_lawful.result c.after_if_lawful.ensures (λ x move. (_, move)))
