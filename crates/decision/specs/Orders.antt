@@ -1,5 +1,6 @@
 -- The moves that are tried, in any order.
-use Rattle.std.specs.Prelude.{◌↔◌, List, Contains}
+use Rattle.std.specs.Prelude.{◌≡◌, ◌↔◌, List, Contains, map}
+use Rattle.decision.specs.declared.order.Ranked.{Ranked}
 use Rattle.board.specs.Board.{PlainBoard}
 use Rattle.rules.specs.Squares.{Ply}
 use Rattle.rules.specs.Moves.{IsLawful}
@@ -7,3 +8,7 @@ use Rattle.rules.specs.Moves.{IsLawful}
 -- the list has each lawful move, and no other
 abbrev pub ListsAll : PlainBoard → List Ply → Type 0
 ListsAll b moves = (m : Ply) → Contains moves m ↔ IsLawful b m
+
+-- the moves, each ranked by some cost
+abbrev pub AreRanked : List Ply → List Ranked → Type 0
+AreRanked moves ranked = moves ≡ map (λ (r : Ranked). r.m) ranked

@@ -1,10 +1,10 @@
 //! Which moves are tried first. No answer depends on it.
-ghost use Rattle.std.specs.Prelude.{◌≡◌, ◌<◌, ◌≤◌, All, IfSome, length};
+ghost use Rattle.std.specs.Prelude.{◌≡◌, ◌≤◌, All, IfSome, [], length};
 ghost use Rattle.std.specs.List.Sorted.{IsPermutation};
 ghost use Rattle.rules.specs.Moves.{IsLawful};
-ghost use Rattle.decision.specs.Orders.{ListsAll};
+ghost use Rattle.decision.specs.Orders.{ListsAll, AreRanked};
 
-use crate::memory::{Memory, pair_of};
+use crate::memory::Memory;
 use crate::question::Question;
 use arrayvec::ArrayVec;
 use board::{Kind, Side};
@@ -12,10 +12,11 @@ use moves::{
     Board, CheckWatch, Move, after, count_king_moves, count_lawful, count_steps, list_lawful,
 };
 
-/// The costs of moves, by their two squares: those of less cost are tried first.
-#[derive(Drop)]
-struct Costs {
-    of_pair: [u16; 1296],
+/// A move, and what counts against it: those of less cost are tried first.
+#[derive(Clone, Copy, Default)]
+struct Ranked {
+    m: Move,
+    cost: u16,
 }
 
 /// From so many plies on what an attacker's move leaves the defender to do is counted, and boards are made for it.
@@ -122,46 +123,74 @@ fn cost(memory: &Memory, q: &Question, m: Move) -> u16
     }
 }
 
-/// Tells the costs of the moves above the last three plies.
-fn tell_above(costs: &mut Costs, memory: &Memory, q: &Question, moves: &[Move])
-    requires { All (IsLawful q.now.position) moves.now }
+/// Ranks the moves above the last three plies.
+fn rank_above(ranked: &mut ArrayVec<Ranked, 512>, memory: &Memory, q: &Question, moves: &[Move])
+    requires lawful { All (IsLawful q.now.position) moves.now }
+    requires none { ranked.old.items ≡ [] }
+    requires room { length moves.now ≤ 512 }
+    ensures { AreRanked moves.now ranked.new.items }
 {
     for m in moves {
-        costs.of_pair[pair_of(*m)] = cost(memory, q, *m);
+        ranked.push(Ranked {
+            m: *m,
+            cost: cost(memory, q, *m),
+        });
     }
 }
 
-/// Tells the costs of the attacker's moves in the last three plies. No board is made.
-fn tell_last(costs: &mut Costs, memory: &Memory, q: &Question, moves: &[Move])
-    requires { All (IsLawful q.now.position) moves.now }
+/// Ranks the attacker's moves in the last three plies. No board is made.
+fn rank_last(ranked: &mut ArrayVec<Ranked, 512>, memory: &Memory, q: &Question, moves: &[Move])
+    requires lawful { All (IsLawful q.now.position) moves.now }
+    requires none { ranked.old.items ≡ [] }
+    requires room { length moves.now ≤ 512 }
+    ensures { AreRanked moves.now ranked.new.items }
 {
     let watch = CheckWatch::of(&q.position);
     for m in moves {
-        costs.of_pair[pair_of(*m)] = cost_of_last(memory, q, &watch, *m);
+        ranked.push(Ranked {
+            m: *m,
+            cost: cost_of_last(memory, q, &watch, *m),
+        });
     }
 }
 
-/// Tells the costs of the moves. Where moves have the same two squares, it is that of the last.
-// The costs are lent, since they take longer to copy than most moves to judge.
-fn tell(costs: &mut Costs, memory: &Memory, q: &Question, n: u8, moves: &[Move])
-    requires { All (IsLawful q.now.position) moves.now }
+/// Ranks the moves.
+// The list is lent, since it takes longer to copy than most moves to judge.
+fn rank(ranked: &mut ArrayVec<Ranked, 512>, memory: &Memory, q: &Question, n: u8, moves: &[Move])
+    requires lawful { All (IsLawful q.now.position) moves.now }
+    requires none { ranked.old.items ≡ [] }
+    requires room { length moves.now ≤ 512 }
+    ensures { AreRanked moves.now ranked.new.items }
 {
     if n < COUNTED_FROM && q.is_own_turn() {
-        tell_last(costs, memory, q, moves);
+        rank_last(ranked, memory, q, moves);
     } else {
-        tell_above(costs, memory, q, moves);
+        rank_above(ranked, memory, q, moves);
+    }
+}
+
+/// Puts the ranked moves into the list in place of what it held.
+fn put_ranked(moves: &mut ArrayVec<Move, 512>, ranked: &[Ranked])
+    requires { length ranked.now ≤ 512 }
+    ensures { AreRanked moves.new.items ranked.now }
+{
+    moves.clear();
+    for r in ranked {
+        moves.push(r.m);
     }
 }
 
 /// Puts the lawful moves into the list in place of what it held, those of least cost first.
+// Each cost stands beside its move, since a sort looks at each some five times.
 #[inline(never)]
 pub fn in_order(memory: &Memory, q: &Question, n: u8, moves: &mut ArrayVec<Move, 512>)
     ensures { ListsAll q.now.position moves.new.items }
 {
     list_lawful(&q.position, moves);
-    let mut costs = Costs { of_pair: [0; 1296] };
-    tell(&mut costs, memory, q, n, moves.as_slice());
-    moves
+    let mut ranked = ArrayVec::new();
+    rank(&mut ranked, memory, q, n, moves.as_slice());
+    ranked
         .as_mut_slice()
-        .sort_unstable_by_key(|m: &Move| costs.of_pair[pair_of(*m)]);
+        .sort_unstable_by_key(|r: &Ranked| r.cost);
+    put_ranked(moves, ranked.as_slice());
 }
