@@ -1,5 +1,10 @@
-//! What is told of moves at a glance: how far units go, how far the king, and whether one move is lawful.
-use moves::{Board, Move, Square, after_if_lawful, count_king_moves, count_steps, read_sound};
+//! What is told of moves at a glance: how far units go, how far the king, whether one move is lawful, and may give check.
+ghost use Rattle.std.specs.Prelude.{◌<◌};
+
+use moves::{
+    Board, CheckWatch, Move, Square, after_if_lawful, count_king_moves, count_steps, is_lawful_on,
+    read_sound,
+};
 use std::process::Abort;
 
 fn board(rt: &impl Abort, text: &str) -> Board {
@@ -36,7 +41,9 @@ fn counts_moves_of_the_king(rt: HostRuntime) {
     }
 }
 
-fn square(file: u8, rank: u8) -> Square {
+fn square(file: u8, rank: u8) -> Square
+    requires { (file < 6) × (rank < 6) }
+{
     Square { file, rank }
 }
 
@@ -63,5 +70,52 @@ fn makes_a_lawful_move_alone(rt: HostRuntime) {
             Some(next) => assert!(rt; is_lawful && next.words() == after),
             None => assert!(rt; !is_lawful),
         }
+    }
+}
+
+fn told(board: &Board, m: Move) -> Option<bool> {
+    let watch = CheckWatch::of(board)?;
+    if !is_lawful_on(board, m) {
+        return None;
+    }
+    Some(watch.may_check(m))
+}
+
+// By hand: a rook that comes to a rank or a file of the king, or to neither; a knight; a king; a knight that uncovers a rook; and what
+// isn't lawful.
+#[test]
+fn tells_which_moves_may_check(rt: HostRuntime) {
+    let moves = [
+        ("k5/6/6/6/2N3/4RK w", square(4, 0), square(4, 5), Some(true)),
+        ("k5/6/6/6/2N3/4RK w", square(4, 0), square(0, 0), Some(true)),
+        (
+            "k5/6/6/6/2N3/4RK w",
+            square(4, 0),
+            square(4, 2),
+            Some(false),
+        ),
+        ("k5/6/6/6/2N3/4RK w", square(2, 1), square(1, 3), Some(true)),
+        (
+            "k5/6/6/6/2N3/4RK w",
+            square(2, 1),
+            square(3, 3),
+            Some(false),
+        ),
+        (
+            "k5/6/6/6/2N3/4RK w",
+            square(5, 0),
+            square(5, 1),
+            Some(false),
+        ),
+        ("k5/6/6/6/2N3/4RK w", square(2, 1), square(2, 2), None),
+        ("k5/6/6/N5/6/R4K w", square(0, 2), square(2, 3), Some(true)),
+    ];
+    for (text, from, to, may_check) in moves {
+        let m = Move {
+            from,
+            to,
+            promotion: None,
+        };
+        assert_eq!(rt; told(&board(&rt, text), m), may_check, "{text}");
     }
 }
