@@ -1,6 +1,6 @@
 -- Which moves may give check, and what a move brings about at once.
 use Rattle.std.specs.Prelude.{◌≡◌, ℕ, Some, IfSome, MatchOption}
-use Rattle.board.specs.declared.game.Kind.TheVariants.{King, Rook, Bishop, Knight}
+use Rattle.board.specs.declared.game.Kind.TheVariants.{King, Knight}
 use Rattle.board.specs.Games.{other_side}
 use Rattle.board.specs.Board.{PlainBoard}
 use Rattle.moves.specs.declared.at_once.Quest.{Quest}
@@ -12,13 +12,12 @@ use Rattle.rules.specs.Moves.{IsMove}
 use Rattle.rules.specs.Forces.{IsReached}
 use Rattle.cells.specs.Mailbox.{place_in, IsCell}
 use Rattle.moves.specs.Guard.{Guards}
-use Rattle.moves.specs.Looking.{Aims}
 use Rattle.moves.specs.Pinned.{IsPinned}
 use Rattle.cells.specs.CellSets.{Has}
 use Rattle.moves.specs.Safe.{IsCalm}
 use Rattle.moves.specs.Targets.{IsTarget}
 
--- the watch tells the cell of the other king, which isn't attacked, which cells have units that alone keep a rider of the mover from it, cells to which it steps calmly, which cells a knight of the mover would reach from there, and which a rook and a bishop of the king's side would see
+-- the watch tells the cell of the other king, which isn't attacked, which cells have units that alone keep a rider of the mover from it, cells to which it steps calmly, and which cells a knight of the mover would reach from there
 pub record Watches (b : PlainBoard) (watch : Watch) : Type 0 where
   pub cell : IsCell b.game watch.king
   pub king : unit_at b (place_in watch.king) ≡ Some (record { side = other_side b.mover; kind = King })
@@ -26,8 +25,6 @@ pub record Watches (b : PlainBoard) (watch : Watch) : Type 0 where
   pub uncovers : (i : ℕ) → IsCell b.game i → IsPinned b (other_side b.mover) (place_in watch.king) (place_in i) → Has watch.uncovers i
   pub steps : (i : ℕ) → Has watch.steps i → IsTarget b (record { side = other_side b.mover; kind = King }) (place_in watch.king) i × IsCalm b (place_in i) (other_side b.mover)
   pub leaps : (i : ℕ) → IsTarget b (record { side = b.mover; kind = Knight }) (place_in watch.king) i → Has watch.leaps i
-  pub straight : (i : ℕ) → IsCell b.game i → Aims b (record { side = other_side b.mover; kind = Rook }) (place_in watch.king) (place_in i) → Has watch.straight i
-  pub slanted : (i : ℕ) → IsCell b.game i → Aims b (record { side = other_side b.mover; kind = Bishop }) (place_in watch.king) (place_in i) → Has watch.slanted i
 
 -- the lawful move brings the other side where the goal wants it
 pub record Attains (goal : Goal) (b : PlainBoard) (m : Ply) : Type 0 where

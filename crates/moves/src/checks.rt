@@ -22,15 +22,13 @@ use cells::{cell_of, common, has};
 use rules::Square;
 
 /// The cell of the king that isn't the mover's, the cells of the units that alone keep a rider of the mover from it, the cells
-/// to which it steps calmly, those that a knight of the mover would reach from there, and those that riders see from there.
+/// to which it steps calmly, and those that a knight of the mover would reach from there.
 #[derive(Clone, Copy)]
 pub(crate) struct Watch {
     pub(crate) king: u8,
     pub(crate) uncovers: u64,
     pub(crate) steps: u64,
     pub(crate) leaps: u64,
-    pub(crate) straight: u64,
-    pub(crate) slanted: u64,
 }
 
 /// A watch on the king that isn't the mover's, if it isn't attacked already.
@@ -53,13 +51,11 @@ pub(crate) fn watch_of(board: &Board) -> Option<Watch>
         uncovers: pinned(board, foe, king),
         steps: calm_steps(board, foe, king, attacked),
         leaps: targets(board, knight, king),
-        straight: seen(board, foe, Kind::Rook, king),
-        slanted: seen(board, foe, Kind::Bishop, king),
     })
 }
 
 /// Cells among which are all from which the unit would take on the king's, and to which it may move.
-pub(crate) fn aiming(board: &Board, watch: Watch, unit: Unit) -> u64
+fn aiming(board: &Board, watch: Watch, unit: Unit) -> u64
     requires watches { Watches board.now watch }
     requires played { IsPlayed board.now.game unit.kind }
     ensures { (m : Ply) → IsPseudoLegal board.now m unit → Aims board.now unit m.to (place_in watch.king)
@@ -68,10 +64,7 @@ pub(crate) fn aiming(board: &Board, watch: Watch, unit: Unit) -> u64
     match unit.kind {
         Kind::Pawn => seen(board, unit.side.other(), Kind::Pawn, watch.king),
         Kind::Knight => watch.leaps,
-        Kind::Queen => watch.straight | watch.slanted,
-        Kind::Rook => watch.straight,
-        Kind::Bishop => watch.slanted,
-        Kind::King => targets(board, unit, watch.king),
+        Kind::King | Kind::Queen | Kind::Rook | Kind::Bishop => targets(board, unit, watch.king),
     }
 }
 

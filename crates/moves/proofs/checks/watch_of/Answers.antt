@@ -1,11 +1,10 @@
 use Rattle.std.proofs.Common.{◌≡◌, ℕ, Some, sym, ap, subst, ◌∙◌}
 use Rattle.std.proofs.lemmas.Bool.{false≢true}
-use Rattle.board.specs.declared.game.Kind.TheVariants.{King, Rook, Bishop, Knight}
+use Rattle.board.specs.declared.game.Kind.TheVariants.{King, Knight}
 use Rattle.board.specs.Games.{other_side}
 use Rattle.rules.specs.Squares.{unit_at}
 use Rattle.rules.specs.Reach.{IsInCheck}
 use Rattle.cells.specs.Mailbox.{place_in, IsCell}
-use Rattle.moves.specs.Looking.{Aims}
 use Rattle.moves.specs.Pinned.{IsPinned}
 use Rattle.moves.specs.Safe.{IsCalm}
 use Rattle.moves.specs.Targets.{IsTarget}
@@ -28,6 +27,4 @@ returns c =
       uncovers = subst (λ s. (i : ℕ) → IsCell b.game i → IsPinned b s (place_in k) (place_in i) → Has c.pinned.result i) foe c.pinned.ensures;
       steps = λ i h. subst (λ s. IsTarget b (record { side = s; kind = King }) (place_in k) i × IsCalm b (place_in i) s) foe ((c.calm_steps.ensures i).0 h);
       leaps = λ i t. (c.targets.ensures i).1 (subst (λ s. IsTarget b (record { side = s; kind = Knight }) (place_in k) i) (sym c.mover-own.ensures.value) t);
-      straight = λ i cell aims. (c.seen.ensures i).1 (cell, subst (λ s. Aims b (record { side = s; kind = Rook }) (place_in k) (place_in i)) (sym foe) aims);
-      slanted = λ i cell aims. (c.seen-2.ensures i).1 (cell, subst (λ s. Aims b (record { side = s; kind = Bishop }) (place_in k) (place_in i)) (sym foe) aims);
     }
