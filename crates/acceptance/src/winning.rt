@@ -55,7 +55,7 @@ fn tree_of<R: Threads + Wait + Abort + AllocGlobal + Sync>(
     shown_of(rt.alloc(), position, goal, &tree)
 }
 
-/// The same, by so many workers and the caller's own thread, over the table and the seats of their solve.
+/// The tree, by so many workers and the caller's own thread, over the table and the seats of their solve.
 fn tree_by<R: Threads + Wait + Abort + AllocGlobal + Sync>(
     rt: &R,
     position: &Position,

@@ -106,7 +106,7 @@ fn reply_watched<R: Threads + Wait + Sync + AllocGlobal>(
     text
 }
 
-/// The same, with a thread beside it that shows its search.
+/// The reply to a line that reads no input, with a thread beside it that shows its search.
 fn reply_beside<R: Threads + Wait + Eprint + Clock + Sync + AllocGlobal>(
     rt: &R,
     watch: &Watch,
@@ -163,7 +163,7 @@ fn solve_watched<R: Threads + Wait + Sync + AllocGlobal>(
     (answer, seats)
 }
 
-/// The same, with a thread beside it that shows it.
+/// The answer of a task, and its seats, with a thread beside it that shows the search.
 pub fn solve_beside<R: Threads + Wait + Eprint + Clock + Sync + AllocGlobal>(
     rt: &R,
     task: &Task<'_, Watch>,

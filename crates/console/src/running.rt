@@ -41,7 +41,7 @@ pub fn run_line<R: Threads + Wait + Eprint + Clock + Sync + AllocGlobal, S: Sour
     run_line_on(&host, line, reader, writer, &mut sink())
 }
 
-/// The same with a host that may show how far a search is. `errors` is told why a line was refused;
+/// Answers a line for a host that may show how far a search is. `errors` is told why a line was refused;
 /// whether it takes that changes nothing.
 fn run_line_on<
     R: Threads + Wait + Eprint + Clock + Sync + AllocGlobal,

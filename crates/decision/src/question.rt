@@ -24,7 +24,7 @@ pub(crate) const NOTHING: Interval = Interval {
 };
 
 impl Question {
-    /// The same of the position after a lawful move.
+    /// Whether the same attacker forces the same goal from the position after a lawful move.
     pub fn after(&self, m: Move) -> Question
         requires { IsLawful self.now.position m }
         ensures { LeadsTo self.now m result }
@@ -36,7 +36,7 @@ impl Question {
         }
     }
 
-    /// The same of the position after the move, if the move is lawful.
+    /// Whether it does from the position after the move, if the move is lawful.
     pub(crate) fn after_if_lawful(&self, m: Move) -> Option<Question>
         ensures { MatchOption result (IsLawful self.now.position m → ⊥) (LeadsTo self.now m) }
     {

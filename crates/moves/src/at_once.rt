@@ -117,7 +117,7 @@ fn attains_to(board: &Board, quest: Quest, unit: Unit, from: Square, to: Square)
     false
 }
 
-/// The cells that the unit reaches, without some to which none of its moves is such.
+/// The cells that the unit reaches, without some to which no lawful move of it reaches the goal.
 fn hopeful(board: &Board, quest: Quest, unit: Unit, from: Square) -> u64
     requires position { IsPosition board.now }
     requires seeks { Seeks board.now quest }
@@ -133,7 +133,7 @@ fn hopeful(board: &Board, quest: Quest, unit: Unit, from: Square) -> u64
     }
 }
 
-/// Whether some move of the unit on the square is such.
+/// Whether some lawful move of the unit on the square brings the other side where the goal wants it.
 fn attains_from(board: &Board, quest: Quest, unit: Unit, from: Square) -> bool
     requires position { IsPosition board.now }
     requires seeks { Seeks board.now quest }
@@ -154,7 +154,7 @@ fn attains_from(board: &Board, quest: Quest, unit: Unit, from: Square) -> bool
     false
 }
 
-/// Whether some move of the mover's unit in the cell is such.
+/// Whether some lawful move of the mover's unit in the cell brings the other side where the goal wants it.
 fn attains_in(board: &Board, quest: Quest, cell: u8) -> bool
     requires position { IsPosition board.now }
     requires seeks { Seeks board.now quest }

@@ -272,7 +272,7 @@ pub(crate) fn guard_in_check(board: &Board, king: u8, attacked: u64, checkers: u
     }
 }
 
-/// The same guard, which tells where other units must come.
+/// The guard of a king in check, with the cells to which units other than the king must come.
 pub(crate) fn blocked(board: &Board, guard: Guard, checkers: u64) -> Guard
     requires position { IsPosition board.now }
     requires guards { Guards board.now guard }

@@ -47,7 +47,7 @@ impl Board {
         Board { words, sets }
     }
 
-    /// The same board once more: no position is made.
+    /// A copy of the board. No position is made.
     pub fn copied(&self) -> Board
         ensures { result ≡ self.now }
     {

@@ -121,7 +121,7 @@ fn answer_within<R: Threads + Wait + Sync, T: Gate>(
     solve(rt, alloc, position, goal, limit, workers, slots, gate)
 }
 
-/// The same, with the table that it was found over and its seats there.
+/// The answer within the limits, with the table that it was found over and its seats there.
 fn searched_within<R: Threads + Wait + Sync, T: Gate>(
     rt: &R,
     told: &Told<'_, T>,
@@ -375,7 +375,7 @@ pub fn reply<R: Threads + Wait + Sync, S: Source>(
     reply_told(rt, &told, line, reader)
 }
 
-/// The same, where a gate is told of each job of a search.
+/// The text that answers a line, where a gate is told of each job of a search.
 pub fn reply_told<R: Threads + Wait + Sync, T: Gate, S: Source>(
     rt: &R,
     told: &Told<'_, T>,

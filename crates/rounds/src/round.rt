@@ -195,7 +195,7 @@ fn settle<J: Count, T: Gate>(
     None
 }
 
-/// The same, of all shares: the last is the caller's own.
+/// Decides each such job of all shares, of which the last is the caller's own.
 fn settle_all<J: Count, T: Gate>(
     bench: &Bench<'_, T>,
     shares: &mut Vec<Share<'_, '_, J>>,

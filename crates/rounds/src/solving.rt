@@ -164,8 +164,9 @@ pub fn solve_over<T: Gate, R: Threads + Wait + Sync>(
     Ok(answer)
 }
 
-/// The same, searched by so many workers and the caller's own thread, over a table of so many slots. A
-/// worker that can't be started is left out.
+/// The fewest plies in which the side to move forces the goal, with the least first move, or that there are none up to the
+/// limit: searched by so many workers and the caller's own thread, over a table of so many slots. A worker that can't be
+/// started is left out.
 pub fn solve<T: Gate, R: Threads + Wait + Sync>(
     rt: &R,
     alloc: Global,

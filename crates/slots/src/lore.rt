@@ -21,8 +21,8 @@ pub trait Lore {
     fn prefers(old: [u64; 3], new: [u64; 3]) -> bool
         ensures { result ≡ prefers old new };
 
-    /// The same of words that may stand in a slot, offered where whole words stand. Of others it may say anything, so it
-    /// needn't look at all of them: a store that read a mixture doesn't end by what this says.
+    /// Whether the old words stay where words that may stand in a slot are offered, and whole ones stand. Of others it may say
+    /// anything, so it needn't look at all of them: a store that read a mixture doesn't end by what this says.
     fn stays(old: [u64; 3], new: [u64; 3]) -> bool
         ensures { meets new → IsWhole meets old → result ≡ prefers old new }
     {

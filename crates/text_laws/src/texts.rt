@@ -10,7 +10,8 @@ pub fn position_text_laws()
     ensures no_fault { NoFaultOfPosition }
 {}
 
-/// The same where the side that is not to move has to be out of check.
+/// A position whose side that is not to move is out of check has one text; a text is of one such board, and has one fault, but
+/// none where it is such a position's.
 pub fn sound_text_laws()
     ensures fault { TextHasOneSoundFault }
     ensures no_fault { NoFaultOfSound }

@@ -253,7 +253,7 @@ fn ending(alloc: Global, attack: Move, end: End) -> Result<(u8, Vec<u8>), Fail> 
     Ok((tree.depth(), text))
 }
 
-/// The same of a move with one reply, which another move meets.
+/// The depth and the text of the tree of a move with one reply, which another move meets.
 fn answered(alloc: Global, attack: Move, reply: Move, meets: Move) -> Result<(u8, Vec<u8>), Fail> {
     let mut replies = Vec::new(alloc);
     replies.push((reply, Tree::end(alloc, meets, End::Mate)?))?;

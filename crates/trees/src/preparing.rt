@@ -64,7 +64,7 @@ fn prepare_line(walk: &Walk<'_>, seat: &mut Seat, board: &Board, limit: u8)
     prepare_replies(walk, seat, &after(board, attack), limit - 2);
 }
 
-/// The same after each lawful reply, where each is met within so many plies.
+/// Finds the best moves after each lawful reply, where each is met within so many plies.
 #[cycle(preparing)]
 fn prepare_replies(walk: &Walk<'_>, seat: &mut Seat, board: &Board, n: u8)
     requires seat { IsSeatOf walk.now.slots.now seat.old }
