@@ -1,5 +1,6 @@
 """Searches in threads of their own, so that Ctrl-C is taken by the caller at once."""
 
+import signal
 import threading
 from typing import Any, Callable, List, TypeVar
 
@@ -40,6 +41,8 @@ def apart(work: Callable[[], Result], none_within: int = 0) -> Result:
     ended = threading.Event()
 
     def run() -> None:
+        # An interrupt is for those who can take it.
+        signal.pthread_sigmask(signal.SIG_BLOCK, [signal.SIGINT])
         try:
             outcome.extend([work(), None])
         except BaseException as why:  # pylint: disable=broad-except (the caller gets it, whatever it is)
