@@ -81,7 +81,9 @@ def find_library() -> str:
         return os.path.join(named, NAME) if os.path.isdir(named) else named
     here = os.path.dirname(os.path.abspath(__file__))
     of_clone = os.path.join(os.path.dirname(os.path.dirname(here)), "out")
-    for folder in (here, of_clone):
+    # A release has the package in share/minimate/python/minimate.
+    of_release = os.path.join(os.path.abspath(os.path.join(here, *4 * [os.pardir])), "lib")
+    for folder in (here, of_clone, of_release):
         if os.path.isfile(os.path.join(folder, NAME)):
             return os.path.join(folder, NAME)
     of_system = ctypes.util.find_library("minimate")

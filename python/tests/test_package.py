@@ -257,14 +257,15 @@ class Interrupts(unittest.TestCase):
 class Library(unittest.TestCase):
     def test_where_it_is_looked_for(self):
         with tempfile.TemporaryDirectory() as top:
-            package, built = os.path.join(top, "python", "minimate"), os.path.join(top, "out")
-            os.makedirs(package)
-            os.mkdir(built)
+            clone, released = os.path.join(top, "share", "minimate"), os.path.join(top, "lib")
+            package, built = os.path.join(clone, "python", "minimate"), os.path.join(clone, "out")
+            for folder in (package, built, released):
+                os.makedirs(folder)
             path = mock.patch.object(_calls, "__file__", os.path.join(package, "_calls.py"))
             system = mock.patch("ctypes.util.find_library", lambda name: f"lib{name}.so.0")
             with path, system, mock.patch.dict(os.environ, MINIMATE_LIBRARY=""):
                 self.assertEqual(_calls.find_library(), "libminimate.so.0")
-                for folder in (built, package):
+                for folder in (released, built, package):
                     wanted = os.path.join(folder, _calls.NAME)
                     with open(wanted, "wb"):
                         self.assertEqual(_calls.find_library(), wanted)
