@@ -2,8 +2,6 @@
 #![tactic(auto)]
 
 #[cfg(test)]
-mod at_a_glance;
-#[cfg(test)]
 mod boards;
 #[cfg(test)]
 mod claims;

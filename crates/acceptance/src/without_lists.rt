@@ -6,8 +6,8 @@ use crate::leaves::LEAVES;
 use arrayvec::ArrayVec;
 use board::Kind;
 use moves::{
-    Board, Goal, Move, Square, count_lawful, is_lawful_on, lawful_on, list_lawful, mates_at_once,
-    reaches_at_once, read_sound,
+    Board, Goal, Move, Square, after_if_lawful, count_lawful, is_lawful_on, lawful_on, list_lawful,
+    mates_at_once, reaches_at_once, read_sound,
 };
 use std::process::Abort;
 
@@ -70,6 +70,38 @@ fn lawful_of_all(board: &Board) -> u64 {
 fn tells_lawful_moves_one_by_one(rt: HostRuntime) {
     for (text, counts) in &LEAVES {
         assert_eq!(rt; lawful_of_all(&board(&rt, text)), counts[0], "{text}");
+    }
+}
+
+fn square(file: u8, rank: u8) -> Square
+    requires { (file < 6) × (rank < 6) }
+{
+    Square { file, rank }
+}
+
+// By hand: the king may leave its pinned knight behind; the knight may not go, nor the king where it stands, nor the other side's king,
+// nor what isn't there.
+#[test]
+fn makes_a_lawful_move_alone(rt: HostRuntime) {
+    let before = board(&rt, "4r1/6/6/6/4N1/k3K1 w");
+    let moves = [
+        (square(4, 0), square(3, 0), true),
+        (square(4, 1), square(2, 2), false),
+        (square(4, 0), square(4, 1), false),
+        (square(0, 0), square(0, 1), false),
+        (square(1, 1), square(1, 2), false),
+    ];
+    let after = board(&rt, "4r1/6/6/6/4N1/k2K2 b").words();
+    for (from, to, is_lawful) in moves {
+        let m = Move {
+            from,
+            to,
+            promotion: None,
+        };
+        match after_if_lawful(&before, m) {
+            Some(next) => assert!(rt; is_lawful && next.words() == after),
+            None => assert!(rt; !is_lawful),
+        }
     }
 }
 

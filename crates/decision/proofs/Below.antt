@@ -1,6 +1,6 @@
 -- The positions below one.
 use Rattle.std.specs.Option.{MatchOption, IfSome}
-use Rattle.std.proofs.Common.{Option, Some, None, ◌≡◌, ◌≢◌, ℕ, zero, suc, inl, inr, ◌⊎◌, ◌+◌, ◌-◌, ◌<◌, ◌↔◌, IsTrue, Bool, true, false, not, eqb, List, [], ◌∷◌, ◌++◌, take, length, get_or, All, Contains, refl, sym, subst, arith, cond}
+use Rattle.std.proofs.Common.{Option, Some, None, ◌≡◌, ◌≢◌, ℕ, zero, suc, inl, inr, ◌⊎◌, ◌+◌, ◌-◌, ◌<◌, ◌↔◌, IsTrue, Bool, true, false, not, eqb, List, [], ◌∷◌, ◌++◌, take, length, get_or, All, Contains, refl, sym, ap, ◌∙◌, subst, arith, cond}
 use mathlib.Core.Bool.{beq}
 use Rattle.std.proofs.lemmas.Bool.{false≢true}
 use Rattle.std.proofs.lemmas.Grind.{common_steps, elements}
@@ -181,6 +181,13 @@ beq_same true false e = absurd (false≢true e)
 beq_same false true e = absurd (false≢true e)
 beq_same false false e = refl
 
+pub beq_apart : (a b : Bool) → beq a b ≡ false → a ≢ b
+beq_apart a b e same = false≢true (sym e ∙ ap (beq a) (sym same) ∙ beq_self a)
+  where
+    beq_self : (a : Bool) → beq a a ≡ true
+    beq_self true = refl
+    beq_self false = refl
+
 pub not_empty : (n : ℕ) → false ≡ eqb n 0 → 0 < n
 not_empty zero e = absurd (false≢true e)
 not_empty (suc n) e = omega arith
@@ -242,7 +249,7 @@ lists_permuted b xs ys p lists m = (
 )
 
 -- a list of the same length written over another
-pub refilled : {X : Type 0} (xs ys : List X) → length ys ≡ length xs → refill (length xs) xs ys ≡ ys
+pub refilled : (xs ys : List Ply) → length ys ≡ length xs → refill (length xs) xs ys ≡ ys
 refilled xs ys same = grind (arith, common_steps, elements)
 
 -- ---- by the questions below

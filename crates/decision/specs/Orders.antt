@@ -1,6 +1,5 @@
 -- The moves that are tried, in any order.
-use Rattle.std.specs.Prelude.{◌≡◌, ◌↔◌, List, Contains, map}
-use Rattle.decision.specs.declared.order.Ranked.{Ranked}
+use Rattle.std.specs.Prelude.{◌↔◌, List, Contains}
 use Rattle.board.specs.Board.{PlainBoard}
 use Rattle.rules.specs.Squares.{Ply}
 use Rattle.rules.specs.Moves.{IsLawful}
@@ -8,7 +7,3 @@ use Rattle.rules.specs.Moves.{IsLawful}
 -- the list has each lawful move, and no other
 abbrev pub ListsAll : PlainBoard → List Ply → Type 0
 ListsAll b moves = (m : Ply) → Contains moves m ↔ IsLawful b m
-
--- the moves, each ranked by some cost
-abbrev pub AreRanked : List Ply → List Ranked → Type 0
-AreRanked moves ranked = moves ≡ map (λ (r : Ranked). r.m) ranked

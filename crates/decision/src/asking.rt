@@ -115,18 +115,7 @@ fn told(q: &Question, reply: Probe) -> Interval
     }
 }
 
-/// What the far slots alone know of the question.
-pub(crate) fn look_far<A: Allocator>(caller: &mut Caller<'_, A>, q: &Question, n: u8) -> Interval
-    ensures goes_on { GoesOn caller.old caller.new }
-    ensures right { IsKnownOf q.now result }
-{
-    let key = q.key();
-    let slot = far_slot(caller.slots, key);
-    let far = ask(caller, key, slot, n);
-    told(q, far)
-}
-
-/// What the table knows of the question: its own two slots are asked, and the far ones where these don't decide n plies.
+/// What the table knows of the question: its own two slots are asked, and two more where these don't decide n plies.
 pub(crate) fn look<A: Allocator>(caller: &mut Caller<'_, A>, q: &Question, n: u8) -> Interval
     ensures goes_on { GoesOn caller.old caller.new }
     ensures asked { IsAsked q.now (slots_of caller.old.slots.now) (number caller.old.seat.now)
@@ -139,7 +128,8 @@ pub(crate) fn look<A: Allocator>(caller: &mut Caller<'_, A>, q: &Question, n: u8
     if settled(near, n).is_some() {
         return told(q, near);
     }
-    let far = look_far(caller, q, n);
+    let slot = far_slot(caller.slots, key);
+    let far = ask(caller, key, slot, n);
     interval_laws();
-    meet(told(q, near), far)
+    meet(told(q, near), told(q, far))
 }

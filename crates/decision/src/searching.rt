@@ -1,6 +1,4 @@
-//! The search below the given position: the table is asked of each position but those of the last plies. Below those that `visit`
-//! answers for, the far slots alone are asked and stored into, which halves the probes: what a search keeps in own slots is offered
-//! to the far ones too, so it is still found.
+//! The search below the given position: the table is asked of each position but those of the last plies.
 ghost use Rattle.std.specs.Prelude.{◌≡◌, ◌<◌, ◌≤◌, ◌-◌, ◌↔◌, IsTrue, IfSome, All, MatchOption};
 ghost use Rattle.rules.specs.Moves.{IsLawful};
 ghost use Rattle.slots.specs.Promise.{slots_of, number};
@@ -9,14 +7,13 @@ ghost use Rattle.decision.specs.Questions.{IsForced, IsKnownOf};
 ghost use Rattle.decision.specs.Below.{is_own, IsCut, Tells, Asked};
 ghost use Rattle.decision.specs.Decisions.{IsAsked};
 
-use crate::asking::{decided, look, look_far};
+use crate::asking::{decided, look};
 use crate::caller::Caller;
 use crate::leaf::{answer_now, leaf};
-use crate::memory::Memory;
 use crate::order::in_order;
 use crate::question::Question;
 use crate::scout::{Scout, Stop};
-use crate::storing::{keep, keep_far, known_with};
+use crate::storing::{keep, known_with};
 use arrayvec::ArrayVec;
 use entry::Interval;
 use moves::Move;
@@ -45,7 +42,7 @@ fn is_cut<A: Allocator>(caller: &mut Caller<'_, A>, q: &Question, n: u8, moves: 
     let own = q.is_own_turn();
     for m in moves {
         let below = q.after(*m);
-        let known = look_far(caller, &below, n - 1);
+        let known = look(caller, &below, n - 1);
         match decided(known, n - 1) {
             Some(yes) if yes == own => return true,
             _ => {}
@@ -54,20 +51,9 @@ fn is_cut<A: Allocator>(caller: &mut Caller<'_, A>, q: &Question, n: u8, moves: 
     false
 }
 
-/// Whether the answer after the move ends the search. A move that does is remembered.
-fn ends(memory: &mut Memory, m: Move, n: u8, own: bool, yes: bool) -> bool
-    ensures { IsTrue result ↔ yes ≡ own }
-{
-    let is_end = yes == own;
-    if is_end {
-        memory.remember(m, n, own);
-    }
-    is_end
-}
-
-/// `try_moves` farther down: of each position below, the far slots alone are asked.
+/// Tries the moves in turn, until one ends the search. The table is asked of each position below.
 #[cycle(searching)]
-fn try_below<S: Stop, A: Allocator>(
+pub(crate) fn try_moves<S: Stop, A: Allocator>(
     caller: &mut Caller<'_, A>,
     scout: &mut Scout<S>,
     q: &Question,
@@ -78,11 +64,14 @@ fn try_below<S: Stop, A: Allocator>(
     requires lawful { All (IsLawful q.now.position) moves.now }
     ensures goes_on { Searches S.stays caller.old caller.new scout.old scout.new }
     ensures tells { MatchOption result (S.told scout.new.stop) (Tells q.now n moves.now) }
+    ensures asked { IfSome result
+        (λ yes. Asked q.now (slots_of caller.old.slots.now) (number caller.old.seat.now) moves.now yes (adds caller.old caller.new)) }
 {
     let own = q.is_own_turn();
     for m in moves {
-        let yes = visit_below(caller, scout, &q.after(*m), n - 1)?;
-        if ends(&mut scout.memory, *m, n, own, yes) {
+        let yes = visit(caller, scout, &q.after(*m), n - 1)?;
+        if yes == own {
+            scout.memory.remember(*m, n, own);
             return Some(own);
         }
     }
@@ -116,7 +105,7 @@ pub(crate) fn search<S: Stop, A: Allocator>(
     if is_cut(caller, q, n, moves.as_slice()) {
         return Some(q.is_own_turn());
     }
-    try_below(caller, scout, q, n, moves.as_slice())
+    try_moves(caller, scout, q, n, moves.as_slice())
 }
 
 /// The answer for some plies, and what is known with it.
@@ -167,28 +156,8 @@ fn first_round(q: &Question, n: u8, known: Interval) -> u8
     (known.below | 1).max(3).min(n)
 }
 
-/// `visit` farther down: the far slots alone are asked first, and what is found is stored there last.
+/// The answer for n plies. The table is asked first, and what is found is stored last.
 #[cycle(searching)]
-fn visit_below<S: Stop, A: Allocator>(
-    caller: &mut Caller<'_, A>,
-    scout: &mut Scout<S>,
-    q: &Question,
-    n: u8,
-) -> Option<bool>
-    requires { n ≤ 63 }
-    ensures goes_on { Searches S.stays caller.old caller.new scout.old scout.new }
-    ensures answer { MatchOption result (S.told scout.new.stop) (λ yes. IsTrue yes ↔ IsForced q.now n) }
-{
-    let known = look_far(caller, q, n);
-    if let Some(yes) = decided(known, n) {
-        return Some(yes);
-    }
-    let found = search_in_rounds(caller, scout, q, n, known)?;
-    keep_far(caller, q, found.known);
-    Some(found.yes)
-}
-
-/// The answer for n plies. The table is asked first, the own slots before the far ones, and what is found is stored last.
 pub(crate) fn visit<S: Stop, A: Allocator>(
     caller: &mut Caller<'_, A>,
     scout: &mut Scout<S>,
@@ -208,29 +177,4 @@ pub(crate) fn visit<S: Stop, A: Allocator>(
     let found = search_in_rounds(caller, scout, q, n, known)?;
     keep(caller, q, found.known);
     Some(found.yes)
-}
-
-/// Tries the moves of the given position in turn, until one ends the search. The table is asked of each position below.
-pub(crate) fn try_moves<S: Stop, A: Allocator>(
-    caller: &mut Caller<'_, A>,
-    scout: &mut Scout<S>,
-    q: &Question,
-    n: u8,
-    moves: &[Move],
-) -> Option<bool>
-    requires plies { (0 < n) × (n ≤ 63) }
-    requires lawful { All (IsLawful q.now.position) moves.now }
-    ensures goes_on { Searches S.stays caller.old caller.new scout.old scout.new }
-    ensures tells { MatchOption result (S.told scout.new.stop) (Tells q.now n moves.now) }
-    ensures asked { IfSome result
-        (λ yes. Asked q.now (slots_of caller.old.slots.now) (number caller.old.seat.now) moves.now yes (adds caller.old caller.new)) }
-{
-    let own = q.is_own_turn();
-    for m in moves {
-        let yes = visit(caller, scout, &q.after(*m), n - 1)?;
-        if ends(&mut scout.memory, *m, n, own, yes) {
-            return Some(own);
-        }
-    }
-    Some(!own)
 }

@@ -62,6 +62,18 @@ module _ (b : PlainBoard) (is : IsPosition b) (side : Side) (i : ℕ) (c : IsCel
   as_kind : (k q : Kind) (j : ℕ) → ((step : Step) → Denotes (terms_of k) step → Denotes (terms_of q) step) → Aims b (record { side = side; kind = k }) (place_in i) (place_in j) → Aims b (record { side = side; kind = q }) (place_in i) (place_in j)
   as_kind k q j more a = record { step = a.step; denoted = more a.step a.denoted; captures = a.captures; leads = a.leads }
 
+  pub line_too : (u : Man) → IsOf Straight u → (j : ℕ) → Aims b (record { side = side; kind = Rook }) (place_in i) (place_in j) → Aims b (record { side = side; kind = u.kind }) (place_in i) (place_in j)
+  line_too u of j a = elim of [
+    | inl queen ↦ subst (λ q. Aims b (record { side = side; kind = q }) (place_in i) (place_in j)) (sym queen) (as_kind Rook Queen j (λ step e. (queen_step b side i j c step).1 (inl ((rook_step b side i j c step).0 e))) a)
+    | inr rook ↦ subst (λ q. Aims b (record { side = side; kind = q }) (place_in i) (place_in j)) (sym rook) a
+  ]
+
+  pub slant_too : (u : Man) → IsOf Slanted u → (j : ℕ) → Aims b (record { side = side; kind = Bishop }) (place_in i) (place_in j) → Aims b (record { side = side; kind = u.kind }) (place_in i) (place_in j)
+  slant_too u of j a = elim of [
+    | inl queen ↦ subst (λ q. Aims b (record { side = side; kind = q }) (place_in i) (place_in j)) (sym queen) (as_kind Bishop Queen j (λ step e. (queen_step b side i j c step).1 (inr ((bishop_step b side i j c step).0 e))) a)
+    | inr bishop ↦ subst (λ q. Aims b (record { side = side; kind = q }) (place_in i) (place_in j)) (sym bishop) a
+  ]
+
   module _ (foes : ℕ) (owns : (j : ℕ) → Has foes j ↔ (IsCell b.game j × (is_of_side (other_side side) (unit_at b (place_in j)) ≡ true))) where
     -- a foe of a class on the cell
     foe_at : (class : Class) (set : ℕ) → Holds b class set → (j : ℕ) → Has (bit_and foes set) j → (u : Man) × (unit_at b (place_in j) ≡ Some u) × (u.side ≡ other_side side) × IsOf class u
@@ -82,18 +94,6 @@ module _ (b : PlainBoard) (is : IsPosition b) (side : Side) (i : ℕ) (c : IsCel
         let (seen, d, a) = (are j).0 h in
         let (u, stands, owner, of) = foe_at class set holds j seen in
         (place_in j, (attack u j d stands owner (too u of j a)).1)
-
-    pub line_too : (u : Man) → IsOf Straight u → (j : ℕ) → Aims b (record { side = side; kind = Rook }) (place_in i) (place_in j) → Aims b (record { side = side; kind = u.kind }) (place_in i) (place_in j)
-    line_too u of j a = elim of [
-      | inl queen ↦ subst (λ q. Aims b (record { side = side; kind = q }) (place_in i) (place_in j)) (sym queen) (as_kind Rook Queen j (λ step e. (queen_step b side i j c step).1 (inl ((rook_step b side i j c step).0 e))) a)
-      | inr rook ↦ subst (λ q. Aims b (record { side = side; kind = q }) (place_in i) (place_in j)) (sym rook) a
-    ]
-
-    pub slant_too : (u : Man) → IsOf Slanted u → (j : ℕ) → Aims b (record { side = side; kind = Bishop }) (place_in i) (place_in j) → Aims b (record { side = side; kind = u.kind }) (place_in i) (place_in j)
-    slant_too u of j a = elim of [
-      | inl queen ↦ subst (λ q. Aims b (record { side = side; kind = q }) (place_in i) (place_in j)) (sym queen) (as_kind Bishop Queen j (λ step e. (queen_step b side i j c step).1 (inr ((bishop_step b side i j c step).0 e))) a)
-      | inr bishop ↦ subst (λ q. Aims b (record { side = side; kind = q }) (place_in i) (place_in j)) (sym bishop) a
-    ]
 
     pub kind_too : (class : Class) (q : Kind) → ((u : Man) → IsOf class u → u.kind ≡ q) → (u : Man) → IsOf class u → (j : ℕ) → Aims b (record { side = side; kind = q }) (place_in i) (place_in j) → Aims b (record { side = side; kind = u.kind }) (place_in i) (place_in j)
     kind_too class q only u of j a = subst (λ x. Aims b (record { side = side; kind = x }) (place_in i) (place_in j)) (sym (only u of)) a

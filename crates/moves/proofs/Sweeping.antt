@@ -17,7 +17,7 @@ use Rattle.moves.specs.declared.sets.Class.{Class}
 use Rattle.moves.specs.declared.sets.Class.TheVariants.{Crowned, Straight, Slanted, Horsed, Foot}
 use Rattle.moves.specs.Looking.{Aims, IsSwept}
 use Rattle.moves.specs.Sets.{IsOf, Holds}
-use Rattle.moves.proofs.Attacking.{own_foe, foe_own}
+use Rattle.moves.proofs.Attacking.{own_foe, foe_own, line_too as line_seen, slant_too as slant_seen}
 use Rattle.moves.proofs.Looking.{allows_capture, captures_from, stands_played}
 use Rattle.moves.proofs.Seeing.{rook_step, bishop_step, queen_step}
 
@@ -77,16 +77,10 @@ module _ (b : PlainBoard) (is : IsPosition b) (side : Side) (foes : ℕ) (owns :
   plain_too class q only u of i j c a = subst (λ x. AimsAs x i j) (sym (only u of)) a
 
   line_too : (u : Man) → IsOf Straight u → (i j : ℕ) → IsCell b.game i → AimsAs Rook i j → AimsAs u.kind i j
-  line_too u of i j c a = elim of [
-    | inl queen ↦ subst (λ q. AimsAs q i j) (sym queen) (record { step = a.step; denoted = (queen_step b (other_side side) i j c a.step).1 (inl ((rook_step b (other_side side) i j c a.step).0 a.denoted)); captures = a.captures; leads = a.leads })
-    | inr rook ↦ subst (λ q. AimsAs q i j) (sym rook) a
-  ]
+  line_too u of i j c a = line_seen b is (other_side side) i c u of j a
 
   slant_too : (u : Man) → IsOf Slanted u → (i j : ℕ) → IsCell b.game i → AimsAs Bishop i j → AimsAs u.kind i j
-  slant_too u of i j c a = elim of [
-    | inl queen ↦ subst (λ q. AimsAs q i j) (sym queen) (record { step = a.step; denoted = (queen_step b (other_side side) i j c a.step).1 (inr ((bishop_step b (other_side side) i j c a.step).0 a.denoted)); captures = a.captures; leads = a.leads })
-    | inr bishop ↦ subst (λ q. AimsAs q i j) (sym bishop) a
-  ]
+  slant_too u of i j c a = slant_seen b is (other_side side) i c u of j a
 
   module _ (straight slanted knights kings pawns : ℕ) (hs : Holds b Straight straight) (hl : Holds b Slanted slanted) (hn : Holds b Horsed knights) (hk : Holds b Crowned kings) (hp : Holds b Foot pawns)
       (r s n k p : ℕ)

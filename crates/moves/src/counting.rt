@@ -32,6 +32,7 @@ fn moves_to_each(board: &Board, unit: Unit, from: Square) -> u16
 }
 
 /// How many lawful moves the mover's unit in the cell has.
+#[inline(always)]
 fn count_from(board: &Board, guard: Guard, cell: u8) -> u16
     requires position { IsPosition board.now }
     requires guards { Guards board.now guard }

@@ -114,6 +114,7 @@ pub(crate) fn tried(board: &Board, guard: Guard, unit: Unit, from: Square) -> u6
 }
 
 /// The cells to which the unit moves lawfully, by a test of each.
+#[inline(never)]
 fn sifted(board: &Board, guard: Guard, unit: Unit, from: Square) -> u64
     requires position { IsPosition board.now }
     requires guards { Guards board.now guard }
@@ -134,6 +135,8 @@ fn sifted(board: &Board, guard: Guard, unit: Unit, from: Square) -> u64
 }
 
 /// The cells to which the unit moves lawfully, where a glance tells: the king isn't in check, nor is the unit pinned to it.
+// Inside the loops that count and list, since most units go by this glance.
+#[inline(always)]
 pub(crate) fn free_cells(board: &Board, guard: Guard, unit: Unit, from: Square) -> Option<u64>
     requires position { IsPosition board.now }
     requires guards { Guards board.now guard }
@@ -154,6 +157,7 @@ pub(crate) fn free_cells(board: &Board, guard: Guard, unit: Unit, from: Square) 
 }
 
 /// The cells to which the unit moves lawfully.
+#[inline(always)]
 pub(crate) fn safe_cells(board: &Board, guard: Guard, unit: Unit, from: Square) -> u64
     requires position { IsPosition board.now }
     requires guards { Guards board.now guard }

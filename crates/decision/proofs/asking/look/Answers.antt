@@ -15,10 +15,10 @@ returns-then-is_some-clause-asked g c =
     asked_of c.args.q.now c.key-key.result c.first_slot-slot.result (slots_of c.args.caller.now.slots.now) c.args.n (number c.args.caller.now.seat.now) c.ask-near.result _ c.key-key.ensures.value c.first_slot-slot.ensures.value c.ask-near.ensures.asked
 
 pub returns-clause-goes_on : goal.returns-clause-goes_on
-returns-clause-goes_on g c = goes_more _ _ _ c.ask-near.ensures.goes_on c.look_far-far.ensures.goes_on
+returns-clause-goes_on g c = goes_more _ _ _ c.ask-near.ensures.goes_on c.ask-far.ensures.goes_on
 
 pub returns-clause-asked : goal.returns-clause-asked
 returns-clause-asked g c =
     let q = c.args.q.now in let slots = slots_of c.args.caller.now.slots.now in let k = number c.args.caller.now.seat.now in
-    subst (IsAsked q slots k) (sym (adds_more c.args.caller.now c.ask-near.new.caller c.look_far-far.new.caller c.ask-near.ensures.goes_on c.look_far-far.ensures.goes_on))
+    subst (IsAsked q slots k) (sym (adds_more c.args.caller.now c.ask-near.new.caller c.ask-far.new.caller c.ask-near.ensures.goes_on c.ask-far.ensures.goes_on))
     (asked_on q slots k _ _ (asked_of q c.key-key.result c.first_slot-slot.result slots c.args.n k c.ask-near.result _ c.key-key.ensures.value c.first_slot-slot.ensures.value c.ask-near.ensures.asked))

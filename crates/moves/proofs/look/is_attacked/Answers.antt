@@ -20,7 +20,7 @@ returns-then-struck-ne0 c =
     let b = c.args.board.now in
     let owns : Owns b (other_side c.args.side) c.of_side-foes.result = subst (λ s. Owns b s c.of_side-foes.result) c.other.ensures c.of_side-foes.ensures in
     let found = struck-attacks b c.requires.position c.args.side c.args.cell c.requires.cell c.of_side-foes.result owns Straight Rook c.set.result c.struck.result c.set.ensures
-    (line_too b c.requires.position c.args.side c.args.cell c.requires.cell c.of_side-foes.result owns) c.struck.type_inv c.struck.ensures c.if-struck-ne0.true in
+    (line_too b c.requires.position c.args.side c.args.cell c.requires.cell) c.struck.type_inv c.struck.ensures c.if-struck-ne0.true in
     (λ _. found, λ _. refl)
 
 pub returns-then-struck-ne0-2 : goal.returns-then-struck-ne0-2
@@ -28,7 +28,7 @@ returns-then-struck-ne0-2 c =
     let b = c.args.board.now in
     let owns : Owns b (other_side c.args.side) c.of_side-foes.result = subst (λ s. Owns b s c.of_side-foes.result) c.other.ensures c.of_side-foes.ensures in
     let found = struck-attacks b c.requires.position c.args.side c.args.cell c.requires.cell c.of_side-foes.result owns Slanted Bishop c.set-2.result c.struck-2.result c.set-2.ensures
-    (slant_too b c.requires.position c.args.side c.args.cell c.requires.cell c.of_side-foes.result owns) c.struck-2.type_inv c.struck-2.ensures c.if-struck-ne0-2.true in
+    (slant_too b c.requires.position c.args.side c.args.cell c.requires.cell) c.struck-2.type_inv c.struck-2.ensures c.if-struck-ne0-2.true in
     (λ _. found, λ _. refl)
 
 pub returns-then-struck-ne0-3 : goal.returns-then-struck-ne0-3
