@@ -2,7 +2,7 @@
 
 import signal
 import threading
-from typing import Any, Callable, List, TypeVar
+from typing import Any, Callable, List, TypeVar, cast
 
 from .refusals import NoMemory
 
@@ -60,4 +60,4 @@ def apart(work: Callable[[], Result], none_within: int = 0) -> Result:
     result, why = outcome
     if why is not None:
         raise why
-    return result
+    return cast(Result, result)

@@ -135,6 +135,6 @@ class Solver:
         slots = self.slots
         if slots is None:
             slots = FEW_SLOTS if plies <= FEW_PLIES else MANY_SLOTS
-        values = [position.text.encode(), is_stale, plies, _calls.number(slots)]
+        values: List[Union[bytes, bool, int]] = [position.text.encode(), is_stale, plies, _calls.number(slots)]
         room = TREE_ROOM if word == "tree" else _calls.ROOM
         return answered(apart(lambda: _calls.calls().ask(word, *values, room=room), none_within))
