@@ -5,7 +5,8 @@ from typing import List
 
 EMPTY = "."
 FILES = "abcdef"
-FIGURES = dict(zip("kqrbnp", "\u265a\u265b\u265c\u265d\u265e\u265f"))
+# The last character has them drawn as text, where a system would draw a pawn in its own colours.
+FIGURES = {letter: f"{figure}\ufe0e" for letter, figure in zip("kqrbnp", "\u265a\u265b\u265c\u265d\u265e\u265f")}
 NAMES = dict(zip("kqrbnp", ("king", "queen", "rook", "bishop", "knight", "pawn")))
 SQUARE, EDGE = 45, 20
 LIGHT, DARK = "#f0d9b5", "#b58863"

@@ -222,30 +222,34 @@ class Searches(unittest.TestCase):
 class Interrupts(unittest.TestCase):
     def interrupted(self, progress):
         """How an interrupt ends a solve whose second round would take ten seconds, and after how long."""
-        held = threading.Event()
+        held, sent = threading.Event(), []
+
+        def send():
+            sent.append(time.monotonic())
+            os.kill(os.getpid(), signal.SIGINT)
 
         def reply(fen, stale, limit, slots):
             if limit == 1:
                 return b"none within 1\n"
-            threading.Timer(0.2, os.kill, [os.getpid(), signal.SIGINT]).start()
+            threading.Timer(0.2, send).start()
             held.wait(10)
             return b"none within 3\n"
 
-        began = time.monotonic()
         with fake.calls(solve=reply), self.assertRaises(KeyboardInterrupt) as caught:
             Solver().solve(ROOK, 3, progress=progress)
+        took = time.monotonic() - sent[0]
         held.set()
-        return caught.exception, time.monotonic() - began
+        return caught.exception, took
 
     def test_what_is_known_is_kept(self):
         why, took = self.interrupted(lambda plies: None)
         self.assertEqual((type(why), why.none_within, str(why)), (Interrupted, 1, "interrupted: none within 1"))
-        self.assertLess(took, 0.3)
+        self.assertLess(took, 0.1)
 
     def test_without_progress(self):
         why, took = self.interrupted(None)
         self.assertEqual((type(why), why.none_within), (Interrupted, 0))
-        self.assertLess(took, 0.3)
+        self.assertLess(took, 0.1)
 
     def test_the_stack_of_other_threads_stays(self):
         before = threading.stack_size()
