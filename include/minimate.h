@@ -20,13 +20,24 @@
    - No call is made from a signal handler, or in the forked child of a process with threads.
    - The calling thread has 1 MiB of stack left.
 
-   A call starts no thread and takes no lock, and calls share nothing: any number of threads may each be in a call. */
+   What a caller owes isn't looked at: a null pointer, a length that is too great, or a room that another call has, may do anything. Each
+   text is looked at whole: one that isn't UTF-8, or has a zero byte, is refused like any other that is no position, tree or move.
+
+   A call starts no thread and takes no lock, and calls share nothing: any number of threads may each be in a call. It can't be stopped.
+   For Python there is a package over these calls, in python/. */
 #ifndef MINIMATE_H
 #define MINIMATE_H
 
 #include <stdbool.h>
 #include <stddef.h>
 #include <stdint.h>
+
+/* The version that this header is of, which `minimate --version` tells too: its parts, one number for comparisons, and its text. */
+#define MINIMATE_VERSION_MAJOR 0
+#define MINIMATE_VERSION_MINOR 1
+#define MINIMATE_VERSION_PATCH 0
+#define MINIMATE_VERSION_NUMBER (MINIMATE_VERSION_MAJOR * 10000 + MINIMATE_VERSION_MINOR * 100 + MINIMATE_VERSION_PATCH)
+#define MINIMATE_VERSION "0.1.0"
 
 #ifdef __cplusplus
 extern "C" {

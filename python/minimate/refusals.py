@@ -1,0 +1,71 @@
+"""What the program refuses, as exceptions with its names and its sentences."""
+
+import re
+from typing import Optional
+
+# The sentences of refusals that rest on no position's text. The library has those that do.
+SENTENCES = {
+    "Limit": "--limit is 1 to 63 plies: a mate in M moves is --limit 2M-1",
+    "Slots": "--slots is 1 to 1048576",
+    "TooLong": "a tree has at most 1048576 bytes, its line feed counted",
+    "Deep": "more than 32 moves of the attacker are nested: no tree of 63 plies needs so many",
+    "Move": "no lawful move has this name: a move is two squares and what a pawn becomes, as c4c5q",
+    "NoMemory": "memory is wanting: fewer --slots or --workers take less",
+}
+NO_TREE = "the input begins with no move: where `tree` wrote no tree, there is none to check"
+BROKEN_TREE = (
+    "after its first {} bytes the input is no tree: a tree is a move with # or =, or with replies, as c4c5{{a6a5:b1a1#}}"
+)
+REFUSED = re.compile(r"refused: (\w+)(?: at offset (\d+))?\n(?:error: (.*)\n)?", re.S)
+
+
+class Refused(ValueError):
+    """What was given is refused, as the program refuses it.
+
+    `name` is the program's name of the fault, as ``Shape`` or ``Limit``; `sentence`, which is the exception's text too, what it says on
+    standard error; `offset`, of a tree's text alone, how many of its first bytes begin some tree.
+    """
+
+    def __init__(self, name: str, sentence: str, offset: Optional[int] = None) -> None:
+        super().__init__(name, sentence, offset)
+        self.name, self.sentence, self.offset = name, sentence, offset
+
+    def __str__(self) -> str:
+        return self.sentence
+
+    @property
+    def reply(self) -> str:
+        """What the program writes on standard output."""
+        return f"refused: {self.name}" + ("" if self.offset is None else f" at offset {self.offset}")
+
+
+class NoMemory(MemoryError):
+    """A request of the library for memory was refused. A solver of fewer slots takes less."""
+
+    name = "NoMemory"
+    sentence = SENTENCES["NoMemory"]
+    reply = "refused: NoMemory"
+
+    def __str__(self) -> str:
+        return self.sentence
+
+
+def named(name: str, offset: Optional[int] = None) -> Refused:
+    """The refusal of this name, with its sentence."""
+    if offset is not None:
+        return Refused(name, BROKEN_TREE.format(offset) if offset else NO_TREE, offset)
+    return Refused(name, SENTENCES.get(name, ""))
+
+
+def answered(reply: bytes) -> str:
+    """The reply as text, where it is none of a refusal."""
+    text = reply.decode("ascii", "backslashreplace")
+    found = REFUSED.fullmatch(text)
+    if found is None:
+        return text
+    name, offset, sentence = found.groups()
+    if name == "NoMemory":
+        raise NoMemory
+    if sentence is not None:
+        raise Refused(name, sentence)
+    raise named(name, None if offset is None else int(offset))

@@ -1,0 +1,140 @@
+"""The solver: searches by the library's calls."""
+
+from typing import Callable, List, Optional, Union
+
+from . import _calls
+from .answers import NONE_WITHIN, Answer, Key, read_answer, read_key
+from .moves import Move
+from .positions import Position
+from .refusals import answered
+from .searching import apart
+from .trees import Tree, known_tree, tree_text
+
+GOALS = ("mate", "stale")
+MOST_PLIES = 63
+# Up to so many plies a small table serves as well, and is sooner made.
+FEW_PLIES, FEW_SLOTS, MANY_SLOTS = 5, 16381, 1048573
+# What nearly all trees fit in. A larger one is searched for once more.
+TREE_ROOM = 1 << 26
+
+Progress = Callable[[int], object]
+
+
+def position_of(given: Union[Position, str]) -> Position:
+    return given if isinstance(given, Position) else Position(given)
+
+
+def counts_stale(goal: str) -> bool:
+    """Whether stalemate is as good as mate."""
+    if goal not in GOALS:
+        raise ValueError(f"a goal is 'mate' or 'stale': here is {goal!r}")
+    return goal == "stale"
+
+
+def rounds(limit: int) -> List[int]:
+    """The limits 1, 3, 5 and so on, up to the one that is asked: the attacker's move is the last of a mate, so even ones add nothing."""
+    return [*range(1, limit - 1, 2), limit] if 1 <= limit <= MOST_PLIES else [limit]
+
+
+class Solver:
+    """Finds forced mates.
+
+    `slots` is how many slots of 32 bytes the table of a search has, 1 to 1048576; a prime serves best. Without it the table is small up
+    to 5 plies, and has 1048573 slots beyond. No answer depends on it. Each call has a table of its own, so threads may share a solver.
+
+    A position is a `Position` or its text. A limit counts plies, 1 to 63: a mate in M moves is 2M-1. The goal is ``"mate"``, or
+    ``"stale"`` for mate or stalemate. What the program refuses is `Refused`, and want of memory `NoMemory`, which is a MemoryError.
+
+    A search runs in a daemon thread of its own. Ctrl-C ends the wait for it at once, as `Interrupted`, which is a KeyboardInterrupt; the
+    search itself can't be stopped, and goes on unseen to its end.
+    """
+
+    def __init__(self, slots: Optional[int] = None) -> None:
+        self.slots = slots
+
+    def __repr__(self) -> str:
+        return "Solver()" if self.slots is None else f"Solver(slots={self.slots})"
+
+    def solve(
+        self,
+        position: Union[Position, str],
+        limit: int,
+        goal: str = "mate",
+        progress: Optional[Progress] = None,
+    ) -> Answer:
+        """The fewest plies up to the limit in which the side to move forces the goal, and the least first move, or that there are none.
+
+        With `progress` the rounds 1, 3, 5 and so on are searched one by one, which takes somewhat longer. After each that found nothing it
+        is called, in the caller's thread, with the plies within which nothing is forced; what it raises ends the search. `Interrupted`
+        then tells these plies too.
+        """
+        asked, none_within = position_of(position), 0
+        answer = None
+        for plies in rounds(limit) if progress else [limit]:
+            answer = read_answer(self._search("solve", asked, plies, goal, none_within))
+            if answer.is_forced:
+                break
+            none_within = answer.plies
+            if progress:
+                progress(none_within)
+        assert answer is not None
+        return answer
+
+    def keys(self, position: Union[Position, str], limit: int, goal: str = "mate") -> List[Key]:
+        """Each first move that forces the goal within the limit, in the order of moves, with the fewest plies that it takes."""
+        text = self._search("keys", position_of(position), limit, goal)
+        return [] if text.startswith(NONE_WITHIN) else [read_key(line) for line in text.splitlines()]
+
+    def tree(
+        self,
+        position: Union[Position, str],
+        limit: int,
+        goal: str = "mate",
+        progress: Optional[Progress] = None,
+    ) -> Optional[Tree]:
+        """The tree that shows the answer of `solve`, as nested tuples, or None where nothing is forced within the limit.
+
+        A tree is the attacker's move and then ``"#"`` for mate, ``"="`` for stalemate, or a tuple of each reply with the tree that meets
+        it: ``('c4c5', (('a6a5', ('b1a1', '#')),))``. `progress` is that of `solve`.
+        """
+        text = self.tree_text(position, limit, goal, progress)
+        return None if text is None else known_tree(text)
+
+    def tree_text(
+        self,
+        position: Union[Position, str],
+        limit: int,
+        goal: str = "mate",
+        progress: Optional[Progress] = None,
+    ) -> Optional[str]:
+        """The same tree as `minimate tree` writes it, without a line feed."""
+        asked = position_of(position)
+        if progress:
+            answer = self.solve(asked, limit, goal, progress)
+            if not answer.is_forced:
+                return None
+            limit = answer.plies
+        text = self._search("tree", asked, limit, goal)
+        return None if text.startswith(NONE_WITHIN) else text.rstrip("\n")
+
+    def check(self, position: Union[Position, str], tree: Union[Tree, str], goal: str = "mate") -> Optional[int]:
+        """In how many plies the tree, or the tree of this text, wins at the position; None where it doesn't win."""
+        asked, is_stale = position_of(position), counts_stale(goal)
+        text = (tree if isinstance(tree, str) else tree_text(tree)).encode()
+        reply = apart(lambda: _calls.calls().ask("check", asked.text.encode(), is_stale, text))
+        words = answered(reply).split()
+        return int(words[1]) if words[0] == "yes" else None
+
+    def moves(self, position: Union[Position, str]) -> List[Move]:
+        """The lawful moves, in order."""
+        return position_of(position).moves()
+
+    def _search(self, word: str, position: Position, limit: int, goal: str, none_within: int = 0) -> str:
+        """What a call writes that searches."""
+        is_stale, plies = counts_stale(goal), _calls.number(limit)
+        slots = self.slots
+        if slots is None:
+            slots = FEW_SLOTS if plies <= FEW_PLIES else MANY_SLOTS
+        values: List[Union[bytes, bool, int]] = [position.text.encode(), is_stale, plies, _calls.number(slots)]
+        room = TREE_ROOM if word == "tree" else _calls.ROOM
+        return answered(apart(lambda: _calls.calls().ask(word, *values, room=room), none_within))
