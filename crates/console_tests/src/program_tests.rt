@@ -253,11 +253,11 @@ kK4/6/6/6/6/6 w|the kings stand next to each other, on b6 and a6: move one of th
 kK4/6/6/6/6/6 b|the kings stand next to each other, on b6 and a6: move one of them away|k1K3/6/6/6/6/6 b
 5/5/2k2/1K3/5 b|the kings stand next to each other, on b2 and c3: move one of them away|5/2k2/5/1K3/5 b
 6/3k2/3K2/6/6/6 w|the kings stand next to each other, on d4 and d5: move one of them away|3k2/6/3K2/6/6/6 w
-k4R/6/6/6/6/K4r w|both kings are in check, and White is to move: move Black's king, or the unit that checks it|k5/5R/6/6/6/K4r w
-k4R/6/6/6/6/K4r w|both kings are in check, and White is to move: move Black's king, or the unit that checks it|5R/k5/6/6/6/K4r w
-k4R/6/6/6/6/K4r b|both kings are in check, and Black is to move: move White's king, or the unit that checks it|k4R/6/6/6/K5/5r b
+k4R/6/6/6/6/K4r w|both kings are in check: move the king of the side that is not to move, or what checks it|k5/5R/6/6/6/K4r w
+k4R/6/6/6/6/K4r w|both kings are in check: move the king of the side that is not to move, or what checks it|5R/k5/6/6/6/K4r w
+k4R/6/6/6/6/K4r b|both kings are in check: move the king of the side that is not to move, or what checks it|k4R/6/6/6/K5/5r b
 2K2/N4/2k2/5/1r3 w|Black is in check, and White is to move: write b for the side, or move a unit|2K2/N4/2k2/5/1r3 b
-2K2/N1r2/k4/5/Q4 w|both kings are in check, and White is to move: move Black's king, or the unit that checks it|2K2/N1r2/1k3/5/Q4 w";
+2K2/N1r2/k4/5/Q4 w|both kings are in check: move the king of the side that is not to move, or what checks it|2K2/N1r2/1k3/5/Q4 w";
     expect_table(&rt, checks)
 }
 

@@ -298,44 +298,25 @@ fn advise_pawn<E: Write>(errors: &mut E, board: &Board<'_>) -> io::Result<()> {
     )
 }
 
-fn name_of(side: Side) -> &'static str {
-    match side {
-        Side::White => "White",
-        Side::Black => "Black",
-    }
-}
-
-fn letter_of(side: Side) -> char {
-    match side {
-        Side::White => 'w',
-        Side::Black => 'b',
-    }
-}
-
 fn advise_check<E: Write>(errors: &mut E, fen: &[u8]) -> io::Result<()> {
     match check_of(fen) {
         Check::Touching(white, black) => write!(
             errors,
             "the kings stand next to each other, on {white} and {black}: move one of them away"
         ),
-        Check::Both(mover) => advise_both(errors, mover),
+        Check::Both => errors.write_all(
+            b"both kings are in check: move the king of the side that is not to move, or what checks it",
+        ),
         Check::One(mover) => advise_one(errors, mover),
     }
 }
 
-/// Whichever side is to move, the other one is in check.
-fn advise_both<E: Write>(errors: &mut E, mover: Side) -> io::Result<()> {
-    let (mover, other) = (name_of(mover), name_of(mover.other()));
-    write!(
-        errors,
-        "both kings are in check, and {mover} is to move: move {other}'s king, or the unit that checks it"
-    )
-}
-
 /// With the other side to move the position is taken.
 fn advise_one<E: Write>(errors: &mut E, mover: Side) -> io::Result<()> {
-    let side = letter_of(mover.other());
-    let (mover, other) = (name_of(mover), name_of(mover.other()));
+    let (mover, other, side) = match mover {
+        Side::White => ("White", "Black", 'b'),
+        Side::Black => ("Black", "White", 'w'),
+    };
     write!(
         errors,
         "{other} is in check, and {mover} is to move: write {side} for the side, or move a unit"

@@ -7,8 +7,8 @@ use moves::{Square, in_check};
 pub enum Check {
     /// The kings stand next to each other, White's first.
     Touching(Square, Square),
-    /// Both kings are in check, and this side is to move.
-    Both(Side),
+    /// Both kings are in check, whichever side is to move.
+    Both,
     /// Its king alone is, and this side is to move.
     One(Side),
 }
@@ -34,7 +34,7 @@ fn touch(one: Square, other: Square) -> bool {
 fn check_at(position: &Position) -> Check {
     let mover = position.mover();
     if in_check(position, mover) {
-        Check::Both(mover)
+        Check::Both
     } else {
         Check::One(mover)
     }
