@@ -92,176 +92,173 @@ fn expect_sentence<R: Threads + Wait + Abort + AllocGlobal + Eprint + Clock + Sy
     Ok(())
 }
 
-#[test]
-fn explains_fields_and_shapes(rt: HostRuntime) -> Result<(), Fail> {
-    for (fen, sentence) in [
-        (
-            "k5/6/1K4/6/6/5R",
-            "a position has two fields, the board and the side: here is one; write ' w' or ' b' behind the board",
-        ),
-        (
-            "k5/6/1K4/6/6/5R w - - 0 1",
-            "a position has two fields, the board and the side: here are six; leave out ' - - 0 1'",
-        ),
-        (
-            "k5/6/1K4/6/6/5R  w",
-            "a position has one space, between the board and the side: here are 2",
-        ),
-        (
-            " k5/6/1K4/6/6/5R w",
-            "a position has one space, between the board and the side: here are 2",
-        ),
-        (
-            "k5/6/1K4/6/6/5R w ",
-            "a position has one space, between the board and the side: here are 2",
-        ),
-        (
-            "",
-            "a position has two fields, the board and the side: here is one; write ' w' or ' b' behind the board",
-        ),
-        (
-            "k5/6/1K4/6/6/5R w - - 0 1 2",
-            "a position has two fields, the board and the side: here are 7; leave out ' - - 0 1 2'",
-        ),
-        (
-            "k5/6/1K4/6/5R w",
-            "a board of 5 ranks has 5 squares in each: here rank 5 has 6",
-        ),
-        (
-            "k5/6/1K4/6/7/5R w",
-            "a board of 6 ranks has 6 squares in each: here rank 2 has 7",
-        ),
-        (
-            "k5/6/1K4/6/6/4R w",
-            "a board of 6 ranks has 6 squares in each: here rank 1 has 5",
-        ),
-        (
-            "k5/5/1K4/7/6/5R w",
-            "a board of 6 ranks has 6 squares in each: here rank 5 has 5",
-        ),
-        (
-            "k5/6/1K4/9/6/5R w",
-            "a board of 6 ranks has 6 squares in each: here rank 3 has 9",
-        ),
-        (
-            "k5/6/1K4/6/0k4/5R w",
-            "a board of 6 ranks has 6 squares in each: here rank 2 has 5",
-        ),
-        (
-            "6/6/6/6/6/6/6 w",
-            "a board has six ranks of six squares or five of five, with / between them: here are 7",
-        ),
-        (
-            "k5 w",
-            "a board has six ranks of six squares or five of five, with / between them: here are 1",
-        ),
-    ] {
-        expect_sentence(&rt, fen, sentence)?;
+/// Expects the text to be a position's.
+fn expect_taken<R: Threads + Wait + Abort + AllocGlobal + Eprint + Clock + Sync>(
+    rt: &R,
+    fen: &str,
+) -> Result<(), Fail> {
+    let told = tell(rt, Ok(owned(rt, &["minimate", "show", fen])?));
+    assert_eq!(rt; told.status, 0);
+    assert!(rt; told.errors.is_empty());
+    Ok(())
+}
+
+/// Expects what each line of a table says: a text, its sentence, and the text with the change that the sentence names. Of a text with
+/// a second fault there is none.
+fn expect_table<R: Threads + Wait + Abort + AllocGlobal + Eprint + Clock + Sync>(
+    rt: &R,
+    table: &str,
+) -> Result<(), Fail> {
+    for line in table.lines() {
+        let (fen, told) = line.split_once('|').ok_or("no sentence")?;
+        let (sentence, changed) = told.split_once('|').ok_or("no change")?;
+        expect_sentence(rt, fen, sentence)?;
+        if !changed.is_empty() {
+            expect_taken(rt, changed)?;
+        }
     }
     Ok(())
+}
+
+#[test]
+fn explains_fields(rt: HostRuntime) -> Result<(), Fail> {
+    let one =
+        "k5/6/1K4/6/6/5R|a position has two fields, the board and the side: here is one; write ' w' or ' b' behind the board|k5/6/1K4/6/6/5R b
+k5/6/1K4/6/6/5R |a position has two fields, the board and the side: here is one; write ' w' or ' b' behind the board|k5/6/1K4/6/6/5R w
+k4/5/1K3/5/4b|a position has two fields, the board and the side: here is one; write ' w' or ' b' behind the board|k4/5/1K3/5/4b w
+|there is no position: write one, as k5/6/1K4/6/6/5R w|k5/6/1K4/6/6/5R w
+ |there is no position: write one, as k5/6/1K4/6/6/5R w|k5/6/1K4/6/6/5R w
+\t  |there is no position: write one, as k5/6/1K4/6/6/5R w|k5/6/1K4/6/6/5R w";
+    expect_table(&rt, one)?;
+    let more =
+        "k5/6/1K4/6/6/5R w -|a position has two fields, the board and the side: here are three; leave out ' -'|k5/6/1K4/6/6/5R w
+k5/6/1K4/6/6/5R w - -|a position has two fields, the board and the side: here are four; leave out ' - -'|k5/6/1K4/6/6/5R w
+k5/6/1K4/6/6/5R w -  0 |a position has two fields, the board and the side: here are four; leave out ' -  0 '|k5/6/1K4/6/6/5R w
+k5/6/1K4/6/6/5R w - - 0|a position has two fields, the board and the side: here are five; leave out ' - - 0'|k5/6/1K4/6/6/5R w
+k5/6/1K4/6/6/5R w - - 0 1|a position has two fields, the board and the side: here are six; leave out ' - - 0 1'|k5/6/1K4/6/6/5R w
+k5/6/1K4/6/6/5R w - - 0 1 2|a position has two fields, the board and the side: here are more; leave out ' - - 0 1 2'|k5/6/1K4/6/6/5R w
+k5/6/1K4/6/6/5R w \u{2013} \u{2013}|a position has two fields, the board and the side: here are four; leave out ' \\xe2\\x80\\x93 \\xe2\\x80\\x93'|k5/6/1K4/6/6/5R w";
+    expect_table(&rt, more)
+}
+
+#[test]
+fn explains_blanks(rt: HostRuntime) -> Result<(), Fail> {
+    let between =
+        "k5/6/1K4/6/6/5R  w|several spaces stand behind the board: write 'k5/6/1K4/6/6/5R w'|k5/6/1K4/6/6/5R w
+ k5/6/1K4/6/6/5R    b - - |several spaces stand behind the board: write 'k5/6/1K4/6/6/5R b'|k5/6/1K4/6/6/5R b
+k5/6/1K4/6/6/5R\tw|a tab or a line end stands behind the board: write 'k5/6/1K4/6/6/5R w'|k5/6/1K4/6/6/5R w
+k5/6/1K4/6/6/5R \tw|a tab or a line end stands behind the board: write 'k5/6/1K4/6/6/5R w'|k5/6/1K4/6/6/5R w
+k5/6/1K4/6/6/5R\tw - - 0 1|a tab or a line end stands behind the board: write 'k5/6/1K4/6/6/5R w'|k5/6/1K4/6/6/5R w
+k5/6/1K4/6/6/6w|no space stands behind the board: write 'k5/6/1K4/6/6/6 w'|k5/6/1K4/6/6/6 w
+k5/6/1K4/6/6/5Rb|no space stands behind the board: write 'k5/6/1K4/6/6/5R b'|k5/6/1K4/6/6/5R b
+k4/5/1K3/5/5w - -|no space stands behind the board: write 'k4/5/1K3/5/5 w'|k4/5/1K3/5/5 w";
+    expect_table(&rt, between)?;
+    let elsewhere =
+        " k5/6/1K4/6/6/5R w|blanks stand around the position: write 'k5/6/1K4/6/6/5R w'|k5/6/1K4/6/6/5R w
+k5/6/1K4/6/6/5R w |blanks stand around the position: write 'k5/6/1K4/6/6/5R w'|k5/6/1K4/6/6/5R w
+\tk5/6/1K4/6/6/5R w\t|blanks stand around the position: write 'k5/6/1K4/6/6/5R w'|k5/6/1K4/6/6/5R w
+k5/6/1K4/6/6/5R w\r|blanks stand around the position: write 'k5/6/1K4/6/6/5R w'|k5/6/1K4/6/6/5R w
+  k5/6/1K4/6/6/5R w - -|blanks stand around the position: write 'k5/6/1K4/6/6/5R w'|k5/6/1K4/6/6/5R w
+k5/6/1K4 /6/6/5R w|blanks stand inside the board: leave them out|k5/6/1K4/6/6/5R w
+k5 / 6 / 1K4 / 6 / 6 / 5R w|blanks stand inside the board: leave them out|k5/6/1K4/6/6/5R w
+k5/6/1K4/\t6/6/5R w|blanks stand inside the board: leave them out|k5/6/1K4/6/6/5R w
+k5/6/1K4/6/6/5R w;|the side to move is w or b: leave out ';' behind it|k5/6/1K4/6/6/5R w
+k5/6/1K4/6/6/5R b; dm 3|the side to move is w or b: leave out '; dm 3' behind it|k5/6/1K4/6/6/5R b
+k5/6/1K4/6/6/5R w'|the side to move is w or b: leave out '\\'' behind it|k5/6/1K4/6/6/5R w";
+    expect_table(&rt, elsewhere)
+}
+
+// Characters are counted from 1, and those of more than a byte are written by their bytes.
+#[test]
+fn explains_what_is_not_ascii(rt: HostRuntime) -> Result<(), Fail> {
+    let wanted =
+        "k5/6/1\u{2654}4/6/6/5R w|character 7 is not ASCII: write a letter, a digit, / or a space for '\\xe2\\x99\\x94'|k5/6/1K4/6/6/5R w
+k\u{e9}4/6/1K4/6/6/5R w|character 2 is not ASCII: write a letter, a digit, / or a space for '\\xc3\\xa9'|kr4/6/1K4/6/6/5R w
+k5/6/1K4/6/6/5R\u{a0}w|character 16 is not ASCII: write a letter, a digit, / or a space for '\\xc2\\xa0'|k5/6/1K4/6/6/5R w
+k5/6/1K4/6/6/5R \u{1f642}|character 17 is not ASCII: write a letter, a digit, / or a space for '\\xf0\\x9f\\x99\\x82'|k5/6/1K4/6/6/5R w";
+    expect_table(&rt, wanted)?;
+    let needless =
+        "\u{feff}k5/6/1K4/6/6/5R w|the text begins with a byte order mark: leave out these three bytes|k5/6/1K4/6/6/5R w
+\u{201c}k5/6/1K4/6/6/5R w|character 1 is not ASCII: leave out '\\xe2\\x80\\x9c'|k5/6/1K4/6/6/5R w
+k5/6\u{200b}/1K4/6/6/5R w|character 5 is not ASCII: leave out '\\xe2\\x80\\x8b'|k5/6/1K4/6/6/5R w
+k5/6/1K4/6/6/5R w\u{201d}|character 18 is not ASCII: leave out '\\xe2\\x80\\x9d'|k5/6/1K4/6/6/5R w
+k5/6/1K4/6/6/5R \u{a0}b|character 17 is not ASCII: leave out '\\xc2\\xa0'|k5/6/1K4/6/6/5R b";
+    expect_table(&rt, needless)
+}
+
+#[test]
+fn explains_shapes(rt: HostRuntime) -> Result<(), Fail> {
+    let ranks =
+        "k7/8/2K5/8/8/8/8/7R w|a board of 8 ranks is chess's: Los Alamos chess has 6 ranks of 6 squares, Gardner minichess 5 of 5|k5/6/2K3/6/6/5R w
+rnbqkbnr/pppppppp/8/8/8/8/PPPPPPPP/RNBQKBNR w KQkq - 0 1|a board of 8 ranks is chess's: Los Alamos chess has 6 ranks of 6 squares, Gardner minichess 5 of 5|rnqknr/pppppp/6/6/PPPPPP/RNQKNR w
+k5/6/1K4/6/5R w|here are 5 ranks of 6 squares: write 6 ranks, as Los Alamos chess has|k5/6/1K4/6/6/5R w
+k5/6/1K4/6/6/6/5R w|here are 7 ranks of 6 squares: write 6 ranks, as Los Alamos chess has|k5/6/1K4/6/6/5R w
+k4/5/1K3/5/5/4R w|here are 6 ranks of 5 squares: write 5 ranks, as Gardner minichess has|k4/5/1K3/5/4R w
+k4/5/1K3/4R w|here are 4 ranks of 5 squares: write 5 ranks, as Gardner minichess has|k4/5/1K3/5/4R w
+k5 w|a board has six ranks of six squares or five of five, with / between them: here are 1|
+k5/6/1K4/6/6/5R/6/4 w|a board has six ranks of six squares or five of five, with / between them: here are 8|
+k5//6/1K4/6/6/5R w|a board has six ranks of six squares or five of five, with / between them: here are 7|k5/6/1K4/6/6/5R w";
+    expect_table(&rt, ranks)?;
+    let widths =
+        "k5/6/1K4/6/7/5R w|a board of 6 ranks has 6 squares in each: here rank 2 has 7|k5/6/1K4/6/6/5R w
+k5/6/1K4/6/6/4R w|a board of 6 ranks has 6 squares in each: here rank 1 has 5|k5/6/1K4/6/6/5R w
+k5/5/1K4/7/6/5R w|a board of 6 ranks has 6 squares in each: here rank 5 has 5|
+k5/6/1K4/6/6/6b w|a board of 6 ranks has 6 squares in each: here rank 1 has 7|k5/6/1K4/6/6/6 w
+k5/6/1K4/9/6/5R w|a board of 6 ranks has 6 squares in each: here rank 3 has 9|k5/6/1K4/6/6/5R w
+k5/6/1K4/6/0k4/5R w|a board of 6 ranks has 6 squares in each: here rank 2 has 5|
+k4/5/1K4/5/4R w|a board of 5 ranks has 5 squares in each: here rank 3 has 6|k4/5/1K3/5/4R w";
+    expect_table(&rt, widths)
 }
 
 // Each letter of a game stands before the one that is foreign, and where two places are wrong the first is told.
 #[test]
 fn explains_letters_and_runs(rt: HostRuntime) -> Result<(), Fail> {
-    for (fen, sentence) in [
-        (
-            "kqrnp1/1KQRNP/6/6/6/2b3 w",
-            "rank 1 has 'b': the units of Los Alamos chess are K Q R N P, and in lower case Black's",
-        ),
-        (
-            "kqrbn/p3P/5/3N1/KQRBx w",
-            "rank 1 has 'x': the units of Gardner minichess are K Q R B N P, and in lower case Black's",
-        ),
-        (
-            "k5/6/1K2y1/6/6/4xR w",
-            "rank 4 has 'y': the units of Los Alamos chess are K Q R N P, and in lower case Black's",
-        ),
-        (
-            "k\u{e9}3/6/1K4/6/6/5R w",
-            "rank 6 has '\\xc3': the units of Los Alamos chess are K Q R N P, and in lower case Black's",
-        ),
-        (
-            "k5/33/1K4/6/42/5R w",
-            "rank 5 has '33': write each run of empty squares as one digit from 1 to 6",
-        ),
-        (
-            "k5/6/1K4/6/06/5R w",
-            "rank 2 has '0': write each run of empty squares as one digit from 1 to 6",
-        ),
-        (
-            "k4/5/1K3/5/113 w",
-            "rank 1 has '11': write each run of empty squares as one digit from 1 to 5",
-        ),
-    ] {
-        expect_sentence(&rt, fen, sentence)?;
-    }
-    Ok(())
+    let letters =
+        "kqrnp1/1KQRNP/6/6/6/2b3 w|rank 1 has 'b': the units of Los Alamos chess are K Q R N P, and in lower case Black's|
+kqrbn/p3P/5/3N1/KQRBx w|rank 1 has 'x': the units of Gardner minichess are K Q R B N P, and in lower case Black's|kqrbn/p3P/5/3N1/KQRBN w
+k5/6/1K2y1/6/6/4xR w|rank 4 has 'y': the units of Los Alamos chess are K Q R N P, and in lower case Black's|
+k5/6/1K4/6/6/4BR w|rank 1 has 'B': the units of Los Alamos chess are K Q R N P, and in lower case Black's|k5/6/1K4/6/6/4NR w";
+    expect_table(&rt, letters)?;
+    let runs =
+        "k5/33/1K4/6/42/5R w|rank 5 has '33': write each run of empty squares as one digit from 1 to 6|
+k5/6/1K4/6/06/5R w|rank 2 has '0': write each run of empty squares as one digit from 1 to 6|k5/6/1K4/6/6/5R w
+k4/5/1K3/5/113 w|rank 1 has '11': write each run of empty squares as one digit from 1 to 5|k4/5/1K3/5/5 w
+k5/6/1K31/6/6/5R w|rank 4 has '31': write each run of empty squares as one digit from 1 to 6|k5/6/1K4/6/6/5R w";
+    expect_table(&rt, runs)
 }
 
 #[test]
-fn explains_boards(rt: HostRuntime) -> Result<(), Fail> {
-    for (fen, sentence) in [
-        (
-            "k5/6/1K4/6/6/4BR w",
-            "rank 1 has 'B': the units of Los Alamos chess are K Q R N P, and in lower case Black's",
-        ),
-        (
-            "k5/6/1K31/6/6/5R w",
-            "rank 4 has '31': write each run of empty squares as one digit from 1 to 6",
-        ),
-        (
-            "k5/6/1K4/6/6/5R x",
-            "the side to move is w or b: here is 'x'",
-        ),
-        (
-            "k5/6/1K4/6/6/5R w'",
-            "the side to move is w or b: here is 'w\\''",
-        ),
-        (
-            "6/6/1K4/6/6/K4R w",
-            "each side has one king, K and k: here are 2 K and 0 k",
-        ),
-        (
-            "k4k/6/1K4/6/6/5R w",
-            "each side has one king, K and k: here are 1 K and 2 k",
-        ),
-        (
-            "k5/QQQQQQ/QQQQQQ/6/6/K5 w",
-            "a side has at most 12 units in Los Alamos chess: here White has 13 and Black 1",
-        ),
-        (
-            "kqrbn/nbrqp/p4/4P/KQRBN w",
-            "a side has at most 10 units in Gardner minichess: here White has 6 and Black 11",
-        ),
-        (
-            "k3P/5/1K3/5/5 w",
-            "rank 5 has a pawn: pawns stand on ranks 2 to 4 alone",
-        ),
-        (
-            "k5/6/1K4/6/6/4pR w",
-            "rank 1 has a pawn: pawns stand on ranks 2 to 5 alone",
-        ),
-        (
-            "k5/6/1K4/6/6/4RP w",
-            "rank 1 has a pawn: pawns stand on ranks 2 to 5 alone",
-        ),
-        (
-            "k4p/1p4/1K4/6/1P4/5R w",
-            "rank 6 has a pawn: pawns stand on ranks 2 to 5 alone",
-        ),
-        (
-            "k4R/6/1K4/6/6/6 w",
-            "Black is in check, and White is to move: write b for the side, or move a unit",
-        ),
-        (
-            "K4r/6/1k4/6/6/6 b",
-            "White is in check, and Black is to move: write w for the side, or move a unit",
-        ),
-    ] {
-        expect_sentence(&rt, fen, sentence)?;
-    }
-    Ok(())
+fn explains_units(rt: HostRuntime) -> Result<(), Fail> {
+    let units = "k5/6/1K4/6/6/5R x|the side to move is w or b: here is 'x'|k5/6/1K4/6/6/5R w
+k5/6/1K4/6/6/5R W|the side to move is w or b: here is 'W'|k5/6/1K4/6/6/5R w
+k5/6/1K4/6/6/5R white|the side to move is w or b: here is 'white'|k5/6/1K4/6/6/5R w
+6/6/1K4/6/6/K4R w|each side has one king, K and k: here are 2 K and 0 k|
+k4k/6/1K4/6/6/5R w|each side has one king, K and k: here are 1 K and 2 k|k5/6/1K4/6/6/5R w
+k5/QQQQQQ/QQQQQQ/6/6/K5 b|a side has at most 12 units in Los Alamos chess: here White has 13 and Black 1|k5/QQQQQQ/QQQQQ1/6/6/K5 b
+kqrbn/nbrqp/p4/4P/KQRBN w|a side has at most 10 units in Gardner minichess: here White has 6 and Black 11|kqrbn/nbrqp/5/4P/KQRBN w
+k3P/5/1K3/5/5 w|rank 5 has a pawn: pawns stand on ranks 2 to 4 alone|k4/4P/1K3/5/5 w
+k5/6/1K4/6/6/4pR w|rank 1 has a pawn: pawns stand on ranks 2 to 5 alone|k5/6/1K4/6/4p1/5R w
+k5/6/1K4/6/6/4RP w|rank 1 has a pawn: pawns stand on ranks 2 to 5 alone|k5/6/1K4/6/5P/4R1 w
+k4p/1p4/1K4/6/1P4/5R w|rank 6 has a pawn: pawns stand on ranks 2 to 5 alone|k5/1p3p/1K4/6/1P4/5R w";
+    expect_table(&rt, units)
+}
+
+// The other side to move is advised only where that is taken.
+#[test]
+fn explains_checks(rt: HostRuntime) -> Result<(), Fail> {
+    let checks =
+        "k4R/6/1K4/6/6/6 w|Black is in check, and White is to move: write b for the side, or move a unit|k4R/6/1K4/6/6/6 b
+K4r/6/1k4/6/6/6 b|White is in check, and Black is to move: write w for the side, or move a unit|K4r/6/1k4/6/6/6 w
+kK4/6/6/6/6/6 w|the kings stand next to each other, on b6 and a6: move one of them away|k1K3/6/6/6/6/6 w
+kK4/6/6/6/6/6 b|the kings stand next to each other, on b6 and a6: move one of them away|k1K3/6/6/6/6/6 b
+5/5/2k2/1K3/5 b|the kings stand next to each other, on b2 and c3: move one of them away|5/2k2/5/1K3/5 b
+6/3k2/3K2/6/6/6 w|the kings stand next to each other, on d4 and d5: move one of them away|3k2/6/3K2/6/6/6 w
+k4R/6/6/6/6/K4r w|both kings are in check: move the king of the side that is not to move, or what checks it|k5/5R/6/6/6/K4r w
+k4R/6/6/6/6/K4r w|both kings are in check: move the king of the side that is not to move, or what checks it|5R/k5/6/6/6/K4r w
+k4R/6/6/6/6/K4r b|both kings are in check: move the king of the side that is not to move, or what checks it|k4R/6/6/6/K5/5r b
+2K2/N4/2k2/5/1r3 w|Black is in check, and White is to move: write b for the side, or move a unit|2K2/N4/2k2/5/1r3 b
+2K2/N1r2/k4/5/Q4 w|both kings are in check: move the king of the side that is not to move, or what checks it|2K2/N1r2/1k3/5/Q4 w";
+    expect_table(&rt, checks)
 }
 
 // Each sentence of a batch is that of its own line, by the number that the line has in the input.

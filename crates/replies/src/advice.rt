@@ -1,6 +1,9 @@
 //! What standard error is told of a refusal: one sentence, which says what to write instead.
 use crate::board_text::{self, Board};
+use crate::kings::{Check, check_of};
 use crate::refusal::Refusal;
+use crate::spelling::{Parting, Slip, slip_of};
+use board::Side;
 use std::io::{self, Write};
 
 /// What was refused.
@@ -26,11 +29,10 @@ pub fn advise<E: Write>(errors: &mut E, refused: &Refused<'_>) -> io::Result<()>
 /// What is wrong, and what to write instead.
 fn write_sentence<E: Write>(errors: &mut E, refused: &Refused<'_>) -> io::Result<()> {
     match refused.refusal {
-        Refusal::Fields => advise_fields(errors, refused.fen),
-        Refusal::Shape => advise_shape(errors, &Board::of(refused.fen)),
-        Refusal::Letter => advise_letter(errors, &Board::of(refused.fen)),
+        Refusal::Fields | Refusal::Shape | Refusal::Letter | Refusal::Side => {
+            advise_text(errors, refused)
+        }
         Refusal::Run => advise_run(errors, &Board::of(refused.fen)),
-        Refusal::Side => advise_side(errors, refused.fen),
         Refusal::Kings => advise_kings(errors, &Board::of(refused.fen)),
         Refusal::Units => advise_units(errors, &Board::of(refused.fen)),
         Refusal::PawnRank => advise_pawn(errors, &Board::of(refused.fen)),
@@ -55,41 +57,140 @@ fn values_advice(refusal: Refusal) -> &'static str {
     }
 }
 
-/// The number of fields, in words where there are few.
-fn write_count<E: Write>(errors: &mut E, count: usize) -> io::Result<()> {
-    let words = match count {
-        1 => "is one",
-        3 => "are three",
-        4 => "are four",
-        5 => "are five",
-        6 => "are six",
-        _ => return write!(errors, "are {count}"),
-    };
-    errors.write_all(words.as_bytes())
-}
-
-/// What is to be left out of the fields, or added to them.
-fn write_change<E: Write>(errors: &mut E, fen: &[u8]) -> io::Result<()> {
-    match board_text::after_two_fields(fen) {
-        Some(rest) => write!(errors, "; leave out '{}'", rest.escape_ascii()),
-        None => errors.write_all(b"; write ' w' or ' b' behind the board"),
+/// How a text is to be written, or else what is wrong with its board or its side.
+fn advise_text<E: Write>(errors: &mut E, refused: &Refused<'_>) -> io::Result<()> {
+    match slip_of(refused.fen) {
+        Some(slip) => advise_slip(errors, slip),
+        None => advise_part(errors, refused),
     }
 }
 
-fn advise_fields<E: Write>(errors: &mut E, fen: &[u8]) -> io::Result<()> {
-    let spaces = board_text::count_of(fen, b' ');
-    if board_text::has_idle_space(fen) {
-        return write!(
-            errors,
-            "a position has one space, between the board and the side: here are {spaces}"
-        );
+fn advise_slip<E: Write>(errors: &mut E, slip: Slip<'_>) -> io::Result<()> {
+    match slip {
+        Slip::Foreign(place, bytes, is_needless) => {
+            advise_foreign(errors, place, bytes, is_needless)
+        }
+        Slip::Parted(parting, board, side) => advise_parting(errors, parting, board, side),
+        Slip::Tail(tail) => advise_tail(errors, tail),
+        Slip::Rest(count, rest) => advise_rest(errors, count, rest),
+        other => errors.write_all(slip_advice(other).as_bytes()),
     }
-    errors.write_all(b"a position has two fields, the board and the side: here ")?;
-    write_count(errors, spaces.saturating_add(1))?;
-    write_change(errors, fen)
+}
+
+/// The sentence of a slip that rests on no byte.
+fn slip_advice(slip: Slip<'_>) -> &'static str {
+    match slip {
+        Slip::Empty => "there is no position: write one, as k5/6/1K4/6/6/5R w",
+        Slip::Mark => "the text begins with a byte order mark: leave out these three bytes",
+        Slip::Chess =>
+            "a board of 8 ranks is chess's: Los Alamos chess has 6 ranks of 6 squares, Gardner minichess 5 of 5",
+        Slip::Inside => "blanks stand inside the board: leave them out",
+        _ =>
+            "a position has two fields, the board and the side: here is one; write ' w' or ' b' behind the board",
+    }
+}
+
+fn foreign_advice(is_needless: bool) -> &'static str {
+    if is_needless {
+        "leave out"
+    } else {
+        "write a letter, a digit, / or a space for"
+    }
+}
+
+fn advise_foreign<E: Write>(
+    errors: &mut E,
+    place: usize,
+    bytes: &[u8],
+    is_needless: bool,
+) -> io::Result<()> {
+    write!(
+        errors,
+        "character {place} is not ASCII: {} '{}'",
+        foreign_advice(is_needless),
+        bytes.escape_ascii()
+    )
+}
+
+fn parting_advice(parting: Parting) -> &'static str {
+    match parting {
+        Parting::Around => "blanks stand around the position",
+        Parting::Tab => "a tab or a line end stands behind the board",
+        Parting::Spaces => "several spaces stand behind the board",
+        Parting::Nothing => "no space stands behind the board",
+    }
+}
+
+fn advise_parting<E: Write>(
+    errors: &mut E,
+    parting: Parting,
+    board: &[u8],
+    side: &[u8],
+) -> io::Result<()> {
+    write!(
+        errors,
+        "{}: write '{} {}'",
+        parting_advice(parting),
+        board.escape_ascii(),
+        side.escape_ascii()
+    )
+}
+
+fn advise_tail<E: Write>(errors: &mut E, tail: &[u8]) -> io::Result<()> {
+    write!(
+        errors,
+        "the side to move is w or b: leave out '{}' behind it",
+        tail.escape_ascii()
+    )
+}
+
+/// The number of fields, in a word where there are few.
+fn count_word(count: usize) -> &'static str {
+    match count {
+        3 => "three",
+        4 => "four",
+        5 => "five",
+        6 => "six",
+        _ => "more",
+    }
+}
+
+fn advise_rest<E: Write>(errors: &mut E, count: usize, rest: &[u8]) -> io::Result<()> {
+    write!(
+        errors,
+        "a position has two fields, the board and the side: here are {}; leave out '{}'",
+        count_word(count),
+        rest.escape_ascii()
+    )
+}
+
+/// What is wrong with the board or the side of a text that has both, and a space between them.
+fn advise_part<E: Write>(errors: &mut E, refused: &Refused<'_>) -> io::Result<()> {
+    let board = Board::of(refused.fen);
+    match refused.refusal {
+        Refusal::Shape => advise_shape(errors, &board),
+        Refusal::Letter => advise_letter(errors, &board),
+        _ => advise_side(errors, refused.fen),
+    }
 }
 
 fn advise_shape<E: Write>(errors: &mut E, board: &Board<'_>) -> io::Result<()> {
+    match board.width() {
+        Some(width) => advise_ranks(errors, board.ranks, width),
+        None => advise_widths(errors, board),
+    }
+}
+
+/// That there are too few ranks, or too many, of the squares that a game has.
+fn advise_ranks<E: Write>(errors: &mut E, ranks: usize, width: usize) -> io::Result<()> {
+    write!(
+        errors,
+        "here are {ranks} ranks of {width} squares: write {width} ranks, as {} has",
+        game_of(width)
+    )
+}
+
+fn advise_widths<E: Write>(errors: &mut E, board: &Board<'_>) -> io::Result<()> {
     let ranks = board.ranks;
     match board.uneven_rank() {
         Some((rank, width)) if ranks == 5 || ranks == 6 => write!(
@@ -198,9 +299,23 @@ fn advise_pawn<E: Write>(errors: &mut E, board: &Board<'_>) -> io::Result<()> {
 }
 
 fn advise_check<E: Write>(errors: &mut E, fen: &[u8]) -> io::Result<()> {
-    let (mover, other, side) = match board_text::after_board(fen) {
-        b"w" => ("White", "Black", 'b'),
-        _ => ("Black", "White", 'w'),
+    match check_of(fen) {
+        Check::Touching(white, black) => write!(
+            errors,
+            "the kings stand next to each other, on {white} and {black}: move one of them away"
+        ),
+        Check::Both => errors.write_all(
+            b"both kings are in check: move the king of the side that is not to move, or what checks it",
+        ),
+        Check::One(mover) => advise_one(errors, mover),
+    }
+}
+
+/// With the other side to move the position is taken.
+fn advise_one<E: Write>(errors: &mut E, mover: Side) -> io::Result<()> {
+    let (mover, other, side) = match mover {
+        Side::White => ("White", "Black", 'b'),
+        Side::Black => ("Black", "White", 'w'),
     };
     write!(
         errors,

@@ -41,28 +41,6 @@ pub fn after_board(text: &[u8]) -> &[u8] {
     &text[end + 1..]
 }
 
-/// What stands behind the second field, with the space before it.
-pub fn after_two_fields(text: &[u8]) -> Option<&[u8]> {
-    let side = after_board(text);
-    let end = board_end(side);
-    if end == side.len() {
-        return None;
-    }
-    Some(&side[end..])
-}
-
-/// Whether a space stands at an end of the text, or beside another.
-pub fn has_idle_space(text: &[u8]) -> bool {
-    let mut before = b' ';
-    for c in text {
-        if *c == b' ' && before == b' ' {
-            return true;
-        }
-        before = *c;
-    }
-    before == b' ' && !text.is_empty()
-}
-
 /// Whether two words are the parts of a position that was not quoted.
 pub fn is_cut(board: &[u8], side: &[u8]) -> bool {
     board.contains(&b'/') && !board.contains(&b' ') && matches!(side, b"w" | b"b")
@@ -72,12 +50,14 @@ fn is_digit(c: u8) -> bool {
     b'0' <= c && c <= b'9'
 }
 
-/// How many squares a byte of a rank stands for.
+/// How many squares a byte of a rank stands for: none, if it isn't ASCII.
 fn squares_of(c: u8) -> usize {
     if is_digit(c) {
         c.saturating_sub(b'0') as usize
-    } else {
+    } else if c < 0x80 {
         1
+    } else {
+        0
     }
 }
 
@@ -93,24 +73,52 @@ impl<'a> Board<'a> {
         Board { text, ranks }
     }
 
-    /// The first rank that hasn't as many squares as there are ranks, and its squares.
-    pub fn uneven_rank(&self) -> Option<(usize, usize)> {
+    /// The first rank that hasn't so many squares, and its squares.
+    fn other_rank(&self, width: usize) -> Option<(usize, usize)> {
         let (mut rank, mut squares) = (self.ranks, 0usize);
         for c in self.text {
             if !is_slash(*c) {
                 squares = squares.saturating_add(squares_of(*c));
                 continue;
             }
-            if squares != self.ranks {
+            if squares != width {
                 return Some((rank, squares));
             }
             rank = rank.saturating_sub(1);
             squares = 0;
         }
-        if squares == self.ranks {
+        if squares == width {
             None
         } else {
             Some((rank, squares))
+        }
+    }
+
+    /// The first rank that hasn't as many squares as there are ranks, and its squares.
+    pub fn uneven_rank(&self) -> Option<(usize, usize)> {
+        self.other_rank(self.ranks)
+    }
+
+    /// Whether there are as many ranks as a game has, and as many squares in each.
+    pub fn has_shape(&self) -> bool {
+        matches!(self.ranks, 5 | 6) && self.uneven_rank().is_none()
+    }
+
+    /// Whether it has eight ranks of eight squares.
+    pub fn is_of_chess(&self) -> bool {
+        self.ranks == 8 && self.uneven_rank().is_none()
+    }
+
+    /// How many squares each of several ranks has, where a game has so many.
+    pub fn width(&self) -> Option<usize> {
+        if self.ranks == 1 {
+            None
+        } else if self.other_rank(6).is_none() {
+            Some(6)
+        } else if self.other_rank(5).is_none() {
+            Some(5)
+        } else {
+            None
         }
     }
 

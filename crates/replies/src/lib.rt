@@ -5,10 +5,12 @@ mod advice;
 mod board_text;
 mod device;
 mod drawing;
+mod kings;
 mod one_thread;
 mod playing;
 mod refusal;
 mod replying;
+mod spelling;
 mod transfer;
 mod trouble;
 
