@@ -1,5 +1,5 @@
 -- What the two parts of a mate's certificate show, and that it certifies the mate.
-use Rattle.std.proofs.Common.{◌≡◌, ◌⊎◌, ◌<◌, ◌≤◌, ℕ, ◌+◌, ◌-◌, List, [], ◌∷◌, ◌++◌, length, get_or, take, inl, inr, refl, sym, ap, ◌∙◌, subst, arith, All, Contains, Some, slice_get, Result, Ok, Err, OnOk}
+use Rattle.std.proofs.Common.{◌≡◌, ◌⊎◌, ◌<◌, ℕ, ◌-◌, List, [], ◌∷◌, ◌++◌, length, get_or, take, inl, inr, sym, ap, ◌∙◌, subst, arith, All, Contains, Some, slice_get, Result, Ok, Err, OnOk}
 use Rattle.std.proofs.lemmas.List.{get_or-take, length-take, get_or_default}
 use Rattle.std.proofs.lemmas.List.Elements.{All-get_or, All-take, Contains-push}
 use Rattle.board.specs.Board.{PlainBoard}
