@@ -5,3 +5,5 @@ pub mod Failing
 pub mod Places
 pub mod Winning
 pub mod Shown
+pub mod FirstLines
+pub mod Mates

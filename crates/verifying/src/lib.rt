@@ -3,13 +3,17 @@
 
 mod claims;
 mod fault;
+mod first_line;
 mod leaf;
 mod lines;
+mod mate;
 mod no_claims;
 mod none;
-mod verify;
+mod parts;
+mod whole;
 mod words;
 mod yes_claims;
 
 pub use fault::Fault;
 pub use none::verify_none;
+pub use whole::verify;

@@ -6,7 +6,7 @@ ghost use Rattle.certificates.specs.Answers.{Certifies};
 use crate::claims::Claims;
 use crate::fault::Fault;
 use crate::lines::Lines;
-use crate::verify::read_no_claims;
+use crate::parts::read_no_claims;
 use decision::Answer;
 use moves::{Board, Goal};
 use std::alloc::Global;

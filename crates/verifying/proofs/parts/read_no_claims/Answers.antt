@@ -2,7 +2,7 @@ use Rattle.std.proofs.Common.{arith}
 use Rattle.certificates.specs.Claims.{Holds}
 use Rattle.verifying.proofs.Growing.{extends_twice, still_holds}
 use Rattle.verifying.proofs.Places.{claim_more, each_claim}
-use Rattle.verifying.proofs.verify.read_no_claims.Goals as goal
+use Rattle.verifying.proofs.parts.read_no_claims.Goals as goal
 
 pub returns-then-place-len-clause-held : goal.returns-then-place-len-clause-held
 returns-then-place-len-clause-held c = each_claim (Holds c.args.goal c.loop-place.claims) c.loop-place.claims c.loop-place.place (omega (arith, c.if-place-len.true, c.len.ensures)) c.loop-place.invariant.held

@@ -1,7 +1,7 @@
 use Rattle.std.proofs.Common.{take, All}
 use Rattle.certificates.specs.Claims.{Holds}
 use Rattle.verifying.specs.Growing.{Extends}
-use Rattle.verifying.proofs.verify.read_no_claims.Given as goal
+use Rattle.verifying.proofs.parts.read_no_claims.Given as goal
 
 -- each claim whose line was read holds over the claims as they are now
 abbrev pub invariant-loop-place : goal.invariant-loop-place

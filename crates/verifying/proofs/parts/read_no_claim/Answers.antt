@@ -2,7 +2,7 @@ use Rattle.std.proofs.Common.{sym, subst, ◌∙◌}
 use Rattle.certificates.specs.Claims.{Holds}
 use Rattle.verifying.proofs.Failing.{each_fails, all_lawful}
 use Rattle.verifying.proofs.Places.{one_item}
-use Rattle.verifying.proofs.verify.read_no_claim.Goals as goal
+use Rattle.verifying.proofs.parts.read_no_claim.Goals as goal
 
 pub all_fail-requires : goal.all_fail-requires
 all_fail-requires c = all_lawful c.claim-claim.result.position c.lawful_on-moves.result.items c.as_slice.result.now c.lawful_on-moves.ensures c.as_slice.ensures.value

@@ -1,0 +1,160 @@
+//! The first line of a certificate, which is its answer.
+ghost use Rattle.std.specs.Prelude.{◌≡◌, ◌+◌, ◌<◌, ◌≤◌, ◌++◌, ◌∷◌, [], IfSome, Some, length, take};
+ghost use Rattle.std.specs.Fmt.{decimal};
+ghost use Rattle.rules.specs.MoveText.{square_text, promotion_text, move_text};
+ghost use Rattle.rules.specs.Moves.{IsPromoted};
+ghost use Rattle.certificates.specs.Answers.{IsOdd};
+ghost use Rattle.verifying.specs.FirstLine.{goal_text, answer_text, IsInRange};
+
+use crate::lines::first_place;
+use board::Kind;
+use decision::{Answer, MOST_LIMIT};
+use moves::{Goal, Move, Square};
+
+/// The digit that the byte is.
+fn digit_of(byte: u8) -> Option<u8>
+    ensures { IfSome result (λ digit. (digit < 10) × (byte ≡ 48 + digit)) }
+{
+    if byte >= b'0' && byte <= b'9' {
+        return Some(byte - b'0');
+    }
+    None
+}
+
+/// The number from 1 to 9 that the digit writes.
+fn one_digit(units: u8) -> Option<u8>
+    ensures { IfSome result (λ number. (0 < number) × (number ≤ 63) × (decimal number ≡ units ∷ [])) }
+{
+    let number = digit_of(units)?;
+    if number == 0 {
+        return None;
+    }
+    Some(number)
+}
+
+/// The number from 10 to 63 that the digits write.
+fn two_digits(tens: u8, units: u8) -> Option<u8>
+    ensures { IfSome result (λ number. (0 < number) × (number ≤ 63) × (decimal number ≡ tens ∷ units ∷ [])) }
+{
+    let ten = digit_of(tens)?;
+    let unit = digit_of(units)?;
+    let number = 10 * ten + unit;
+    if number < 10 || number > MOST_LIMIT {
+        return None;
+    }
+    Some(number)
+}
+
+/// The number from 1 to 63 that the digits write.
+fn number_of(digits: &[u8]) -> Option<u8>
+    ensures { IfSome result (λ number. (0 < number) × (number ≤ 63) × (decimal number ≡ digits.now)) }
+{
+    if digits.len() == 1 {
+        return one_digit(digits[0]);
+    }
+    if digits.len() == 2 {
+        return two_digits(digits[0], digits[1]);
+    }
+    None
+}
+
+/// The file or the rank that the byte names, where `first` names the first one.
+fn cell_of(byte: u8, first: u8) -> Option<u8>
+    requires { first < 128 }
+    ensures { IfSome result (λ cell. (cell < 6) × (byte ≡ first + cell)) }
+{
+    if byte >= first && byte < first + 6 {
+        return Some(byte - first);
+    }
+    None
+}
+
+/// The square of the larger board that the two bytes name.
+fn square_of(file: u8, rank: u8) -> Option<Square>
+    ensures { IfSome result (λ square. square_text square ≡ file ∷ rank ∷ []) }
+{
+    let file = cell_of(file, b'a')?;
+    let rank = cell_of(rank, b'1')?;
+    Some(Square { file, rank })
+}
+
+/// What a pawn becomes by the letter.
+fn kind_of(letter: u8) -> Option<Kind>
+    ensures text { IfSome result (λ kind. promotion_text (Some kind) ≡ letter ∷ []) }
+    ensures promoted { IfSome result IsPromoted }
+{
+    match letter {
+        b'q' => Some(Kind::Queen),
+        b'r' => Some(Kind::Rook),
+        b'b' => Some(Kind::Bishop),
+        b'n' => Some(Kind::Knight),
+        _ => None,
+    }
+}
+
+/// The move of the first four bytes and this promotion.
+fn move_to(name: &[u8], promotion: Option<Kind>) -> Option<Move>
+    requires long { 4 ≤ length name.now }
+    requires promoted { IfSome promotion IsPromoted }
+    ensures { IfSome result (λ m. move_text m ≡ take 4 name.now ++ promotion_text promotion) }
+{
+    let from = square_of(name[0], name[1])?;
+    let to = square_of(name[2], name[3])?;
+    Some(Move {
+        from,
+        to,
+        promotion,
+    })
+}
+
+/// The move of this name, on the larger board.
+fn move_of(name: &[u8]) -> Option<Move>
+    ensures { IfSome result (λ m. move_text m ≡ name.now) }
+{
+    if name.len() == 4 {
+        return move_to(name, None);
+    }
+    if name.len() == 5 {
+        let kind = kind_of(name[4])?;
+        return move_to(name, Some(kind));
+    }
+    None
+}
+
+/// The plies and the first move of a mate, as they stand on both sides of the first space.
+fn mate_of(text: &[u8]) -> Option<(u8, Move)>
+    ensures plies { IfSome result (λ mate. IsOdd mate.0 × (mate.0 ≤ 63)) }
+    ensures text { IfSome result (λ mate. text.now ≡ decimal mate.0 ++ 32 ∷ move_text mate.1) }
+{
+    let space = first_place(text, b' ')?;
+    let plies = number_of(&text[..space])?;
+    if plies % 2 == 0 {
+        return None;
+    }
+    let first = move_of(&text[space + 1..])?;
+    Some((plies, first))
+}
+
+/// What stands before the plies of a mate.
+fn word_of(goal: Goal) -> &'static [u8]
+    ensures { result.now ≡ goal_text goal }
+{
+    match goal {
+        Goal::Mate => b"mate ",
+        Goal::MateOrStale => b"goal ",
+    }
+}
+
+/// The answer that the line tells.
+pub(crate) fn answer_of(line: &[u8], goal: Goal) -> Option<Answer>
+    ensures range { IfSome result IsInRange }
+    ensures text { IfSome result (λ answer. line.now ≡ answer_text goal answer) }
+{
+    if let Some(digits) = line.strip_prefix(b"none within ") {
+        let limit = number_of(digits)?;
+        return Some(Answer::NoneWithin(limit));
+    }
+    let mate = line.strip_prefix(word_of(goal))?;
+    let (plies, first) = mate_of(mate)?;
+    Some(Answer::Mate { plies, first })
+}
