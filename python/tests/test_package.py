@@ -220,6 +220,11 @@ class Searches(unittest.TestCase):
 
 
 class Interrupts(unittest.TestCase):
+    def setUp(self):
+        # What runs in the background may have been started with interrupts ignored.
+        before = signal.signal(signal.SIGINT, signal.default_int_handler)
+        self.addCleanup(signal.signal, signal.SIGINT, before)
+
     def interrupted(self, progress):
         """How an interrupt ends a solve whose second round would take ten seconds, and after how long."""
         held, sent = threading.Event(), []
