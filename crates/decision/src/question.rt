@@ -36,7 +36,7 @@ impl Question {
         }
     }
 
-    /// Whether it does from the position after the move, if the move is lawful.
+    /// Whether the same attacker forces the same goal from the position after the move, if the move is lawful.
     pub(crate) fn after_if_lawful(&self, m: Move) -> Option<Question>
         ensures { MatchOption result (IsLawful self.now.position m → ⊥) (LeadsTo self.now m) }
     {

@@ -195,7 +195,7 @@ fn settle<J: Count, T: Gate>(
     None
 }
 
-/// Decides each such job of all shares, of which the last is the caller's own.
+/// Decides, by number, each job of all shares that no share decided, up to the least that wins. The last share is the caller's own.
 fn settle_all<J: Count, T: Gate>(
     bench: &Bench<'_, T>,
     shares: &mut Vec<Share<'_, '_, J>>,
