@@ -1,7 +1,6 @@
 """How far the proofs of the program are, on standard error: a line that is written anew at a terminal, and a line a minute elsewhere."""
 
 import os
-import re
 import sys
 import threading
 import time
@@ -9,10 +8,6 @@ import time
 import proving
 
 SHARES = os.path.join(os.path.dirname(os.path.abspath(__file__)), "proof_shares.tsv")
-# The toolchain keeps such a file of each function that it has proved.
-KEPT_PROOF = re.compile(r"Rattle-\w+-proofs\..*\.Tie\.oantt")
-# On one processor more a check is quicker, though not as many times: measured over all crates.
-GAIN = 0.7
 
 
 def read_shares():
@@ -32,9 +27,9 @@ def counted(count, what):
     return f"{count} {what}{'s' * (count != 1)}"
 
 
-def proved_in(folder):
-    """How many functions have a proof that is kept there."""
-    return sum(bool(KEPT_PROOF.fullmatch(file)) for _, _, files in os.walk(folder) for file in files)
+def quicker(jobs):
+    """How many times as quick as one processor so many are with one check."""
+    return 1 + proving.GAIN * (jobs - 1)
 
 
 class Progress:
@@ -62,38 +57,31 @@ class Progress:
         waiting = [it for it in self.proofs.names if it not in self.proofs.done]
         functions = sum(self.proofs.share_of(it).functions for it in waiting)
         what = f"{counted(functions, 'function')} in {counted(len(waiting), 'crate')}"
-        left = counted(minutes(self.left_of(self.proved())), "minute")
+        left = counted(minutes(self.left()), "minute")
         return f"building for the first time: {what} are proved first, some {left} on {counted(self.proofs.most, 'idle processor')} .."
 
-    def proved(self):
-        """How many functions of each crate are proved."""
-        counts = {}
-        for name in self.proofs.names:
-            total = self.proofs.share_of(name).functions
-            check = self.proofs.running.get(name)
-            counts[name] = total if name in self.proofs.done else min(total, proved_in(check.room.kept)) if check else 0
-        return counts
-
-    def left_of(self, counts):
+    def left(self):
         """Seconds that the rest may take: the longest chain of checks, or all that is left over all processors, whichever is more."""
-        ahead = {name: self.seconds_left(name, counts) for name in self.proofs.names}
+        ahead = {name: self.seconds_left(name) for name in self.proofs.names}
         chain = {}
         for name in reversed(self.proofs.names):
             above = [it for it in self.proofs.names if name in self.proofs.crates[it].below]
             chain[name] = ahead[name] + max((chain[it] for it in above), default=0)
-        return max(max(chain.values()) * GAIN if self.proofs.most > 1 else 0, sum(ahead.values()) / self.proofs.most)
+        return max(max(chain.values()) / quicker(self.proofs.most), sum(ahead.values()) / self.proofs.most)
 
-    def seconds_left(self, name, counts):
-        share = self.proofs.share_of(name)
+    def seconds_left(self, name):
+        """Seconds of one processor that the crate's check may still take. One that takes longer than the table says is said to be nearly done."""
+        seconds, check = self.proofs.share_of(name).seconds, self.proofs.running.get(name)
         if name in self.proofs.done:
             return 0
-        return share.seconds * (1 - counts[name] / max(share.functions, 1))
+        took = (time.monotonic() - check.began) * quicker(check.jobs) if check else 0
+        return max(seconds - took, seconds / 10)
 
     def line(self):
-        counts = self.proved()
-        done, total = sum(counts.values()), sum(self.proofs.share_of(name).functions for name in self.proofs.names)
+        """The toolchain tells of a crate's functions when it has ended with all of them."""
+        done, total = (sum(self.proofs.share_of(name).functions for name in names) for names in (list(self.proofs.done), self.proofs.names))
         so_far = counted(minutes(time.monotonic() - self.began), "minute")
-        left, under_way = minutes(self.left_of(counts)), ", ".join(list(self.proofs.running))
+        left, under_way = minutes(self.left()), ", ".join(list(self.proofs.running))
         return f"{done} of {total} functions proved, {so_far} so far, some {left} left ({under_way})"
 
     def draw_until_ended(self):

@@ -1,25 +1,27 @@
-"""How the crates that the program stands on are proved and built, side by side.
+"""How crates are proved and built, side by side: each once those below it are, over what these state.
 
-The toolchain lets one of its runs at a time work in a crate's folder and in those below it. So each crate gets a room: a folder with the
-crate and copies of those below it, where the toolchain finds nobody else. What it has made goes back to the crate's own folder.
+What is built stands in one folder: of a library NAME.rlib, of a program NAME. Beside it NAME.sum is a sum of all that it was made of, so that
+nothing is proved again that hasn't changed.
 """
 
 import contextlib
 import fcntl
+import hashlib
 import os
 import re
 import shutil
 import signal
 import subprocess
-import sys
 import time
 from typing import NamedTuple
 
 PARTS = ("src", "specs", "proofs")
-# A run of the program that needs neither time nor a table.
-FIRST_RUN = ["moves", "k5/6/6/6/6/5K w"]
+# One processor more makes a check quicker, though not as many times: measured on the crates of the chain, with two and with four.
+GAIN = 0.7
 # What each further process of one check takes of the first one's memory.
-FURTHER = 0.6
+FURTHER = 0.3
+# How far the checks that others wait for least stand back, in the system's own measure.
+STANDS_BACK = 5
 
 
 class NotProved(Exception):
@@ -30,10 +32,12 @@ class NotProved(Exception):
 
 
 class Crate(NamedTuple):
-    """A line of crates.txt, and the crates of the repository that it names."""
+    """A line of crates.txt: the crates of the repository that it names, and the libraries of the toolchain."""
 
     name: str
+    is_static: bool
     below: list
+    libraries: list
     line: str
 
 
@@ -41,9 +45,13 @@ def read_crates(top):
     """The crates of crates.txt by name."""
     with open(os.path.join(top, "crates.txt"), encoding="utf-8") as file:
         lines = [line.partition("#")[0].strip() for line in file]
-    heads = {re.match(r"\w+", line)[0]: line for line in lines if ":" in line}
-    uses = {name: line.partition(":")[2].split() for name, line in heads.items()}
-    return {name: Crate(name, [it for it in uses[name] if it in heads], line) for name, line in heads.items()}
+    lines = {re.match(r"\w+", line)[0]: line for line in lines if ":" in line}
+    crates = {}
+    for name, line in lines.items():
+        head, _, uses = line.partition(":")
+        below, libraries = [it for it in uses.split() if it in lines], [it for it in uses.split() if it not in lines]
+        crates[name] = Crate(name, "staticlib" in head.split(), below, libraries, line)
+    return crates
 
 
 def reached(crates, name):
@@ -62,15 +70,19 @@ def sources_of(top, name):
             yield from (os.path.join(folder, file) for file in files)
 
 
+def copy_sources(top, name, room):
+    """What is proved of a crate, in the same place of another folder."""
+    for part in PARTS:
+        source = os.path.join(top, "crates", name, part)
+        if os.path.isdir(source):
+            shutil.copytree(source, os.path.join(room, "crates", name, part))
+
+
+def is_program(top, name):
+    return os.path.isfile(os.path.join(top, "crates", name, "src", "main.rt"))
+
+
 # The machine
-
-
-def find_rt():
-    """The toolchain's command: on the path, or where the toolchain is commonly installed."""
-    for path in (shutil.which("rt"), "/opt/rattle/bin/rt"):
-        if path and os.access(path, os.X_OK):
-            return path
-    raise NotProved("found no rt on the path, nor in /opt/rattle/bin: install the toolchain")
 
 
 def processors():
@@ -82,74 +94,52 @@ def free_memory():
         return 1024 * int(re.search(r"MemAvailable:\s+(\d+)", file.read())[1])
 
 
-# Rooms
+class Kit:
+    """The toolchain: on the path, or where it is commonly installed."""
+
+    def __init__(self):
+        found = [path for path in (shutil.which("rt"), "/opt/rattle/bin/rt") if path and os.access(path, os.X_OK)]
+        if not found:
+            raise NotProved("found no rt on the path, nor in /opt/rattle/bin: install the toolchain")
+        self.rt, self.folder = found[0], os.path.dirname(os.path.dirname(os.path.realpath(found[0])))
+        self.rattle, self.toolchain = self.path("bin/rattle"), self.path("toolchain")
+        if not os.access(self.rattle, os.X_OK):
+            raise NotProved(f"found no rattle at {self.rattle}, beside {self.rt}: install the toolchain anew")
+        said = subprocess.run([self.rattle, "build", "--help"], stdin=subprocess.DEVNULL, capture_output=True, check=False, text=True)
+        # Without it a library is built with its proofs, which serves as well, and takes longer to read.
+        self.states = "--statements" in said.stdout
+        self.name = ""
+        with contextlib.suppress(OSError), open(self.path("KIT-ID"), encoding="utf-8") as file:
+            self.name = file.read()
+
+    def path(self, below):
+        return os.path.join(self.folder, below)
+
+    def words(self, crate, root, built, jobs):
+        """What a check of the crate is told, over the libraries in the folder `built`."""
+        words = ["--crate-name", crate.name, os.path.join("src", root), "-L", f"dependency={self.path('rlibs')}", "-L", f"dependency={built}"]
+        for library in ["std", *crate.libraries]:
+            words += ["--extern", f"{library}={self.path(os.path.join('rlibs', library))}.rlib"]
+        for below in crate.below:
+            words += ["--extern", f"{below}={os.path.join(built, below)}.rlib"]
+        words += ["--antt-project", self.path("rattle/logic/antt-project.json"), "--logic-built", self.path("logic_built")]
+        return [*words, "--links", f"{crate.name}=", "--jobs", str(jobs)]
+
+    def link_words(self, made, program):
+        words = [self.path("bin/rattle-link"), "--target", "x86_64-unknown-linux-gnu", "--toolchain", self.toolchain, "-o", program]
+        return [*words, made, self.path("c/libos_c.a"), self.path("c/liblibc_c.a")]
 
 
-def copy_sources(top, name, room):
-    """What is proved of a crate, in the same place of another folder."""
-    for part in PARTS:
-        source = os.path.join(top, "crates", name, part)
-        if os.path.isdir(source):
-            shutil.copytree(source, os.path.join(room, "crates", name, part))
-
-
-def share(source, target):
-    """A built library in another folder: the same files, where the file system can."""
-    try:
-        shutil.copytree(source, target, copy_function=os.link)
-    except (OSError, shutil.Error):
-        shutil.rmtree(target, ignore_errors=True)
-        shutil.copytree(source, target)
-
-
-class Room:
-    """The folder in which one crate is proved. While it is taken, the toolchain lets nobody else work in the crate's own folder."""
-
-    def __init__(self, top, work, crates, name):
-        self.home, self.top = os.path.join(top, "crates", name), os.path.join(work, name)
-        self.folder = os.path.join(self.top, "crates", name)
-        self.kept, self.log = os.path.join(self.folder, "out", "incremental"), os.path.join(self.top, "log")
-        self.is_program = os.path.isfile(os.path.join(self.home, "src", "main.rt"))
-        self.held = os.open(self.home, os.O_RDONLY)
+@contextlib.contextmanager
+def alone(top, say):
+    """One build at a time. The system lets go of the lock when this process ends, however it ends."""
+    with open(os.path.join(top, "out", "build.lock"), "w", encoding="ascii") as lock:
         try:
-            fcntl.flock(self.held, fcntl.LOCK_EX | fcntl.LOCK_NB)
+            fcntl.flock(lock, fcntl.LOCK_EX | fcntl.LOCK_NB)
         except BlockingIOError:
-            print(f"minimate: waiting for another run of the toolchain in {self.home} ..", file=sys.stderr, flush=True)
-            fcntl.flock(self.held, fcntl.LOCK_EX)
-        self.furnish(top, crates, name)
-
-    def furnish(self, top, crates, name):
-        """Everything but what an earlier run left of the crate itself is laid anew."""
-        left, mine = os.path.join(self.top, "left"), os.path.join(self.folder, "out")
-        if os.path.isdir(mine) and not os.path.lexists(left):
-            os.rename(mine, left)
-        shutil.rmtree(os.path.join(self.top, "crates"), ignore_errors=True)
-        os.makedirs(self.folder)
-        shutil.copy(os.path.join(top, "HANDLES"), self.top)
-        with open(os.path.join(self.top, "crates.txt"), "w", encoding="utf-8") as file:
-            file.writelines(f"{crates[it].line}\n" for it in reached(crates, name))
-        for it in reached(crates, name):
-            copy_sources(top, it, self.top)
-            built = os.path.join("crates", it, "out", "rlib")
-            if it != name:
-                share(os.path.join(top, built), os.path.join(self.top, built))
-        self.take(os.path.join(self.home, "out"), left, mine)
-
-    def take(self, at_home, left, mine):
-        """What was proved of the crate before: at home, or here when a run was ended by force."""
-        if os.path.isdir(at_home):
-            shutil.rmtree(left, ignore_errors=True)
-            shutil.move(at_home, mine)
-        elif os.path.isdir(left):
-            os.rename(left, mine)
-
-    def leave(self):
-        """The crate's own folder gets what was made, and is free for others."""
-        made, home = os.path.join(self.folder, "out"), os.path.join(self.home, "out")
-        if os.path.isdir(made):
-            shutil.rmtree(home, ignore_errors=True)
-            shutil.move(made, home)
-        os.close(self.held)
+            say("another build is under way here: waiting for it ..")
+            fcntl.flock(lock, fcntl.LOCK_EX)
+        yield
 
 
 # Checks
@@ -167,15 +157,15 @@ UNKNOWN = Share(0, 60.0, 3e9)
 
 
 class Check:
-    """The toolchain's run in one room, and all that it starts."""
+    """The toolchain's run for one crate, and all that it starts."""
 
-    def __init__(self, room, rt, jobs):
-        self.room, self.jobs, self.began = room, jobs, time.monotonic()
+    def __init__(self, name, words, log, folder, jobs, stands_back):
+        self.name, self.log, self.jobs, self.began = name, log, jobs, time.monotonic()
         self.status, self.seconds, self.clock, self.memory = None, 0.0, 0.0, 0
-        words = ["run" if room.is_program else "lib", "--jobs", str(jobs), *(["--", *FIRST_RUN] if room.is_program else [])]
-        with open(room.log, "w", encoding="utf-8") as log:
-            how = {"stdin": subprocess.DEVNULL, "stdout": log, "stderr": subprocess.STDOUT, "start_new_session": True}
-            self.process = subprocess.Popen([rt, *words], cwd=room.folder, **how)
+        with open(log, "w", encoding="utf-8") as said:
+            how = {"stdin": subprocess.DEVNULL, "stdout": said, "stderr": subprocess.STDOUT, "start_new_session": True}
+            self.process = subprocess.Popen(words, cwd=folder, **how)
+        os.setpriority(os.PRIO_PROCESS, self.process.pid, os.getpriority(os.PRIO_PROCESS, 0) + stands_back)
 
     def has_ended(self):
         """Whether the run is over: then its status is known, and what it took of processors."""
@@ -187,7 +177,6 @@ class Check:
         return pid != 0
 
     def end(self):
-        """The toolchain ends all that it started when it ends, however it ends."""
         if self.status is None:
             os.killpg(self.process.pid, signal.SIGKILL)
             self.process.wait()
@@ -198,15 +187,17 @@ class Check:
 
 
 class Proofs:
-    """The checks of a program's crates, each once those below it have ended, as many at once as there are processors and memory for."""
+    """The checks of a crate and of those below it, each once those below it have ended, as many at once as there are processors and memory for."""
 
-    def __init__(self, top, work, name, shares, hold=contextlib.nullcontext):
-        """While `hold` is entered no signal is heard, so that nothing is started, or put back, by half."""
-        self.top, self.work, self.rt, self.hold = top, work, find_rt(), hold
+    def __init__(self, top, built, name, shares, hold=contextlib.nullcontext):
+        """While `hold` is entered no signal is heard, so that nothing is started, or put into place, by half."""
+        self.top, self.built, self.kit, self.hold = top, built, Kit(), hold
         self.crates, self.shares = read_crates(top), shares
         self.names = reached(self.crates, name)
-        self.running, self.done = {}, [name for name in self.names if self.is_kept(name)]
-        self.most, self.most_jobs, self.memory = processors(), 2, 0.9 * free_memory()
+        self.most = self.most_jobs = processors()
+        self.memory, self.keeps = 0.9 * free_memory(), False
+        self.sums, self.running = {}, {}
+        self.done = [name for name in self.names if self.is_kept(name)]
 
     def share_of(self, name):
         return self.shares.get(name, UNKNOWN)
@@ -216,13 +207,52 @@ class Proofs:
         above = [it for it in self.names if name in self.crates[it].below]
         return self.share_of(name).seconds + max((self.chain(it) for it in above), default=0)
 
+    # What is built
+
+    def sum_of(self, name):
+        """A sum of all that the crate's library is made of: its files, those of the crates below it, and the toolchain. It is taken before the
+        first check, so that an edit from then on makes another one."""
+        if name not in self.sums:
+            whole = hashlib.sha256(f"{self.kit.name}\0{self.crates[name].line}\0".encode())
+            for path in sorted(it for it in sources_of(self.top, name) if os.path.isfile(it)):
+                with open(path, "rb") as file:
+                    whole.update(os.fsencode(os.path.relpath(path, self.top)) + b"\0" + hashlib.sha256(file.read()).digest())
+            for below in self.crates[name].below:
+                whole.update(self.sum_of(below).encode())
+            self.sums[name] = whole.hexdigest()
+        return self.sums[name]
+
+    def made_of(self, name):
+        return os.path.join(self.built, f"{name}.sum")
+
+    def path_of(self, name):
+        """Where a crate's library stands, or the program."""
+        crate = self.crates[name]
+        return os.path.join(self.built, name if is_program(self.top, name) else f"lib{name}.a" if crate.is_static else f"{name}.rlib")
+
     def is_kept(self, name):
-        """Whether the crate's library was built after all that it is made from was written. The toolchain looks closer, where one above is proved."""
-        stamp = os.path.join(self.top, "crates", name, "out", "rlib", "stamp")
-        if not os.path.isfile(stamp):
-            return False
-        made = os.lstat(stamp).st_mtime_ns
-        return all(os.lstat(it).st_mtime_ns < made for below in reached(self.crates, name) for it in sources_of(self.top, below))
+        """Whether what is built of the crate was built of these very files."""
+        with contextlib.suppress(OSError), open(self.made_of(name), encoding="ascii") as file:
+            return file.read() == self.sum_of(name) and os.path.exists(self.path_of(name))
+        return False
+
+    def words(self, name, jobs):
+        """The toolchain's run that proves and builds the crate."""
+        crate, links = self.crates[name], is_program(self.top, name) or self.crates[name].is_static
+        words = [self.kit.rattle, "build", *self.kit.words(crate, "main.rt" if is_program(self.top, name) else "lib.rt", self.built, jobs)]
+        words += ["--crate-type", "staticlib"] if crate.is_static else []
+        words += ["--toolchain", self.kit.toolchain] if links else ["--statements"] if self.kit.states and not self.keeps else []
+        words += ["--incremental", f"{self.path_of(name)}.kept"] if self.keeps else []
+        return [*words, "-o", f"{self.path_of(name)}.o" if is_program(self.top, name) else self.path_of(name)]
+
+    def link(self, check):
+        """The program of what its check has compiled. What the linker says goes into the log."""
+        program = self.path_of(check.name)
+        with open(check.log, "a", encoding="utf-8") as said:
+            words = self.kit.link_words(f"{program}.o", program)
+            check.status = subprocess.run(words, stdin=subprocess.DEVNULL, stdout=said, stderr=subprocess.STDOUT, check=False).returncode
+
+    # The order
 
     def ready(self):
         """Those whose crates below have all been proved, with the longest chain first."""
@@ -234,46 +264,55 @@ class Proofs:
         return self.share_of(name).memory * (1 + FURTHER * (jobs - 1))
 
     def start_ready(self):
-        """Starts what can be. A check gets the processors that no other could take, since several help it, though not as many times."""
-        ready = self.ready()
-        for at, name in enumerate(ready):
-            free = self.most - sum(it.jobs for it in self.running.values())
+        """Starts what can be. The check that most waits for gets all processors, and the others one each, which stands back where they are full."""
+        for name in self.ready():
             room = self.memory - sum(self.memory_of(it, check.jobs) for it, check in self.running.items())
-            jobs = max(1, min(self.most_jobs, free - (len(ready) - at - 1)))
+            waited = max((self.chain(it) for it in self.running), default=0)
+            is_first = self.chain(name) >= waited
+            jobs = min(self.most, self.most_jobs) if is_first else 1
             while jobs > 1 and self.memory_of(name, jobs) > room:
                 jobs -= 1
-            if self.running and (free < 1 or self.memory_of(name, jobs) > room):
+            if self.running and (len(self.running) >= self.most or self.memory_of(name, jobs) > room):
                 return
             with self.hold():
-                self.running[name] = Check(Room(self.top, self.work, self.crates, name), self.rt, jobs)
+                self.start(name, jobs, 0 if is_first else STANDS_BACK)
+
+    def start(self, name, jobs, stands_back):
+        os.makedirs(self.built, exist_ok=True)
+        for path in (self.made_of(name), self.path_of(name)):
+            shutil.rmtree(path, ignore_errors=True)
+            with contextlib.suppress(OSError):
+                os.remove(path)
+        log, folder = os.path.join(self.built, f"{name}.log"), os.path.join(self.top, "crates", name)
+        self.running[name] = Check(name, self.words(name, jobs), log, folder, jobs, stands_back)
 
     def run(self, has_ended):
-        """Proves all, or ends all at the first that fails. Of each check that has ended the caller is told while its room still stands."""
+        """Proves all, or ends all at the first that fails. The caller is told of each check that has ended."""
         try:
-            while len(self.done) < len(self.names):
+            while any(it not in self.done for it in self.names):
                 self.start_ready()
                 name = self.wait_for_one()
                 with self.hold():
                     check = self.running.pop(name)
-                    has_ended(name, check)
-                    check.room.leave()
-                self.judge(name, check)
+                    if check.status == 0 and is_program(self.top, name):
+                        self.link(check)
+                    has_ended(check)
+                    self.judge(check)
         finally:
             with self.hold():
                 for check in self.running.values():
                     check.end()
-                for check in self.running.values():
-                    with contextlib.suppress(OSError):
-                        check.room.leave()
 
-    def judge(self, name, check):
+    def judge(self, check):
         """A check that ended well is done. One that was killed, most likely for memory, comes again, with nothing beside it."""
         if check.status == 0:
-            self.done.append(name)
+            with open(self.made_of(check.name), "w", encoding="ascii") as file:
+                file.write(self.sum_of(check.name))
+            self.done.append(check.name)
         elif check.was_killed() and (self.most > 1 or check.jobs > 1):
             self.most = 1
         else:
-            raise NotProved(f"{name} isn't proved: {first_error(check.room.log)}")
+            raise NotProved(f"{check.name} isn't proved: {first_error(check.log)}")
 
     def wait_for_one(self):
         """The name of a check that has ended."""

@@ -20,7 +20,7 @@ class Trial:
     def __enter__(self):
         if self.words and self.words[0] not in READING:
             how = {"stdin": subprocess.DEVNULL, "stdout": subprocess.PIPE, "stderr": subprocess.DEVNULL, "start_new_session": True}
-            words = [self.proofs.rt, "try", "--", *self.words]
+            words = [self.proofs.kit.rt, "try", "--", *self.words]
             self.process = subprocess.Popen(words, cwd=os.path.join(self.proofs.top, "crates", "minimate"), errors="replace", **how)
             self.thread = threading.Thread(target=self.tell_answer, daemon=True)
             self.thread.start()

@@ -6,9 +6,10 @@ use Rattle.command_line.specs.declared.line.Action.{Action}
 use Rattle.command_line.specs.declared.line.Limits.{Limits}
 use Rattle.command_line.specs.declared.line.Line.{Line}
 use Rattle.replies.specs.Outcome.{Gives}
-use Rattle.replies.specs.Output.{Reply, answered, refused, IsOutput}
-use Rattle.replies.specs.declared.refusal.Refusal.{Refusal}
-use Rattle.replies.specs.declared.refusal.Refusal.TheVariants.{NoMemory}
+use Rattle.replies.specs.Output.{IsOutput}
+use Rattle.refusals.specs.Reply.{Reply, answered, refused}
+use Rattle.refusals.specs.declared.refusal.Refusal.{Refusal}
+use Rattle.refusals.specs.declared.refusal.Refusal.TheVariants.{NoMemory}
 use Rattle.calls.specs.declared.answering.Terms.{Terms}
 use Rattle.calls.specs.Calls.{Puts, Answers, AnswersSearch, goal_of, limits_of}
 use Rattle.calls.specs.Putting.{PutsReply}

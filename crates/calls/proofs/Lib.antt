@@ -1,1 +1,2 @@
 mod CallLemmas
+mod PlayingLemmas

@@ -1,5 +1,6 @@
 -- to be believed
 pub mod Room
+pub mod Playing
 pub mod Calls
 -- inside
 pub mod Putting

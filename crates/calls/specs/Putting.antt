@@ -1,8 +1,8 @@
 -- What becomes of the work on a reply.
 use Rattle.std.specs.Prelude.{◌⊎◌, ℕ, List, Result, Ok, Err, Vec}
-use Rattle.replies.specs.Output.{refused}
-use Rattle.replies.specs.declared.refusal.Refusal.{Refusal}
-use Rattle.replies.specs.declared.refusal.Refusal.TheVariants.{NoMemory}
+use Rattle.refusals.specs.Reply.{refused}
+use Rattle.refusals.specs.declared.refusal.Refusal.{Refusal}
+use Rattle.refusals.specs.declared.refusal.Refusal.TheVariants.{NoMemory}
 use Rattle.calls.specs.Room.{IsPut}
 
 -- what is put of the work on a reply: its text, or why there is none, where that itself may want memory

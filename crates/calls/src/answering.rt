@@ -1,7 +1,7 @@
 //! From a call's values to a line's, and from the reply to the room.
 ghost use Rattle.std.specs.Prelude.{◌≡◌};
-ghost use Rattle.replies.specs.Output.{refused};
-ghost use Rattle.replies.specs.declared.refusal.Refusal.TheVariants.{NoMemory};
+ghost use Rattle.refusals.specs.Reply.{refused};
+ghost use Rattle.refusals.specs.declared.refusal.Refusal.TheVariants.{NoMemory};
 ghost use Rattle.calls.specs.Calls.{goal_of, limits_of};
 ghost use Rattle.calls.specs.Putting.{PutsReply};
 ghost use Rattle.calls.specs.Room.{IsPut};
@@ -9,7 +9,7 @@ ghost use Rattle.calls.specs.Room.{IsPut};
 use crate::room::put;
 use command_line::Limits;
 use moves::Goal;
-use replies::{Refusal, refused_text};
+use refusals::{Refusal, refused_text};
 use std::alloc::Allocator;
 
 /// What a search is to find, and within what: whether stalemate is a goal too, the limit in plies, and the slots of its table.

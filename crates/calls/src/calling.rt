@@ -3,9 +3,8 @@ ghost use Rattle.command_line.specs.declared.line.Action.TheVariants.{Solve, Key
 ghost use Rattle.calls.specs.Calls.{AnswersAfter, AnswersCheck, AnswersFault, AnswersMoves, AnswersSearch};
 
 use crate::answering::{Terms, goal_of, limits_of, put_reply};
-use replies::{
-    after_reply, check_reply, fault_reply, keys_reply, moves_reply, solve_reply, tree_reply,
-};
+use crate::one_thread::{check_reply, keys_reply, moves_reply, solve_reply, tree_reply};
+use crate::playing::{after_reply, fault_reply};
 use std::alloc::Allocator;
 
 /// What `minimate moves` writes of the position.

@@ -3,6 +3,8 @@
 
 mod answering;
 mod calling;
+mod one_thread;
+mod playing;
 mod room;
 
 pub use answering::{Terms, no_memory};

@@ -14,26 +14,27 @@ use Rattle.command_line.specs.declared.line.Limits.{Limits}
 use Rattle.rules.specs.Reading.{IsSoundFault}
 use Rattle.rules.specs.declared.goal.Goal.{Goal}
 use Rattle.replies.proofs.ReplyLemmas.{of_any, of_input_then}
-use Rattle.replies.specs.Device.{AppendsBeginning}
-use Rattle.replies.specs.Input.{OfInput, without_line_feed}
+use Rattle.devices.specs.Device.{AppendsBeginning}
+use Rattle.devices.specs.Input.{OfInput, without_line_feed}
 use Rattle.replies.specs.Outcome.{Gives}
-use Rattle.replies.specs.Output.{IsSoundText, ShowsAnswer, answered, fault_of, refused}
-use Rattle.replies.specs.Refusal.{refusal_of_fen, refusal_of_solve}
-use Rattle.replies.specs.declared.refusal.Refusal.{Refusal}
-use Rattle.replies.specs.declared.refusal.Refusal.TheVariants.{TooLong}
+use Rattle.replies.specs.Output.{IsSoundText, ShowsAnswer, fault_of, refusal_of_solve}
+use Rattle.refusals.specs.Reply.{answered, refused}
+use Rattle.refusals.specs.Refusal.{refusal_of_fen}
+use Rattle.refusals.specs.declared.refusal.Refusal.{Refusal}
+use Rattle.refusals.specs.declared.refusal.Refusal.TheVariants.{TooLong}
 use Rattle.console.specs.Batch.{AnswersLines, EndsBatch, IsLineReply, IsReplyText, RunsBatch, is_remark, joined, lines_of, onto, said_in}
 use Rattle.console.specs.Desk.{Fails, GivesNext, GivesSaid, IsFirstOf, RepliesTo, SameSolver, Step, TakesLines, TakesStep}
-use Rattle.console.specs.Lines.{HasNoFeed, IsFed, IsLastOf, IsReadAs, TakesLine, left_of}
+use Rattle.devices.specs.Lines.{HasNoFeed, IsFed, IsLastOf, IsReadAs, TakesLine, left_of}
 use Rattle.console.specs.Run.{Ending, Finishes, Refuses, Run, no_memory}
 use Rattle.rounds.specs.declared.task.SolveFault.{SolveFault}
 use Rattle.rounds.specs.declared.task.SolveFault.TheVariants as solve
 use Rattle.console.specs.declared.batch.Solver.{Solver}
 use Rattle.console.specs.declared.batch.Stop.{Stop}
 use Rattle.console.specs.declared.batch.Stop.TheVariants.{ReadFailed, WriteFailed, NoMemory}
-use Rattle.console.specs.declared.lines.Taken.{Taken}
-use Rattle.console.specs.declared.lines.Next.{Next}
-use Rattle.console.specs.declared.lines.Next.TheVariants.{Line}
-use Rattle.console.specs.declared.lines.Unread.{Unread}
+use Rattle.devices.specs.declared.lines.Taken.{Taken}
+use Rattle.devices.specs.declared.lines.Next.{Next}
+use Rattle.devices.specs.declared.lines.Next.TheVariants.{Line}
+use Rattle.devices.specs.declared.lines.Unread.{Unread}
 
 -- ---- what a line says
 

@@ -1,11 +1,12 @@
 -- A run, from how its text was written.
 use Rattle.std.proofs.Common.{◌≡◌, ◌≢◌, ◌⊎◌, [], inl, inr, refl, arith, subst, ◌∙◌}
 use Rattle.replies.proofs.ReplyLemmas.{of_input_then}
-use Rattle.replies.specs.Input.{OfInput}
-use Rattle.replies.specs.Output.{Reply, input_of, IsOutput, refused}
-use Rattle.replies.specs.Refusal.{refusal_status}
-use Rattle.replies.specs.declared.refusal.Refusal.{Refusal}
-use Rattle.replies.specs.declared.refusal.Refusal.TheVariants.{Fields, Shape, Letter, Run as RunOfDigits, Side, Kings, Units, PawnRank, OtherInCheck, Move, Limit, Workers, Slots, TooLong, Grammar, Deep, NoMemory}
+use Rattle.devices.specs.Input.{OfInput}
+use Rattle.replies.specs.Output.{input_of, IsOutput}
+use Rattle.refusals.specs.Reply.{Reply, refused}
+use Rattle.refusals.specs.Refusal.{refusal_status}
+use Rattle.refusals.specs.declared.refusal.Refusal.{Refusal}
+use Rattle.refusals.specs.declared.refusal.Refusal.TheVariants.{Fields, Shape, Letter, Run as RunOfDigits, Side, Kings, Units, PawnRank, OtherInCheck, Move, Limit, Workers, Slots, TooLong, Grammar, Deep, NoMemory}
 use Rattle.console.specs.Run.{Run, Writes, HasReply, no_memory, RunsLine, Finishes, Refuses}
 use Rattle.command_line.specs.declared.line.Line.{Line}
 

@@ -6,10 +6,11 @@ use Rattle.board.specs.declared.fault.FenFault.{FenFault}
 use Rattle.rules.specs.Reading.{IsSoundFault}
 use Rattle.rules.specs.declared.goal.Goal.{Goal}
 use Rattle.command_line.specs.declared.line.Limits.{Limits}
-use Rattle.replies.specs.Input.{OfInput, without_line_feed}
-use Rattle.replies.specs.Output.{Reply, IsSoundText, ShowsAnswer, fault_of, line_of, refused}
-use Rattle.replies.specs.Refusal.{refusal_of_fen, refusal_of_solve}
-use Rattle.replies.specs.declared.refusal.Refusal.TheVariants.{TooLong}
+use Rattle.devices.specs.Input.{OfInput, without_line_feed}
+use Rattle.replies.specs.Output.{IsSoundText, ShowsAnswer, fault_of, refusal_of_solve}
+use Rattle.refusals.specs.Reply.{Reply, line_of, refused}
+use Rattle.refusals.specs.Refusal.{refusal_of_fen}
+use Rattle.refusals.specs.declared.refusal.Refusal.TheVariants.{TooLong}
 use Rattle.console.specs.Run.{Run, Writes, Finishes, Refuses, no_memory}
 
 -- ---- lines

@@ -8,20 +8,21 @@ use Rattle.command_line.specs.declared.line.Limits.{Limits}
 use Rattle.rounds.specs.Seats.{AreSeats}
 use Rattle.rounds.specs.declared.task.SolveFault.{SolveFault}
 use Rattle.rounds.specs.declared.task.SolveFault.TheVariants as solve
-use Rattle.replies.specs.Device.{AppendsBeginning}
-use Rattle.replies.specs.Input.{OfInput}
-use Rattle.replies.specs.Output.{fault_of, refused}
-use Rattle.replies.specs.declared.refusal.Refusal.{Refusal}
-use Rattle.replies.specs.declared.refusal.Refusal.TheVariants as refusal
-use Rattle.replies.specs.declared.transfer.InputFault.{InputFault}
-use Rattle.replies.specs.declared.transfer.InputFault.TheVariants as input
+use Rattle.devices.specs.Device.{AppendsBeginning}
+use Rattle.devices.specs.Input.{OfInput}
+use Rattle.replies.specs.Output.{fault_of}
+use Rattle.refusals.specs.Reply.{refused}
+use Rattle.refusals.specs.declared.refusal.Refusal.{Refusal}
+use Rattle.refusals.specs.declared.refusal.Refusal.TheVariants as refusal
+use Rattle.devices.specs.declared.transfer.InputFault.{InputFault}
+use Rattle.devices.specs.declared.transfer.InputFault.TheVariants as input
 use Rattle.console.specs.Batch.{AnswersLines, IsLineReply, IsReplyText, joined, lines_of}
-use Rattle.console.specs.Lines.{IsFed, IsLastOf, IsReadAs, IsUnread, left_of}
+use Rattle.devices.specs.Lines.{IsFed, IsLastOf, IsReadAs, IsUnread, left_of}
 use Rattle.console.specs.declared.batch.Desk.{Desk}
 use Rattle.console.specs.declared.batch.Solver.{Solver}
 use Rattle.console.specs.declared.batch.Stop.{Stop}
 use Rattle.console.specs.declared.batch.Stop.TheVariants.{ReadFailed, WriteFailed, NoMemory}
-use Rattle.console.specs.declared.lines.Next.{Next}
+use Rattle.devices.specs.declared.lines.Next.{Next}
 
 -- ---- the desk
 

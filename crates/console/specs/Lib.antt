@@ -4,6 +4,4 @@ pub mod Batch
 pub mod Order
 pub mod Program
 -- inside
-pub mod Lines
 pub mod Desk
-pub mod Signs

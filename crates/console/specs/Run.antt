@@ -1,12 +1,13 @@
 -- What a run of the program does: its status, and what it reads and writes.
 use Rattle.std.specs.Prelude.{◌≡◌, ◌⊎◌, ◌↔◌, ◌+◌, ◌-◌, ◌<◌, ◌≤◌, ℕ, List, [], Option}
 use Rattle.std.specs.Io.KnownBytes.{Appends}
-use Rattle.replies.specs.Device.{AppendsBeginning}
-use Rattle.replies.specs.Input.{OfInput}
-use Rattle.replies.specs.Output.{Reply, IsOutput, input_of, refused}
+use Rattle.devices.specs.Device.{AppendsBeginning}
+use Rattle.devices.specs.Input.{OfInput}
+use Rattle.replies.specs.Output.{IsOutput, input_of}
+use Rattle.refusals.specs.Reply.{Reply, refused}
 use Rattle.command_line.specs.declared.line.Line.{Line}
-use Rattle.replies.specs.declared.refusal.Refusal.{Refusal}
-use Rattle.replies.specs.declared.refusal.Refusal.TheVariants.{NoMemory}
+use Rattle.refusals.specs.declared.refusal.Refusal.{Refusal}
+use Rattle.refusals.specs.declared.refusal.Refusal.TheVariants.{NoMemory}
 
 -- what was seen of a run's writer, and the status
 pub record Ending : Type 0 where

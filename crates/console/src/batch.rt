@@ -1,23 +1,23 @@
 //! A batch: a solve of each position of the input, over one table.
 ghost use Rattle.std.specs.Prelude.{◌≡◌, ◌<◌, IfOk, vec_items};
 ghost use Rattle.replies.specs.Outcome.{Gives, Solves};
-ghost use Rattle.replies.specs.Output.{ShowsAnswer, refused};
+ghost use Rattle.replies.specs.Output.{ShowsAnswer};
+ghost use Rattle.refusals.specs.Reply.{refused};
 ghost use Rattle.console.specs.Batch.{IsReplyText, said_in};
 ghost use Rattle.console.specs.Desk.{GivesNext, GivesSaid, IsDesk, IsSolver, OpensDesk, SameSolver, TakesLines, TakesStep, step_of, stop_of};
 ghost use Rattle.console.specs.declared.batch.Stop.TheVariants.{NoMemory, WriteFailed};
 
 use crate::beside::{Host, solve_beside};
-use crate::lines::{Next, Taken, Unread, is_remark, said_in};
-use crate::watch::Course;
+use crate::said::{is_remark, said_in};
 use board::Position;
 use command_line::Limits;
 use decision::Answer;
+use devices::{Failed, InputFault, Next, Sink, Source, Taken, Unread, write_all};
 use entry::MateLore;
 use moves::{Goal, read_sound};
-use replies::{
-    Failed, InputFault, Refusal, Refused, Sink, Source, advise, answer_text, refused_text,
-    search_of, write_all,
-};
+use progress::Course;
+use refusals::{Refusal, Refused, advise, refused_text};
+use replies::{answer_text, refusal_of, search_of};
 use rounds::{NoGate, SolveFault, Task, make_table, solve_over};
 use slots::{Seat, Slots};
 use std::alloc::{AllocError, Global};
@@ -156,8 +156,10 @@ fn position_text<R: Threads + Wait + Eprint + Clock + Sync + AllocGlobal>(
 {
     let alloc = host.rt.alloc();
     let goal = solver.goal;
-    let answer = position_answer(host, solver, position)?;
-    Ok(answer_text(alloc, goal, answer)?.into_bytes())
+    match position_answer(host, solver, position) {
+        Ok(answer) => Ok(answer_text(alloc, goal, answer)?.into_bytes()),
+        Err(fault) => Err(refusal_of(fault)),
+    }
 }
 
 /// What is written for what a line says, or why it is refused.

@@ -2,7 +2,8 @@
 ghost use Rattle.std.specs.Prelude.{◌↔◌, ◌<◌, IsTrue};
 ghost use Rattle.console.specs.Run.{ending_of, Finishes, MayTell, Refuses, no_memory};
 
-use replies::{Refusal, Sink, refused_text, write_all};
+use devices::{Sink, write_all};
+use refusals::{Refusal, refused_text};
 use std::alloc::Global;
 
 pub const ANSWERED: u8 = 0;

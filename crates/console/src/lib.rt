@@ -4,10 +4,9 @@
 mod batch;
 mod beside;
 mod ending;
-mod lines;
 mod program;
 mod running;
-mod watch;
+mod said;
 
 pub use program::run_program;
 pub use running::{run, run_line};

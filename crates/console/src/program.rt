@@ -6,7 +6,8 @@ ghost use Rattle.console.specs.Program.{RunsProgram, MayReadIn, MeansBatchIn, no
 
 use crate::ending::{REFUSED_WORDS, give_up_for_memory};
 use crate::running::run;
-use replies::{Sink, Source, advise_words};
+use devices::{Sink, Source};
+use refusals::advise_words;
 use std::alloc::Global;
 use std::io::{self, Write};
 use std::sync::Wait;

@@ -11,7 +11,9 @@ use crate::ending::{
     ANSWERED, FAILED, REFUSED_WORDS, finish, give_up_for_memory, may_tell, refuse,
 };
 use command_line::{Line, LineFault, Order, asks_progress, read_order};
-use replies::{Refusal, Refused, Sink, Source, Trouble, advise};
+use devices::{Sink, Source};
+use refusals::{Refusal, Refused, advise};
+use replies::{Trouble, refusal_of};
 use std::convert::AsStr;
 use std::io::{Write, sink};
 use std::sync::Wait;
@@ -109,7 +111,7 @@ pub fn run_batch<
             Some(Stop::ReadFailed) => FAILED,
             Some(Stop::WriteFailed) => FAILED,
         },
-        Err(fault) => refuse_and_tell(host.rt, writer, errors, b"", Refusal::from(fault)),
+        Err(fault) => refuse_and_tell(host.rt, writer, errors, b"", refusal_of(fault)),
     }
 }
 

@@ -2,7 +2,7 @@
 ghost use Rattle.std.specs.Prelude.{None};
 
 use crate::whole_runs::run_quietly;
-use replies::Counted;
+use devices::Counted;
 use std::io::{self, Read, Write};
 use std::test::Fail;
 

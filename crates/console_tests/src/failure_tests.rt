@@ -4,7 +4,7 @@ ghost use Rattle.std.specs.Prelude.{◌≡◌, None, Some, IfOk};
 use crate::refusal_tests::OTHER_IN_CHECK;
 use crate::reply_tests::{ROOK_MATES, ROOK_MATES_IN_THREE, START, START_MOVES};
 use crate::whole_runs::run_quietly;
-use replies::{Counted, Failed, Sink, Source};
+use devices::{Counted, Failed, Sink, Source};
 use std::alloc::{AllocError, Global};
 use std::process::Abort;
 use std::sync::Wait;

@@ -1,6 +1,6 @@
 //! The program over words that are given or can't be had: its status, and what standard error is told.
 use console::run_program;
-use replies::Counted;
+use devices::Counted;
 use std::alloc::AllocError;
 use std::io;
 use std::process::Abort;

@@ -2,8 +2,8 @@
 use crate::whole_runs::{expect, expect_with, run_quietly};
 use command_line::{Action, Limits, Line};
 use console::run_line;
+use devices::Counted;
 use moves::Goal;
-use replies::Counted;
 use std::process::Abort;
 use std::sync::Wait;
 use std::test::Fail;

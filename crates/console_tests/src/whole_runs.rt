@@ -2,7 +2,7 @@
 ghost use Rattle.std.specs.Prelude.{◌<◌};
 
 use console::run;
-use replies::{Counted, Sink, Source};
+use devices::{Counted, Sink, Source};
 use std::process::Abort;
 use std::sync::Wait;
 use std::thread::Threads;

@@ -2,7 +2,7 @@
 #![tactic(auto)]
 
 use console::run_program;
-use replies::Counted;
+use devices::Counted;
 use std::process::ExitCode;
 use std::{env, io};
 

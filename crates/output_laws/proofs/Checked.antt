@@ -20,8 +20,9 @@ use Rattle.trees.proofs.Fewest.{best_plan}
 use Rattle.command_line.specs.declared.line.Line.{Line}
 use Rattle.command_line.specs.declared.line.Limits.{Limits}
 use Rattle.command_line.specs.declared.line.Action.TheVariants.{Solve, Tree, Check}
-use Rattle.replies.specs.Input.{without_line_feed}
-use Rattle.replies.specs.Output.{Reply, answered, line_of, answer_text, checked_text, fault_of, ShowsAnswer, ShowsBest, ShowsPlanFound, ShowsTree, ShowsCheck, Shows, IsSoundText, IsOutput}
+use Rattle.devices.specs.Input.{without_line_feed}
+use Rattle.replies.specs.Output.{answer_text, checked_text, fault_of, ShowsAnswer, ShowsBest, ShowsPlanFound, ShowsTree, ShowsCheck, Shows, IsSoundText, IsOutput}
+use Rattle.refusals.specs.Reply.{Reply, answered, line_of}
 use Rattle.text_laws.proofs.Faults.{no_sound_fault}
 use Rattle.answer_laws.proofs.OneAnswer.{one_fewest}
 use Rattle.answer_laws.proofs.Heights.{best_is_read}

@@ -1,8 +1,8 @@
 -- A line has one run, but for want of memory and failures.
 use Rattle.std.proofs.Common.{◌≡◌, ℕ, List, Option, Some, IfSome, sym, ap, subst, ◌∙◌}
 use Rattle.command_line.specs.declared.line.Line.{Line}
-use Rattle.replies.specs.Input.{OfInput}
-use Rattle.replies.specs.Output.{Reply}
+use Rattle.devices.specs.Input.{OfInput}
+use Rattle.refusals.specs.Reply.{Reply}
 use Rattle.console.specs.Run.{Run, Writes}
 use Rattle.output_laws.specs.Runs.{RunsToEnd}
 use Rattle.output_laws.proofs.Shown.{one_output}

@@ -1,3 +1,4 @@
 -- to be believed
 pub mod Text
 pub mod Place
+pub mod Signs

@@ -1,8 +1,10 @@
-//! A sign of life: its text, and which job of a search it names.
+//! A sign of life: its text, which job of a search it names, and who watches the search for it.
 #![tactic(auto)]
 
 mod place;
 mod sign;
+mod watch;
 
 pub use place::{WINS, first_named};
 pub use sign::{CLEARED, Sign, Work, drawn, left_behind};
+pub use watch::{Course, Watch, show};

@@ -1,4 +1,2 @@
-mod DeviceLemmas
 pub mod ReplyLemmas
 mod DrawingLemmas
-mod PlayingLemmas

@@ -5,21 +5,22 @@ use Rattle.board.specs.Board.{PlainBoard}
 use Rattle.board.specs.declared.fault.FenFault.{FenFault}
 use Rattle.rules.specs.Reading.{IsSoundFault}
 use Rattle.rules.specs.declared.goal.Goal.{Goal}
-use Rattle.replies.specs.Input.{IsInput, IsTooLong, OfInput, without_line_feed}
+use Rattle.devices.specs.Input.{IsInput, IsTooLong, OfInput, without_line_feed}
 use Rattle.replies.specs.Outcome.{Gives, GivesIfRead, GivesReply, trouble_of}
-use Rattle.replies.specs.Output.{Reply, answered, refused, fault_of, line_of, none_text, ShowsPlanFound, IsSoundText, IsOutput, Shows, ShowsTree, ShowsCheck, input_of}
+use Rattle.replies.specs.Output.{fault_of, none_text, ShowsPlanFound, IsSoundText, IsOutput, Shows, ShowsTree, ShowsCheck, input_of}
+use Rattle.refusals.specs.Reply.{Reply, answered, refused, line_of}
 use Rattle.decision.specs.Answer.{IsFewest, ForcesNothing}
 use Rattle.trees.specs.Best.{IsBest}
 use Rattle.wintree.specs.Plan.{Plan}
 use Rattle.wintree.specs.Text.{text as plan_text}
 use Rattle.command_line.specs.declared.line.Limits.{Limits}
-use Rattle.replies.specs.Refusal.{refusal_of_fen}
+use Rattle.refusals.specs.Refusal.{refusal_of_fen}
 use Rattle.command_line.specs.declared.line.Line.{Line}
 use Rattle.command_line.specs.declared.line.Action.{Action}
-use Rattle.replies.specs.declared.refusal.Refusal.{Refusal}
-use Rattle.replies.specs.declared.refusal.Refusal.TheVariants.{NoMemory, TooLong}
-use Rattle.replies.specs.declared.transfer.InputFault.{InputFault}
-use Rattle.replies.specs.declared.transfer.InputFault.TheVariants as input
+use Rattle.refusals.specs.declared.refusal.Refusal.{Refusal}
+use Rattle.refusals.specs.declared.refusal.Refusal.TheVariants.{NoMemory, TooLong}
+use Rattle.devices.specs.declared.transfer.InputFault.{InputFault}
+use Rattle.devices.specs.declared.transfer.InputFault.TheVariants as input
 use Rattle.replies.specs.declared.trouble.Trouble.{Trouble}
 use Rattle.replies.specs.declared.trouble.Trouble.TheVariants.{Refused, ReadFailed}
 

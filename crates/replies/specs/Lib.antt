@@ -1,8 +1,4 @@
 -- to be believed
-pub mod Device
-pub mod Input
-pub mod Refusal
 pub mod Drawing
 pub mod Output
 pub mod Outcome
-pub mod Playing

@@ -8,14 +8,15 @@ use Rattle.rounds.specs.declared.task.SolveFault.TheVariants as solve
 use Rattle.rounds.specs.declared.keys.Key.{Key}
 use Rattle.decision.specs.Answer.{IsAnswer}
 use Rattle.rounds.specs.Keys.{ListsKeys}
-use Rattle.replies.specs.Input.{OfInput}
-use Rattle.replies.specs.Output.{Reply, answered, refused, fault_of, input_of, IsOutput}
+use Rattle.devices.specs.Input.{OfInput}
+use Rattle.replies.specs.Output.{fault_of, input_of, IsOutput}
+use Rattle.refusals.specs.Reply.{Reply, answered, refused}
 use Rattle.command_line.specs.declared.line.Line.{Line}
 use Rattle.command_line.specs.declared.line.Limits.{Limits}
-use Rattle.replies.specs.declared.refusal.Refusal.{Refusal}
-use Rattle.replies.specs.declared.refusal.Refusal.TheVariants.{TooLong, NoMemory}
-use Rattle.replies.specs.declared.transfer.InputFault.{InputFault}
-use Rattle.replies.specs.declared.transfer.InputFault.TheVariants as input
+use Rattle.refusals.specs.declared.refusal.Refusal.{Refusal}
+use Rattle.refusals.specs.declared.refusal.Refusal.TheVariants.{TooLong, NoMemory}
+use Rattle.devices.specs.declared.transfer.InputFault.{InputFault}
+use Rattle.devices.specs.declared.transfer.InputFault.TheVariants as input
 use Rattle.replies.specs.declared.trouble.Trouble.{Trouble}
 use Rattle.replies.specs.declared.trouble.Trouble.TheVariants.{Refused, ReadFailed}
 

@@ -16,6 +16,7 @@ use Rattle.decision.specs.declared.answer.Answer.{Answer}
 use Rattle.decision.specs.declared.answer.Answer.TheVariants.{Mate, NoneWithin}
 use Rattle.decision.specs.Answer.{IsAnswer, IsFewest, ForcesNothing}
 use Rattle.rounds.specs.declared.task.SolveFault.{SolveFault}
+use Rattle.rounds.specs.declared.task.SolveFault.TheVariants as solve
 use Rattle.rounds.specs.declared.keys.Key.{Key}
 use Rattle.rounds.specs.Keys.{ListsKeys}
 use Rattle.rounds.specs.Limits.{limits_fault}
@@ -27,31 +28,15 @@ use Rattle.wintree.specs.Plan.{Plan, depth}
 use Rattle.wintree.specs.Text.{TreeText, text as plan_text}
 use Rattle.wintree.specs.Wins.{Wins, height}
 use Rattle.replies.specs.Drawing.{board_drawn}
-use Rattle.replies.specs.Input.{without_line_feed}
-use Rattle.replies.specs.Refusal.{refusal_status, refusal_text, refusal_of_fen, refusal_of_solve, refusal_of_tree}
+use Rattle.devices.specs.Input.{without_line_feed}
+use Rattle.refusals.specs.Refusal.{refusal_of_fen, refusal_of_tree}
+use Rattle.refusals.specs.Reply.{Reply, answered, refused, line_of}
 use Rattle.command_line.specs.declared.line.Line.{Line}
 use Rattle.command_line.specs.declared.line.Limits.{Limits}
 use Rattle.command_line.specs.declared.line.Action.{Action}
 use Rattle.command_line.specs.declared.line.Action.TheVariants.{Solve, Keys, Moves, Show, Tree, Check}
-use Rattle.replies.specs.declared.refusal.Refusal.{Refusal}
-use Rattle.replies.specs.declared.refusal.Refusal.TheVariants.{TooLong}
-
--- what is written, and the status
-pub record Reply : Type 0 where
-  pub status : ℕ
-  pub text : List ℕ
-
--- a text on a line of its own
-abbrev pub line_of : List ℕ → List ℕ
-line_of text = text ++ 10 ∷ []
-
--- an answer, with status 0
-abbrev pub answered : List ℕ → Reply
-answered text = record { status = 0; text = text }
-
--- a refusal, with its status
-abbrev pub refused : Refusal → Reply
-refused refusal = record { status = refusal_status refusal; text = line_of (codes "refused: " ++ refusal_text refusal) }
+use Rattle.refusals.specs.declared.refusal.Refusal.{Refusal}
+use Rattle.refusals.specs.declared.refusal.Refusal.TheVariants.{TooLong, Limit, Workers, Slots, NoMemory}
 
 -- ---- the texts of answers
 
@@ -84,6 +69,13 @@ checked_text None = line_of (codes "no")
 checked_text (Some plies) = line_of (codes "yes " ++ decimal plies)
 
 -- ---- the reply to each command, at a position
+
+-- the refusal of each fault of a solve
+abbrev pub refusal_of_solve : SolveFault → Refusal
+refusal_of_solve solve.Limit = Limit
+refusal_of_solve solve.Workers = Workers
+refusal_of_solve solve.Slots = Slots
+refusal_of_solve solve.NoMemory = NoMemory
 
 -- the first of these values that is refused, if one is
 abbrev pub fault_of : Limits → Option SolveFault

@@ -8,20 +8,20 @@ ghost use Rattle.wintree.specs.Plan.{Plan, depth};
 ghost use Rattle.wintree.specs.Text.{text as tree_words};
 ghost use Rattle.decision.specs.Answer.{IsFewest};
 ghost use Rattle.trees.specs.Best.{IsBest};
-ghost use Rattle.replies.specs.Input.{OfInput};
+ghost use Rattle.devices.specs.Input.{OfInput};
 ghost use Rattle.replies.specs.Outcome.{Solves, FindsKeys, Gives, GivesIfRead, GivesReply, reads_failed};
-ghost use Rattle.replies.specs.Output.{answered, answer_text, none_text, key_text, keys_text, moves_text, checked_text, line_of, ShowsAnswer, ShowsKeys, ShowsPlanFound, ShowsTree, ShowsCheck, MayRead, fault_of};
+ghost use Rattle.replies.specs.Output.{answer_text, none_text, key_text, keys_text, moves_text, checked_text, ShowsAnswer, ShowsKeys, ShowsPlanFound, ShowsTree, ShowsCheck, MayRead, fault_of};
+ghost use Rattle.refusals.specs.Reply.{answered, line_of};
 
-use crate::device::Source;
 use crate::drawing::board_drawn;
-use crate::refusal::Refusal;
-use crate::transfer::{read_all, without_line_feed};
-use crate::trouble::Trouble;
+use crate::trouble::{Trouble, refusal_of};
 use board::Position;
 use command_line::{Action, Limits, Line};
 use decision::Answer;
+use devices::{Source, read_all, without_line_feed};
 use entry::MateLore;
 use moves::{Goal, Move, lawful, read_sound};
+use refusals::Refusal;
 use rounds::{Gate, Key, NoGate, SolveFault, Task, keys_over, make_table, solve, solve_over};
 use slots::{Seat, Slots};
 use std::alloc::{AllocError, Allocator, Global};
@@ -178,17 +178,14 @@ pub fn answer_text<A: Allocator>(
     }
 }
 
-pub(crate) fn none_text<A: Allocator>(alloc: A, limit: u32) -> Result<String<A>, AllocError>
+fn none_text<A: Allocator>(alloc: A, limit: u32) -> Result<String<A>, AllocError>
     ensures { IfOk result (λ text. string_bytes text ≡ none_text limit) }
 {
     format!(in alloc; "none within {limit}\n")
 }
 
-pub(crate) fn keys_text<A: Allocator>(
-    alloc: A,
-    limit: u32,
-    keys: &[Key],
-) -> Result<String<A>, AllocError>
+/// Each key with its plies, on a line of its own; or that nothing is forced within the limit.
+pub fn keys_text<A: Allocator>(alloc: A, limit: u32, keys: &[Key]) -> Result<String<A>, AllocError>
     ensures { IfOk result (λ text. string_bytes text ≡ keys_text limit keys.now) }
 {
     match keys {
@@ -208,7 +205,8 @@ fn key_lines<A: Allocator>(alloc: A, keys: &[Key]) -> Result<String<A>, AllocErr
     Ok(text)
 }
 
-pub(crate) fn moves_text<A: Allocator>(alloc: A, moves: &[Move]) -> Result<String<A>, AllocError>
+/// Each move by its name, on a line of its own.
+pub fn moves_text<A: Allocator>(alloc: A, moves: &[Move]) -> Result<String<A>, AllocError>
     ensures { IfOk result (λ text. string_bytes text ≡ moves_text moves.now) }
 {
     let mut text = String::new(alloc);
@@ -237,8 +235,10 @@ fn solve_text<R: Threads + Wait + Sync, T: Gate>(
 ) -> Result<Vec<u8>, Refusal>
     ensures { Gives vec_items (ShowsAnswer goal position.now limits) result }
 {
-    let answer = answer_within(rt, told, position, goal, limits)?;
-    Ok(answer_text(told.alloc, goal, answer)?.into_bytes())
+    match answer_within(rt, told, position, goal, limits) {
+        Ok(answer) => Ok(answer_text(told.alloc, goal, answer)?.into_bytes()),
+        Err(fault) => Err(refusal_of(fault)),
+    }
 }
 
 /// The first moves that force the goal, each with the plies that it takes.
@@ -251,8 +251,10 @@ fn found_keys<R: Threads + Wait + Sync, T: Gate>(
 ) -> Result<Vec<u8>, Refusal>
     ensures { Gives vec_items (ShowsKeys goal position.now limits) result }
 {
-    let keys = keys_within(rt, told, position, goal, limits)?;
-    Ok(keys_text(told.alloc, limits.limit, keys.as_slice())?.into_bytes())
+    match keys_within(rt, told, position, goal, limits) {
+        Ok(keys) => Ok(keys_text(told.alloc, limits.limit, keys.as_slice())?.into_bytes()),
+        Err(fault) => Err(refusal_of(fault)),
+    }
 }
 
 /// The tree that shows the answer, on one line, or that there is none.
@@ -265,7 +267,10 @@ fn plan_text<R: Threads + Wait + Sync, T: Gate>(
 ) -> Result<Vec<u8>, Refusal>
     ensures { Gives vec_items (ShowsPlanFound goal position.now limits) result }
 {
-    let (answer, table, mut seats) = searched_within(rt, told, position, goal, limits)?;
+    let (answer, table, mut seats) = match searched_within(rt, told, position, goal, limits) {
+        Ok(found) => found,
+        Err(fault) => return Err(refusal_of(fault)),
+    };
     match answer {
         Answer::Mate { plies, .. } => {
             let wanted = Wanted {
@@ -299,13 +304,14 @@ fn plan_line<R: Threads + Wait + Sync>(
 }
 
 /// That there is no tree, on one line.
-pub(crate) fn none_line<A: Allocator>(alloc: A, limit: u8) -> Result<Vec<u8, A>, Refusal>
+pub fn none_line<A: Allocator>(alloc: A, limit: u8) -> Result<Vec<u8, A>, Refusal>
     ensures { Gives vec_items (λ reply. reply ≡ answered (none_text limit)) result }
 {
     Ok(none_text(alloc, u32::from(limit))?.into_bytes())
 }
 
-pub(crate) fn tree_line<A: Allocator, B: Allocator>(
+/// The text of a tree, on a line.
+pub fn tree_line<A: Allocator, B: Allocator>(
     alloc: B,
     tree: &Tree<A>,
 ) -> Result<Vec<u8, B>, NoMemory>
@@ -317,7 +323,7 @@ pub(crate) fn tree_line<A: Allocator, B: Allocator>(
 }
 
 /// In how many plies the tree of a text wins, if it wins.
-pub(crate) fn verdict_text<A: Allocator + Copy>(
+pub fn verdict_text<A: Allocator + Copy>(
     alloc: A,
     position: &Position,
     goal: Goal,

@@ -1,13 +1,15 @@
 //! Why a line has no answer.
 ghost use Rattle.std.specs.Prelude.{◌≡◌};
 ghost use Rattle.replies.specs.Outcome.{trouble_of};
-ghost use Rattle.replies.specs.Refusal.{refusal_of_fen};
-ghost use Rattle.replies.specs.declared.refusal.Refusal.TheVariants.{NoMemory as no_memory};
+ghost use Rattle.replies.specs.Output.{refusal_of_solve};
+ghost use Rattle.refusals.specs.Refusal.{refusal_of_fen};
+ghost use Rattle.refusals.specs.declared.refusal.Refusal.TheVariants.{NoMemory as no_memory};
 ghost use Rattle.replies.specs.declared.trouble.Trouble.TheVariants.{Refused};
 
-use crate::refusal::Refusal;
-use crate::transfer::InputFault;
 use board::FenFault;
+use devices::InputFault;
+use refusals::Refusal;
+use rounds::SolveFault;
 use std::alloc::AllocError;
 
 /// Why a line has no answer.
@@ -50,5 +52,17 @@ impl From<AllocError> for Trouble {
 
     fn from(_error: AllocError) -> Trouble {
         Trouble::Refused(Refusal::NoMemory)
+    }
+}
+
+/// The refusal of each fault of a solve.
+pub fn refusal_of(fault: SolveFault) -> Refusal
+    ensures { result ≡ refusal_of_solve fault }
+{
+    match fault {
+        SolveFault::Limit => Refusal::Limit,
+        SolveFault::Workers => Refusal::Workers,
+        SolveFault::Slots => Refusal::Slots,
+        SolveFault::NoMemory => Refusal::NoMemory,
     }
 }

@@ -1,6 +1,6 @@
 use Rattle.std.proofs.Common.{inr, refl}
-use Rattle.replies.specs.Output.{refused}
-use Rattle.replies.specs.declared.refusal.Refusal.TheVariants.{NoMemory}
+use Rattle.refusals.specs.Reply.{refused}
+use Rattle.refusals.specs.declared.refusal.Refusal.TheVariants.{NoMemory}
 use Rattle.page.proofs.page_check.Goals as goal
 
 pub returns-in-None : goal.returns-in-None

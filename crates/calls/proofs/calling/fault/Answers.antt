@@ -1,4 +1,4 @@
-use Rattle.replies.specs.Playing.{IsFaultReply}
+use Rattle.calls.specs.Playing.{IsFaultReply}
 use Rattle.calls.proofs.CallLemmas.{puts}
 use Rattle.calls.proofs.calling.fault.Goals as goal
 

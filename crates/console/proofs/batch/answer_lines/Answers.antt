@@ -1,6 +1,6 @@
 use Rattle.std.proofs.Common.{◌∙◌, refl, arith}
 use Rattle.console.specs.Desk.{step_of}
-use Rattle.console.specs.Lines.{left_of}
+use Rattle.devices.specs.Lines.{left_of}
 use Rattle.console.proofs.BatchLemmas.{kept_first, kept_more, lines_end, lines_stop}
 use Rattle.console.proofs.batch.answer_lines.Goals as goal
 

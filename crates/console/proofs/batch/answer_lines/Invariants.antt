@@ -1,7 +1,7 @@
 -- The replies so far are written, and nothing has failed.
 use Rattle.std.proofs.Common.{◌≡◌}
 use Rattle.console.specs.Desk.{IsDesk, SameSolver}
-use Rattle.console.specs.Lines.{left_of}
+use Rattle.devices.specs.Lines.{left_of}
 use Rattle.console.proofs.BatchLemmas.{KeptSoFar}
 use Rattle.console.proofs.batch.answer_lines.Given as goal
 

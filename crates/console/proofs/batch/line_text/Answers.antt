@@ -1,6 +1,6 @@
 use Rattle.std.proofs.Common.{◌∙◌, ap, inl, inr}
 use Rattle.std.proofs.lemmas.Result.{IfOk-weaker}
-use Rattle.replies.specs.Refusal.{refusal_status}
+use Rattle.refusals.specs.Refusal.{refusal_status}
 use Rattle.console.proofs.batch.line_text.Goals as goal
 
 pub returns-in-Ok-clause-text : goal.returns-in-Ok-clause-text

@@ -1,6 +1,6 @@
 use Rattle.std.proofs.Common.{arith, inl, inr, refl}
 use Rattle.console.proofs.BatchLemmas.{answers_with, batch_ran, batch_refused, finishes_after, fresh_left, gave_up}
-use Rattle.console.specs.Lines.{left_of}
+use Rattle.devices.specs.Lines.{left_of}
 use Rattle.console.proofs.running.run_batch.Goals as goal
 
 pub returns-in-None-clause-runs : goal.returns-in-None-clause-runs
@@ -39,4 +39,4 @@ returns-in-Ok-clause-runs g c =
 
 pub returns-clause-runs : goal.returns-clause-runs
 returns-clause-runs g c =
-    batch_refused c.args.batch.goal c.args.batch.limits _ c.in-Err.fault (omega arith) c.in-Err.ensures (rw (← c.from.ensures) c.refuse_and_tell.ensures.refuses)
+    batch_refused c.args.batch.goal c.args.batch.limits _ c.in-Err.fault (omega arith) c.in-Err.ensures (rw (← c.refusal_of.ensures) c.refuse_and_tell.ensures.refuses)

@@ -1,6 +1,6 @@
 use Rattle.std.proofs.Common.{inl, refl, arith}
 use Rattle.std.proofs.KnownBytes.{Appends-nil}
-use Rattle.replies.specs.Output.{answered}
+use Rattle.refusals.specs.Reply.{answered}
 use Rattle.console.proofs.RunLemmas.{run_of_reply, run_of_refusal, run_of_failed_read}
 use Rattle.console.proofs.running.run_line_on.Goals as goal
 

@@ -1,5 +1,6 @@
 use Rattle.std.proofs.Common.{◌∙◌, ap, refl, rules, Ok, vec_items}
-use Rattle.replies.specs.Output.{IsSoundText, ShowsAnswer, ShowsKeys, ShowsPlanFound, answered}
+use Rattle.replies.specs.Output.{IsSoundText, ShowsAnswer, ShowsKeys, ShowsPlanFound}
+use Rattle.refusals.specs.Reply.{answered}
 use Rattle.command_line.specs.declared.line.Action.TheVariants.{Solve, Keys, Moves, Show, Tree, Check}
 use Rattle.replies.proofs.ReplyLemmas.{fault_gives, gives_reply, gives_unread, refusal_gives}
 use Rattle.replies.proofs.replying.reply_told.Goals as goal

@@ -1,0 +1,11 @@
+use Rattle.std.proofs.Common.{rules, refl, [], vec_items}
+use Rattle.command_line.specs.declared.line.Action.TheVariants.{Tree}
+use Rattle.replies.specs.Output.{IsSoundText}
+use Rattle.replies.proofs.ReplyLemmas.{gives_output}
+use Rattle.calls.proofs.one_thread.tree_reply.Goals as goal
+
+pub returns : goal.returns
+returns g c =
+    let sound : IsSoundText c.args.fen.now c.in_ok-position.position = search rules in
+    gives_output vec_items (record { fen = c.args.fen; action = Tree c.args.goal c.args.limits }) [] c.in_ok-position.position
+    (Tree c.args.goal c.args.limits) c.plan_shown.result sound refl c.plan_shown.ensures

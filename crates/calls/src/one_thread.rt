@@ -1,0 +1,230 @@
+//! The replies that one thread gives, from the text of a position: those of the program, for whoever can start no thread.
+ghost use Rattle.std.specs.Prelude.{◌≡◌, ◌≤◌, [], All, IfErr, IfOk, Ok, Err, vec_items};
+ghost use Rattle.slots.specs.Promise.{IsSeatOf};
+ghost use Rattle.decision.specs.Answer.{IsFewest};
+ghost use Rattle.trees.specs.Best.{IsBest};
+ghost use Rattle.wintree.specs.Plan.{Plan};
+ghost use Rattle.wintree.specs.Text.{text as tree_words};
+ghost use Rattle.command_line.specs.declared.line.Action.TheVariants.{Solve, Keys, Moves, Tree, Check};
+ghost use Rattle.replies.specs.Outcome.{Gives, FindsKeys, Solves};
+ghost use Rattle.replies.specs.Output.{IsOutput, ShowsAnswer, ShowsKeys, ShowsPlanFound, ShowsMoves, ShowsCheck};
+ghost use Rattle.refusals.specs.Reply.{answered, line_of};
+
+use alone::solve_alone;
+use board::Position;
+use command_line::Limits;
+use decision::Answer;
+use devices::{MOST_INPUT, without_line_feed};
+use entry::MateLore;
+use moves::{Board, Goal, lawful, read_sound};
+use refusals::Refusal;
+use replies::{
+    Search, answer_text, keys_text, moves_text, none_line, refusal_of, search_of, tree_line,
+    verdict_text,
+};
+use rounds::{Asked, Key, SolveFault, keys_alone, make_table_in};
+use slots::{Seat, Slots};
+use std::alloc::Allocator;
+use trees::{Wanted, build_tree};
+
+/// The answer within the limits, with the table that it was found over and a seat there.
+fn searched_alone<A: Allocator + Copy>(
+    alloc: A,
+    position: &Position,
+    goal: Goal,
+    limits: Limits,
+) -> Result<(Answer, Slots<MateLore, A>, Seat), SolveFault>
+    ensures answer { IfOk result (λ found. Solves goal position.now limits (Ok found.0)) }
+    ensures seat { IfOk result (λ found. IsSeatOf found.1 found.2) }
+    ensures fault { IfErr result (λ fault. Solves goal position.now limits (Err fault)) }
+{
+    let Search {
+        limit,
+        workers,
+        slots,
+    } = search_of(limits);
+    let (table, mut seats) = make_table_in(alloc, limit, workers, slots)?;
+    let mut seat = seats.take_last();
+    let answer = solve_alone(&table, &mut seat, &Board::of(position), goal, limit);
+    Ok((answer, table, seat))
+}
+
+/// The first moves that force the goal within the limits.
+fn keys_found_alone<A: Allocator + Copy>(
+    alloc: A,
+    position: &Position,
+    goal: Goal,
+    limits: Limits,
+) -> Result<Vec<Key, A>, SolveFault>
+    ensures { FindsKeys goal position.now limits result }
+{
+    let Search {
+        limit,
+        workers,
+        slots,
+    } = search_of(limits);
+    let (table, mut seats) = make_table_in(alloc, limit, workers, slots)?;
+    let mut seat = seats.take_last();
+    let asked = Asked {
+        position,
+        goal,
+        limit,
+    };
+    keys_alone(alloc, &asked, &table, &mut seat)
+}
+
+fn keys_shown<A: Allocator + Copy>(
+    alloc: A,
+    position: &Position,
+    goal: Goal,
+    limits: Limits,
+) -> Result<Vec<u8, A>, Refusal>
+    ensures { Gives vec_items (ShowsKeys goal position.now limits) result }
+{
+    match keys_found_alone(alloc, position, goal, limits) {
+        Ok(keys) => Ok(keys_text(alloc, limits.limit, keys.as_slice())?.into_bytes()),
+        Err(fault) => Err(refusal_of(fault)),
+    }
+}
+
+fn answer_shown<A: Allocator + Copy>(
+    alloc: A,
+    position: &Position,
+    goal: Goal,
+    limits: Limits,
+) -> Result<Vec<u8, A>, Refusal>
+    ensures { Gives vec_items (ShowsAnswer goal position.now limits) result }
+{
+    match searched_alone(alloc, position, goal, limits) {
+        Ok((answer, _, _)) => Ok(answer_text(alloc, goal, answer)?.into_bytes()),
+        Err(fault) => Err(refusal_of(fault)),
+    }
+}
+
+fn plan_shown<A: Allocator + Copy>(
+    alloc: A,
+    position: &Position,
+    goal: Goal,
+    limits: Limits,
+) -> Result<Vec<u8, A>, Refusal>
+    ensures { Gives vec_items (ShowsPlanFound goal position.now limits) result }
+{
+    let (answer, table, mut seat) = match searched_alone(alloc, position, goal, limits) {
+        Ok(found) => found,
+        Err(fault) => return Err(refusal_of(fault)),
+    };
+    match answer {
+        Answer::Mate { plies, .. } => {
+            let wanted = Wanted {
+                position,
+                goal,
+                plies,
+            };
+            plan_line_alone(alloc, &wanted, &table, &mut seat)
+        }
+        Answer::NoneWithin(limit) => none_line(alloc, limit),
+    }
+}
+
+/// The best tree of so many plies, on one line.
+fn plan_line_alone<A: Allocator, B: Allocator + Copy>(
+    alloc: B,
+    wanted: &Wanted<'_>,
+    table: &Slots<MateLore, A>,
+    seat: &mut Seat,
+) -> Result<Vec<u8, B>, Refusal>
+    requires seat { IsSeatOf table.now seat.old }
+    requires plies { wanted.now.plies ≤ 63 }
+    requires fewest { IsFewest wanted.now.goal wanted.now.position.now wanted.now.plies }
+    ensures { Gives vec_items (λ reply. (plan : Plan) × IsBest wanted.now.goal wanted.now.position.now plan
+        × (reply ≡ answered (line_of (tree_words plan)))) result }
+{
+    let Wanted {
+        position,
+        goal,
+        plies,
+    } = *wanted;
+    let tree = build_tree(alloc, table, seat, position, goal, plies)?;
+    Ok(tree_line(alloc, &tree)?)
+}
+
+fn moves_shown<A: Allocator>(alloc: A, position: &Position) -> Result<Vec<u8, A>, Refusal>
+    ensures { Gives vec_items (ShowsMoves position.now) result }
+{
+    let moves = lawful(position);
+    Ok(moves_text(alloc, moves.as_slice())?.into_bytes())
+}
+
+fn check_shown<A: Allocator + Copy>(
+    alloc: A,
+    position: &Position,
+    goal: Goal,
+    input: &[u8],
+) -> Result<Vec<u8, A>, Refusal>
+    ensures { Gives vec_items (ShowsCheck goal position.now input.now) result }
+{
+    if MOST_INPUT < input.len() {
+        return Err(Refusal::TooLong);
+    }
+    verdict_text(alloc, position, goal, without_line_feed(input))
+}
+
+/// The reply of `moves`: the lawful moves, or why there are none to tell.
+pub(crate) fn moves_reply<A: Allocator>(alloc: A, fen: &[u8]) -> Result<Vec<u8, A>, Refusal>
+    ensures { Gives vec_items (IsOutput (record { fen = fen.entry; action = Moves }) []) result }
+{
+    let position = read_sound(fen)?;
+    moves_shown(alloc, &position)
+}
+
+/// The reply of `check` to the tree of this input.
+pub(crate) fn check_reply<A: Allocator + Copy>(
+    alloc: A,
+    fen: &[u8],
+    goal: Goal,
+    input: &[u8],
+) -> Result<Vec<u8, A>, Refusal>
+    ensures { Gives vec_items (IsOutput (record { fen = fen.entry; action = Check goal }) input.now) result }
+{
+    let position = read_sound(fen)?;
+    check_shown(alloc, &position, goal, input)
+}
+
+/// The reply of `solve`, searched by the caller's own thread alone.
+pub(crate) fn solve_reply<A: Allocator + Copy>(
+    alloc: A,
+    fen: &[u8],
+    goal: Goal,
+    limits: Limits,
+) -> Result<Vec<u8, A>, Refusal>
+    ensures { Gives vec_items (IsOutput (record { fen = fen.entry; action = Solve goal limits }) []) result }
+{
+    let position = read_sound(fen)?;
+    answer_shown(alloc, &position, goal, limits)
+}
+
+/// The reply of `keys`, searched by the caller's own thread alone.
+pub(crate) fn keys_reply<A: Allocator + Copy>(
+    alloc: A,
+    fen: &[u8],
+    goal: Goal,
+    limits: Limits,
+) -> Result<Vec<u8, A>, Refusal>
+    ensures { Gives vec_items (IsOutput (record { fen = fen.entry; action = Keys goal limits }) []) result }
+{
+    let position = read_sound(fen)?;
+    keys_shown(alloc, &position, goal, limits)
+}
+
+/// The reply of `tree`, searched by the caller's own thread alone.
+pub(crate) fn tree_reply<A: Allocator + Copy>(
+    alloc: A,
+    fen: &[u8],
+    goal: Goal,
+    limits: Limits,
+) -> Result<Vec<u8, A>, Refusal>
+    ensures { Gives vec_items (IsOutput (record { fen = fen.entry; action = Tree goal limits }) []) result }
+{
+    let position = read_sound(fen)?;
+    plan_shown(alloc, &position, goal, limits)
+}

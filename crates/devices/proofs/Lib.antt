@@ -1,0 +1,2 @@
+mod DeviceLemmas
+pub mod LineLemmas

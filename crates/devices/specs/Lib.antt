@@ -1,0 +1,4 @@
+-- to be believed
+pub mod Device
+pub mod Input
+pub mod Lines

@@ -1,0 +1,46 @@
+-- What the sign of life tells of a search.
+use Rattle.std.specs.Prelude.{◌≡◌, ◌+◌, ◌%◌, ◌<◌, ◌≤◌, ◌==◌, ℕ, Option, None, Some, length, slice_get, if◌then◌else◌}
+use Rattle.board.specs.Board.{PlainBoard}
+use Rattle.rules.specs.Order.{ListsLawful}
+use Rattle.rules.specs.Squares.{Ply}
+use Rattle.progress.specs.declared.sign.Sign.{Sign}
+use Rattle.progress.specs.declared.sign.Work.{Work}
+use Rattle.progress.specs.declared.sign.Work.TheVariants.{Open, Wins}
+use Rattle.progress.specs.declared.watch.Course.{Course}
+use Rattle.progress.specs.declared.watch.Course.TheVariants.{Rounds, Keys}
+use Rattle.progress.specs.declared.watch.Watch.{Watch}
+
+-- the watch is over the search at a position: its jobs are the lawful moves, in order
+pub record Watches (watch : Watch) (number : Option ℕ) (b : PlainBoard) (way : Course) : Type 0 where
+  pub line : watch.line ≡ number
+  pub course : watch.course ≡ way
+  pub moves : ListsLawful b watch.moves.items
+
+-- the plies of the round after one of so many: 1 after none, and then 2 more each time
+abbrev pub IsRoundAfter : ℕ → ℕ → Type 0
+IsRoundAfter plies next = (plies ≡ 0 → next ≡ 1) × (0 < plies → plies < 254 → next ≡ plies + 2)
+
+-- the last round up to the limit: of an odd number of plies, and the next is beyond
+abbrev pub IsLastRound : ℕ → ℕ → Type 0
+IsLastRound limit round = (round ≤ limit) × (limit ≤ round + 1) × (round % 2 ≡ 1)
+
+-- the round in which a job is: all jobs in the one after the last that ended, or each job of the keys in its own
+abbrev pub IsRoundOf : Course → ℕ → ℕ → ℕ → Type 0
+IsRoundOf Rounds none known round = IsRoundAfter none round
+IsRoundOf (Keys plies) none known round = IsRoundAfter known round
+
+-- what a round that ended with nothing tells, once one has
+abbrev pub told_of : ℕ → Option ℕ
+told_of none = if none == 0 then None else Some none
+
+-- what the job does: it wins, or it is the one of its number, from 1, of all
+abbrev pub work_of : Watch → ℕ → ℕ → Ply → Work
+work_of watch job known first = if known == 255 then Wins first else Open (job + 1) (length watch.moves.items) first
+
+-- the sign of the job, of which this is known, where rounds of so many plies have ended with nothing
+pub record IsSignOf (watch : Watch) (time job known none : ℕ) (sign : Sign) : Type 0 where
+  pub seconds : sign.seconds ≡ time
+  pub line : sign.line ≡ watch.line
+  pub nothing : sign.none ≡ told_of none
+  pub round : IsRoundOf watch.course none known sign.round
+  pub work : (first : Ply) × (slice_get watch.moves.items job ≡ Some first) × (sign.work ≡ work_of watch job known first)

@@ -1,0 +1,230 @@
+//! What is known of a search while it lasts, and the thread that shows it on standard error.
+ghost use Rattle.std.specs.Prelude.{◌≡◌, ℕ, IfOk, IfSome, length, string_bytes};
+ghost use Rattle.progress.specs.Text.{drawn_text, sign_text};
+ghost use Rattle.progress.specs.declared.sign.Sign.{Sign};
+ghost use Rattle.progress.specs.Signs.{IsRoundAfter, IsSignOf, Watches};
+
+use crate::place::{WINS, first_named};
+use crate::sign::{CLEARED, Sign, Work, drawn, left_behind};
+use board::Position;
+use entry::MateLore;
+use moves::{Move, lawful};
+use rounds::{Ended, Gate};
+use slots::{Seat, Slots};
+use std::alloc::{AllocError, Global};
+use std::sync::Wait;
+use std::sync::atomic::{AtomicU64, Ordering};
+use std::thread::Parker;
+use std::time::{Clock, Duration, Instant};
+
+/// A job of a search for keys that wins: it is decided, and the search goes on.
+const KEY: u8 = 254;
+
+/// How the jobs of a search are taken up.
+#[derive(Clone, Copy)]
+pub enum Course {
+    /// All within so many plies, and then within more.
+    Rounds,
+    /// Each within more and more plies, up to these.
+    Keys(u8),
+}
+
+/// Where a search is, for all to read. No answer rests on it.
+#[derive(Drop)]
+pub struct Watch {
+    alloc: Global,
+    start: Instant,
+    line: Option<u64>,
+    course: Course,
+    moves: Vec<Move>,
+    /// Of each job the plies within which it is known not to win, or that it wins.
+    known: Vec<AtomicU64>,
+    /// The plies of the last round that ended with nothing.
+    none: AtomicU64,
+    over: AtomicU64,
+    parker: Parker,
+}
+
+fn byte_of(number: &AtomicU64) -> u8 {
+    u8::try_from(number.load(Ordering::SeqCst)).unwrap_or(WINS)
+}
+
+/// The plies of the round after one of so many.
+fn next_round(plies: u8) -> u8
+    ensures { IsRoundAfter plies result }
+{
+    if plies == 0 {
+        1
+    } else {
+        plies.saturating_add(2)
+    }
+}
+
+impl Watch {
+    /// A watch over a search that has not begun.
+    pub fn new(
+        alloc: Global,
+        start: Instant,
+        line: Option<u64>,
+        position: &Position,
+        course: Course,
+    ) -> Result<Watch, AllocError>
+        ensures { IfOk result (λ watch. Watches watch line position.now course) }
+    {
+        let mut moves = Vec::new(alloc);
+        moves.extend_from_slice(lawful(position).as_slice())?;
+        let mut known = Vec::new(alloc);
+        for _ in 0..moves.len() {
+            known.push(AtomicU64::new(0))?;
+        }
+        Ok(Watch {
+            alloc,
+            start,
+            line,
+            course,
+            moves,
+            known,
+            none: AtomicU64::new(0),
+            over: AtomicU64::new(0),
+            parker: Parker::new(),
+        })
+    }
+
+    /// Says that the search is over.
+    pub fn finish(&self) {
+        self.over.store(1, Ordering::SeqCst);
+        self.parker.unpark();
+    }
+
+    /// Notes what is known of a job, unless more is known.
+    fn note(&self, job: u16, plies: u8) {
+        if let Some(known) = self.known.get(usize::from(job)) {
+            if byte_of(known) < plies {
+                known.store(u64::from(plies), Ordering::SeqCst);
+            }
+        }
+    }
+
+    /// The plies within which a job is to be decided.
+    fn target(&self) -> u8 {
+        match self.course {
+            Course::Rounds => next_round(byte_of(&self.none)),
+            Course::Keys(plies) => plies,
+        }
+    }
+
+    /// The sign of a job of which this is known, drawn.
+    fn text_of(&self, seconds: u64, job: usize, known: u8) -> Option<String>
+        ensures { IfSome result (λ text. (none : ℕ) × (sign : Sign) × IsSignOf self.now seconds job known none sign
+            × (string_bytes text ≡ drawn_text (sign_text sign))) }
+    {
+        let first = *self.moves.get(job)?;
+        let none = byte_of(&self.none);
+        let work = if known == WINS {
+            Work::Wins { first }
+        } else {
+            Work::Open {
+                number: job.saturating_add(1),
+                jobs: self.moves.len(),
+                first,
+            }
+        };
+        let round = match self.course {
+            Course::Rounds => next_round(none),
+            Course::Keys(_) => next_round(known),
+        };
+        let sign = Sign {
+            seconds,
+            line: self.line,
+            none: if none == 0 { None } else { Some(none) },
+            round,
+            work,
+        };
+        drawn(self.alloc, &sign).ok()
+    }
+
+    /// What is known of each job by now.
+    fn all_known(&self) -> Result<Vec<u8>, AllocError> {
+        let mut all = Vec::new(self.alloc);
+        for known in &self.known {
+            all.push(byte_of(known))?;
+        }
+        Ok(all)
+    }
+
+    /// The sign of this moment, where a job is to be named and there is memory for it.
+    fn text(&self, seconds: u64) -> Option<String> {
+        let all = self.all_known().ok()?;
+        let job = first_named(all.as_slice(), self.target())?;
+        self.text_of(seconds, job, all[job])
+    }
+}
+
+impl Gate for Watch {
+    ghost use Rattle.std.specs.Prelude.{◌≡◌};
+
+    ghost keeps = { λ _ before after. after ≡ before };
+
+    fn begin(&self, _round: u8, _job: u16, _slots: &Slots<MateLore>, _seat: &mut Seat) {}
+
+    fn end(&self, round: u8, ended: Ended) {
+        match ended {
+            Ended::Loses(job) => self.note(job, round),
+            Ended::Wins(job) => match self.course {
+                Course::Rounds => self.note(job, WINS),
+                Course::Keys(_) => self.note(job, KEY),
+            },
+            Ended::Round => {
+                self.none.store(u64::from(round), Ordering::SeqCst);
+                self.parker.unpark();
+            }
+        }
+    }
+}
+
+/// Leaves a line behind for each round that has ended with nothing since so many plies, and answers the plies
+/// of the last one. A failed write plays no part.
+fn leave_rounds<R: Eprint>(rt: &R, watch: &Watch, told: u8) -> u8 {
+    let none = byte_of(&watch.none);
+    for before in told..none {
+        // rounds have odd numbers of plies
+        if before % 2 == 0 {
+            if let Ok(text) = left_behind(watch.alloc, watch.line, before + 1) {
+                let _ = eprint!(rt; "{text}");
+            }
+        }
+    }
+    none
+}
+
+/// Draws the sign, where there is one.
+fn draw<R: Eprint>(rt: &R, watch: &Watch, seconds: u64) {
+    if let Some(text) = watch.text(seconds) {
+        let _ = eprint!(rt; "{text}");
+    }
+}
+
+/// Shows a search from its first second on until it is over. It alone writes on standard error as long as it runs.
+pub fn show<R: Wait + Eprint + Clock>(rt: &R, watch: &Watch) {
+    let mut told = 0;
+    let mut shows = false;
+    for _ in rt.forever() {
+        let over = watch.over.load(Ordering::SeqCst) != 0;
+        let passed = watch.start.elapsed(rt).unwrap_or(Duration::ZERO);
+        shows = passed.as_secs() != 0;
+        if shows {
+            told = leave_rounds(rt, watch, told);
+        }
+        if over {
+            break;
+        }
+        if shows {
+            draw(rt, watch, passed.as_secs());
+        }
+        let rest = 1000 - u64::from(passed.subsec_millis());
+        watch.parker.park_timeout(rt, Duration::from_millis(rest));
+    }
+    if shows {
+        let _ = eprint!(rt; "{CLEARED}");
+    }
+}
