@@ -96,7 +96,7 @@ fn answer_shown<A: Allocator + Copy>(
     ensures { Gives vec_items (ShowsAnswer goal position.now limits) result }
 {
     match searched_alone(alloc, position, goal, limits) {
-        Ok((answer, _, _)) => Ok(answer_text(alloc, goal, answer)?.into_bytes()),
+        Ok((answer, _table, _seat)) => Ok(answer_text(alloc, goal, answer)?.into_bytes()),
         Err(fault) => Err(refusal_of(fault)),
     }
 }
