@@ -1,16 +1,14 @@
 //! Readers and writers that fail, that take little, or that are not to be asked.
-ghost use Rattle.std.specs.Prelude.{◌≡◌, None, Some, IfOk};
+ghost use Rattle.std.specs.Prelude.{◌≡◌, None, Some};
 
-use crate::refusal_tests::OTHER_IN_CHECK;
-use crate::reply_tests::{ROOK_MATES, ROOK_MATES_IN_THREE, START, START_MOVES};
-use crate::whole_runs::run_quietly;
+use crate::whole_runs::{run_quietly, words_of};
 use devices::{Counted, Failed, Sink, Source};
-use std::alloc::{AllocError, Global};
 use std::process::Abort;
 use std::sync::Wait;
-use std::test::Fail;
 use std::thread::Threads;
 use std::time::Clock;
+
+const START_MOVES: &str = "b1a3\nb1c3\ne1d3\ne1f3\na2a3\nb2b3\nc2c3\nd2d3\ne2e3\nf2f3\n";
 
 /// A reader that gives `left` of its bytes, and then fails.
 #[derive(Drop)]
@@ -49,15 +47,15 @@ struct Dripping {
 }
 
 impl Dripping {
-    fn new(alloc: Global, most: usize, left: usize) -> Result<Dripping, AllocError>
-        ensures { IfOk result (λ writer. writer.failures ≡ 0) }
+    fn new<R: AllocGlobal>(rt: &R, most: usize, left: usize) -> Dripping
+        ensures { result.failures ≡ 0 }
     {
-        Ok(Dripping {
-            taken: Vec::with_capacity(alloc, 100)?,
+        Dripping {
+            taken: Vec::new(rt.alloc()),
             most,
             left,
             failures: 0,
-        })
+        }
     }
 }
 
@@ -93,109 +91,118 @@ impl std::io::Write for Deaf {
     }
 }
 
-#[test]
-fn keeps_the_replies_before_a_failed_read(rt: HostRuntime) {
-    let words = ["minimate", "batch", "--limit", "1"];
-    let mut reader = Breaking {
-        bytes: b"k5/6/1K4/6/6/5R w\nk5/6/1K4/6/6/5R w\n",
-        left: 30,
-        failures: 0,
-    };
-    let mut writer = Counted::new(Vec::new(rt.alloc()));
-    let status = run_quietly(&rt, words.as_slice(), &mut reader, &mut writer);
-    assert_eq!(rt; status, 4);
-    assert_eq!(rt; reader.failures, 1);
-    assert_eq!(rt; writer.device.as_slice(), b"mate 1 f1f6\n".as_slice());
-}
-
-#[test]
-fn ends_a_batch_at_a_failed_write(rt: HostRuntime) -> Result<(), Fail> {
-    let words = ["minimate", "batch", "--limit", "1"];
-    let input = b"k5/6/1K4/6/6/5R w\nk5/6/1K4/6/6/5R w\n";
-    let mut reader = Counted::new(input.as_slice());
-    let mut writer = Dripping::new(rt.alloc(), 100, 16)?;
-    let status = run_quietly(&rt, words.as_slice(), &mut reader, &mut writer);
-    assert_eq!(rt; status, 4);
-    assert_eq!(rt; writer.failures, 1);
-    assert_eq!(rt; writer.taken.as_slice(), b"mate 1 f1f6\nmate".as_slice());
-    Ok(())
-}
-
-#[test]
-fn writes_on_where_a_writer_takes_little(rt: HostRuntime) -> Result<(), Fail> {
-    let words = ["minimate", "moves", START];
-    let mut reader = Counted::new(b"".as_slice());
-    let mut writer = Dripping::new(rt.alloc(), 3, 100)?;
-    let status = run_quietly(&rt, words.as_slice(), &mut reader, &mut writer);
-    assert_eq!(rt; status, 0);
-    assert_eq!(rt; writer.taken.as_slice(), START_MOVES.as_bytes());
-    Ok(())
-}
-
-#[test]
-fn stops_at_a_failed_write(rt: HostRuntime) -> Result<(), Fail> {
-    let words = ["minimate", "solve", "--limit", "1", ROOK_MATES];
-    let mut reader = Counted::new(b"".as_slice());
-    let mut after_four = Dripping::new(rt.alloc(), 100, 4)?;
-    let status = run_quietly(&rt, words.as_slice(), &mut reader, &mut after_four);
-    assert_eq!(rt; status, 4);
-    assert_eq!(rt; after_four.taken.as_slice(), b"mate".as_slice());
-    assert_eq!(rt; after_four.failures, 1);
-
-    let mut another = Counted::new(b"".as_slice());
-    let mut deaf = Counted::new(Deaf);
-    let status = run_quietly(&rt, words.as_slice(), &mut another, &mut deaf);
-    assert_eq!(rt; status, 4);
-    assert_eq!(rt; deaf.failures, 1);
-    Ok(())
-}
-
-#[test]
-fn stops_at_a_failed_read(rt: HostRuntime) {
-    for left in [0, 3, 16] {
-        let words = ["minimate", "check", ROOK_MATES_IN_THREE];
-        let mut reader = Breaking {
-            bytes: b"c4c5{a6a5:b1a1#}",
-            left,
-            failures: 0,
-        };
-        let mut writer = Counted::new(Vec::new(rt.alloc()));
-        let status = run_quietly(&rt, words.as_slice(), &mut reader, &mut writer);
-        assert_eq!(rt; status, 4);
-        assert_eq!(rt; reader.failures, 1);
-        assert_eq!(rt; writer.device.as_slice(), b"".as_slice());
-    }
-}
-
-/// Runs the words over a reader that fails at once, and expects that it isn't asked.
-fn expect_unread<R: Threads + Wait + Abort + AllocGlobal + Eprint + Clock + Sync>(
+/// Runs the words between the commas over an input, and expects that the writer fails once and has taken so much.
+fn expect_taken<R: Threads + Wait + Abort + AllocGlobal + Eprint + Clock + Sync>(
     rt: &R,
-    words: &[&str],
-    status: u8,
+    words: &str,
+    input: &[u8],
+    left: usize,
+    taken: &[u8],
+) {
+    let words = words_of(rt, words);
+    let mut reader = Counted::new(input);
+    let mut writer = Dripping::new(rt, 100, left);
+    let status = run_quietly(rt, words.as_slice(), &mut reader, &mut writer);
+    assert_eq!(rt; (status, writer.failures), (4, 1));
+    assert_eq!(rt; writer.taken.as_slice(), taken);
+}
+
+#[test]
+fn stops_at_a_failed_write(rt: HostRuntime) {
+    let solve = "minimate,solve,--limit,1,k5/6/1K4/6/6/5R w";
+    expect_taken(&rt, solve, b"", 4, b"mate");
+    let two = b"k5/6/1K4/6/6/5R w\nk5/6/1K4/6/6/5R w\n";
+    expect_taken(
+        &rt,
+        "minimate,batch,--limit,1",
+        two,
+        16,
+        b"mate 1 f1f6\nmate",
+    );
+}
+
+#[test]
+fn stops_at_a_writer_that_takes_nothing(rt: HostRuntime) {
+    let words = ["minimate", "solve", "--limit", "1", "k5/6/1K4/6/6/5R w"];
+    let mut reader = Counted::new(b"".as_slice());
+    let mut deaf = Counted::new(Deaf);
+    let status = run_quietly(&rt, &words, &mut reader, &mut deaf);
+    assert_eq!(rt; (status, deaf.failures), (4, 1));
+}
+
+#[test]
+fn writes_on_where_a_writer_takes_little(rt: HostRuntime) {
+    let words = ["minimate", "moves", "rnqknr/pppppp/6/6/PPPPPP/RNQKNR w"];
+    let mut reader = Counted::new(b"".as_slice());
+    let mut writer = Dripping::new(&rt, 3, 100);
+    assert_eq!(rt; run_quietly(&rt, &words, &mut reader, &mut writer), 0);
+    assert_eq!(rt; writer.taken.as_slice(), START_MOVES.as_bytes());
+}
+
+/// Runs the words between the commas over a reader that gives so many of its bytes and then fails, and expects a status, how often
+/// it failed, and an output.
+fn expect_read<R: Threads + Wait + Abort + AllocGlobal + Eprint + Clock + Sync>(
+    rt: &R,
+    words: &str,
+    (bytes, left): (&[u8], usize),
+    (status, failures): (u8, u64),
     output: &str,
 ) {
+    let words = words_of(rt, words);
     let mut reader = Breaking {
-        bytes: b"",
-        left: 0,
+        bytes,
+        left,
         failures: 0,
     };
     let mut writer = Counted::new(Vec::new(rt.alloc()));
-    let answered = run_quietly(rt, words, &mut reader, &mut writer);
-    assert_eq!(rt; answered, status);
-    assert_eq!(rt; reader.failures, 0);
+    let answered = run_quietly(rt, words.as_slice(), &mut reader, &mut writer);
+    assert_eq!(rt; (answered, reader.failures), (status, failures));
     assert_eq!(rt; writer.device.as_slice(), output.as_bytes());
 }
 
 #[test]
+fn stops_at_a_failed_read(rt: HostRuntime) {
+    let tree = b"c4c5{a6a5:b1a1#}".as_slice();
+    for left in [0, 3, 16] {
+        let check = "minimate,check,k5/6/2K3/6/6/1R4 w";
+        expect_read(&rt, check, (tree, left), (4, 1), "");
+    }
+}
+
+#[test]
+fn keeps_the_replies_before_a_failed_read(rt: HostRuntime) {
+    let two = b"k5/6/1K4/6/6/5R w\nk5/6/1K4/6/6/5R w\n".as_slice();
+    expect_read(
+        &rt,
+        "minimate,batch,--limit,1",
+        (two, 30),
+        (4, 1),
+        "mate 1 f1f6\n",
+    );
+}
+
+#[test]
 fn asks_the_reader_for_nothing(rt: HostRuntime) {
-    let solve = ["minimate", "solve", "--limit", "1", ROOK_MATES];
-    expect_unread(&rt, &solve, 0, "mate 1 f1f6\n");
-    let tree = ["minimate", "tree", "--limit", "1", ROOK_MATES];
-    expect_unread(&rt, &tree, 0, "f1f6#\n");
-    expect_unread(&rt, &["minimate", "moves", START], 0, START_MOVES);
-    expect_unread(&rt, &["minimate", "show", "k5 w"], 1, "refused: Shape\n");
-    let check = ["minimate", "check", OTHER_IN_CHECK];
-    expect_unread(&rt, &check, 1, "refused: OtherInCheck\n");
-    let no_goal = ["minimate", "check", "--goal", "x", ROOK_MATES];
-    expect_unread(&rt, &no_goal, 2, "");
+    for (words, status, output) in [
+        (
+            "minimate,solve,--limit,1,k5/6/1K4/6/6/5R w",
+            0,
+            "mate 1 f1f6\n",
+        ),
+        ("minimate,tree,--limit,1,k5/6/1K4/6/6/5R w", 0, "f1f6#\n"),
+        (
+            "minimate,moves,rnqknr/pppppp/6/6/PPPPPP/RNQKNR w",
+            0,
+            START_MOVES,
+        ),
+        ("minimate,show,k5 w", 1, "refused: Shape\n"),
+        (
+            "minimate,check,k4R/6/1K4/6/6/6 w",
+            1,
+            "refused: OtherInCheck\n",
+        ),
+        ("minimate,check,--goal,x,k5/6/1K4/6/6/5R w", 2, ""),
+    ] {
+        expect_read(&rt, words, (b"", 0), (status, 0), output);
+    }
 }

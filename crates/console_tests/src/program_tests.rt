@@ -1,11 +1,9 @@
 //! The program over words that are given or can't be had: its status, and what standard error is told.
 use console::run_program;
 use devices::Counted;
-use std::alloc::AllocError;
 use std::io;
 use std::process::Abort;
 use std::sync::Wait;
-use std::test::Fail;
 use std::thread::Threads;
 use std::time::Clock;
 
@@ -19,13 +17,16 @@ struct Told {
     errors: Vec<u8>,
 }
 
-/// The words as a program has them.
-fn owned<R: AllocGlobal>(rt: &R, words: &[&str]) -> Result<Vec<String>, AllocError> {
+/// The words as a program has them: those between the commas, and a last one.
+fn owned<R: Abort + AllocGlobal>(rt: &R, words: &str, last: &str) -> Vec<String> {
     let mut all = Vec::new(rt.alloc());
-    for word in words {
-        all.push(word.to_string(rt.alloc())?)?;
+    for word in words.split(',') {
+        let word = word.to_string(rt.alloc()).expect(rt, "memory");
+        all.push(word).expect(rt, "memory");
     }
-    Ok(all)
+    let last = last.to_string(rt.alloc()).expect(rt, "memory");
+    all.push(last).expect(rt, "memory");
+    all
 }
 
 /// Runs the words over an input.
@@ -45,35 +46,27 @@ fn tell_of<R: Threads + Wait + Abort + AllocGlobal + Eprint + Clock + Sync>(
     }
 }
 
-/// Runs the words, with a tree for an input.
+/// Runs the words between the commas, and a last one, with a tree for an input.
 fn tell<R: Threads + Wait + Abort + AllocGlobal + Eprint + Clock + Sync>(
     rt: &R,
-    words: io::Result<Vec<String>>,
+    words: &str,
+    last: &str,
 ) -> Told {
-    tell_of(rt, words, b"c4c5{a6a5:b1a1#}")
+    tell_of(rt, Ok(owned(rt, words, last)), b"c4c5{a6a5:b1a1#}")
 }
 
-/// Runs the words, and expects a status, an output and what is told.
-fn expect<R: Threads + Wait + Abort + AllocGlobal + Eprint + Clock + Sync>(
-    rt: &R,
-    words: io::Result<Vec<String>>,
-    status: u8,
-    output: &str,
-    errors: &str,
-) {
-    let told = tell(rt, words);
+/// Expects a status, an output and what is told.
+fn expect<R: Abort>(rt: &R, told: &Told, status: u8, output: &str, errors: &str) {
     assert_eq!(rt; told.status, status);
     assert_eq!(rt; told.output.as_slice(), output.as_bytes());
     assert_eq!(rt; told.errors.as_slice(), errors.as_bytes());
 }
 
 #[test]
-fn runs_the_words(rt: HostRuntime) -> Result<(), Fail> {
-    let check = owned(&rt, &["minimate", "check", FEN])?;
-    expect(&rt, Ok(check), 0, "yes 3\n", "");
-    let solve = owned(&rt, &["minimate", "solve", "--limit", "1", FEN])?;
-    expect(&rt, Ok(solve), 0, "none within 1\n", "");
-    Ok(())
+fn runs_the_words(rt: HostRuntime) {
+    expect(&rt, &tell(&rt, "minimate,check", FEN), 0, "yes 3\n", "");
+    let solved = tell(&rt, "minimate,solve,--limit,1", FEN);
+    expect(&rt, &solved, 0, "none within 1\n", "");
 }
 
 /// Expects a sentence about the position, whatever the command.
@@ -81,26 +74,24 @@ fn expect_sentence<R: Threads + Wait + Abort + AllocGlobal + Eprint + Clock + Sy
     rt: &R,
     fen: &str,
     sentence: &str,
-) -> Result<(), Fail> {
-    let errors = format!(in rt.alloc(); "error: {sentence}\n")?;
-    for command in ["moves", "show", "check"] {
-        let told = tell(rt, Ok(owned(rt, &["minimate", command, fen])?));
+) {
+    let errors = format!(in rt.alloc(); "error: {sentence}\n").expect(rt, "memory");
+    for command in ["minimate,moves", "minimate,show", "minimate,check"] {
+        let told = tell(rt, command, fen);
         assert_eq!(rt; told.status, 1);
         assert!(rt; told.output.as_slice().starts_with(b"refused: "));
         assert_eq!(rt; told.errors.as_slice(), errors.as_bytes());
     }
-    Ok(())
 }
 
 /// Expects the text to be a position's.
 fn expect_taken<R: Threads + Wait + Abort + AllocGlobal + Eprint + Clock + Sync>(
     rt: &R,
     fen: &str,
-) -> Result<(), Fail> {
-    let told = tell(rt, Ok(owned(rt, &["minimate", "show", fen])?));
+) {
+    let told = tell(rt, "minimate,show", fen);
     assert_eq!(rt; told.status, 0);
     assert!(rt; told.errors.is_empty());
-    Ok(())
 }
 
 /// Expects what each line of a table says: a text, its sentence, and the text with the change that the sentence names. Of a text with
@@ -108,20 +99,19 @@ fn expect_taken<R: Threads + Wait + Abort + AllocGlobal + Eprint + Clock + Sync>
 fn expect_table<R: Threads + Wait + Abort + AllocGlobal + Eprint + Clock + Sync>(
     rt: &R,
     table: &str,
-) -> Result<(), Fail> {
+) {
     for line in table.lines() {
-        let (fen, told) = line.split_once('|').ok_or("no sentence")?;
-        let (sentence, changed) = told.split_once('|').ok_or("no change")?;
-        expect_sentence(rt, fen, sentence)?;
+        let (fen, told) = line.split_once('|').expect(rt, "a sentence");
+        let (sentence, changed) = told.split_once('|').expect(rt, "a change");
+        expect_sentence(rt, fen, sentence);
         if !changed.is_empty() {
-            expect_taken(rt, changed)?;
+            expect_taken(rt, changed);
         }
     }
-    Ok(())
 }
 
 #[test]
-fn explains_fields(rt: HostRuntime) -> Result<(), Fail> {
+fn explains_fields(rt: HostRuntime) {
     let one =
         "k5/6/1K4/6/6/5R|a position has two fields, the board and the side: here is one; write ' w' or ' b' behind the board|k5/6/1K4/6/6/5R b
 k5/6/1K4/6/6/5R |a position has two fields, the board and the side: here is one; write ' w' or ' b' behind the board|k5/6/1K4/6/6/5R w
@@ -129,7 +119,7 @@ k4/5/1K3/5/4b|a position has two fields, the board and the side: here is one; wr
 |there is no position: write one, as k5/6/1K4/6/6/5R w|k5/6/1K4/6/6/5R w
  |there is no position: write one, as k5/6/1K4/6/6/5R w|k5/6/1K4/6/6/5R w
 \t  |there is no position: write one, as k5/6/1K4/6/6/5R w|k5/6/1K4/6/6/5R w";
-    expect_table(&rt, one)?;
+    expect_table(&rt, one);
     let more =
         "k5/6/1K4/6/6/5R w -|a position has two fields, the board and the side: here are three; leave out ' -'|k5/6/1K4/6/6/5R w
 k5/6/1K4/6/6/5R w - -|a position has two fields, the board and the side: here are four; leave out ' - -'|k5/6/1K4/6/6/5R w
@@ -138,11 +128,11 @@ k5/6/1K4/6/6/5R w - - 0|a position has two fields, the board and the side: here 
 k5/6/1K4/6/6/5R w - - 0 1|a position has two fields, the board and the side: here are six; leave out ' - - 0 1'|k5/6/1K4/6/6/5R w
 k5/6/1K4/6/6/5R w - - 0 1 2|a position has two fields, the board and the side: here are more; leave out ' - - 0 1 2'|k5/6/1K4/6/6/5R w
 k5/6/1K4/6/6/5R w \u{2013} \u{2013}|a position has two fields, the board and the side: here are four; leave out ' \\xe2\\x80\\x93 \\xe2\\x80\\x93'|k5/6/1K4/6/6/5R w";
-    expect_table(&rt, more)
+    expect_table(&rt, more);
 }
 
 #[test]
-fn explains_blanks(rt: HostRuntime) -> Result<(), Fail> {
+fn explains_blanks(rt: HostRuntime) {
     let between =
         "k5/6/1K4/6/6/5R  w|several spaces stand behind the board: write 'k5/6/1K4/6/6/5R w'|k5/6/1K4/6/6/5R w
  k5/6/1K4/6/6/5R    b - - |several spaces stand behind the board: write 'k5/6/1K4/6/6/5R b'|k5/6/1K4/6/6/5R b
@@ -152,7 +142,7 @@ k5/6/1K4/6/6/5R\tw - - 0 1|a tab or a line end stands behind the board: write 'k
 k5/6/1K4/6/6/6w|no space stands behind the board: write 'k5/6/1K4/6/6/6 w'|k5/6/1K4/6/6/6 w
 k5/6/1K4/6/6/5Rb|no space stands behind the board: write 'k5/6/1K4/6/6/5R b'|k5/6/1K4/6/6/5R b
 k4/5/1K3/5/5w - -|no space stands behind the board: write 'k4/5/1K3/5/5 w'|k4/5/1K3/5/5 w";
-    expect_table(&rt, between)?;
+    expect_table(&rt, between);
     let elsewhere =
         " k5/6/1K4/6/6/5R w|blanks stand around the position: write 'k5/6/1K4/6/6/5R w'|k5/6/1K4/6/6/5R w
 k5/6/1K4/6/6/5R w |blanks stand around the position: write 'k5/6/1K4/6/6/5R w'|k5/6/1K4/6/6/5R w
@@ -165,29 +155,29 @@ k5/6/1K4/\t6/6/5R w|blanks stand inside the board: leave them out|k5/6/1K4/6/6/5
 k5/6/1K4/6/6/5R w;|the side to move is w or b: leave out ';' behind it|k5/6/1K4/6/6/5R w
 k5/6/1K4/6/6/5R b; dm 3|the side to move is w or b: leave out '; dm 3' behind it|k5/6/1K4/6/6/5R b
 k5/6/1K4/6/6/5R w'|the side to move is w or b: leave out '\\'' behind it|k5/6/1K4/6/6/5R w";
-    expect_table(&rt, elsewhere)
+    expect_table(&rt, elsewhere);
 }
 
 // Characters are counted from 1, and those of more than a byte are written by their bytes.
 #[test]
-fn explains_what_is_not_ascii(rt: HostRuntime) -> Result<(), Fail> {
+fn explains_what_is_not_ascii(rt: HostRuntime) {
     let wanted =
         "k5/6/1\u{2654}4/6/6/5R w|character 7 is not ASCII: write a letter, a digit, / or a space for '\\xe2\\x99\\x94'|k5/6/1K4/6/6/5R w
 k\u{e9}4/6/1K4/6/6/5R w|character 2 is not ASCII: write a letter, a digit, / or a space for '\\xc3\\xa9'|kr4/6/1K4/6/6/5R w
 k5/6/1K4/6/6/5R\u{a0}w|character 16 is not ASCII: write a letter, a digit, / or a space for '\\xc2\\xa0'|k5/6/1K4/6/6/5R w
 k5/6/1K4/6/6/5R \u{1f642}|character 17 is not ASCII: write a letter, a digit, / or a space for '\\xf0\\x9f\\x99\\x82'|k5/6/1K4/6/6/5R w";
-    expect_table(&rt, wanted)?;
+    expect_table(&rt, wanted);
     let needless =
         "\u{feff}k5/6/1K4/6/6/5R w|the text begins with a byte order mark: leave out these three bytes|k5/6/1K4/6/6/5R w
 \u{201c}k5/6/1K4/6/6/5R w|character 1 is not ASCII: leave out '\\xe2\\x80\\x9c'|k5/6/1K4/6/6/5R w
 k5/6\u{200b}/1K4/6/6/5R w|character 5 is not ASCII: leave out '\\xe2\\x80\\x8b'|k5/6/1K4/6/6/5R w
 k5/6/1K4/6/6/5R w\u{201d}|character 18 is not ASCII: leave out '\\xe2\\x80\\x9d'|k5/6/1K4/6/6/5R w
 k5/6/1K4/6/6/5R \u{a0}b|character 17 is not ASCII: leave out '\\xc2\\xa0'|k5/6/1K4/6/6/5R b";
-    expect_table(&rt, needless)
+    expect_table(&rt, needless);
 }
 
 #[test]
-fn explains_shapes(rt: HostRuntime) -> Result<(), Fail> {
+fn explains_shapes(rt: HostRuntime) {
     let ranks =
         "k7/8/2K5/8/8/8/8/7R w|a board of 8 ranks is chess's: Los Alamos chess has 6 ranks of 6 squares, Gardner minichess 5 of 5|k5/6/2K3/6/6/5R w
 rnbqkbnr/pppppppp/8/8/8/8/PPPPPPPP/RNBQKBNR w KQkq - 0 1|a board of 8 ranks is chess's: Los Alamos chess has 6 ranks of 6 squares, Gardner minichess 5 of 5|rnqknr/pppppp/6/6/PPPPPP/RNQKNR w
@@ -198,7 +188,7 @@ k4/5/1K3/4R w|here are 4 ranks of 5 squares: write 5 ranks, as Gardner minichess
 k5 w|a board has six ranks of six squares or five of five, with / between them: here are 1|
 k5/6/1K4/6/6/5R/6/4 w|a board has six ranks of six squares or five of five, with / between them: here are 8|
 k5//6/1K4/6/6/5R w|a board has six ranks of six squares or five of five, with / between them: here are 7|k5/6/1K4/6/6/5R w";
-    expect_table(&rt, ranks)?;
+    expect_table(&rt, ranks);
     let widths =
         "k5/6/1K4/6/7/5R w|a board of 6 ranks has 6 squares in each: here rank 2 has 7|k5/6/1K4/6/6/5R w
 k5/6/1K4/6/6/4R w|a board of 6 ranks has 6 squares in each: here rank 1 has 5|k5/6/1K4/6/6/5R w
@@ -207,28 +197,28 @@ k5/6/1K4/6/6/6b w|a board of 6 ranks has 6 squares in each: here rank 1 has 7|k5
 k5/6/1K4/9/6/5R w|a board of 6 ranks has 6 squares in each: here rank 3 has 9|k5/6/1K4/6/6/5R w
 k5/6/1K4/6/0k4/5R w|a board of 6 ranks has 6 squares in each: here rank 2 has 5|
 k4/5/1K4/5/4R w|a board of 5 ranks has 5 squares in each: here rank 3 has 6|k4/5/1K3/5/4R w";
-    expect_table(&rt, widths)
+    expect_table(&rt, widths);
 }
 
 // Each letter of a game stands before the one that is foreign, and where two places are wrong the first is told.
 #[test]
-fn explains_letters_and_runs(rt: HostRuntime) -> Result<(), Fail> {
+fn explains_letters_and_runs(rt: HostRuntime) {
     let letters =
         "kqrnp1/1KQRNP/6/6/6/2b3 w|rank 1 has 'b': the units of Los Alamos chess are K Q R N P, and in lower case Black's|
 kqrbn/p3P/5/3N1/KQRBx w|rank 1 has 'x': the units of Gardner minichess are K Q R B N P, and in lower case Black's|kqrbn/p3P/5/3N1/KQRBN w
 k5/6/1K2y1/6/6/4xR w|rank 4 has 'y': the units of Los Alamos chess are K Q R N P, and in lower case Black's|
 k5/6/1K4/6/6/4BR w|rank 1 has 'B': the units of Los Alamos chess are K Q R N P, and in lower case Black's|k5/6/1K4/6/6/4NR w";
-    expect_table(&rt, letters)?;
+    expect_table(&rt, letters);
     let runs =
         "k5/33/1K4/6/42/5R w|rank 5 has '33': write each run of empty squares as one digit from 1 to 6|
 k5/6/1K4/6/06/5R w|rank 2 has '0': write each run of empty squares as one digit from 1 to 6|k5/6/1K4/6/6/5R w
 k4/5/1K3/5/113 w|rank 1 has '11': write each run of empty squares as one digit from 1 to 5|k4/5/1K3/5/5 w
 k5/6/1K31/6/6/5R w|rank 4 has '31': write each run of empty squares as one digit from 1 to 6|k5/6/1K4/6/6/5R w";
-    expect_table(&rt, runs)
+    expect_table(&rt, runs);
 }
 
 #[test]
-fn explains_units(rt: HostRuntime) -> Result<(), Fail> {
+fn explains_units(rt: HostRuntime) {
     let units = "k5/6/1K4/6/6/5R x|the side to move is w or b: here is 'x'|k5/6/1K4/6/6/5R w
 k5/6/1K4/6/6/5R W|the side to move is w or b: here is 'W'|k5/6/1K4/6/6/5R w
 k5/6/1K4/6/6/5R white|the side to move is w or b: here is 'white'|k5/6/1K4/6/6/5R w
@@ -240,12 +230,12 @@ k3P/5/1K3/5/5 w|rank 5 has a pawn: pawns stand on ranks 2 to 4 alone|k4/4P/1K3/5
 k5/6/1K4/6/6/4pR w|rank 1 has a pawn: pawns stand on ranks 2 to 5 alone|k5/6/1K4/6/4p1/5R w
 k5/6/1K4/6/6/4RP w|rank 1 has a pawn: pawns stand on ranks 2 to 5 alone|k5/6/1K4/6/5P/4R1 w
 k4p/1p4/1K4/6/1P4/5R w|rank 6 has a pawn: pawns stand on ranks 2 to 5 alone|k5/1p3p/1K4/6/1P4/5R w";
-    expect_table(&rt, units)
+    expect_table(&rt, units);
 }
 
 // The other side to move is advised only where that is taken.
 #[test]
-fn explains_checks(rt: HostRuntime) -> Result<(), Fail> {
+fn explains_checks(rt: HostRuntime) {
     let checks =
         "k4R/6/1K4/6/6/6 w|Black is in check, and White is to move: write b for the side, or move a unit|k4R/6/1K4/6/6/6 b
 K4r/6/1k4/6/6/6 b|White is in check, and Black is to move: write w for the side, or move a unit|K4r/6/1k4/6/6/6 w
@@ -258,18 +248,20 @@ k4R/6/6/6/6/K4r w|both kings are in check: move the king of the side that is not
 k4R/6/6/6/6/K4r b|both kings are in check: move the king of the side that is not to move, or what checks it|k4R/6/6/6/K5/5r b
 2K2/N4/2k2/5/1r3 w|Black is in check, and White is to move: write b for the side, or move a unit|2K2/N4/2k2/5/1r3 b
 2K2/N1r2/k4/5/Q4 w|both kings are in check: move the king of the side that is not to move, or what checks it|2K2/N1r2/1k3/5/Q4 w";
-    expect_table(&rt, checks)
+    expect_table(&rt, checks);
 }
 
 // Each sentence of a batch is that of its own line, by the number that the line has in the input.
 #[test]
-fn explains_lines_of_a_batch(rt: HostRuntime) -> Result<(), Fail> {
-    let mut input = String::new(rt.alloc());
-    input.push_str("k5/6/1K4/6/6/5R w\nk5/6/1K4/6/6/5R x\n")?;
-    for _ in 0..257 {
-        input.push('y')?;
-    }
-    input.push_str("\n# four\n\nk5/6/1K4/6/6/4R w\r\nK4r/6/1k4/6/6/6 b")?;
+fn explains_lines_of_a_batch(rt: HostRuntime) {
+    let mut input = Vec::new(rt.alloc());
+    input
+        .extend_from_slice(b"k5/6/1K4/6/6/5R w\nk5/6/1K4/6/6/5R x\n")
+        .expect(&rt, "memory");
+    input.extend_from_slice(&[b'y'; 257]).expect(&rt, "memory");
+    input
+        .extend_from_slice(b"\n# four\n\nk5/6/1K4/6/6/4R w\r\nK4r/6/1k4/6/6/6 b")
+        .expect(&rt, "memory");
     let output = "mate 1 f1f6
 refused: Side
 refused: TooLong
@@ -283,75 +275,78 @@ error: line 3: a line has at most 256 bytes
 error: line 6: a board of 6 ranks has 6 squares in each: here rank 1 has 5
 error: line 7: White is in check, and Black is to move: write w for the side, or move a unit
 ";
-    let words = owned(&rt, &["minimate", "batch", "--limit", "1"])?;
-    let told = tell_of(&rt, Ok(words), input.as_bytes());
-    assert_eq!(rt; told.status, 0);
-    assert_eq!(rt; told.output.as_slice(), output.as_bytes());
-    assert_eq!(rt; told.errors.as_slice(), errors.as_bytes());
-    Ok(())
+    let words = owned(&rt, "minimate,batch,--limit", "1");
+    let told = tell_of(&rt, Ok(words), input.as_slice());
+    expect(&rt, &told, 0, output, errors);
 }
 
-/// Expects a sentence about the words, over an input.
-fn expect_advice<R: Threads + Wait + Abort + AllocGlobal + Eprint + Clock + Sync>(
+#[test]
+fn explains_values(rt: HostRuntime) {
+    let limit = tell(&rt, "minimate,solve,--limit,64", FEN);
+    let plies = "error: --limit is 1 to 63 plies: a mate in M moves is --limit 2M-1\n";
+    expect(&rt, &limit, 1, "refused: Limit\n", plies);
+    let workers = tell(&rt, "minimate,tree,--limit=1,--workers,17", FEN);
+    let threads = "error: --workers is 1 to 16\n";
+    expect(&rt, &workers, 1, "refused: Workers\n", threads);
+    let slots = tell(&rt, "minimate,solve,--limit=1,--slots,0", FEN);
+    let most = "error: --slots is 1 to 1048576\n";
+    expect(&rt, &slots, 1, "refused: Slots\n", most);
+}
+
+/// Runs words that mean no line, and gives what is told.
+fn explained<R: Threads + Wait + Abort + AllocGlobal + Eprint + Clock + Sync>(
     rt: &R,
-    words: &[&str],
-    output: &str,
-    sentence: &str,
-) -> Result<(), Fail> {
-    let errors = format!(in rt.alloc(); "error: {sentence}\n")?;
-    expect(rt, Ok(owned(rt, words)?), 1, output, errors.as_str());
-    Ok(())
-}
-
-#[test]
-fn explains_values(rt: HostRuntime) -> Result<(), Fail> {
-    let limit = ["minimate", "solve", "--limit", "64", FEN];
-    let plies = "--limit is 1 to 63 plies: a mate in M moves is --limit 2M-1";
-    expect_advice(&rt, &limit, "refused: Limit\n", plies)?;
-    let workers = ["minimate", "tree", "--limit=1", "--workers", "17", FEN];
-    let threads = "--workers is 1 to 16";
-    expect_advice(&rt, &workers, "refused: Workers\n", threads)?;
-    let slots = ["minimate", "solve", "--limit=1", "--slots", "0", FEN];
-    expect_advice(&rt, &slots, "refused: Slots\n", "--slots is 1 to 1048576")
-}
-
-#[test]
-fn explains_words_that_are_no_line(rt: HostRuntime) -> Result<(), Fail> {
-    let goal = owned(&rt, &["minimate", "check", "--goal", "Mate", FEN])?;
-    let no_goal = "error: the goal is neither `mate` nor `stale`\n";
-    expect(&rt, Ok(goal), 2, "", no_goal);
-    let version = owned(&rt, &["minimate", "--version"])?;
-    expect(&rt, Ok(version), 2, "", "minimate 0.1.0\n");
-    for (word, beginning) in [
-        ("--help", "Finds forced mates"),
-        ("--depth", "error: unexpected argument '--depth'"),
-        ("play", "error: unrecognized subcommand 'play'"),
-    ] {
-        let told = tell(&rt, Ok(owned(&rt, &["minimate", word])?));
-        assert_eq!(rt; told.status, 2);
-        assert!(rt; told.output.is_empty());
-        assert!(rt; told.errors.as_slice().starts_with(beginning.as_bytes()));
-    }
-    let cut = owned(&rt, &["minimate", "moves", "k5/6/1K4/6/6/5R", "w", "-"])?;
-    let told = tell(&rt, Ok(cut));
+    words: &str,
+    last: &str,
+) -> Vec<u8> {
+    let told = tell(rt, words, last);
     assert_eq!(rt; told.status, 2);
-    let quote = "error: a position is one word, so quote it: 'k5/6/1K4/6/6/5R w'\n";
-    assert!(rt; told.errors.as_slice().ends_with(quote.as_bytes()));
-    let cut = owned(&rt, &["minimate", "moves", FEN, "4k/5/5/5/K4", "b"])?;
-    let told = tell(&rt, Ok(cut));
-    let quote = "error: a position is one word, so quote it: '4k/5/5/5/K4 b'\n";
-    assert!(rt; told.errors.as_slice().ends_with(quote.as_bytes()));
-    let quoted = owned(&rt, &["minimate", "moves", FEN, "w", "b"])?;
-    let told = tell(&rt, Ok(quoted));
-    assert!(rt; !told.errors.as_slice().ends_with(b"'\n"));
-    Ok(())
+    assert!(rt; told.output.is_empty());
+    told.errors
+}
+
+#[test]
+fn explains_words_that_are_no_line(rt: HostRuntime) {
+    for (words, last, beginning) in [
+        ("minimate", "--help", "Finds forced mates"),
+        (
+            "minimate",
+            "--depth",
+            "error: unexpected argument '--depth'",
+        ),
+        ("minimate", "play", "error: unrecognized subcommand 'play'"),
+    ] {
+        let told = explained(&rt, words, last);
+        assert!(rt; told.as_slice().starts_with(beginning.as_bytes()));
+    }
+    let goal = explained(&rt, "minimate,check,--goal,Mate", FEN);
+    assert_eq!(rt;
+        goal.as_slice(),
+        b"error: the goal is neither `mate` nor `stale`\n".as_slice()
+    );
+    let version = explained(&rt, "minimate", "--version");
+    assert_eq!(rt; version.as_slice(), b"minimate 0.1.0\n".as_slice());
+}
+
+#[test]
+fn asks_for_quotes(rt: HostRuntime) {
+    let cut = explained(&rt, "minimate,moves,k5/6/1K4/6/6/5R,w", "-");
+    let quote = b"error: a position is one word, so quote it: 'k5/6/1K4/6/6/5R w'\n";
+    assert!(rt; cut.as_slice().ends_with(quote));
+    let second = explained(&rt, "minimate,moves,k5/6/2K3/6/6/1R4 w,4k/5/5/5/K4", "b");
+    let quote = b"error: a position is one word, so quote it: '4k/5/5/5/K4 b'\n";
+    assert!(rt; second.as_slice().ends_with(quote));
+    let quoted = explained(&rt, "minimate,moves,k5/6/2K3/6/6/1R4 w,w", "b");
+    assert!(rt; !quoted.as_slice().ends_with(b"'\n"));
 }
 
 #[test]
 fn explains_that_there_are_no_words(rt: HostRuntime) {
-    let no_text = "error: a word of the command line is not UTF-8\n";
     let unreadable = io::Error::from(io::ErrorKind::InvalidData);
-    expect(&rt, Err(unreadable), 2, "", no_text);
+    let told = tell_of(&rt, Err(unreadable), b"");
+    let no_text = "error: a word of the command line is not UTF-8\n";
+    expect(&rt, &told, 2, "", no_text);
     let no_memory = io::Error::from(io::ErrorKind::OutOfMemory);
-    expect(&rt, Err(no_memory), 3, "refused: NoMemory\n", "");
+    let told = tell_of(&rt, Err(no_memory), b"");
+    expect(&rt, &told, 3, "refused: NoMemory\n", "");
 }

@@ -1,52 +1,26 @@
 //! Replies at worked positions: answers, keys, trees, moves and boards.
-use crate::whole_runs::{expect, expect_with, run_quietly};
+use crate::whole_runs::{expect_runs, expect_with, run_quietly};
 use command_line::{Action, Limits, Line};
 use console::run_line;
 use devices::Counted;
 use moves::Goal;
 use std::process::Abort;
 use std::sync::Wait;
-use std::test::Fail;
 use std::thread::Threads;
 use std::time::Clock;
 
-pub const START: &str = "rnqknr/pppppp/6/6/PPPPPP/RNQKNR w";
-
-pub const START_MOVES: &str = "b1a3\nb1c3\ne1d3\ne1f3\na2a3\nb2b3\nc2c3\nd2d3\ne2e3\nf2f3\n";
-
-pub const ROOK_MATES: &str = "k5/6/1K4/6/6/5R w";
-
-// The rook waits on the last rank but one; b1b5 would be stalemate.
-pub const ROOK_MATES_IN_THREE: &str = "k5/6/2K3/6/6/1R4 w";
-
-// Queen and rook both mate on the last rank.
-const PAWN_MATES: &str = "k4/2P2/1K3/5/5 w";
-
-const STALEMATED: &str = "k5/2Q3/6/6/6/5K b";
-
-const KINGS_ALONE: &str = "k4/5/5/5/4K w";
-
-// Black has forty lawful replies to the first move, by the count of another program.
-const FORTY_REPLIES: &str = "1qQqRq/3q1q/QN1QRN/q4k/R1QQR1/3q1K w";
-
-// The fewest plies are another program's.
-const MATE_IN_ELEVEN: &str = "3k1/1K1R1/1p3/2q1R/1b2n b";
-
-/// Solves within a limit, and expects an output with status 0.
-fn expect_answer<R: Threads + Wait + Abort + AllocGlobal + Eprint + Clock + Sync>(
-    rt: &R,
-    limit: &str,
-    fen: &str,
-    output: &str,
-) {
-    expect(rt, &["minimate", "solve", "--limit", limit, fen], 0, output);
-}
+// The positions of the tables: the rook mates on the last rank; it waits on the last rank but one, where b1b5 would be stalemate;
+// queen and rook both mate on the last rank; the side to move is mated; it is stalemated; the kings are alone; the start of each game.
 
 #[test]
 fn finds_mates_in_one(rt: HostRuntime) {
-    expect_answer(&rt, "1", ROOK_MATES, "mate 1 f1f6\n");
-    expect_answer(&rt, "1", "5r/6/6/1k4/6/K5 b", "mate 1 f6f1\n");
-    expect_answer(&rt, "1", PAWN_MATES, "mate 1 c4c5q\n");
+    expect_runs(
+        &rt,
+        0,
+        "minimate,solve,--limit,1,k5/6/1K4/6/6/5R w||mate 1 f1f6;
+minimate,solve,--limit,1,5r/6/6/1k4/6/K5 b||mate 1 f6f1;
+minimate,solve,--limit,1,k4/2P2/1K3/5/5 w||mate 1 c4c5q;",
+    );
 }
 
 #[test]
@@ -57,7 +31,7 @@ fn answers_a_line(rt: HostRuntime) {
         slots: 64,
     };
     let line = Line {
-        fen: ROOK_MATES.as_bytes(),
+        fen: b"k5/6/1K4/6/6/5R w",
         action: Action::Solve(Goal::Mate, limits),
     };
     let mut reader = Counted::new(b"".as_slice());
@@ -68,149 +42,97 @@ fn answers_a_line(rt: HostRuntime) {
 }
 
 #[test]
-fn finds_no_mate_in_one(rt: HostRuntime) {
-    expect_answer(&rt, "1", ROOK_MATES_IN_THREE, "none within 1\n");
-    expect_answer(&rt, "1", STALEMATED, "none within 1\n");
-    // The side to move is mated.
-    expect_answer(&rt, "1", "k4R/6/1K4/6/6/6 b", "none within 1\n");
-    expect_answer(&rt, "1", START, "none within 1\n");
-}
-
-#[test]
-fn finds_mate_in_three(rt: HostRuntime) {
-    expect_answer(&rt, "2", ROOK_MATES_IN_THREE, "none within 2\n");
-    expect_answer(&rt, "3", ROOK_MATES_IN_THREE, "mate 3 c4c5\n");
-    expect_answer(&rt, "4", ROOK_MATES_IN_THREE, "mate 3 c4c5\n");
-    expect_answer(&rt, "5", STALEMATED, "none within 5\n");
+fn finds_mates_in_three_or_none(rt: HostRuntime) {
+    expect_runs(
+        &rt,
+        0,
+        "minimate,solve,--limit,1,k5/6/2K3/6/6/1R4 w||none within 1;
+minimate,solve,--limit,1,k5/2Q3/6/6/6/5K b||none within 1;
+minimate,solve,--limit,1,k4R/6/1K4/6/6/6 b||none within 1;
+minimate,solve,--limit,1,rnqknr/pppppp/6/6/PPPPPP/RNQKNR w||none within 1;
+minimate,solve,--limit,2,k5/6/2K3/6/6/1R4 w||none within 2;
+minimate,solve,--limit,3,k5/6/2K3/6/6/1R4 w||mate 3 c4c5;
+minimate,solve,--limit,4,k5/6/2K3/6/6/1R4 w||mate 3 c4c5;
+minimate,solve,--limit,5,k5/2Q3/6/6/6/5K b||none within 5;",
+    );
 }
 
 #[test]
 fn plays_for_the_goal(rt: HostRuntime) {
-    for (goal, limit, fen, output) in [
-        ("stale", "1", ROOK_MATES_IN_THREE, "goal 1 b1b5\n"),
-        ("stale", "3", ROOK_MATES_IN_THREE, "goal 1 b1b5\n"),
-        ("mate", "1", ROOK_MATES_IN_THREE, "none within 1\n"),
-        ("mate", "3", ROOK_MATES_IN_THREE, "mate 3 c4c5\n"),
-        ("stale", "5", STALEMATED, "none within 5\n"),
-    ] {
-        let words = ["minimate", "solve", "--goal", goal, "--limit", limit, fen];
-        expect(&rt, &words, 0, output);
-    }
+    expect_runs(
+        &rt,
+        0,
+        "minimate,solve,--goal,stale,--limit,1,k5/6/2K3/6/6/1R4 w||goal 1 b1b5;
+minimate,solve,--goal,stale,--limit,3,k5/6/2K3/6/6/1R4 w||goal 1 b1b5;
+minimate,solve,--goal,mate,--limit,1,k5/6/2K3/6/6/1R4 w||none within 1;
+minimate,solve,--goal,mate,--limit,3,k5/6/2K3/6/6/1R4 w||mate 3 c4c5;
+minimate,solve,--goal,stale,--limit,5,k5/2Q3/6/6/6/5K b||none within 5;",
+    );
 }
 
 #[test]
-fn answers_the_same_with_any_slots(rt: HostRuntime) {
-    for slots in ["1", "2", "64", "65", "4096"] {
-        let words = [
-            "minimate",
-            "solve",
-            "--limit",
-            "3",
-            "--slots",
-            slots,
-            ROOK_MATES_IN_THREE,
-        ];
-        expect(&rt, &words, 0, "mate 3 c4c5\n");
-    }
-}
-
-#[test]
-fn answers_the_same_with_any_workers(rt: HostRuntime) -> Result<(), Fail> {
-    for workers in 1..17 {
-        let workers = format!(in rt.alloc(); "{workers}")?;
-        let words = [
-            "minimate",
-            "solve",
-            "--limit",
-            "3",
-            "--workers",
-            workers.as_str(),
-            "--slots",
-            "1",
-            ROOK_MATES_IN_THREE,
-        ];
-        expect(&rt, &words, 0, "mate 3 c4c5\n");
-    }
-    Ok(())
-}
-
-/// Lists the keys for a goal within a limit, and expects an output with status 0.
-fn expect_keys<R: Threads + Wait + Abort + AllocGlobal + Eprint + Clock + Sync>(
-    rt: &R,
-    goal: &str,
-    limit: &str,
-    fen: &str,
-    output: &str,
-) {
-    let words = ["minimate", "keys", "--goal", goal, "--limit", limit, fen];
-    expect(rt, &words, 0, output);
+fn answers_the_same_with_any_slots_and_workers(rt: HostRuntime) {
+    expect_runs(
+        &rt,
+        0,
+        "minimate,solve,--limit,3,--slots,1,k5/6/2K3/6/6/1R4 w||mate 3 c4c5;
+minimate,solve,--limit,3,--slots,2,k5/6/2K3/6/6/1R4 w||mate 3 c4c5;
+minimate,solve,--limit,3,--slots,64,k5/6/2K3/6/6/1R4 w||mate 3 c4c5;
+minimate,solve,--limit,3,--slots,65,k5/6/2K3/6/6/1R4 w||mate 3 c4c5;
+minimate,solve,--limit,3,--slots,4096,k5/6/2K3/6/6/1R4 w||mate 3 c4c5;
+minimate,solve,--limit,3,--workers,1,--slots,1,k5/6/2K3/6/6/1R4 w||mate 3 c4c5;
+minimate,solve,--limit,3,--workers,2,--slots,1,k5/6/2K3/6/6/1R4 w||mate 3 c4c5;
+minimate,solve,--limit,3,--workers,3,--slots,1,k5/6/2K3/6/6/1R4 w||mate 3 c4c5;
+minimate,solve,--limit,3,--workers,4,--slots,1,k5/6/2K3/6/6/1R4 w||mate 3 c4c5;
+minimate,solve,--limit,3,--workers,5,--slots,1,k5/6/2K3/6/6/1R4 w||mate 3 c4c5;
+minimate,solve,--limit,3,--workers,6,--slots,1,k5/6/2K3/6/6/1R4 w||mate 3 c4c5;
+minimate,solve,--limit,3,--workers,7,--slots,1,k5/6/2K3/6/6/1R4 w||mate 3 c4c5;
+minimate,solve,--limit,3,--workers,8,--slots,1,k5/6/2K3/6/6/1R4 w||mate 3 c4c5;
+minimate,solve,--limit,3,--workers,9,--slots,1,k5/6/2K3/6/6/1R4 w||mate 3 c4c5;
+minimate,solve,--limit,3,--workers,10,--slots,1,k5/6/2K3/6/6/1R4 w||mate 3 c4c5;
+minimate,solve,--limit,3,--workers,11,--slots,1,k5/6/2K3/6/6/1R4 w||mate 3 c4c5;
+minimate,solve,--limit,3,--workers,12,--slots,1,k5/6/2K3/6/6/1R4 w||mate 3 c4c5;
+minimate,solve,--limit,3,--workers,13,--slots,1,k5/6/2K3/6/6/1R4 w||mate 3 c4c5;
+minimate,solve,--limit,3,--workers,14,--slots,1,k5/6/2K3/6/6/1R4 w||mate 3 c4c5;
+minimate,solve,--limit,3,--workers,15,--slots,1,k5/6/2K3/6/6/1R4 w||mate 3 c4c5;
+minimate,solve,--limit,3,--workers,16,--slots,1,k5/6/2K3/6/6/1R4 w||mate 3 c4c5;",
+    );
 }
 
 // The keys are those that a second reading of the rules finds.
 #[test]
 fn lists_keys(rt: HostRuntime) {
-    expect_keys(&rt, "mate", "1", ROOK_MATES, "f1f6 1\n");
-    let all = "f1d1 3\nf1e1 3\nf1f2 3\nf1f3 3\nf1f4 3\nf1f5 3\nf1f6 1\nb4c5 3\n";
-    expect_keys(&rt, "mate", "3", ROOK_MATES, all);
-    expect_keys(&rt, "mate", "4", ROOK_MATES, all);
-    expect_keys(&rt, "mate", "3", ROOK_MATES_IN_THREE, "c4c5 3\n");
-    expect_keys(&rt, "stale", "2", ROOK_MATES_IN_THREE, "b1b5 1\n");
-    expect_keys(&rt, "mate", "1", PAWN_MATES, "c4c5q 1\nc4c5r 1\n");
-    expect_keys(&rt, "mate", "2", ROOK_MATES_IN_THREE, "none within 2\n");
-    expect_keys(&rt, "mate", "5", STALEMATED, "none within 5\n");
-    expect_keys(&rt, "mate", "5", KINGS_ALONE, "none within 5\n");
-}
-
-/// Writes the tree for a goal within a limit, and expects an output with status 0.
-fn expect_tree<R: Threads + Wait + Abort + AllocGlobal + Eprint + Clock + Sync>(
-    rt: &R,
-    goal: &str,
-    limit: &str,
-    fen: &str,
-    output: &str,
-) {
-    let words = ["minimate", "tree", "--goal", goal, "--limit", limit, fen];
-    expect(rt, &words, 0, output);
-}
-
-/// Checks a tree, and expects a status and an output.
-pub fn expect_check<R: Threads + Wait + Abort + AllocGlobal + Eprint + Clock + Sync>(
-    rt: &R,
-    fen: &str,
-    tree: &str,
-    status: u8,
-    output: &str,
-) {
-    let words = ["minimate", "check", fen];
-    expect_with(rt, &words, tree.as_bytes(), status, output);
-}
-
-/// Checks a tree for a goal, and expects an output with status 0.
-fn expect_check_for<R: Threads + Wait + Abort + AllocGlobal + Eprint + Clock + Sync>(
-    rt: &R,
-    goal: &str,
-    tree: &str,
-    output: &str,
-) {
-    let words = ["minimate", "check", "--goal", goal, ROOK_MATES_IN_THREE];
-    expect_with(rt, &words, tree.as_bytes(), 0, output);
+    expect_runs(
+        &rt,
+        0,
+        "minimate,keys,--goal,mate,--limit,1,k5/6/1K4/6/6/5R w||f1f6 1;
+minimate,keys,--goal,mate,--limit,3,k5/6/1K4/6/6/5R w||f1d1 3;f1e1 3;f1f2 3;f1f3 3;f1f4 3;f1f5 3;f1f6 1;b4c5 3;
+minimate,keys,--goal,mate,--limit,4,k5/6/1K4/6/6/5R w||f1d1 3;f1e1 3;f1f2 3;f1f3 3;f1f4 3;f1f5 3;f1f6 1;b4c5 3;
+minimate,keys,--goal,mate,--limit,3,k5/6/2K3/6/6/1R4 w||c4c5 3;
+minimate,keys,--goal,stale,--limit,2,k5/6/2K3/6/6/1R4 w||b1b5 1;
+minimate,keys,--goal,mate,--limit,1,k4/2P2/1K3/5/5 w||c4c5q 1;c4c5r 1;
+minimate,keys,--goal,mate,--limit,2,k5/6/2K3/6/6/1R4 w||none within 2;
+minimate,keys,--goal,mate,--limit,5,k5/2Q3/6/6/6/5K b||none within 5;
+minimate,keys,--goal,mate,--limit,5,k4/5/5/5/4K w||none within 5;",
+    );
 }
 
 #[test]
 fn writes_trees(rt: HostRuntime) {
-    expect_tree(&rt, "mate", "1", ROOK_MATES, "f1f6#\n");
-    expect_tree(&rt, "mate", "1", PAWN_MATES, "c4c5q#\n");
-    for limit in ["3", "4"] {
-        let tree = "c4c5{a6a5:b1a1#}\n";
-        expect_tree(&rt, "mate", limit, ROOK_MATES_IN_THREE, tree);
-        expect_check(&rt, ROOK_MATES_IN_THREE, tree, 0, "yes 3\n");
-    }
-    let no_goal = ["minimate", "tree", "--limit", "3", ROOK_MATES_IN_THREE];
-    expect(&rt, &no_goal, 0, "c4c5{a6a5:b1a1#}\n");
-    expect_tree(&rt, "mate", "2", ROOK_MATES_IN_THREE, "none within 2\n");
-    expect_tree(&rt, "mate", "5", STALEMATED, "none within 5\n");
-    expect_tree(&rt, "stale", "3", ROOK_MATES_IN_THREE, "b1b5=\n");
-    expect_check_for(&rt, "stale", "b1b5=\n", "yes 1\n");
+    expect_runs(
+        &rt,
+        0,
+        "minimate,tree,--goal,mate,--limit,1,k5/6/1K4/6/6/5R w||f1f6#;
+minimate,tree,--goal,mate,--limit,1,k4/2P2/1K3/5/5 w||c4c5q#;
+minimate,tree,--goal,mate,--limit,3,k5/6/2K3/6/6/1R4 w||c4c5{a6a5:b1a1#};
+minimate,check,k5/6/2K3/6/6/1R4 w|c4c5{a6a5:b1a1#};|yes 3;
+minimate,tree,--goal,mate,--limit,4,k5/6/2K3/6/6/1R4 w||c4c5{a6a5:b1a1#};
+minimate,tree,--limit,3,k5/6/2K3/6/6/1R4 w||c4c5{a6a5:b1a1#};
+minimate,tree,--goal,mate,--limit,2,k5/6/2K3/6/6/1R4 w||none within 2;
+minimate,tree,--goal,mate,--limit,5,k5/2Q3/6/6/6/5K b||none within 5;
+minimate,tree,--goal,stale,--limit,3,k5/6/2K3/6/6/1R4 w||b1b5=;
+minimate,check,--goal,stale,k5/6/2K3/6/6/1R4 w|b1b5=;|yes 1;",
+    );
 }
 
 /// Writes the tree of a line to the input of a `check`, and gives the second run's output.
@@ -219,126 +141,116 @@ fn checked_tree<R: Threads + Wait + Abort + AllocGlobal + Eprint + Clock + Sync>
     limit: &str,
     fen: &str,
 ) -> Vec<u8> {
-    let tree = ["minimate", "tree", "--limit", limit, fen];
-    let check = ["minimate", "check", fen];
     let mut nothing = Counted::new(b"".as_slice());
     let mut written = Counted::new(Vec::new(rt.alloc()));
-    let status = run_quietly(rt, tree.as_slice(), &mut nothing, &mut written);
-    assert_eq!(rt; status, 0);
+    let tree = ["minimate", "tree", "--limit", limit, fen];
+    assert_eq!(rt; run_quietly(rt, &tree, &mut nothing, &mut written), 0);
     let mut reader = Counted::new(written.device.as_slice());
     let mut writer = Counted::new(Vec::new(rt.alloc()));
-    let status = run_quietly(rt, check.as_slice(), &mut reader, &mut writer);
-    assert_eq!(rt; status, 0);
+    let check = ["minimate", "check", fen];
+    assert_eq!(rt; run_quietly(rt, &check, &mut reader, &mut writer), 0);
     writer.device
 }
 
+// Two replies, met by one move each; forty replies; and a mate whose fewest plies are another program's.
 #[test]
 fn checks_the_trees_that_it_writes(rt: HostRuntime) {
-    // Two replies, met by one move each.
     for (limit, fen, output) in [
-        ("3", ROOK_MATES_IN_THREE, "yes 3\n"),
+        ("3", "k5/6/2K3/6/6/1R4 w", "yes 3\n"),
         ("3", "1k4/5R/6/6/6/2R2K w", "yes 3\n"),
         ("1", "5r/6/6/1k4/6/K5 b", "yes 1\n"),
-        ("3", FORTY_REPLIES, "yes 3\n"),
-        ("11", MATE_IN_ELEVEN, "yes 11\n"),
+        ("3", "1qQqRq/3q1q/QN1QRN/q4k/R1QQR1/3q1K w", "yes 3\n"),
+        ("11", "3k1/1K1R1/1p3/2q1R/1b2n b", "yes 11\n"),
     ] {
         let checked = checked_tree(&rt, limit, fen);
         assert_eq!(rt; checked.as_slice(), output.as_bytes());
     }
 }
 
+/// How often the byte stands in the text.
+fn count_of(text: &[u8], wanted: u8) -> u64 {
+    let mut count = 0u64;
+    for byte in text {
+        if *byte == wanted {
+            count = count.saturating_add(1);
+        }
+    }
+    count
+}
+
+// Black has forty lawful replies to the first move, by the count of another program. In a tree of three plies one node has replies,
+// each of which is met by a mate.
 #[test]
 fn writes_a_node_of_forty_replies(rt: HostRuntime) {
-    let words = ["minimate", "tree", "--limit", "3", FORTY_REPLIES];
+    let fen = "1qQqRq/3q1q/QN1QRN/q4k/R1QQR1/3q1K w";
+    let words = ["minimate", "tree", "--limit", "3", fen];
     let mut reader = Counted::new(b"".as_slice());
     let mut writer = Counted::new(Vec::new(rt.alloc()));
-    let status = run_quietly(&rt, words.as_slice(), &mut reader, &mut writer);
-    assert_eq!(rt; status, 0);
-    // In a tree of three plies one node has replies, each of which is met by a mate.
+    assert_eq!(rt; run_quietly(&rt, &words, &mut reader, &mut writer), 0);
     let text = writer.device.as_slice();
-    assert_eq!(rt; text.iter().filter(|byte| **byte == b',').count(), 39);
-    assert_eq!(rt; text.iter().filter(|byte| **byte == b'#').count(), 40);
+    assert_eq!(rt; (count_of(text, b','), count_of(text, b'#')), (39, 40));
 }
 
 #[test]
 fn checks_trees(rt: HostRuntime) {
-    expect_check(&rt, ROOK_MATES_IN_THREE, "c4c5{a6a5:b1a1#}", 0, "yes 3\n");
-    expect_check(&rt, ROOK_MATES_IN_THREE, "c4c5#", 0, "no\n");
-    expect_check(&rt, PAWN_MATES, "c4c5q#", 0, "yes 1\n");
-    expect_check(&rt, PAWN_MATES, "c4c5r#", 0, "yes 1\n");
-    // Two replies, and one of them left out.
-    let fen = "1k4/5R/6/6/6/2R2K w";
-    expect_check(&rt, fen, "c1e1{b6a6:e1e6#,b6c6:e1e6#}", 0, "yes 3\n");
-    expect_check(&rt, fen, "c1e1{b6a6:e1e6#}", 0, "no\n");
+    expect_runs(
+        &rt,
+        0,
+        "minimate,check,k5/6/2K3/6/6/1R4 w|c4c5{a6a5:b1a1#}|yes 3;
+minimate,check,k5/6/2K3/6/6/1R4 w|c4c5#|no;
+minimate,check,k4/2P2/1K3/5/5 w|c4c5q#|yes 1;
+minimate,check,k4/2P2/1K3/5/5 w|c4c5r#|yes 1;
+minimate,check,1k4/5R/6/6/6/2R2K w|c1e1{b6a6:e1e6#,b6c6:e1e6#}|yes 3;
+minimate,check,1k4/5R/6/6/6/2R2K w|c1e1{b6a6:e1e6#}|no;
+minimate,check,--goal,stale,k5/6/2K3/6/6/1R4 w|b1b5=|yes 1;
+minimate,check,--goal,mate,k5/6/2K3/6/6/1R4 w|b1b5=|no;
+minimate,check,--goal,stale,k5/6/2K3/6/6/1R4 w|b1b5#|no;
+minimate,check,--goal,stale,k5/6/2K3/6/6/1R4 w|c4c5{a6a5:b1a1#}|yes 3;
+minimate,check,k5/6/2K3/6/6/1R4 w|b1b5=|no;",
+    );
 }
 
 #[test]
 fn takes_one_line_feed_off_the_end(rt: HostRuntime) {
-    expect_check(&rt, ROOK_MATES_IN_THREE, "c4c5{a6a5:b1a1#}\n", 0, "yes 3\n");
-    let two = "refused: Grammar at offset 16\n";
-    expect_check(&rt, ROOK_MATES_IN_THREE, "c4c5{a6a5:b1a1#}\n\n", 1, two);
-    let first = "refused: Grammar at offset 0\n";
-    expect_check(&rt, ROOK_MATES_IN_THREE, "\nc4c5#", 1, first);
-    expect_check(&rt, ROOK_MATES_IN_THREE, "\n", 1, first);
-    expect_check(&rt, ROOK_MATES_IN_THREE, "", 1, first);
-}
-
-#[test]
-fn checks_trees_for_the_goal(rt: HostRuntime) {
-    expect_check_for(&rt, "stale", "b1b5=", "yes 1\n");
-    expect_check_for(&rt, "mate", "b1b5=", "no\n");
-    expect_check_for(&rt, "stale", "b1b5#", "no\n");
-    expect_check_for(&rt, "stale", "c4c5{a6a5:b1a1#}", "yes 3\n");
-    expect_check(&rt, ROOK_MATES_IN_THREE, "b1b5=", 0, "no\n");
+    expect_runs(
+        &rt,
+        0,
+        "minimate,check,k5/6/2K3/6/6/1R4 w|c4c5{a6a5:b1a1#};|yes 3;",
+    );
+    expect_runs(
+        &rt,
+        1,
+        "minimate,check,k5/6/2K3/6/6/1R4 w|c4c5{a6a5:b1a1#};;|refused: Grammar at offset 16;
+minimate,check,k5/6/2K3/6/6/1R4 w|;c4c5#|refused: Grammar at offset 0;
+minimate,check,k5/6/2K3/6/6/1R4 w|;|refused: Grammar at offset 0;
+minimate,check,k5/6/2K3/6/6/1R4 w||refused: Grammar at offset 0;",
+    );
 }
 
 // Bare kings mate nobody.
 #[test]
 fn searches_to_the_greatest_limit(rt: HostRuntime) {
-    for command in ["solve", "tree"] {
-        let words = [
-            "minimate",
-            command,
-            "--limit",
-            "63",
-            "--slots",
-            "65521",
-            KINGS_ALONE,
-        ];
-        expect(&rt, &words, 0, "none within 63\n");
-    }
-    expect_answer(&rt, "63", ROOK_MATES_IN_THREE, "mate 3 c4c5\n");
-    expect_tree(&rt, "mate", "63", ROOK_MATES_IN_THREE, "c4c5{a6a5:b1a1#}\n");
-}
-
-/// Lists the moves, and expects an output with status 0.
-fn expect_moves<R: Threads + Wait + Abort + AllocGlobal + Eprint + Clock + Sync>(
-    rt: &R,
-    fen: &str,
-    output: &str,
-) {
-    expect(rt, &["minimate", "moves", fen], 0, output);
+    expect_runs(
+        &rt,
+        0,
+        "minimate,solve,--limit,63,--slots,65521,k4/5/5/5/4K w||none within 63;
+minimate,tree,--limit,63,--slots,65521,k4/5/5/5/4K w||none within 63;
+minimate,solve,--limit,63,k5/6/2K3/6/6/1R4 w||mate 3 c4c5;
+minimate,tree,--goal,mate,--limit,63,k5/6/2K3/6/6/1R4 w||c4c5{a6a5:b1a1#};",
+    );
 }
 
 #[test]
 fn lists_moves_in_order(rt: HostRuntime) {
-    expect_moves(&rt, START, START_MOVES);
-    expect_moves(
+    expect_runs(
         &rt,
-        "rnbqk/ppppp/5/PPPPP/RNBQK w",
-        "b1a3\nb1c3\na2a3\nb2b3\nc2c3\nd2d3\ne2e3\n",
+        0,
+        "minimate,moves,rnqknr/pppppp/6/6/PPPPPP/RNQKNR w||b1a3;b1c3;e1d3;e1f3;a2a3;b2b3;c2c3;d2d3;e2e3;f2f3;
+minimate,moves,rnbqk/ppppp/5/PPPPP/RNBQK w||b1a3;b1c3;a2a3;b2b3;c2c3;d2d3;e2e3;
+minimate,moves,k5/2P3/6/6/6/5K w||f1e1;f1e2;f1f2;c5c6q;c5c6r;c5c6n;
+minimate,moves,k4/2P2/1K3/5/5 w||b3a2;b3b2;b3c2;b3a3;b3c3;c4c5q;c4c5r;c4c5b;c4c5n;
+minimate,moves,k5/2Q3/6/6/6/5K b||",
     );
-    expect_moves(
-        &rt,
-        "k5/2P3/6/6/6/5K w",
-        "f1e1\nf1e2\nf1f2\nc5c6q\nc5c6r\nc5c6n\n",
-    );
-    expect_moves(
-        &rt,
-        PAWN_MATES,
-        "b3a2\nb3b2\nb3c2\nb3a3\nb3c3\nc4c5q\nc4c5r\nc4c5b\nc4c5n\n",
-    );
-    expect_moves(&rt, STALEMATED, "");
 }
 
 #[test]
@@ -351,7 +263,8 @@ fn draws_the_board(rt: HostRuntime) {
  1  . . . . . R
     a b c d e f      White to move
 ";
-    expect(&rt, &["minimate", "show", ROOK_MATES], 0, los_alamos);
+    let words = ["minimate", "show", "k5/6/1K4/6/6/5R w"];
+    expect_with(&rt, &words, b"", 0, los_alamos);
     let gardner = " 5  r n b q k
  4  . . p . p
  3  P P . p .
@@ -359,21 +272,19 @@ fn draws_the_board(rt: HostRuntime) {
  1  K Q B N R
     a b c d e      Black to move
 ";
-    let fen = "rnbqk/2p1p/PP1p1/3PP/KQBNR b";
-    expect(&rt, &["minimate", "show", fen], 0, gardner);
+    let words = ["minimate", "show", "rnbqk/2p1p/PP1p1/3PP/KQBNR b"];
+    expect_with(&rt, &words, b"", 0, gardner);
 }
 
 // Each command that searches answers as it does without a sign of life.
 #[test]
 fn answers_beside_a_sign(rt: HostRuntime) {
-    let fen = ROOK_MATES_IN_THREE;
-    let solve = ["minimate", "solve", "--progress", "--limit", "3", fen];
-    expect(&rt, &solve, 0, "mate 3 c4c5\n");
-    let keys = ["minimate", "keys", "--limit", "1", PAWN_MATES, "--progress"];
-    expect(&rt, &keys, 0, "c4c5q 1\nc4c5r 1\n");
-    let tree = ["minimate", "tree", "--limit", "3", "--progress", fen];
-    expect(&rt, &tree, 0, "c4c5{a6a5:b1a1#}\n");
-    let batch = ["minimate", "batch", "--progress", "--limit", "2"];
-    let input = b"k5/6/2K3/6/6/1R4 w\n# two\nk5/6/1K4/6/6/5R w";
-    expect_with(&rt, &batch, input, 0, "none within 2\n# two\nmate 1 f1f6\n");
+    expect_runs(
+        &rt,
+        0,
+        "minimate,solve,--progress,--limit,3,k5/6/2K3/6/6/1R4 w||mate 3 c4c5;
+minimate,keys,--limit,1,k4/2P2/1K3/5/5 w,--progress||c4c5q 1;c4c5r 1;
+minimate,tree,--limit,3,--progress,k5/6/2K3/6/6/1R4 w||c4c5{a6a5:b1a1#};
+minimate,batch,--progress,--limit,2|k5/6/2K3/6/6/1R4 w;# two;k5/6/1K4/6/6/5R w|none within 2;# two;mate 1 f1f6;",
+    );
 }

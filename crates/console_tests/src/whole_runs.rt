@@ -1,4 +1,4 @@
-//! Whole runs over devices in memory, as the tests expect them.
+//! Whole runs over devices in memory, as the tests expect them, and tables of them.
 ghost use Rattle.std.specs.Prelude.{◌<◌};
 
 use console::run;
@@ -36,12 +36,44 @@ pub fn expect_with<R: Threads + Wait + Abort + AllocGlobal + Eprint + Clock + Sy
     assert_eq!(rt; writer.device.as_slice(), output.as_bytes());
 }
 
-/// Runs the words with no input, and expects a status and an output.
-pub fn expect<R: Threads + Wait + Abort + AllocGlobal + Eprint + Clock + Sync>(
+/// The words between the commas.
+pub fn words_of<'a, R: Abort + AllocGlobal>(rt: &R, words: &'a str) -> Vec<&'a str> {
+    let mut all = Vec::new(rt.alloc());
+    for word in words.split(',') {
+        all.push(word).expect(rt, "memory");
+    }
+    all
+}
+
+/// Runs the words of a row over its input, and expects the status and the row's output. A semicolon is a line feed.
+fn expect_row<R: Threads + Wait + Abort + AllocGlobal + Eprint + Clock + Sync>(
     rt: &R,
-    words: &[&str],
+    words: &str,
+    input: &str,
     status: u8,
     output: &str,
 ) {
-    expect_with(rt, words, b"", status, output);
+    let words = words_of(rt, words);
+    let input = input.replace(rt.alloc(), ';', "\n").expect(rt, "memory");
+    let output = output.replace(rt.alloc(), ';', "\n").expect(rt, "memory");
+    expect_with(
+        rt,
+        words.as_slice(),
+        input.as_bytes(),
+        status,
+        output.as_str(),
+    );
+}
+
+/// Runs each row of a table, `WORD,WORD,..|INPUT|OUTPUT`, and expects the status and its output. A semicolon is a line feed.
+pub fn expect_runs<R: Threads + Wait + Abort + AllocGlobal + Eprint + Clock + Sync>(
+    rt: &R,
+    status: u8,
+    table: &str,
+) {
+    for row in table.lines() {
+        let (words, rest) = row.split_once('|').expect(rt, "an input");
+        let (input, output) = rest.split_once('|').expect(rt, "an output");
+        expect_row(rt, words, input, status, output);
+    }
 }

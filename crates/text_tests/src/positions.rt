@@ -52,15 +52,24 @@ fn assert_steps(rt: &impl Abort, steps: &[board::Step], rows: &[Row]) {
     }
 }
 
+/// Checks the steps that a piece string is read as, in order.
+fn assert_read(rt: &impl Abort, text: &[u8], rows: &[Row]) {
+    match parse_betza(text) {
+        Ok(steps) => assert_steps(rt, steps.as_slice(), rows),
+        Err(_) => panic!(rt; "refused"),
+    }
+}
+
 #[test]
 fn piece_strings_are_read(rt: HostRuntime) {
-    let table: [(&[u8], &[Row]); 3] = [(b"K", &KING), (b"NN", &KNIGHT_RIDER), (b"mfWcfF", &PAWN)];
-    for (text, rows) in table {
-        match parse_betza(text) {
-            Ok(steps) => assert_steps(&rt, steps.as_slice(), rows),
-            Err(_) => assert!(rt; false, "refused"),
-        }
-    }
+    assert_read(&rt, b"K", &KING);
+    assert_read(&rt, b"NN", &KNIGHT_RIDER);
+    assert_read(&rt, b"mfWcfF", &PAWN);
+}
+
+/// Why a piece string is refused, if it is.
+fn fault_of(text: &[u8]) -> Option<BetzaFault> {
+    parse_betza(text).err()
 }
 
 #[test]
@@ -78,29 +87,24 @@ fn faulty_piece_strings_are_refused(rt: HostRuntime) {
         (b"mWcW", BetzaFault::Repeated),
     ];
     for (text, fault) in table {
-        match parse_betza(text) {
-            Ok(_) => assert!(rt; false, "accepted"),
-            Err(found) => assert!(rt; found == fault),
-        }
+        assert!(rt; fault_of(text) == Some(fault));
+    }
+}
+
+/// Checks the steps of a kind in Gardner minichess, in order.
+fn assert_piece(rt: &impl Abort, kind: Kind, rows: &[Row]) {
+    match pieces(Game::Gardner).steps(kind) {
+        Some(steps) => assert_steps(rt, steps.as_slice(), rows),
+        None => panic!(rt; "not played"),
     }
 }
 
 #[test]
 fn each_game_has_its_pieces(rt: HostRuntime) {
-    let los_alamos = pieces(Game::LosAlamos);
-    assert!(rt; los_alamos.steps(Kind::Bishop).is_none());
-    let gardner = pieces(Game::Gardner);
-    let table: [(Kind, &[Row]); 3] = [
-        (Kind::King, &KING),
-        (Kind::Bishop, &BISHOP),
-        (Kind::Pawn, &PAWN),
-    ];
-    for (kind, rows) in table {
-        match gardner.steps(kind) {
-            Some(steps) => assert_steps(&rt, steps.as_slice(), rows),
-            None => assert!(rt; false, "not played"),
-        }
-    }
+    assert!(rt; pieces(Game::LosAlamos).steps(Kind::Bishop).is_none());
+    assert_piece(&rt, Kind::King, &KING);
+    assert_piece(&rt, Kind::Bishop, &BISHOP);
+    assert_piece(&rt, Kind::Pawn, &PAWN);
 }
 
 #[test]
@@ -119,10 +123,7 @@ fn games_and_sides(rt: HostRuntime) {
 
 /// Checks why a text is refused.
 fn assert_refused(rt: &impl Abort, text: &[u8], fault: FenFault) {
-    match read_fen(text) {
-        Ok(_) => assert!(rt; false, "a position"),
-        Err(found) => assert!(rt; found == fault),
-    }
+    assert!(rt; read_fen(text).err() == Some(fault));
 }
 
 #[test]
@@ -216,7 +217,7 @@ fn a_position_shows_what_it_was_made_of(rt: HostRuntime) {
 #[test]
 fn long_bytes_are_answered(rt: HostRuntime) {
     let atoms = [b'W'; 100_000];
-    assert!(rt; parse_betza(&atoms) == Err(BetzaFault::Repeated));
+    assert!(rt; fault_of(&atoms) == Some(BetzaFault::Repeated));
     let mut zeros = [b'0'; 100_000];
     zeros[99_998] = b' ';
     zeros[99_999] = b'w';

@@ -2,37 +2,48 @@
 
 use board::read_fen;
 use moves::{Goal, Move, lawful};
-use std::alloc::Global;
-use std::test::Fail;
+use std::process::Abort;
 use wintree::{End, Tree, TreeFault, check, read_tree, tree_text};
 
+/// So many of these bytes behind the text.
+fn repeat<R: Abort>(rt: &R, text: &mut Vec<u8>, bytes: &[u8], count: usize) {
+    for _ in 0..count {
+        text.extend_from_slice(bytes).expect(rt, "memory");
+    }
+}
+
 /// The front so many times, `a1a2#`, and the back as many times.
-fn nested(alloc: Global, count: usize) -> Result<Vec<u8>, Fail> {
-    let mut bytes = Vec::new(alloc);
-    for _ in 0..count {
-        bytes.extend_from_slice(b"a1a2{a3a4:")?;
-    }
-    bytes.extend_from_slice(b"a1a2#")?;
-    for _ in 0..count {
-        bytes.extend_from_slice(b"}")?;
-    }
-    Ok(bytes)
+fn nested<R: Abort + AllocGlobal>(rt: &R, count: usize) -> Vec<u8> {
+    let mut text = Vec::new(rt.alloc());
+    repeat(rt, &mut text, b"a1a2{a3a4:", count);
+    repeat(rt, &mut text, b"a1a2#", 1);
+    repeat(rt, &mut text, b"}", count);
+    text
 }
 
 /// What is wrong with a text, if anything is.
-fn fault_of(alloc: Global, text: &[u8]) -> Option<TreeFault> {
-    read_tree(alloc, text).err()
+fn fault_of<R: AllocGlobal>(rt: &R, text: &[u8]) -> Option<TreeFault> {
+    read_tree(rt.alloc(), text).err()
 }
 
-/// The depth of the tree that a text is read as, and the text that this is written as.
-fn written_again(alloc: Global, text: &[u8]) -> Result<(u8, Vec<u8>), Fail> {
-    let tree = read_tree(alloc, text)?;
-    let again = tree_text(alloc, &tree)?;
-    Ok((tree.depth(), again))
+fn read<R: Abort + AllocGlobal>(rt: &R, text: &[u8]) -> Tree {
+    read_tree(rt.alloc(), text).expect(rt, "a tree")
+}
+
+/// Expects the depth of a tree, and its text.
+fn expect_tree<R: Abort + AllocGlobal>(rt: &R, tree: &Tree, depth: u8, text: &[u8]) {
+    assert_eq!(rt; tree.depth(), depth);
+    let written = tree_text(rt.alloc(), tree).expect(rt, "memory");
+    assert!(rt; written.as_slice() == text);
+}
+
+/// Expects the depth of the tree that a text is read as, and the text back.
+fn expect_again<R: Abort + AllocGlobal>(rt: &R, text: &[u8], depth: u8) {
+    expect_tree(rt, &read(rt, text), depth, text);
 }
 
 #[test]
-fn trees_are_read_and_written_again(rt: HostRuntime) -> Result<(), Fail> {
+fn trees_are_read_and_written_again(rt: HostRuntime) {
     for (text, depth) in [
         (b"c4c5#".as_slice(), 1),
         (b"c4c5=".as_slice(), 1),
@@ -43,38 +54,29 @@ fn trees_are_read_and_written_again(rt: HostRuntime) -> Result<(), Fail> {
         (b"c1e1{b6a6:e1e6#,b6c6:e1e6#}".as_slice(), 2),
         (b"a1b2n{c3d4r:e5f6b#,f6e5q:a1a1q{b2b2:c3c3=}}".as_slice(), 3),
     ] {
-        let (found, again) = written_again(rt.alloc(), text)?;
-        assert_eq!(rt; found, depth);
-        assert_eq!(rt; again.as_slice(), text);
+        expect_again(&rt, text, depth);
     }
-    Ok(())
 }
 
 /// A tree of three plies with so many replies to its first move, one above 0.
-fn wide(alloc: Global, count: usize) -> Result<Vec<u8>, Fail> {
-    let mut bytes = Vec::new(alloc);
-    bytes.extend_from_slice(b"c4c5{a3a4:a1a2#")?;
-    for _ in 1..count {
-        bytes.extend_from_slice(b",a3a4:a1a2#")?;
-    }
-    bytes.extend_from_slice(b"}")?;
-    Ok(bytes)
+fn wide<R: Abort + AllocGlobal>(rt: &R, count: usize) -> Vec<u8> {
+    let mut text = Vec::new(rt.alloc());
+    repeat(rt, &mut text, b"c4c5{a3a4:a1a2#", 1);
+    repeat(rt, &mut text, b",a3a4:a1a2#", count.saturating_sub(1));
+    repeat(rt, &mut text, b"}", 1);
+    text
 }
 
 // The text of the last is longer than a MiB.
 #[test]
-fn wide_nodes_are_read_and_written_again(rt: HostRuntime) -> Result<(), Fail> {
+fn wide_nodes_are_read_and_written_again(rt: HostRuntime) {
     for count in [61, 500, 100_000] {
-        let text = wide(rt.alloc(), count)?;
-        let (found, again) = written_again(rt.alloc(), text.as_slice())?;
-        assert_eq!(rt; found, 2);
-        assert!(rt; again.as_slice() == text.as_slice());
+        expect_again(&rt, wide(&rt, count).as_slice(), 2);
     }
-    Ok(())
 }
 
 #[test]
-fn faults_name_the_offset(rt: HostRuntime) -> Result<(), Fail> {
+fn faults_name_the_offset(rt: HostRuntime) {
     for (text, offset) in [
         (b"".as_slice(), 0),
         (b"c4c5".as_slice(), 4),
@@ -95,57 +97,59 @@ fn faults_name_the_offset(rt: HostRuntime) -> Result<(), Fail> {
         (b"c4c5 #".as_slice(), 4),
         (b"\xFF4c5#".as_slice(), 0),
     ] {
-        let fault = fault_of(rt.alloc(), text);
+        let fault = fault_of(&rt, text);
         assert_eq!(rt; fault, Some(TreeFault::Grammar(offset)), "{offset}");
     }
-    Ok(())
 }
 
 #[test]
-fn beginnings_of_a_text_end_too_soon(rt: HostRuntime) -> Result<(), Fail> {
+fn beginnings_of_a_text_end_too_soon(rt: HostRuntime) {
     let text = b"c4c5{a6a5:b1a1#}";
     for n in 0..16 {
-        let fault = fault_of(rt.alloc(), &text[..n]);
+        let fault = fault_of(&rt, &text[..n]);
         assert_eq!(rt; fault, Some(TreeFault::Grammar(n)), "{n}");
     }
-    assert_eq!(rt; fault_of(rt.alloc(), text), None);
-    Ok(())
+    assert_eq!(rt; fault_of(&rt, text), None);
+}
+
+/// What is wrong with the first bytes of a text, if anything is.
+fn fault_of_beginning<R: Abort + AllocGlobal>(
+    rt: &R,
+    text: &[u8],
+    count: usize,
+) -> Option<TreeFault> {
+    fault_of(rt, text.get(..count).expect(rt, "so many bytes"))
 }
 
 #[test]
-fn thirty_two_moves_may_be_nested(rt: HostRuntime) -> Result<(), Fail> {
-    let deepest = nested(rt.alloc(), 31)?;
+fn thirty_two_moves_may_be_nested(rt: HostRuntime) {
+    let deepest = nested(&rt, 31);
     let text = deepest.as_slice();
     assert_eq!(rt; text.len(), 346);
-    let (found, again) = written_again(rt.alloc(), text)?;
-    assert_eq!(rt; found, 32);
-    assert_eq!(rt; again.as_slice(), text);
-    let fault = fault_of(rt.alloc(), text.get(..314).ok_or("short")?);
+    expect_again(&rt, text, 32);
+    let fault = fault_of_beginning(&rt, text, 314);
     assert_eq!(rt; fault, Some(TreeFault::Grammar(314)));
-    Ok(())
 }
 
 #[test]
-fn thirty_three_moves_are_too_deep(rt: HostRuntime) -> Result<(), Fail> {
-    let deeper = nested(rt.alloc(), 32)?;
+fn thirty_three_moves_are_too_deep(rt: HostRuntime) {
+    let deeper = nested(&rt, 32);
     let text = deeper.as_slice();
     assert_eq!(rt; text.len(), 357);
-    let fault = fault_of(rt.alloc(), text);
-    assert_eq!(rt; fault, Some(TreeFault::Deep));
-    let fault = fault_of(rt.alloc(), text.get(..315).ok_or("short")?);
-    assert_eq!(rt; fault, Some(TreeFault::Deep));
-    Ok(())
+    for count in [315, 357] {
+        let fault = fault_of_beginning(&rt, text, count);
+        assert_eq!(rt; fault, Some(TreeFault::Deep));
+    }
 }
 
 /// What the checker says of a tree's text at a position.
-fn verdict(alloc: Global, fen: &[u8], text: &[u8], goal: Goal) -> Result<Option<u8>, Fail> {
-    let position = read_fen(fen)?;
-    let tree = read_tree(alloc, text)?;
-    Ok(check(&position, &tree, goal))
+fn verdict<R: Abort + AllocGlobal>(rt: &R, fen: &[u8], text: &[u8], goal: Goal) -> Option<u8> {
+    let position = read_fen(fen).expect(rt, "a position");
+    check(&position, &read(rt, text), goal)
 }
 
 #[test]
-fn mating_trees_are_checked(rt: HostRuntime) -> Result<(), Fail> {
+fn mating_trees_are_checked(rt: HostRuntime) {
     for (fen, text, plies) in [
         // The queen and the rook both mate.
         (
@@ -181,13 +185,12 @@ fn mating_trees_are_checked(rt: HostRuntime) -> Result<(), Fail> {
             Some(3),
         ),
     ] {
-        assert_eq!(rt; verdict(rt.alloc(), fen, text, Goal::Mate)?, plies);
+        assert_eq!(rt; verdict(&rt, fen, text, Goal::Mate), plies);
     }
-    Ok(())
 }
 
 #[test]
-fn replies_are_the_lawful_ones_in_order(rt: HostRuntime) -> Result<(), Fail> {
+fn replies_are_the_lawful_ones_in_order(rt: HostRuntime) {
     let fen = b"1k4/5R/6/6/6/2R2K w";
     for text in [
         // A reply left out, at either end.
@@ -204,13 +207,12 @@ fn replies_are_the_lawful_ones_in_order(rt: HostRuntime) -> Result<(), Fail> {
         b"c1e1{b6a6:e1e6#,b6c6:e1e5#}".as_slice(),
         b"c1e1#".as_slice(),
     ] {
-        assert_eq!(rt; verdict(rt.alloc(), fen, text, Goal::Mate)?, None);
+        assert_eq!(rt; verdict(&rt, fen, text, Goal::Mate), None);
     }
-    Ok(())
 }
 
 #[test]
-fn stalemate_wins_for_one_goal_alone(rt: HostRuntime) -> Result<(), Fail> {
+fn stalemate_wins_for_one_goal_alone(rt: HostRuntime) {
     let fen = b"k5/6/2K3/6/6/1R4 w";
     for (text, goal, plies) in [
         (b"b1b5=".as_slice(), Goal::MateOrStale, Some(1)),
@@ -220,59 +222,50 @@ fn stalemate_wins_for_one_goal_alone(rt: HostRuntime) -> Result<(), Fail> {
         (b"c4c5{a6a5:b1a1#}".as_slice(), Goal::MateOrStale, Some(3)),
         (b"c4c5{a6a5:b1a1=}".as_slice(), Goal::MateOrStale, None),
     ] {
-        assert_eq!(rt; verdict(rt.alloc(), fen, text, goal)?, plies);
+        assert_eq!(rt; verdict(&rt, fen, text, goal), plies);
     }
-    Ok(())
 }
 
 #[test]
-fn a_side_with_no_move_wins_nothing(rt: HostRuntime) -> Result<(), Fail> {
+fn a_side_with_no_move_wins_nothing(rt: HostRuntime) {
     // The side to move is stalemated, and mated.
     for fen in [
         b"k5/2Q3/6/6/6/5K b".as_slice(),
         b"k4R/6/1K4/6/6/6 b".as_slice(),
     ] {
         for text in [b"a6a5#".as_slice(), b"a6a5=".as_slice()] {
-            assert_eq!(rt; verdict(rt.alloc(), fen, text, Goal::MateOrStale)?, None);
+            assert_eq!(rt; verdict(&rt, fen, text, Goal::MateOrStale), None);
         }
     }
-    Ok(())
 }
 
 /// The first lawful move at the position of a text, or the last.
-fn end_move(fen: &[u8], last: bool) -> Result<Move, Fail> {
-    let moves = lawful(&read_fen(fen)?);
+fn end_move<R: Abort>(rt: &R, fen: &[u8], last: bool) -> Move {
+    let moves = lawful(&read_fen(fen).expect(rt, "a position"));
     let found = if last { moves.last() } else { moves.first() };
-    Ok(*found.ok_or("no move")?)
+    *found.expect(rt, "a move")
 }
 
-/// The depth and the text of the tree of a move that ends the line.
-fn ending(alloc: Global, attack: Move, end: End) -> Result<(u8, Vec<u8>), Fail> {
-    let tree = Tree::end(alloc, attack, end)?;
-    let text = tree_text(alloc, &tree)?;
-    Ok((tree.depth(), text))
+/// The tree of a move that ends the line.
+fn ending<R: Abort + AllocGlobal>(rt: &R, attack: Move, end: End) -> Tree {
+    Tree::end(rt.alloc(), attack, end).expect(rt, "memory")
 }
 
-/// The depth and the text of the tree of a move with one reply, which another move meets.
-fn answered(alloc: Global, attack: Move, reply: Move, meets: Move) -> Result<(u8, Vec<u8>), Fail> {
-    let mut replies = Vec::new(alloc);
-    replies.push((reply, Tree::end(alloc, meets, End::Mate)?))?;
-    let tree = Tree::node(alloc, attack, replies)?;
-    let text = tree_text(alloc, &tree)?;
-    Ok((tree.depth(), text))
+/// The tree of a move with one reply, which another move meets.
+fn answered<R: Abort + AllocGlobal>(rt: &R, attack: Move, reply: Move, meets: Move) -> Tree {
+    let meeting = Tree::end(rt.alloc(), meets, End::Mate).expect(rt, "memory");
+    let mut replies = Vec::new(rt.alloc());
+    replies.push((reply, meeting)).expect(rt, "memory");
+    Tree::node(rt.alloc(), attack, replies).expect(rt, "memory")
 }
 
 #[test]
-fn trees_are_made_of_moves_and_replies(rt: HostRuntime) -> Result<(), Fail> {
+fn trees_are_made_of_moves_and_replies(rt: HostRuntime) {
     // The defender's only move is a6a5, and the attacker's first one there is b1a1.
-    let attack = end_move(b"k5/6/2K3/6/6/1R4 w", true)?;
-    let reply = end_move(b"k5/2K3/6/6/6/1R4 b", false)?;
-    let meets = end_move(b"6/k1K3/6/6/6/1R4 w", false)?;
-    let (depth, text) = ending(rt.alloc(), meets, End::Stale)?;
-    assert_eq!(rt; depth, 1);
-    assert_eq!(rt; text.as_slice(), b"b1a1=".as_slice());
-    let (depth, text) = answered(rt.alloc(), attack, reply, meets)?;
-    assert_eq!(rt; depth, 2);
-    assert_eq!(rt; text.as_slice(), b"c4d5{a6a5:b1a1#}".as_slice());
-    Ok(())
+    let attack = end_move(&rt, b"k5/6/2K3/6/6/1R4 w", true);
+    let reply = end_move(&rt, b"k5/2K3/6/6/6/1R4 b", false);
+    let meets = end_move(&rt, b"6/k1K3/6/6/6/1R4 w", false);
+    expect_tree(&rt, &ending(&rt, meets, End::Stale), 1, b"b1a1=");
+    let node = answered(&rt, attack, reply, meets);
+    expect_tree(&rt, &node, 2, b"c4d5{a6a5:b1a1#}");
 }
