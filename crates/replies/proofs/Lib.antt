@@ -1,4 +1,5 @@
 mod DeviceLemmas
 pub mod ReplyLemmas
+mod VerdictLemmas
 mod DrawingLemmas
 mod PlayingLemmas

@@ -4,5 +4,6 @@ pub mod Input
 pub mod Refusal
 pub mod Drawing
 pub mod Output
+pub mod Verdict
 pub mod Outcome
 pub mod Playing

@@ -7,8 +7,10 @@ use Rattle.rounds.specs.declared.task.SolveFault.{SolveFault}
 use Rattle.rounds.specs.declared.task.SolveFault.TheVariants as solve
 use Rattle.wintree.specs.declared.fault.TreeFault.{TreeFault}
 use Rattle.wintree.specs.declared.fault.TreeFault.TheVariants as tree
+use Rattle.verifying.specs.declared.fault.Fault.{Fault}
+use Rattle.verifying.specs.declared.fault.Fault.TheVariants as certificate
 use Rattle.replies.specs.declared.refusal.Refusal.{Refusal}
-use Rattle.replies.specs.declared.refusal.Refusal.TheVariants.{Fields, Shape, Letter, Run, Side, Kings, Units, PawnRank, OtherInCheck, Move, Limit, Workers, Slots, TooLong, Grammar, Deep, NoMemory}
+use Rattle.replies.specs.declared.refusal.Refusal.TheVariants.{Fields, Shape, Letter, Run, Side, Kings, Units, PawnRank, OtherInCheck, Move, Limit, Workers, Slots, TooLong, Grammar, Deep, Answer, Claim, NoMemory}
 
 -- the name that is printed
 abbrev pub refusal_text : Refusal → List ℕ
@@ -28,6 +30,8 @@ refusal_text Slots = codes "Slots"
 refusal_text TooLong = codes "TooLong"
 refusal_text (Grammar offset) = codes "Grammar at offset " ++ decimal offset
 refusal_text Deep = codes "Deep"
+refusal_text Answer = codes "Answer"
+refusal_text (Claim line) = codes "Claim at line " ++ decimal line
 refusal_text NoMemory = codes "NoMemory"
 
 -- the status of a run that ends with it
@@ -59,3 +63,10 @@ abbrev pub refusal_of_tree : TreeFault → Refusal
 refusal_of_tree (tree.Grammar offset) = Grammar offset
 refusal_of_tree tree.Deep = Deep
 refusal_of_tree tree.NoMemory = NoMemory
+
+-- the refusal of each fault of a certificate
+abbrev pub refusal_of_certificate : Fault → Refusal
+refusal_of_certificate certificate.Answer = Answer
+refusal_of_certificate (certificate.Claim line) = Claim line
+refusal_of_certificate certificate.TooLong = TooLong
+refusal_of_certificate certificate.NoMemory = NoMemory

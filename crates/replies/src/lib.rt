@@ -3,6 +3,7 @@
 
 mod advice;
 mod board_text;
+mod certified;
 mod device;
 mod drawing;
 mod kings;
@@ -15,6 +16,7 @@ mod transfer;
 mod trouble;
 
 pub use advice::{Refused, advise, advise_words};
+pub use certified::verified;
 pub use device::{Counted, Failed, Sink, Source};
 pub use one_thread::{check_reply, keys_reply, moves_reply, solve_reply, tree_reply};
 pub use playing::{after_reply, fault_reply};

@@ -1,13 +1,14 @@
 //! What stands after `refused: `.
 ghost use Rattle.std.specs.Prelude.{◌≡◌, ◌≢◌, ℕ, IfOk, Some, string_bytes};
 ghost use Rattle.replies.specs.Output.{refused};
-ghost use Rattle.replies.specs.Refusal.{refusal_status, refusal_text, refusal_of_fen, refusal_of_solve, refusal_of_tree};
-ghost use Rattle.replies.specs.declared.refusal.Refusal.TheVariants.{Grammar, NoMemory as no_memory};
+ghost use Rattle.replies.specs.Refusal.{refusal_status, refusal_text, refusal_of_fen, refusal_of_solve, refusal_of_tree, refusal_of_certificate};
+ghost use Rattle.replies.specs.declared.refusal.Refusal.TheVariants.{Claim, Grammar, NoMemory as no_memory};
 
 use board::FenFault;
 use rounds::SolveFault;
 use std::alloc::{AllocError, Allocator};
 use std::fmt;
+use verifying::Fault;
 use wintree::{NoMemory, TreeFault};
 
 /// Why a line was not answered, by the name that is printed.
@@ -37,6 +38,11 @@ pub enum Refusal {
     Grammar(usize),
     Deep,
 
+    // of the input of `verify`, where it isn't too long
+    Answer,
+    /// At this line, from 1.
+    Claim(u64),
+
     NoMemory,
 }
 
@@ -65,6 +71,7 @@ impl fmt::Display for Refusal {
     fn fmt<W: fmt::Write>(&self, f: &mut fmt::Formatter<W>) -> fmt::Result {
         match self {
             Refusal::Grammar(offset) => write!(f, "Grammar at offset {offset}"),
+            Refusal::Claim(line) => write!(f, "Claim at line {line}"),
             other => write!(f, "{}", name_of(*other)),
         }
     }
@@ -72,7 +79,8 @@ impl fmt::Display for Refusal {
 
 /// What is printed of a refusal, up to its number.
 fn name_of(refusal: Refusal) -> &'static str
-    ensures { ((offset : ℕ) → refusal ≢ Grammar offset) → result.now ≡ refusal_text refusal }
+    ensures { ((offset : ℕ) → refusal ≢ Grammar offset) → ((line : ℕ) → refusal ≢ Claim line)
+        → result.now ≡ refusal_text refusal }
 {
     match refusal {
         Refusal::Fields => "Fields",
@@ -91,6 +99,8 @@ fn name_of(refusal: Refusal) -> &'static str
         Refusal::TooLong => "TooLong",
         Refusal::Grammar(_) => "Grammar",
         Refusal::Deep => "Deep",
+        Refusal::Answer => "Answer",
+        Refusal::Claim(_) => "Claim",
         Refusal::NoMemory => "NoMemory",
     }
 }
@@ -134,6 +144,19 @@ impl From<TreeFault> for Refusal {
             TreeFault::Grammar(offset) => Refusal::Grammar(offset),
             TreeFault::Deep => Refusal::Deep,
             TreeFault::NoMemory => Refusal::NoMemory,
+        }
+    }
+}
+
+impl From<Fault> for Refusal {
+    ghost from_gives = { λ fault refusal. refusal ≡ refusal_of_certificate fault };
+
+    fn from(fault: Fault) -> Refusal {
+        match fault {
+            Fault::Answer => Refusal::Answer,
+            Fault::Claim(line) => Refusal::Claim(line),
+            Fault::TooLong => Refusal::TooLong,
+            Fault::NoMemory => Refusal::NoMemory,
         }
     }
 }

@@ -15,7 +15,7 @@ ghost use Rattle.replies.specs.Output.{answered, answer_text, none_text, key_tex
 use crate::device::Source;
 use crate::drawing::board_drawn;
 use crate::refusal::Refusal;
-use crate::transfer::{read_all, without_line_feed};
+use crate::transfer::{MOST_INPUT, read_all, without_line_feed};
 use crate::trouble::Trouble;
 use board::Position;
 use command_line::{Action, Limits, Line};
@@ -350,7 +350,7 @@ fn check_text<S: Source>(
         (λ input. GivesIfRead vec_items (ShowsCheck goal position.now input) result) }
     ensures counts { S.failures reader.new ≡ S.failures reader.old + reads_failed result }
 {
-    let input = read_all(alloc, reader)?;
+    let input = read_all(alloc, reader, MOST_INPUT)?;
     let text = without_line_feed(input.as_slice());
     Ok(verdict_text(alloc, position, goal, text)?)
 }
