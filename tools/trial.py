@@ -6,7 +6,7 @@ import subprocess
 import threading
 
 # These read their input, and the proved program is to read it once.
-READING = ("check", "batch")
+READING = ("check", "verify", "batch")
 
 
 class Trial:

@@ -14,12 +14,12 @@ use alone::solve_alone;
 use board::Position;
 use command_line::Limits;
 use decision::Answer;
-use devices::{MOST_INPUT, without_line_feed};
+use devices::without_line_feed;
 use entry::MateLore;
 use moves::{Board, Goal, lawful, read_sound};
 use refusals::Refusal;
 use replies::{
-    Search, answer_text, keys_text, moves_text, none_line, refusal_of, search_of, tree_line,
+    MOST_INPUT, Search, answer_text, keys_text, moves_text, none_line, refusal_of, search_of, tree_line,
     verdict_text,
 };
 use rounds::{Asked, Key, SolveFault, keys_alone, make_table_in};

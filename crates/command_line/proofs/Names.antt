@@ -2,13 +2,14 @@
 use Rattle.std.proofs.Common.{◌≡◌, ◌≢◌, ◌∙◌, List, ℕ, ap, arith, codes, refl, slice_index, sym}
 use Rattle.clap.specs.Words.{Row, Text}
 use Rattle.command_line.specs.Making.{NamesNoSearch}
-use Rattle.command_line.specs.Words.{HasGoal, HasLimits, MeansAction, MeansFound}
+use Rattle.command_line.specs.Words.{HasGoal, HasLimits, HasSubject, MeansAction, MeansFound}
 use Rattle.rules.specs.declared.goal.Goal.{Goal}
 use Rattle.command_line.specs.declared.line.Limits.{Limits}
+use Rattle.command_line.specs.declared.line.Subject.{Subject}
 use Rattle.command_line.specs.declared.line.Action.{Action}
 use Rattle.command_line.specs.declared.line.Action.TheVariants.{Solve, Keys, Tree, Check, Moves, Show}
 use Rattle.command_line.specs.declared.line.Order.{Order}
-use Rattle.command_line.specs.declared.line.Order.TheVariants.{One, Batch}
+use Rattle.command_line.specs.declared.line.Order.TheVariants.{One, Batch, Verify}
 
 -- two texts with different bytes at one place are two names
 two_names : (k : ℕ) (a b : Text) (m n : ℕ) → slice_index a k ≡ m → slice_index b k ≡ n → (m ≡ n → ⊥) → (name : Text) → name ≡ a → name ≢ b
@@ -61,15 +62,39 @@ no_action name rows (Check goal) searches not means = searches.check means.0
 no_action name rows Moves searches not means = searches.aims.moves means
 no_action name rows Show searches not means = searches.aims.show means
 
+verify_searches : (name : Text) → name ≡ codes "verify" → Searches name
+verify_searches name is = record {
+  aims = record {
+    moves = two_names 0 (codes "verify") (codes "moves") 118 109 refl refl (λ e. omega arith) name is;
+    show = two_names 0 (codes "verify") (codes "show") 118 115 refl refl (λ e. omega arith) name is;
+  };
+  check = two_names 0 (codes "verify") (codes "check") 118 99 refl refl (λ e. omega arith) name is;
+}
+
+verify_searches_not : (name : Text) → name ≡ codes "verify" → NamesNoSearch name
+verify_searches_not name is = record {
+  solve = two_names 0 (codes "verify") (codes "solve") 118 115 refl refl (λ e. omega arith) name is;
+  keys = two_names 0 (codes "verify") (codes "keys") 118 107 refl refl (λ e. omega arith) name is;
+  tree = two_names 0 (codes "verify") (codes "tree") 118 116 refl refl (λ e. omega arith) name is;
+}
+
 -- ---- orders
 
 -- `batch` means none where there is no goal
 pub no_batch_goal : (name : Text) (rows : List Row) (order : Order) → name ≡ codes "batch" → ((goal : Goal) → HasGoal rows goal → ⊥) → MeansFound name rows order → ⊥
 no_batch_goal name rows (One line) is none means = no_goal name rows line.action (batch_searches name is).aims none means.1
 no_batch_goal name rows (Batch goal limits) is none means = none goal means.1
+no_batch_goal name rows (Verify subject) is none means = none subject.goal means.1.1
 
 -- nor where there are no limits
 pub no_batch_limits : (name : Text) (rows : List Row) (order : Order) → name ≡ codes "batch" → ((limits : Limits) → HasLimits rows limits → ⊥)
     → MeansFound name rows order → ⊥
 no_batch_limits name rows (One line) is none means = no_limits name rows line.action (batch_searches name is) none means.1
 no_batch_limits name rows (Batch goal limits) is none means = none limits means.2
+no_batch_limits name rows (Verify subject) is none means = two_names 0 (codes "batch") (codes "verify") 98 118 refl refl (λ e. omega arith) name is means.0
+
+-- `verify` means none where there is no position or no goal
+pub no_verify : (name : Text) (rows : List Row) (order : Order) → name ≡ codes "verify" → ((subject : Subject) → HasSubject rows subject → ⊥) → MeansFound name rows order → ⊥
+no_verify name rows (One line) is none means = no_action name rows line.action (verify_searches name is) (verify_searches_not name is) means.1
+no_verify name rows (Batch goal limits) is none means = two_names 0 (codes "verify") (codes "batch") 118 98 refl refl (λ e. omega arith) name is means.0
+no_verify name rows (Verify subject) is none means = none subject means.1

@@ -58,9 +58,17 @@ keys_app = search_app (codes "keys")
 abbrev pub tree_app : App
 tree_app = search_app (codes "tree")
 
+-- a command of this name with a goal, and a position
+abbrev pub checking_app : Text → App
+checking_app name = with_rule (with_rule (new_app name) goal_rule) fen_rule
+
 -- `check [--goal GOAL] FEN`
 abbrev pub check_app : App
-check_app = with_rule (with_rule (new_app (codes "check")) goal_rule) fen_rule
+check_app = checking_app (codes "check")
+
+-- `verify [--goal GOAL] FEN`
+abbrev pub verify_app : App
+verify_app = checking_app (codes "verify")
 
 -- `moves FEN`
 abbrev pub moves_app : App
@@ -82,5 +90,5 @@ bare_app = let new = new_app (codes "minimate") in
 -- the program, whose first word is one of its commands
 abbrev pub program : App
 program =
-    with_subcommand (with_subcommand (with_subcommand (with_subcommand (with_subcommand (with_subcommand (with_subcommand bare_app
-    solve_app.top) keys_app.top) tree_app.top) check_app.top) moves_app.top) show_app.top) batch_app.top
+    with_subcommand (with_subcommand (with_subcommand (with_subcommand (with_subcommand (with_subcommand (with_subcommand (with_subcommand bare_app
+    solve_app.top) keys_app.top) tree_app.top) check_app.top) verify_app.top) moves_app.top) show_app.top) batch_app.top

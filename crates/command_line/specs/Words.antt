@@ -7,10 +7,11 @@ use Rattle.rules.specs.declared.goal.Goal.TheVariants.{Mate, MateOrStale}
 use Rattle.command_line.specs.Program.{program}
 use Rattle.command_line.specs.declared.line.Line.{Line}
 use Rattle.command_line.specs.declared.line.Limits.{Limits}
+use Rattle.command_line.specs.declared.line.Subject.{Subject}
 use Rattle.command_line.specs.declared.line.Action.{Action}
 use Rattle.command_line.specs.declared.line.Action.TheVariants.{Solve, Keys, Tree, Check, Moves, Show}
 use Rattle.command_line.specs.declared.line.Order.{Order}
-use Rattle.command_line.specs.declared.line.Order.TheVariants.{One, Batch}
+use Rattle.command_line.specs.declared.line.Order.TheVariants.{One, Batch, Verify}
 
 -- the text is the number: decimal digits, perhaps after a plus, below 2^32
 abbrev pub IsNumber : Text → ℕ → Type 0
@@ -49,10 +50,15 @@ MeansAction name rows Show = name ≡ codes "show"
 abbrev pub HasLine : Text → List Row → Line → Type 0
 HasLine name rows line = (first_of (codes "FEN") rows ≡ Some line.fen.now) × MeansAction name rows line.action
 
+-- what was found for the position and for the goal
+abbrev pub HasSubject : List Row → Subject → Type 0
+HasSubject rows subject = (first_of (codes "FEN") rows ≡ Some subject.fen.now) × HasGoal rows subject.goal
+
 -- the command of that name with what was found for it
 abbrev pub MeansFound : Text → List Row → Order → Type 0
 MeansFound name rows (One line) = HasLine name rows line
 MeansFound name rows (Batch goal limits) = (name ≡ codes "batch") × HasGoal rows goal × HasLimits rows limits
+MeansFound name rows (Verify subject) = (name ≡ codes "verify") × HasSubject rows subject
 
 -- a command was found, and it is the order
 abbrev pub HasOrder : Option (Text × List Row) → Order → Type 0

@@ -108,6 +108,24 @@ tree in which more than 32 moves of the attacker are nested.
 Example:
   echo 'c4c5{a6a5:b1a1#}' | minimate check 'k5/6/2K3/6/6/1R4 w'";
 
+pub const VERIFY: &str = "Check a certificate of an answer that is read from the input";
+
+pub const VERIFY_NOTES: &str = "\
+Example:
+  minimate verify 'k5/6/2K3/6/6/1R4 w' < certificate";
+
+pub const VERIFY_MORE: &str = "\
+The input is a certificate: an answer as `solve` prints it, and then lines of
+claims, from which it follows that the answer is right: that no mate is shorter
+and no lesser first move as good, or that there is none. Where the lines hold,
+the output is that answer. What they don't prove is refused: `Answer` where the
+first line is no answer, and `Claim at line 3` where a line isn't there, is no
+claim's or says what isn't so. No search is made but of three plies, and no
+table. A line has at most 8192 bytes, and the input at most 268435456.
+
+Example:
+  minimate verify 'k5/6/2K3/6/6/1R4 w' < certificate";
+
 pub const MOVES: &str = "List the lawful moves";
 
 pub const MOVES_NOTES: &str = "\

@@ -8,6 +8,16 @@ pub enum Order<'a> {
     One(Line<'a>),
     /// A solve of each position of the input.
     Batch(Goal, Limits),
+    /// What the certificate of the input proves.
+    Verify(Subject<'a>),
+}
+
+/// What a certificate is about: a position, and what its attacker plays for.
+#[derive(Clone, Copy)]
+pub struct Subject<'a> {
+    /// The position's text.
+    pub fen: &'a [u8],
+    pub goal: Goal,
 }
 
 /// A command and the position that it is about.

@@ -6,14 +6,15 @@ ghost use Rattle.command_line.specs.declared.reading.LineFault.TheVariants.{NoMe
 ghost use Rattle.command_line.specs.declared.line.Line.{Line as TheLine};
 ghost use Rattle.command_line.specs.declared.line.Order.{Order as TheOrder};
 ghost use Rattle.command_line.specs.declared.line.Limits.{Limits as TheLimits};
+ghost use Rattle.command_line.specs.declared.line.Subject.{Subject as TheSubject};
 ghost use Rattle.command_line.specs.declared.line.Action.{Action as TheAction};
 ghost use Rattle.clap.specs.Words.{App, FailsBy, Row, fault_of, first_of, found_of, kind_of, new_app, rows_of, subcommand_of, subcommand_rows_of, with_subcommand};
-ghost use Rattle.command_line.specs.Words.{HasGoal, HasLimits, HasLine, HasNumber, HasOrder, MeansAction, MeansFound, MeansOrder, MeansNoOrder, progress_word};
+ghost use Rattle.command_line.specs.Words.{HasGoal, HasLimits, HasLine, HasNumber, HasOrder, HasSubject, MeansAction, MeansFound, MeansOrder, MeansNoOrder, progress_word};
 ghost use Rattle.command_line.specs.Making.{IsLocal, IsLocalArg, NamesNoSearch, option_rule};
-ghost use Rattle.command_line.specs.Program.{fen_rule, goal_rule, number_rule, limit_rule, workers_rule, slots_rule, progress_rule, limits_app, search_app, solve_app, keys_app, tree_app, check_app, moves_app, show_app, batch_app, program};
+ghost use Rattle.command_line.specs.Program.{fen_rule, goal_rule, number_rule, limit_rule, workers_rule, slots_rule, progress_rule, limits_app, search_app, checking_app, solve_app, keys_app, tree_app, check_app, verify_app, moves_app, show_app, batch_app, program};
 
 use crate::help;
-use crate::line::{Action, Limits, Line, Order};
+use crate::line::{Action, Limits, Line, Order, Subject};
 use clap::error::ErrorKind;
 use clap::{Arg, ArgAction, ArgMatches, Command, Error, value_parser};
 use moves::Goal;
@@ -224,20 +225,44 @@ fn show_command<'a>(alloc: Global) -> Result<Command<'a>, AllocError>
     named(alloc, "show", help::SHOW, help::SHOW_NOTES, help::SHOW_MORE).arg(fen(alloc))
 }
 
+/// A command that reads what it checks of a position and a goal.
+fn checking_command<'a>(
+    alloc: Global,
+    name: &'a str,
+    about: &'a str,
+    notes: &'a str,
+    more: &'a str,
+) -> Result<Command<'a>, AllocError>
+    ensures { IfOk result (IsLocal (checking_app name.entry.now)) }
+{
+    let Ok(aiming) = named(alloc, name, about, notes, more).arg(goal(alloc)) else {
+        return Err(AllocError);
+    };
+    aiming.arg(fen(alloc))
+}
+
 fn check_command<'a>(alloc: Global) -> Result<Command<'a>, AllocError>
     ensures { IfOk result (IsLocal check_app) }
 {
-    let bare = named(
+    checking_command(
         alloc,
         "check",
         help::CHECK,
         help::CHECK_NOTES,
         help::CHECK_MORE,
-    );
-    let Ok(aiming) = bare.arg(goal(alloc)) else {
-        return Err(AllocError);
-    };
-    aiming.arg(fen(alloc))
+    )
+}
+
+fn verify_command<'a>(alloc: Global) -> Result<Command<'a>, AllocError>
+    ensures { IfOk result (IsLocal verify_app) }
+{
+    checking_command(
+        alloc,
+        "verify",
+        help::VERIFY,
+        help::VERIFY_NOTES,
+        help::VERIFY_MORE,
+    )
 }
 
 /// Adds a command to another, if both could be made.
@@ -277,7 +302,8 @@ fn command<'a>(alloc: Global) -> Result<Command<'a>, AllocError>
     let finding = added(solving, keys_command(alloc));
     let searching = added(finding, tree_command(alloc));
     let checking = added(searching, check_command(alloc));
-    let moving = added(checking, moves_command(alloc));
+    let verifying = added(checking, verify_command(alloc));
+    let moving = added(verifying, moves_command(alloc));
     let showing = added(moving, show_command(alloc));
     added(showing, batch_command(alloc))
 }
@@ -363,12 +389,22 @@ fn line_of<'a>(name: &str, values: &ArgMatches<'a>) -> Option<Line<'a>>
     Some(Line { fen, action })
 }
 
+fn subject_of<'a>(values: &ArgMatches<'a>) -> Option<Subject<'a>>
+    ensures some { IfSome result (HasSubject (rows_of (found_of values.now))) }
+    ensures none { IfNone result ((subject : TheSubject) → HasSubject (rows_of (found_of values.now)) subject → ⊥) }
+{
+    let goal = goal_of(values)?;
+    let fen = fen_of(values)?;
+    Some(Subject { fen, goal })
+}
+
 fn order_at<'a>(name: &str, values: &ArgMatches<'a>) -> Option<Order<'a>>
     ensures some { IfSome result (MeansFound name.now (rows_of (found_of values.now))) }
     ensures none { IfNone result ((order : TheOrder) → MeansFound name.now (rows_of (found_of values.now)) order → ⊥) }
 {
     match name {
         "batch" => Some(Order::Batch(goal_of(values)?, limits(values)?)),
+        "verify" => Some(Order::Verify(subject_of(values)?)),
         _ => Some(Order::One(line_of(name, values)?)),
     }
 }

@@ -1,6 +1,7 @@
 -- to be believed
 pub mod Run
 pub mod Batch
+pub mod Verifying
 pub mod Order
 pub mod Program
 -- inside

@@ -5,20 +5,23 @@ use Rattle.rules.specs.declared.goal.Goal.{Goal}
 use Rattle.command_line.specs.Words.{MeansOrder, MeansNoOrder}
 use Rattle.command_line.specs.declared.line.Limits.{Limits}
 use Rattle.command_line.specs.declared.line.Order.{Order}
-use Rattle.command_line.specs.declared.line.Order.TheVariants.{One, Batch}
+use Rattle.command_line.specs.declared.line.Order.TheVariants.{One, Batch, Verify}
 use Rattle.replies.specs.Output.{MayRead, fault_of}
 use Rattle.console.specs.Batch.{RunsBatch}
+use Rattle.console.specs.Verifying.{RunsVerify, MayReadAbout}
 use Rattle.console.specs.Run.{Run, Writes, GivesUp, RunsLine, failures_of}
 
 -- the run is one of the order
 abbrev pub RunsOrder : Order → Run → Type 0
 RunsOrder (One line) run = RunsLine line run
 RunsOrder (Batch goal limits) run = RunsBatch goal limits run
+RunsOrder (Verify subject) run = RunsVerify subject run
 
--- the order reads the input: a batch does, but where its limits are refused
+-- the order reads the input: a batch does, but where its limits are refused, and a check where its position is sound
 abbrev pub MayReadOf : Order → Type 0
 MayReadOf (One line) = MayRead line
 MayReadOf (Batch goal limits) = fault_of limits ≡ None
+MayReadOf (Verify subject) = MayReadAbout subject
 
 -- the words mean no order: status 2, nothing is written, and nothing fails
 abbrev pub RefusesWords : List Text → Run → Type 0

@@ -3,6 +3,7 @@ ghost use Rattle.std.specs.Prelude.{◌≡◌, ◌⊎◌, ◌<◌, None, map};
 ghost use Rattle.replies.specs.Output.{fault_of, MayRead};
 ghost use Rattle.console.specs.Batch.{RunsBatch};
 ghost use Rattle.console.specs.Order.{MayReadFor, MeansBatch, RunsWords};
+ghost use Rattle.console.specs.Verifying.{RunsVerify, MayReadAbout};
 ghost use Rattle.console.specs.Run.{ending_of, run_of, MayTell, Refuses, RunsLine};
 
 use crate::batch::{Batch, Desk, Stop, answer_lines};
@@ -10,10 +11,10 @@ use crate::beside::{Host, reply_shown};
 use crate::ending::{
     ANSWERED, FAILED, REFUSED_WORDS, finish, give_up_for_memory, may_tell, refuse,
 };
-use command_line::{Line, LineFault, Order, asks_progress, read_order};
+use command_line::{Line, LineFault, Order, Subject, asks_progress, read_order};
 use devices::{Sink, Source};
 use refusals::{Refusal, Refused, advise};
-use replies::{Trouble, refusal_of};
+use replies::{Trouble, refusal_of, verified};
 use std::convert::AsStr;
 use std::io::{Write, sink};
 use std::sync::Wait;
@@ -115,6 +116,30 @@ pub fn run_batch<
     }
 }
 
+/// Answers what the certificate of the input proves. `errors` is told why it was refused.
+fn run_verify<R: AllocGlobal, S: Source, K: Sink, E: Write>(
+    rt: &R,
+    subject: &Subject<'_>,
+    reader: &mut S,
+    writer: &mut K,
+    errors: &mut E,
+) -> u8
+    requires reads { S.failures reader.old < u64.MAX }
+    requires writes { K.failures writer.old < u64.MAX }
+    ensures unread { MayReadAbout subject.now ⊎ (reader.new ≡ reader.old) }
+    ensures runs { RunsVerify subject.now (run_of S.remaining S.failures reader.old reader.new
+        (ending_of K.contents K.failures writer.old writer.new result)) }
+    ensures silent { MayTell result ⊎ (errors.new ≡ errors.old) }
+{
+    match verified(rt.alloc(), subject, reader) {
+        Ok(text) => finish(writer, text.as_slice(), ANSWERED),
+        Err(Trouble::Refused(refusal)) => {
+            refuse_and_tell(rt, writer, errors, subject.fen, refusal)
+        }
+        Err(Trouble::ReadFailed) => FAILED,
+    }
+}
+
 /// The host, and whether the words ask for a sign of life.
 fn host_of<'a, R, W: AsStr>(rt: &'a R, words: &[W]) -> Host<'a, R> {
     Host {
@@ -150,6 +175,7 @@ pub fn run<
                 errors,
             )
         }
+        Ok(Order::Verify(subject)) => run_verify(rt, &subject, reader, writer, errors),
         Err(LineFault::Words) => REFUSED_WORDS,
         Err(LineFault::NoMemory) => give_up_for_memory(writer),
     }

@@ -14,4 +14,6 @@ mod refusal_tests;
 #[cfg(test)]
 mod reply_tests;
 #[cfg(test)]
+mod verify_tests;
+#[cfg(test)]
 mod whole_runs;

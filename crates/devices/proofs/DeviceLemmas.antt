@@ -5,10 +5,10 @@ use Rattle.devices.specs.Input.{IsTooLong}
 use Rattle.std.proofs.lemmas.List.{take_rest}
 
 -- a reader that gave too many bytes had too many
-pub gave_too_many : (before after : Option (List ℕ)) (bytes : List ℕ) → Consumes before after bytes → 1048576 < length bytes → IsTooLong before
-gave_too_many None after bytes gone big = (bytes, tt, big)
-gave_too_many (Some xs) None bytes gone big = absurd gone
-gave_too_many (Some xs) (Some ys) bytes gone big = (xs, refl, omega (arith, big, ap length gone, length-append bytes ys))
+pub gave_too_many : (most : ℕ) (before after : Option (List ℕ)) (bytes : List ℕ) → Consumes before after bytes → most < length bytes → IsTooLong most before
+gave_too_many most None after bytes gone big = (bytes, tt, big)
+gave_too_many most (Some xs) None bytes gone big = absurd gone
+gave_too_many most (Some xs) (Some ys) bytes gone big = (xs, refl, omega (arith, big, ap length gone, length-append bytes ys))
 
 -- where a front of the rest is written, the rest is what stands behind it
 pub front_moved : (all written rest : List ℕ) (count : ℕ) → all ≡ written ++ rest

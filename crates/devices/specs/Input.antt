@@ -3,17 +3,17 @@ use Rattle.std.specs.Prelude.{◌≡◌, ◌-◌, ◌<◌, ◌≤◌, ◌==◌, 
 use Rattle.devices.specs.declared.transfer.InputFault.{InputFault}
 use Rattle.devices.specs.declared.transfer.InputFault.TheVariants.{ReadFailed, TooLong, NoMemory}
 
--- these are all the bytes that the reader had, where it tells, and they are at most 1,048,576
-abbrev pub IsInput : Option (List ℕ) → List ℕ → Type 0
-IsInput known bytes = (length bytes ≤ 1048576) × IfSome known (λ input. input ≡ bytes)
+-- these are all the bytes that the reader had, where it tells, and they are at most so many
+abbrev pub IsInput : ℕ → Option (List ℕ) → List ℕ → Type 0
+IsInput most known bytes = (length bytes ≤ most) × IfSome known (λ input. input ≡ bytes)
 
 -- this is so of an input: of all the bytes that the reader had, where it tells
 abbrev pub OfInput : Option (List ℕ) → (List ℕ → Type 0) → Type 0
 OfInput known Holds = (input : List ℕ) × IfSome known (λ told. told ≡ input) × Holds input
 
--- the input has more than 1,048,576 bytes
-abbrev pub IsTooLong : Option (List ℕ) → Type 0
-IsTooLong known = OfInput known (λ input. 1048576 < length input)
+-- the input has more than so many bytes
+abbrev pub IsTooLong : ℕ → Option (List ℕ) → Type 0
+IsTooLong most known = OfInput known (λ input. most < length input)
 
 -- how many reads failed: one at most, since a failure ends the reading
 abbrev pub failed_reads : {T : Type 0} → Result T InputFault → ℕ

@@ -7,4 +7,4 @@ mod transfer;
 
 pub use device::{Counted, Failed, Sink, Source};
 pub use lines::{Held, Next, Taken, Unread};
-pub use transfer::{InputFault, MOST_INPUT, read_all, without_line_feed, write_all};
+pub use transfer::{InputFault, read_all, without_line_feed, write_all};

@@ -25,9 +25,6 @@ pub fn write_all<K: Sink>(writer: &mut K, bytes: &[u8]) -> Result<(), Failed>
     Ok(())
 }
 
-/// The most bytes of an input, with the line feed at its end.
-pub const MOST_INPUT: usize = 1_048_576;
-
 const CHUNK: usize = 4096;
 
 /// Why an input was not taken.
@@ -35,7 +32,7 @@ const CHUNK: usize = 4096;
 pub enum InputFault {
     #[error("a read failed")]
     ReadFailed,
-    #[error("the input has more than 1,048,576 bytes")]
+    #[error("the input has too many bytes")]
     TooLong,
     #[error("out of memory")]
     NoMemory,
@@ -57,17 +54,21 @@ impl From<AllocError> for InputFault {
     }
 }
 
-/// Reads to the end, or until there is too much, or fails at the first failure and tries nothing
-/// again.
-pub fn read_all<S: Source>(alloc: Global, reader: &mut S) -> Result<Vec<u8>, InputFault>
+/// Reads to the end, or until there are more than `most` bytes, or fails at the first failure and tries
+/// nothing again.
+pub fn read_all<S: Source>(
+    alloc: Global,
+    reader: &mut S,
+    most: usize,
+) -> Result<Vec<u8>, InputFault>
     requires { S.failures reader.old < u64.MAX }
-    ensures all { IfOk result (λ bytes. IsInput (S.remaining reader.old) bytes.items) }
-    ensures too_long { IfErr result (λ fault. fault ≡ TooLong → IsTooLong (S.remaining reader.old)) }
+    ensures all { IfOk result (λ bytes. IsInput most (S.remaining reader.old) bytes.items) }
+    ensures too_long { IfErr result (λ fault. fault ≡ TooLong → IsTooLong most (S.remaining reader.old)) }
     ensures counts { S.failures reader.new ≡ S.failures reader.old + failed_reads result }
 {
     let mut bytes = Vec::new(alloc);
     let mut chunk = [0u8; CHUNK];
-    'reading: while bytes.len() <= MOST_INPUT {
+    'reading: while bytes.len() <= most {
         let count = reader.read(&mut chunk)?;
         if count == 0 {
             return Ok(bytes);

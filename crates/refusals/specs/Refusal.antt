@@ -6,7 +6,7 @@ use Rattle.board.specs.declared.fault.FenFault.TheVariants as fen
 use Rattle.wintree.specs.declared.fault.TreeFault.{TreeFault}
 use Rattle.wintree.specs.declared.fault.TreeFault.TheVariants as tree
 use Rattle.refusals.specs.declared.refusal.Refusal.{Refusal}
-use Rattle.refusals.specs.declared.refusal.Refusal.TheVariants.{Fields, Shape, Letter, Run, Side, Kings, Units, PawnRank, OtherInCheck, Move, Limit, Workers, Slots, TooLong, Grammar, Deep, NoMemory}
+use Rattle.refusals.specs.declared.refusal.Refusal.TheVariants.{Fields, Shape, Letter, Run, Side, Kings, Units, PawnRank, OtherInCheck, Move, Limit, Workers, Slots, TooLong, Grammar, Deep, Answer, Claim, NoMemory}
 
 -- the name that is printed
 abbrev pub refusal_text : Refusal → List ℕ
@@ -26,6 +26,8 @@ refusal_text Slots = codes "Slots"
 refusal_text TooLong = codes "TooLong"
 refusal_text (Grammar offset) = codes "Grammar at offset " ++ decimal offset
 refusal_text Deep = codes "Deep"
+refusal_text Answer = codes "Answer"
+refusal_text (Claim line) = codes "Claim at line " ++ decimal line
 refusal_text NoMemory = codes "NoMemory"
 
 -- the status of a run that ends with it

@@ -53,6 +53,10 @@ fn values_advice(refusal: Refusal) -> &'static str {
         Refusal::Slots => "--slots is 1 to 1048576",
         Refusal::Deep =>
             "more than 32 moves of the attacker are nested: no tree of 63 plies needs so many",
+        Refusal::Answer =>
+            "the first line is no answer: write it as `solve` prints it for this goal, as mate 3 c4c5",
+        Refusal::Claim(_) =>
+            "this line isn't there, is no claim's, or says what isn't so of this position and goal",
         _ => "memory is wanting: fewer --slots or --workers take less",
     }
 }
@@ -326,7 +330,8 @@ fn advise_one<E: Write>(errors: &mut E, mover: Side) -> io::Result<()> {
 fn length_advice(line: Option<u64>) -> &'static [u8] {
     match line {
         Some(_) => b"a line has at most 256 bytes",
-        None => b"a tree has at most 1048576 bytes, its line feed counted",
+        None =>
+            b"a tree has at most 1048576 bytes, its line feed counted, and a line of a certificate 8192",
     }
 }
 

@@ -2,7 +2,7 @@
 ghost use Rattle.std.specs.Prelude.{◌≡◌, ◌≢◌, ℕ, IfOk, Some, string_bytes};
 ghost use Rattle.refusals.specs.Reply.{refused};
 ghost use Rattle.refusals.specs.Refusal.{refusal_status, refusal_text, refusal_of_fen, refusal_of_tree};
-ghost use Rattle.refusals.specs.declared.refusal.Refusal.TheVariants.{Grammar, NoMemory as no_memory};
+ghost use Rattle.refusals.specs.declared.refusal.Refusal.TheVariants.{Claim, Grammar, NoMemory as no_memory};
 
 use board::FenFault;
 use std::alloc::{AllocError, Allocator};
@@ -36,6 +36,11 @@ pub enum Refusal {
     Grammar(usize),
     Deep,
 
+    // of the input of `verify`, where it isn't too long
+    Answer,
+    /// At this line, from 1.
+    Claim(u64),
+
     NoMemory,
 }
 
@@ -64,6 +69,7 @@ impl fmt::Display for Refusal {
     fn fmt<W: fmt::Write>(&self, f: &mut fmt::Formatter<W>) -> fmt::Result {
         match self {
             Refusal::Grammar(offset) => write!(f, "Grammar at offset {offset}"),
+            Refusal::Claim(line) => write!(f, "Claim at line {line}"),
             other => write!(f, "{}", name_of(*other)),
         }
     }
@@ -71,7 +77,8 @@ impl fmt::Display for Refusal {
 
 /// What is printed of a refusal, up to its number.
 fn name_of(refusal: Refusal) -> &'static str
-    ensures { ((offset : ℕ) → refusal ≢ Grammar offset) → result.now ≡ refusal_text refusal }
+    ensures { ((offset : ℕ) → refusal ≢ Grammar offset) → ((line : ℕ) → refusal ≢ Claim line)
+        → result.now ≡ refusal_text refusal }
 {
     match refusal {
         Refusal::Fields => "Fields",
@@ -90,6 +97,8 @@ fn name_of(refusal: Refusal) -> &'static str
         Refusal::TooLong => "TooLong",
         Refusal::Grammar(_) => "Grammar",
         Refusal::Deep => "Deep",
+        Refusal::Answer => "Answer",
+        Refusal::Claim(_) => "Claim",
         Refusal::NoMemory => "NoMemory",
     }
 }

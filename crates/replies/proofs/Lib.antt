@@ -1,2 +1,3 @@
 pub mod ReplyLemmas
+mod VerdictLemmas
 mod DrawingLemmas

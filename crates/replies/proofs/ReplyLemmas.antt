@@ -1,13 +1,13 @@
 -- A reply, from what its parts give.
-use Rattle.std.proofs.Common.{◌≡◌, ◌∙◌, ◌≤◌, ◌⊎◌, ℕ, List, [], Option, None, Some, Result, Ok, Err, IsErr, IsErrAnd, length, inl, inr, refl, sym, ap, subst}
+use Rattle.std.proofs.Common.{◌≡◌, ◌∙◌, ◌≤◌, ◌⊎◌, ℕ, nat_lt, MatchBool, List, [], Option, None, Some, Result, Ok, Err, IsErr, IsErrAnd, length, inl, inr, refl, sym, ap, subst}
 use Rattle.std.proofs.lemmas.Bool.{le-ltb, lt-ltb}
 use Rattle.board.specs.Board.{PlainBoard}
 use Rattle.board.specs.declared.fault.FenFault.{FenFault}
 use Rattle.rules.specs.Reading.{IsSoundFault}
 use Rattle.rules.specs.declared.goal.Goal.{Goal}
-use Rattle.devices.specs.Input.{IsInput, IsTooLong, OfInput, without_line_feed}
+use Rattle.devices.specs.Input.{IsInput, IsTooLong, OfInput}
 use Rattle.replies.specs.Outcome.{Gives, GivesIfRead, GivesReply, trouble_of}
-use Rattle.replies.specs.Output.{fault_of, none_text, ShowsPlanFound, IsSoundText, IsOutput, Shows, ShowsTree, ShowsCheck, input_of}
+use Rattle.replies.specs.Output.{fault_of, none_text, ShowsPlanFound, IsSoundText, IsOutput, Shows, input_of}
 use Rattle.refusals.specs.Reply.{Reply, answered, refused, line_of}
 use Rattle.decision.specs.Answer.{IsFewest, ForcesNothing}
 use Rattle.trees.specs.Best.{IsBest}
@@ -91,34 +91,41 @@ fault_output bytes line input (Ok text) fault is err = absurd err.1
 fault_output bytes line input (Err refusal) fault is err =
     let same : refusal ≡ refusal_of_fen fault = cc in inr (inr (fault, is, ap refused same))
 
--- ---- a check
+-- ---- an input of so many bytes at most
 
--- an input that isn't too long is checked
-shows_check : (goal : Goal) (b : PlainBoard) (input : List ℕ) (reply : Reply) → length input ≤ 1048576
-    → ShowsTree goal b (without_line_feed input) reply → ShowsCheck goal b input reply
-shows_check goal b input reply fits shows = rw (le-ltb 1048576 (length input) fits) shows
+-- what is so of an input that isn't too long
+abbrev IfFits : ℕ → (List ℕ → Reply → Type 0) → List ℕ → Reply → Type 0
+IfFits most Shows input reply = MatchBool (nat_lt most (length input)) (reply ≡ refused TooLong) (Shows input reply)
+
+shows_fit : (most : ℕ) (Shows : List ℕ → Reply → Type 0) (input : List ℕ) (reply : Reply) → length input ≤ most → Shows input reply → IfFits most Shows input reply
+shows_fit most Shows input reply fits shows = rw (le-ltb most (length input) fits) shows
 
 -- what is refused of the input that was read is refused of the reader's input
-pub check_refused : {B : Type 0} (bytes : B → List ℕ) (goal : Goal) (b : PlainBoard) (known : Option (List ℕ)) (read : List ℕ) (r : Result B Trouble) (refusal : Refusal)
-    → IsInput known read → (refusal ≡ NoMemory) ⊎ ShowsTree goal b (without_line_feed read) (refused refusal)
+pub input_refused : {B : Type 0} (bytes : B → List ℕ) (most : ℕ) (Shows : List ℕ → Reply → Type 0) (known : Option (List ℕ)) (read : List ℕ) (r : Result B Trouble) (refusal : Refusal)
+    → IsInput most known read → (refusal ≡ NoMemory) ⊎ Shows read (refused refusal)
     → IsErr r × IsErrAnd r (λ trouble. trouble ≡ Refused refusal)
-    → OfInput known (λ input. GivesIfRead bytes (ShowsCheck goal b input) r)
-check_refused {B} bytes goal b known read r refusal is right err =
-    let here : GivesIfRead bytes (ShowsCheck goal b read) r = refusal_gives bytes (ShowsCheck goal b read) r refusal
-    (elim right [ inl none ↦ inl none | inr shows ↦ inr (shows_check goal b read (refused refusal) is.0 shows) ]) err in
+    → OfInput known (λ input. GivesIfRead bytes (IfFits most Shows input) r)
+input_refused {B} bytes most Shows known read r refusal is right err =
+    let here : GivesIfRead bytes (IfFits most Shows read) r = refusal_gives bytes (IfFits most Shows read) r refusal
+    (elim right [ inl none ↦ inl none | inr shows ↦ inr (shows_fit most Shows read (refused refusal) is.0 shows) ]) err in
     (read, is.1, here)
 
+-- what is shown of the input that was read is shown of the reader's input
+pub input_shown : {B : Type 0} (bytes : B → List ℕ) (most : ℕ) (Shows : List ℕ → Reply → Type 0) (known : Option (List ℕ)) (read : List ℕ) (text : B)
+    → IsInput most known read → Shows read (answered (bytes text)) → OfInput known (λ input. GivesIfRead bytes (IfFits most Shows input) (Ok text))
+input_shown bytes most Shows known read text is shows = (read, is.1, shows_fit most Shows read (answered (bytes text)) is.0 shows)
+
 -- an input that wasn't taken is too long, or memory is wanting, or a read failed
-pub check_unread : {B : Type 0} (bytes : B → List ℕ) (goal : Goal) (b : PlainBoard) (known : Option (List ℕ)) (r : Result B Trouble) (fault : InputFault)
-    → (fault ≡ input.TooLong → IsTooLong known) → IsErr r × IsErrAnd r (λ trouble. trouble ≡ trouble_of fault)
-    → OfInput known (λ input. GivesIfRead bytes (ShowsCheck goal b input) r)
-check_unread bytes goal b known (Ok text) fault long err = absurd err.1
-check_unread bytes goal b known (Err (Refused refusal)) input.TooLong long err =
+pub input_unread : {B : Type 0} (bytes : B → List ℕ) (most : ℕ) (Shows : List ℕ → Reply → Type 0) (known : Option (List ℕ)) (r : Result B Trouble) (fault : InputFault)
+    → (fault ≡ input.TooLong → IsTooLong most known) → IsErr r × IsErrAnd r (λ trouble. trouble ≡ trouble_of fault)
+    → OfInput known (λ input. GivesIfRead bytes (IfFits most Shows input) r)
+input_unread bytes most Shows known (Ok text) fault long err = absurd err.1
+input_unread bytes most Shows known (Err (Refused refusal)) input.TooLong long err =
     let same : TooLong ≡ refusal = cc in
-    of_input_then known _ _ (long refl) (λ read big. inr (rw (lt-ltb 1048576 (length read) big) (ap refused (sym same))))
-check_unread bytes goal b known (Err (Refused refusal)) input.NoMemory long err = of_any known _ (λ read. inl cc)
-check_unread bytes goal b known (Err (Refused refusal)) input.ReadFailed long err = absurd cc
-check_unread bytes goal b known (Err ReadFailed) fault long err = of_any known _ (λ read. tt)
+    of_input_then known _ _ (long refl) (λ read big. inr (rw (lt-ltb most (length read) big) (ap refused (sym same))))
+input_unread bytes most Shows known (Err (Refused refusal)) input.NoMemory long err = of_any known _ (λ read. inl cc)
+input_unread bytes most Shows known (Err (Refused refusal)) input.ReadFailed long err = absurd cc
+input_unread bytes most Shows known (Err ReadFailed) fault long err = of_any known _ (λ read. tt)
 
 -- ---- plans
 

@@ -1,4 +1,5 @@
 -- to be believed
 pub mod Drawing
 pub mod Output
+pub mod Verdict
 pub mod Outcome

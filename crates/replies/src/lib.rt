@@ -1,12 +1,14 @@
 //! The text that answers a line, or why there is none, over any reader.
 #![tactic(auto)]
 
+mod certified;
 mod drawing;
 mod replying;
 mod trouble;
 
+pub use certified::verified;
 pub use replying::{
-    Search, Told, answer_text, keys_text, moves_text, none_line, reply, reply_told, search_of,
-    tree_line, verdict_text,
+    MOST_INPUT, Search, Told, answer_text, keys_text, moves_text, none_line, reply, reply_told,
+    search_of, tree_line, verdict_text,
 };
 pub use trouble::{Trouble, refusal_of};

@@ -31,6 +31,9 @@ use std::thread::Threads;
 use trees::{Wanted, build_tree_over};
 use wintree::{NoMemory, Tree, check, read_tree, tree_text};
 
+/// The most bytes of a tree, with the line feed at its end.
+pub const MOST_INPUT: usize = 1_048_576;
+
 /// With what `solve` searches.
 #[derive(Clone, Copy)]
 pub struct Search {
@@ -356,7 +359,7 @@ fn check_text<S: Source>(
         (λ input. GivesIfRead vec_items (ShowsCheck goal position.now input) result) }
     ensures counts { S.failures reader.new ≡ S.failures reader.old + reads_failed result }
 {
-    let input = read_all(alloc, reader)?;
+    let input = read_all(alloc, reader, MOST_INPUT)?;
     let text = without_line_feed(input.as_slice());
     Ok(verdict_text(alloc, position, goal, text)?)
 }

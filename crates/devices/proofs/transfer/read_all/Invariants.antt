@@ -1,7 +1,6 @@
 -- What was read is what the reader lost, and no read has failed.
 use Rattle.std.proofs.Common.{◌≡◌, ◌-◌, ◌+◌, vec_len}
 use Rattle.std.specs.Io.KnownBytes.{Consumes}
-use Rattle.devices.specs.declared.transfer.TheConstants.{MOST_INPUT}
 use Rattle.devices.proofs.transfer.read_all.Given as goal
 
 abbrev pub invariant-reading : goal.invariant-reading
@@ -10,4 +9,4 @@ invariant-reading g l =
     × (g.S.Source.failures l.reader ≡ g.S.Source.failures l.initial.reader)
 
 abbrev pub decreases-reading : goal.decreases-reading
-decreases-reading g l = MOST_INPUT + 1 - vec_len l.bytes
+decreases-reading g l = l.most + 1 - vec_len l.bytes

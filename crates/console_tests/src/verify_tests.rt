@@ -1,0 +1,43 @@
+//! Certificates on the input, made by hand. Their letters are places among lawful moves.
+use crate::whole_runs::expect_with;
+
+// White's king comes to c5, the move p; Black's has a5 alone, and the rook mates on a1. The moves before it are a to o; i, the rook's
+// to b5, stalemates, and each other has a first reply that escapes.
+const ROOK: &str = "k5/6/2K3/6/6/1R4 w";
+
+const MATE: &[u8] = b"mate 3 c4c5\np.\naaaaaaaa-aaaaaa\n\n";
+
+#[test]
+fn answers_what_a_certificate_proves(rt: HostRuntime) {
+    let words = ["minimate", "verify", ROOK];
+    expect_with(&rt, &words, MATE, 0, "mate 3 c4c5\n");
+    expect_with(&rt, &words, b"none within 2\n\n", 0, "none within 2\n");
+    let stale = ["minimate", "verify", ROOK, "--goal", "stale"];
+    expect_with(&rt, &stale, b"goal 1 b1b5\ni\n\n", 0, "goal 1 b1b5\n");
+}
+
+#[test]
+fn refuses_what_proves_nothing(rt: HostRuntime) {
+    let words = ["minimate", "verify", ROOK];
+    let long = [b'a'; 8193];
+    for (text, output) in [
+        (b"".as_slice(), "refused: Answer\n"),
+        (b"goal 1 b1b5\ni\n\n", "refused: Answer\n"),
+        (b"mate 3 c4c6\np.\n", "refused: Claim at line 2\n"),
+        (
+            b"none within 3\naaaaaaaa-aaaaaaaa\n",
+            "refused: Claim at line 2\n",
+        ),
+        (
+            b"mate 3 c4c5\np.\naaaaaaaa-aaaaaa\n\n\n",
+            "refused: Claim at line 5\n",
+        ),
+        (&long, "refused: TooLong\n"),
+    ] {
+        expect_with(&rt, &words, text, 1, output);
+    }
+    let other_position = ["minimate", "verify", "k5/6/6/6/6/5K w"];
+    expect_with(&rt, &other_position, MATE, 1, "refused: Claim at line 2\n");
+    let no_position = ["minimate", "verify", "k5 w"];
+    expect_with(&rt, &no_position, MATE, 1, "refused: Shape\n");
+}
