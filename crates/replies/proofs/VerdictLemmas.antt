@@ -1,35 +1,18 @@
 -- The reply to a certificate.
-use Rattle.std.proofs.Common.{◌≡◌, List, ℕ, Option, Result, Ok, Err, IsErr, IsErrAnd, inl, inr, refl, ap}
+use Rattle.std.proofs.Common.{◌≡◌, List, ℕ, Option, Result, Ok, Err, IsErr, IsErrAnd, inl, inr, refl}
 use Rattle.board.specs.Board.{PlainBoard}
 use Rattle.board.specs.declared.fault.FenFault.{FenFault}
 use Rattle.rules.specs.Reading.{IsSoundFault}
-use Rattle.rules.specs.declared.goal.Goal.{Goal}
-use Rattle.verifying.specs.declared.fault.Fault.{Fault}
-use Rattle.verifying.specs.declared.fault.Fault.TheVariants as certificate
 use Rattle.command_line.specs.declared.line.Subject.{Subject}
 use Rattle.devices.specs.Input.{OfInput}
-use Rattle.replies.specs.Outcome.{Gives, GivesIfRead}
+use Rattle.replies.specs.Outcome.{GivesIfRead}
 use Rattle.refusals.specs.Reply.{Reply, answered, refused}
 use Rattle.replies.specs.Output.{IsSoundText}
 use Rattle.refusals.specs.Refusal.{refusal_of_fen}
-use Rattle.replies.specs.Verdict.{refusal_of_certificate, ShowsProved, ShowsVerified, IsVerdict, GivesVerdict}
-use Rattle.refusals.specs.declared.refusal.Refusal.{Refusal}
-use Rattle.refusals.specs.declared.refusal.Refusal.TheVariants as refusal
+use Rattle.replies.specs.Verdict.{ShowsVerified, IsVerdict, GivesVerdict}
 use Rattle.replies.specs.declared.trouble.Trouble.{Trouble}
 use Rattle.replies.specs.declared.trouble.Trouble.TheVariants.{Refused, ReadFailed}
 use Rattle.replies.proofs.ReplyLemmas.{of_any, of_input_then, refusal_gives}
-
--- a certificate with a fault is refused by it
-pub certificate_refused : {B : Type 0} (bytes : B → List ℕ) (goal : Goal) (b : PlainBoard) (text : List ℕ) (r : Result B Refusal) (fault : Fault)
-    → IsErr r × IsErrAnd r (λ why. why ≡ refusal_of_certificate fault) → Gives bytes (ShowsProved goal b text) r
-certificate_refused bytes goal b text (Ok made) fault err = absurd err.1
-certificate_refused bytes goal b text (Err why) certificate.Answer err =
-    let same : why ≡ refusal.Answer = cc in inr (inr (refusal.Answer, tt, ap refused same))
-certificate_refused bytes goal b text (Err why) (certificate.Claim line) err =
-    let same : why ≡ refusal.Claim line = cc in inr (inr (refusal.Claim line, tt, ap refused same))
-certificate_refused bytes goal b text (Err why) certificate.TooLong err =
-    let same : why ≡ refusal.TooLong = cc in inr (inr (refusal.TooLong, tt, ap refused same))
-certificate_refused bytes goal b text (Err why) certificate.NoMemory err = inl cc
 
 -- what is given is given for what follows of it
 gives_weaker : {B : Type 0} (bytes : B → List ℕ) (P Q : Reply → Type 0) (r : Result B Trouble) → ((reply : Reply) → P reply → Q reply) → GivesIfRead bytes P r
