@@ -6,6 +6,7 @@ from typing import Any, Tuple
 # What the calls answer, as include/minimate.h has it.
 FORCED, NONE_WITHIN, REFUSED, LIMIT, STOPPED = range(5)
 SLOTS, NO_MEMORY = 6, 7
+MOST_PLIES = 63
 WHY = {LIMIT: b"refused: Limit\n", SLOTS: b"refused: Slots\n", NO_MEMORY: b"refused: NoMemory\n", STOPPED: b"stopped\n"}
 
 
@@ -66,7 +67,8 @@ class Living:
     def solve(self, text: bytes, stale: bool, limit: int) -> bytes:
         """What `minimate solve` writes, or that the search was stopped."""
         if self.opened:
-            return WHY[self.opened]
+            # The program refuses a limit first.
+            return WHY[self.opened if 1 <= limit <= MOST_PLIES else LIMIT]
         found = Found()
         result: int = self.library.minimate_solver_solve(self.solver, text, len(text), stale, limit, found)
         if result == FORCED:
