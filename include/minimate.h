@@ -23,7 +23,14 @@
    What a caller owes isn't looked at: a null pointer, a length that is too great, or a room that another call has, may do anything. Each
    text is looked at whole: one that isn't UTF-8, or has a zero byte, is refused like any other that is no position, tree or move.
 
-   A call starts no thread and takes no lock, and calls share nothing: any number of threads may each be in a call. It can't be stopped.
+   A call starts no thread and takes no lock, and calls share nothing but what a solver and its stop do: any number of threads may each be
+   in a call. Of the calls with text those that search can't be stopped.
+
+   - A `struct minimate_solver` and a `struct minimate_stop` are all zeros before they are opened, and later what the last call left: they may
+     be moved and go to another thread, but not be copied and used twice. Each is in one call at a time, and a lock, a thread's start or
+     join, or a sequentially consistent atomic lies between its calls in two threads. The two may be in calls at the same time. An open one is
+     closed once, and none of them is used in a signal handler.
+
    For Python there is a package over these calls, in python/. */
 #ifndef MINIMATE_H
 #define MINIMATE_H
@@ -71,6 +78,71 @@ size_t minimate_after(const uint8_t *fen, size_t fen_length, const uint8_t *move
 /* Why a position's text is refused: the line that says so, and behind it the sentence that the program writes on standard error. Nothing,
    and so 0, where the text is sound. The program has no such line. */
 size_t minimate_fault(const uint8_t *fen, size_t fen_length, uint8_t *room, size_t room_length);
+
+/* The version as one number, as MINIMATE_VERSION_NUMBER has it. */
+uint32_t minimate_version(void);
+
+/* What the calls below answer. */
+enum {
+    MINIMATE_FORCED = 0,      /* the goal is forced; of the other calls: it is done */
+    MINIMATE_NONE_WITHIN = 1, /* it is forced within no number of plies up to the limit */
+    MINIMATE_REFUSED = 2,     /* the text is no position's: minimate_fault says why */
+    MINIMATE_LIMIT = 3,       /* the limit is outside 1 to 63 */
+    MINIMATE_STOPPED = 4,     /* the search was told to stop */
+    MINIMATE_NO_SOLVER = 5,   /* there is no solver, or nothing that stops one */
+    MINIMATE_SLOTS = 6,       /* the slots are outside 1 to 1,048,576 */
+    MINIMATE_NO_MEMORY = 7,   /* memory is wanting */
+    MINIMATE_ANOTHER = 8      /* one of the two is open already */
+};
+
+/* A solver that lives: question after question over one table. Its members are the library's. */
+struct minimate_solver {
+    bool full;
+    void *held, *spare;
+};
+
+/* What stops its searches from another thread. Its members are the library's. */
+struct minimate_stop {
+    bool full;
+    void *held, *spare;
+};
+
+/* A move: the files and ranks of its two squares, from 0, and the letter of what a pawn becomes, `q`, `r`, `b` or `n`, or 0. */
+struct minimate_first {
+    uint8_t from_file, from_rank, to_file, to_rank, promotion;
+};
+
+/* In how many plies the goal is forced, and the least first move. */
+struct minimate_answer {
+    uint32_t plies;
+    struct minimate_first first;
+};
+
+/* How far a search is: nothing is forced within so many plies, and of the moves of the round so many are tried. */
+struct minimate_place {
+    uint32_t none_within, tried, moves;
+};
+
+/* Makes a solver over a table of `slots` slots of 32 bytes, and what stops it. Both hold memory until they are closed, in any order. */
+uint32_t minimate_solver_open(struct minimate_solver *solver, struct minimate_stop *stop, uint32_t slots);
+
+/* What `minimate solve` answers, in plain numbers: the answer is written where the goal is forced, and stays as it was else. After each
+   answer the solver serves the next call. */
+uint32_t minimate_solver_solve(struct minimate_solver *solver, const uint8_t *fen, size_t fen_length, bool stale, uint32_t limit,
+                               struct minimate_answer *answer);
+
+/* Gives the solver up. Where there is none nothing is done. */
+void minimate_solver_close(struct minimate_solver *solver);
+
+/* While `set` was the last that was told, the search that is under way and each that is begun ends as MINIMATE_STOPPED, but for one that
+   has its answer at once. */
+uint32_t minimate_stop_set(struct minimate_stop *stop, bool set);
+
+/* How far the search is that is under way, or how far the last one was. */
+uint32_t minimate_stop_place(struct minimate_stop *stop, struct minimate_place *place);
+
+/* Gives up what stops the solver, which then lives on as it was last told. */
+void minimate_stop_close(struct minimate_stop *stop);
 
 #ifdef __cplusplus
 }

@@ -6,8 +6,9 @@ import mmap
 import operator
 import os
 import threading
-from typing import Any, List, Optional, Union
+from typing import Any, Dict, List, Optional, Union
 
+from .living import Living, lives
 from .refusals import NoMemory
 
 NAME = "libminimate.so"
@@ -19,9 +20,9 @@ ROOM, FURTHER = 4096, 8
 # A greater room takes memory only where it is written.
 PLAIN_ROOM = 1 << 20
 
-TEXT = [ctypes.c_char_p, ctypes.c_size_t]
-SEARCH = [*TEXT, ctypes.c_bool, ctypes.c_uint32, ctypes.c_uint32]
-PARAMETERS = {
+TEXT: List[Any] = [ctypes.c_char_p, ctypes.c_size_t]
+SEARCH: List[Any] = [*TEXT, ctypes.c_bool, ctypes.c_uint32, ctypes.c_uint32]
+PARAMETERS: Dict[str, List[Any]] = {
     "solve": SEARCH,
     "keys": SEARCH,
     "tree": SEARCH,
@@ -44,6 +45,10 @@ class Calls:
             if call is None:
                 raise OSError(f"{path} is no libminimate: it has no minimate_{word}")
             call.argtypes, call.restype = [*parameters, ctypes.c_char_p, ctypes.c_size_t], ctypes.c_size_t
+
+    def living(self, slots: int) -> Optional[Living]:
+        """A solver that lives, where the library has such."""
+        return Living(self.library, slots) if lives(self.library) else None
 
     def ask(self, word: str, *values: Union[bytes, bool, int], room: int = ROOM) -> bytes:
         """The reply of a call. A text crosses as where it stands and its length."""

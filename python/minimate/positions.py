@@ -120,7 +120,9 @@ class Position:
         return not self.moves() and not self.is_check()
 
     def __eq__(self, other: object) -> bool:
-        return self._text == other._text if isinstance(other, Position) else NotImplemented
+        if not isinstance(other, Position):
+            return NotImplemented
+        return self._text == other._text
 
     def __hash__(self) -> int:
         return hash((Position, self._text))

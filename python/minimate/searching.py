@@ -1,22 +1,24 @@
-"""Searches in threads of their own, so that Ctrl-C is taken by the caller at once."""
+"""Searches in threads of their own, so that Ctrl-C is taken by the caller at once, and ends them where they can be stopped."""
 
 import signal
 import threading
-from typing import Any, Callable, List, TypeVar, cast
+from typing import Any, Callable, List, Optional, TypeVar, cast
 
 from .refusals import NoMemory
 
 Result = TypeVar("Result")
 # What a search may need of its thread's stack, and as much again and more: it is memory only where it is used.
 STACK = 4 << 20
+# How often a search is looked at, in seconds.
+WATCHED = 0.02
 _starting = threading.Lock()
 
 
 class Interrupted(KeyboardInterrupt):
     """Ctrl-C came during a search.
 
-    `none_within` is the plies within which nothing is forced, as far as that was known: 0 without progress. The search itself goes on to
-    its end in a daemon thread, since the library can't stop one: until then it takes a processor and its table's memory.
+    `none_within` is the plies within which nothing is forced, as far as that was known: 0 without progress. A solve has ended then. One of
+    keys or of a tree goes on to its end in a daemon thread, and until then takes a processor and its table's memory.
     """
 
     def __init__(self, none_within: int = 0) -> None:
@@ -35,8 +37,24 @@ def start(work: Callable[[], None]) -> None:
             threading.stack_size(before)
 
 
-def apart(work: Callable[[], Result], none_within: int = 0) -> Result:
-    """What the work gives, done by another thread. Waiting for it is what an interrupt ends."""
+def end(ended: threading.Event, stop: Callable[[bool], None]) -> None:
+    """Stops a search, whatever interrupts."""
+    while not ended.is_set():
+        try:
+            stop(True)
+            ended.wait(WATCHED)
+        except KeyboardInterrupt:
+            pass
+
+
+def apart(
+    work: Callable[[], Result],
+    none_within: Callable[[], int] = lambda: 0,
+    watch: Optional[Callable[[], None]] = None,
+    stop: Optional[Callable[[bool], None]] = None,
+) -> Result:
+    """What the work gives, done by another thread. Waiting for it is what an interrupt ends; the work too, where it can be stopped. What
+    watches is called now and then, and may raise."""
     outcome: List[Any] = []
     ended = threading.Event()
 
@@ -49,15 +67,23 @@ def apart(work: Callable[[], Result], none_within: int = 0) -> Result:
             outcome.extend([None, why])
         ended.set()
 
+    is_begun = False
     try:
         start(run)
-        ended.wait()
-    except KeyboardInterrupt:
-        raise Interrupted(none_within) from None
-    except RuntimeError as why:
-        # No thread could be started.
-        raise NoMemory from why
-    result, why = outcome
-    if why is not None:
-        raise why
+        is_begun = True
+        while not ended.wait(WATCHED if watch else None):
+            if watch:
+                watch()
+    except BaseException as why:
+        if stop and is_begun:
+            end(ended, stop)
+        if isinstance(why, KeyboardInterrupt):
+            raise Interrupted(none_within()) from None
+        if isinstance(why, RuntimeError) and not is_begun:
+            # No thread could be started.
+            raise NoMemory from why
+        raise
+    result, fault = outcome
+    if fault is not None:
+        raise fault
     return cast(Result, result)

@@ -1,9 +1,11 @@
 """The solver: searches by the library's calls."""
 
+import threading
 from typing import Callable, List, Optional, Union
 
 from . import _calls
 from .answers import NONE_WITHIN, Answer, Key, read_answer, read_key
+from .living import Living
 from .moves import Move
 from .positions import Position
 from .refusals import answered
@@ -36,21 +38,39 @@ def rounds(limit: int) -> List[int]:
     return [*range(1, limit - 1, 2), limit] if 1 <= limit <= MOST_PLIES else [limit]
 
 
+class Told:
+    """What is told of a solve round by round."""
+
+    def __init__(self, all_rounds: List[int], progress: Optional[Progress]) -> None:
+        self.rounds, self.progress = all_rounds, progress
+        self.none_within = 0
+
+    def hear(self, none_within: int) -> None:
+        """Nothing is forced within so many plies: each round up to them is told once."""
+        for plies in self.rounds if self.progress else []:
+            if self.none_within < plies <= none_within and self.progress:
+                self.none_within = plies
+                self.progress(plies)
+
+
 class Solver:
     """Finds forced mates.
 
     `slots` is how many slots of 32 bytes the table of a search has, 1 to 1048576; a prime serves best. Without it the table is small up
-    to 5 plies, and has 1048573 slots beyond. No answer depends on it. Each call has a table of its own, so threads may share a solver.
+    to 5 plies, and has 1048573 slots beyond. No answer depends on it. A solver keeps the table of `solve` for its next one; threads may share
+    it, and then solve one after another.
 
     A position is a `Position` or its text. A limit counts plies, 1 to 63: a mate in M moves is 2M-1. The goal is ``"mate"``, or
     ``"stale"`` for mate or stalemate. What the program refuses is `Refused`, and want of memory `NoMemory`, which is a MemoryError.
 
-    A search runs in a daemon thread of its own. Ctrl-C ends the wait for it at once, as `Interrupted`, which is a KeyboardInterrupt; the
-    search itself can't be stopped, and goes on unseen to its end.
+    A search runs in a daemon thread of its own. Ctrl-C ends `solve` at once, as `Interrupted`, which is a KeyboardInterrupt. Of `keys` and
+    `tree` it ends the wait: the search itself goes on unseen to its end.
     """
 
     def __init__(self, slots: Optional[int] = None) -> None:
         self.slots = slots
+        self._living: Optional[Living] = None
+        self._solving = threading.Lock()
 
     def __repr__(self) -> str:
         return "Solver()" if self.slots is None else f"Solver(slots={self.slots})"
@@ -64,19 +84,51 @@ class Solver:
     ) -> Answer:
         """The fewest plies up to the limit in which the side to move forces the goal, and the least first move, or that there are none.
 
-        With `progress` the rounds 1, 3, 5 and so on are searched one by one, which takes somewhat longer. After each that found nothing it
-        is called, in the caller's thread, with the plies within which nothing is forced; what it raises ends the search. `Interrupted`
-        then tells these plies too.
+        After each of the rounds 1, 3, 5 and so on that found nothing `progress` is called, in the caller's thread, with the plies within
+        which nothing is forced; what it raises ends the search. `Interrupted` then tells these plies too.
         """
-        asked, none_within = position_of(position), 0
+        asked, told = position_of(position), Told(rounds(limit), progress)
+        found = self._lives(_calls.number(limit))
+        if found is None:
+            return self._solve_apart(asked, limit, goal, told)
+        living: Living = found
+        is_stale, plies, begun = counts_stale(goal), _calls.number(limit), threading.Event()
+
+        def work() -> bytes:
+            with self._solving:
+                living.begin()
+                begun.set()
+                return living.solve(asked.text.encode(), is_stale, plies)
+
+        def watch() -> None:
+            told.hear(living.none_within() if begun.is_set() else 0)
+
+        reply = apart(work, lambda: told.none_within, watch, living.stop)
+        answer = read_answer(answered(reply))
+        told.hear(answer.plies - 1 if answer.is_forced else MOST_PLIES)
+        return answer
+
+    def _lives(self, limit: int) -> Optional[Living]:
+        """The solver of the library that serves such a limit, where the library has any."""
+        with self._solving:
+            slots = self._slots(limit)
+            if self._living is None or self._living.opened or self._living.slots < slots:
+                self._living = _calls.calls().living(slots)
+            return self._living
+
+    def _slots(self, limit: int) -> int:
+        if self.slots is not None:
+            return _calls.number(self.slots)
+        return FEW_SLOTS if limit <= FEW_PLIES else MANY_SLOTS
+
+    def _solve_apart(self, asked: Position, limit: int, goal: str, told: "Told") -> Answer:
+        """The same, each round by a call of its own."""
         answer = None
-        for plies in rounds(limit) if progress else [limit]:
-            answer = read_answer(self._search("solve", asked, plies, goal, none_within))
+        for plies in told.rounds if told.progress else [limit]:
+            answer = read_answer(self._search("solve", asked, plies, goal, told.none_within))
             if answer.is_forced:
                 break
-            none_within = answer.plies
-            if progress:
-                progress(none_within)
+            told.hear(answer.plies)
         assert answer is not None
         return answer
 
@@ -132,9 +184,6 @@ class Solver:
     def _search(self, word: str, position: Position, limit: int, goal: str, none_within: int = 0) -> str:
         """What a call writes that searches."""
         is_stale, plies = counts_stale(goal), _calls.number(limit)
-        slots = self.slots
-        if slots is None:
-            slots = FEW_SLOTS if plies <= FEW_PLIES else MANY_SLOTS
-        values: List[Union[bytes, bool, int]] = [position.text.encode(), is_stale, plies, _calls.number(slots)]
+        values: List[Union[bytes, bool, int]] = [position.text.encode(), is_stale, plies, self._slots(plies)]
         room = TREE_ROOM if word == "tree" else _calls.ROOM
-        return answered(apart(lambda: _calls.calls().ask(word, *values, room=room), none_within))
+        return answered(apart(lambda: _calls.calls().ask(word, *values, room=room), lambda: none_within))

@@ -14,6 +14,9 @@ class Fake:
     def __init__(self, **replies):
         self.replies, self.asked = {"fault": b"", **replies}, []
 
+    def living(self, slots):
+        """It has no such solvers."""
+
     def ask(self, word, *values, room=0):
         self.asked.append((word, *values))
         reply = self.replies[word]

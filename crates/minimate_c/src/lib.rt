@@ -2,12 +2,16 @@
 #![tactic(auto)]
 
 ghost use Rattle.command_line.specs.declared.line.Action.TheVariants.{Solve, Keys, Tree};
+ghost use Rattle.std.specs.Prelude.{◌≡◌, false};
+ghost use Rattle.handles.specs.Asked.{Asks, IsOpened};
 ghost use Rattle.calls.specs.Calls.{AnswersAfter, AnswersCheck, AnswersFault, AnswersMoves, AnswersSearch, terms_of};
 
 #[cfg(test)]
 mod tests;
 
 use calls::Terms;
+use handles::{Found, SolverHandle, StopHandle};
+use solver::Place;
 use std::alloc::Global;
 
 /// What `minimate moves` writes of the position.
@@ -106,4 +110,72 @@ pub extern "C" fn minimate_tree(
         slots,
     };
     calls::tree(alloc, fen, terms, room)
+}
+
+/// Makes a solver over so many slots, and what stops it: 0 where there are both, else why there is neither.
+#[unsafe(no_mangle)]
+pub extern "C" fn minimate_solver_open(
+    alloc: Global,
+    solver: &mut SolverHandle,
+    stop: &mut StopHandle,
+    slots: u32,
+) -> u32
+    ensures { (result ≡ 0) → IsOpened solver.new.held.value stop.new.held.value }
+{
+    handles::open(alloc, solver, stop, slots)
+}
+
+/// Asks a solver for the fewest plies up to the limit, and the least first move.
+#[unsafe(no_mangle)]
+pub extern "C" fn minimate_solver_solve(
+    alloc: Global,
+    solver: &mut SolverHandle,
+    fen: &[u8],
+    stale: bool,
+    limit: u32,
+    found: &mut Found,
+) -> u32
+    ensures { Asks fen.now stale limit solver.old.full solver.new.held.value result found.new }
+{
+    handles::solve(alloc, solver, fen, stale, limit, found)
+}
+
+/// Gives a solver up.
+#[unsafe(no_mangle)]
+pub extern "C" fn minimate_solver_close(alloc: Global, solver: &mut SolverHandle)
+    ensures { solver.new.full ≡ false }
+{
+    handles::close(alloc, solver);
+}
+
+/// Tells a solver to stop, or to go on.
+#[unsafe(no_mangle)]
+pub extern "C" fn minimate_stop_set(alloc: Global, stop: &mut StopHandle, set: bool) -> u32 {
+    handles::tell(alloc, stop, set)
+}
+
+/// How far the search is that is under way, or how far the last one was.
+#[unsafe(no_mangle)]
+pub extern "C" fn minimate_stop_place(
+    alloc: Global,
+    stop: &mut StopHandle,
+    place: &mut Place,
+) -> u32 {
+    handles::look(alloc, stop, place)
+}
+
+/// Gives up what stops a solver.
+#[unsafe(no_mangle)]
+pub extern "C" fn minimate_stop_close(alloc: Global, stop: &mut StopHandle)
+    ensures { stop.new.full ≡ false }
+{
+    handles::close_stop(alloc, stop);
+}
+
+/// The version as one number, as the header's macro has it.
+#[unsafe(no_mangle)]
+pub extern "C" fn minimate_version() -> u32
+    ensures { result ≡ 100 }
+{
+    100
 }

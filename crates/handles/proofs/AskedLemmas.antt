@@ -1,0 +1,32 @@
+-- How a reply comes about.
+use Rattle.std.proofs.Common.{◌≡◌, ℕ, List, Bool, true, false, sym, subst, Option, Some}
+use Rattle.board.specs.Board.{PlainBoard}
+use Rattle.rules.specs.declared.goal.Goal.{Goal}
+use Rattle.rounds.specs.Limits.{IsLimit}
+use Rattle.decision.specs.declared.answer.Answer.{Answer}
+use Rattle.decision.specs.declared.answer.Answer.TheVariants as answer
+use Rattle.decision.specs.Answer.{IsAnswer}
+use Rattle.solver.specs.declared.solver.Solver.{Solver}
+use Rattle.solver.specs.Stopping.{IsStopped}
+use Rattle.handles.specs.declared.found.Found.{Found}
+use Rattle.handles.specs.Asked.{goal_of, found_of, IsAt, Tells, Replies, forced, none_within, Asks, asked, no_solver}
+
+-- the definition's answer, told in numbers
+pub answered : (text : List ℕ) (goal : Goal) (limit : ℕ) (Stopped : Type 0) (b : PlainBoard) (a : Answer) (number : ℕ) (found : Found)
+    → IsAt text b → IsLimit limit → IsAnswer goal b limit a → Tells a number found → Replies text goal limit Stopped number found
+answered text goal limit Stopped b (answer.Mate plies first) number found is_at within right told =
+    subst (λ (p : ℕ × Found). Replies text goal limit Stopped p.0 p.1) (λ i. (sym told.0 i, sym told.1 i)) (forced b is_at within right)
+answered text goal limit Stopped b (answer.NoneWithin n) number found is_at within right told =
+    subst (λ (k : ℕ). Replies text goal limit Stopped k found) (sym told)
+    (none_within b is_at within (subst (λ (k : ℕ). IsAnswer goal b limit (answer.NoneWithin k)) right.0 right))
+
+-- the reply of the solver that is held
+pub of_held : (text : List ℕ) (stale : Bool) (limit : ℕ) (full : Bool) (held : Option Solver) (s : Solver) (goal : Goal) (number : ℕ) (found : Found)
+    → full ≡ true → held ≡ Some s → goal ≡ goal_of stale → Replies text goal limit (IsStopped s) number found → Asks text stale limit full held number found
+of_held text stale limit full held s goal number found is_full is_held is_goal r =
+    subst (λ (p : Bool × Option Solver). Asks text stale limit p.0 p.1 number found) (λ i. (sym is_full i, sym is_held i))
+    (asked (subst (λ (g : Goal). Replies text g limit (IsStopped s) number found) is_goal r))
+
+-- there is none
+pub of_none : (text : List ℕ) (stale : Bool) (limit : ℕ) (full : Bool) (held : Option Solver) (found : Found) → full ≡ false → Asks text stale limit full held 5 found
+of_none text stale limit full held found empty = subst (λ (b : Bool). Asks text stale limit b held 5 found) (sym empty) no_solver

@@ -1,0 +1,73 @@
+-- What a program in another language is answered.
+use Rattle.std.specs.Prelude.{◌≡◌, ℕ, ◌≤◌, List, Bool, true, false, Option, None, Some}
+use Rattle.std.specs.Arc.{arc_value}
+use Rattle.board.specs.declared.game.Kind.{Kind}
+use Rattle.board.specs.declared.game.Kind.TheVariants.{Queen, Rook, Bishop, Knight}
+use Rattle.board.specs.declared.fault.FenFault.{FenFault}
+use Rattle.board.specs.Board.{PlainBoard}
+use Rattle.board.specs.Fen.{IsFenText}
+use Rattle.rules.specs.declared.goal.Goal.{Goal}
+use Rattle.rules.specs.declared.goal.Goal.TheVariants.{Mate, MateOrStale}
+use Rattle.rules.specs.Squares.{Ply}
+use Rattle.rules.specs.Reach.{IsSound}
+use Rattle.rules.specs.Reading.{IsSoundFault}
+use Rattle.rounds.specs.Limits.{IsLimit}
+use Rattle.decision.specs.declared.answer.Answer.{Answer}
+use Rattle.decision.specs.declared.answer.Answer.TheVariants as answer
+use Rattle.decision.specs.Answer.{IsAnswer}
+use Rattle.solver.specs.declared.solver.Solver.{Solver}
+use Rattle.solver.specs.declared.listening.StopSource.{StopSource}
+use Rattle.solver.specs.Stopping.{IsStopped}
+use Rattle.handles.specs.declared.found.First.{First}
+use Rattle.handles.specs.declared.found.Found.{Found}
+
+-- the goal that a caller names: mate, or stalemate too
+abbrev pub goal_of : Bool → Goal
+goal_of false = Mate
+goal_of true = MateOrStale
+
+-- the letter of what a pawn becomes, or 0
+abbrev pub letter_of : Option Kind → ℕ
+letter_of (Some Queen) = 113
+letter_of (Some Rook) = 114
+letter_of (Some Bishop) = 98
+letter_of (Some Knight) = 110
+letter_of _ = 0
+
+-- a move in plain numbers
+abbrev pub first_of : Ply → First
+first_of m = record { from_file = m.from.file; from_rank = m.from.rank; to_file = m.to.file; to_rank = m.to.rank; promotion = letter_of m.promotion }
+
+-- the plies and the first move in plain numbers
+abbrev pub found_of : ℕ → Ply → Found
+found_of plies first = record { plies = plies; first = first_of first }
+
+-- the number and what was found tell of the answer
+abbrev pub Tells : Answer → ℕ → Found → Type 0
+Tells (answer.Mate plies first) number found = (number ≡ 0) × (found ≡ found_of plies first)
+Tells (answer.NoneWithin limit) number found = number ≡ 1
+
+-- the text is that of the position, in which the side that isn't to move is out of check
+abbrev pub IsAt : List ℕ → PlainBoard → Type 0
+IsAt text b = IsFenText text b × IsSound b
+
+-- the number that is the reply to a question, with what was found: the answer, or why there is none
+pub data Replies (text : List ℕ) (goal : Goal) (limit : ℕ) (Stopped : Type 0) : ℕ → Found → Type 0 where
+  forced : (b : PlainBoard) {plies : ℕ} {first : Ply} → IsAt text b → IsLimit limit → IsAnswer goal b limit (answer.Mate plies first) → Replies text goal limit Stopped 0 (found_of plies first)
+  none_within : (b : PlainBoard) {found : Found} → IsAt text b → IsLimit limit → IsAnswer goal b limit (answer.NoneWithin limit) → Replies text goal limit Stopped 1 found
+  refused : (fault : FenFault) {found : Found} → IsSoundFault text fault → Replies text goal limit Stopped 2 found
+  another_limit : {found : Found} → (IsLimit limit → ⊥) → Replies text goal limit Stopped 3 found
+  stopped : {found : Found} → Stopped → Replies text goal limit Stopped 4 found
+
+-- the reply of the solver that a handle holds, or that it holds none
+pub data Asks (text : List ℕ) (stale : Bool) (limit : ℕ) : Bool → Option Solver → ℕ → Found → Type 0 where
+  asked : {solver : Solver} {number : ℕ} {found : Found} → Replies text (goal_of stale) limit (IsStopped solver) number found → Asks text stale limit true (Some solver) number found
+  no_solver : {held : Option Solver} {found : Found} → Asks text stale limit false held 5 found
+
+-- a solver, and what stops it
+pub record IsOpened (held : Option Solver) (stop : Option StopSource) : Type 0 where
+  pub solver : Solver
+  pub source : StopSource
+  pub is_solver : held ≡ Some solver
+  pub is_source : stop ≡ Some source
+  pub shared : arc_value solver.scout.stop.shared ≡ arc_value source.shared

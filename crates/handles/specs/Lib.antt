@@ -1,0 +1,4 @@
+-- to be believed
+pub mod Asked
+-- inside
+pub mod Owned

@@ -1,0 +1,189 @@
+//! What such a program asks, and the number that it is answered.
+ghost use Rattle.std.specs.Prelude.{◌≡◌, ◌≤◌, Bool, false, true, MatchOption, Some, Option};
+ghost use Rattle.board.specs.declared.game.Kind.{Kind as AKind};
+ghost use Rattle.rules.specs.Squares.{Ply};
+ghost use Rattle.rounds.specs.Limits.{IsLimit};
+ghost use Rattle.solver.specs.Stopping.{IsStopped};
+ghost use Rattle.stops.specs.Promise.{WantsStop};
+ghost use Rattle.handles.specs.Asked.{goal_of, letter_of, first_of, Tells, Replies, Asks, IsOpened};
+
+use crate::found::{First, Found};
+use crate::handle::{SolverHandle, StopHandle};
+use board::Kind;
+use decision::Answer;
+use moves::{Goal, Move, read_sound};
+use slots::MakeFault;
+use solver::{Place, Solver};
+use std::alloc::Global;
+
+/// The goal is forced.
+const FORCED: u32 = 0;
+/// It is forced within no number of plies up to the limit.
+const NONE_WITHIN: u32 = 1;
+/// The text is no position's.
+const REFUSED: u32 = 2;
+/// The limit is outside 1 to 63.
+const LIMIT: u32 = 3;
+/// The solver was told to stop.
+const STOPPED: u32 = 4;
+/// There is no solver, or nothing that stops one.
+const NO_SOLVER: u32 = 5;
+/// The slots are outside 1 to 1,048,576.
+const SLOTS: u32 = 6;
+/// Memory was refused.
+const NO_MEMORY: u32 = 7;
+/// There is a solver already.
+const ANOTHER: u32 = 8;
+
+fn goal_of(stale: bool) -> Goal
+    ensures { result ≡ goal_of stale }
+{
+    if stale { Goal::MateOrStale } else { Goal::Mate }
+}
+
+/// The plies of a limit that is searched.
+fn plies_of(limit: u32) -> Option<u8>
+    ensures { MatchOption result (IsLimit limit → ⊥) (λ plies. (plies ≡ limit) × IsLimit limit) }
+{
+    if limit < 1 || 63 < limit {
+        return None;
+    }
+    Some(limit as u8)
+}
+
+fn letter_of(promotion: Option<Kind>) -> u8
+    ensures { result ≡ letter_of promotion }
+{
+    match promotion {
+        Some(Kind::Queen) => b'q',
+        Some(Kind::Rook) => b'r',
+        Some(Kind::Bishop) => b'b',
+        Some(Kind::Knight) => b'n',
+        _ => 0,
+    }
+}
+
+fn first_of(m: Move) -> First
+    ensures { result ≡ first_of m }
+{
+    First {
+        from_file: m.from.file,
+        from_rank: m.from.rank,
+        to_file: m.to.file,
+        to_rank: m.to.rank,
+        promotion: letter_of(m.promotion),
+    }
+}
+
+/// An answer in plain numbers.
+fn told(answer: Answer, found: &mut Found) -> u32
+    ensures { Tells answer result found.new }
+{
+    match answer {
+        Answer::Mate { plies, first } => {
+            *found = Found {
+                plies: u32::from(plies),
+                first: first_of(first),
+            };
+            FORCED
+        }
+        Answer::NoneWithin(_) => NONE_WITHIN,
+    }
+}
+
+/// The reply to a question that a solver is asked.
+fn replied(solver: &mut Solver, fen: &[u8], goal: Goal, limit: u32, found: &mut Found) -> u32
+    ensures { Replies fen.now goal limit (IsStopped solver.new) result found.new }
+{
+    let Ok(position) = read_sound(fen) else {
+        return REFUSED;
+    };
+    let Some(plies) = plies_of(limit) else {
+        return LIMIT;
+    };
+    match solver.solve(&position, goal, plies) {
+        Some(answer) => told(answer, found),
+        None => STOPPED,
+    }
+}
+
+/// Makes a solver over so many slots, and what stops it: 0 where there are both, else why there is neither.
+pub fn open(alloc: Global, solver: &mut SolverHandle, stop: &mut StopHandle, slots: u32) -> u32
+    ensures { (result ≡ 0) → IsOpened solver.new.held.value stop.new.held.value }
+{
+    if solver.full || stop.full {
+        return ANOTHER;
+    }
+    match Solver::make(alloc, slots as usize) {
+        Ok((made, source)) => {
+            let Ok(made) = Box::new(alloc, made) else {
+                return NO_MEMORY;
+            };
+            let Ok(source) = Box::new(alloc, source) else {
+                return NO_MEMORY;
+            };
+            solver.put(made);
+            stop.put(source);
+            0
+        }
+        Err(MakeFault::Size) => SLOTS,
+        Err(MakeFault::NoMemory) => NO_MEMORY,
+    }
+}
+
+/// Asks a solver for the fewest plies up to the limit, and the least first move.
+pub fn solve(
+    alloc: Global,
+    handle: &mut SolverHandle,
+    fen: &[u8],
+    stale: bool,
+    limit: u32,
+    found: &mut Found,
+) -> u32
+    ensures { Asks fen.now stale limit handle.old.full handle.new.held.value result found.new }
+{
+    let Some(mut solver) = handle.take(alloc) else {
+        return NO_SOLVER;
+    };
+    let result = replied(&mut solver, fen, goal_of(stale), limit, found);
+    handle.put(solver);
+    result
+}
+
+/// Tells a solver to stop, or to go on.
+pub fn tell(alloc: Global, handle: &mut StopHandle, stop: bool) -> u32 {
+    let Some(mut source) = handle.take(alloc) else {
+        return NO_SOLVER;
+    };
+    if stop {
+        source.stop();
+    } else {
+        source.go_on();
+    }
+    handle.put(source);
+    0
+}
+
+/// How far the search is.
+pub fn look(alloc: Global, handle: &mut StopHandle, place: &mut Place) -> u32 {
+    let Some(source) = handle.take(alloc) else {
+        return NO_SOLVER;
+    };
+    *place = source.place();
+    handle.put(source);
+    0
+}
+
+/// Gives a solver up.
+pub fn close(alloc: Global, handle: &mut SolverHandle)
+    ensures { handle.new.full ≡ false }
+{
+    let _ = handle.take(alloc);
+}
+
+/// Gives up what stops a solver.
+pub fn close_stop(alloc: Global, handle: &mut StopHandle)
+    ensures { handle.new.full ≡ false }
+{
+    let _ = handle.take(alloc);
+}

@@ -1,0 +1,3 @@
+pub mod HearingLemmas
+pub mod KeyLemmas
+pub mod OptionLemmas

@@ -1,0 +1,20 @@
+use Rattle.std.proofs.Common.{◌≡◌, ◌+◌, ◌*◌, take}
+use Rattle.solver.specs.Stopping.{Hears}
+use Rattle.trees.proofs.Lists.{replies_in, AreBest, AreShallow}
+use Rattle.solver.proofs.solver.Solver.+building.Given as goal
+
+abbrev pub decreases-best_tree : goal.decreases-best_tree
+decreases-best_tree l = 2 * l.limit
+
+abbrev pub decreases-replies_to : goal.decreases-replies_to
+decreases-replies_to l = 2 * l.n + 1
+
+-- the replies so far are met
+abbrev pub invariant-replies_to-loop-m : goal.invariant-replies_to-loop-m
+invariant-replies_to-loop-m l =
+    record {
+      hears : Hears l.fn.self l.self;
+      moves : replies_in l.replies.items ≡ take l.m-index l.m-items;
+      best : AreBest l.fn.goal l.board l.replies.items;
+      depth : AreShallow l.n l.replies.items;
+    }

@@ -1,0 +1,5 @@
+//! Tests of a solver that lives, and of what stops it.
+#![tactic(auto)]
+
+#[cfg(test)]
+mod stopped;
