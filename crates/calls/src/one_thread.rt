@@ -19,8 +19,8 @@ use entry::MateLore;
 use moves::{Board, Goal, lawful, read_sound};
 use refusals::Refusal;
 use replies::{
-    MOST_INPUT, Search, answer_text, keys_text, moves_text, none_line, refusal_of, search_of, tree_line,
-    verdict_text,
+    MOST_INPUT, Search, answer_text, keys_text, moves_text, none_line, refusal_of, search_of,
+    tree_line, verdict_text,
 };
 use rounds::{Asked, Key, SolveFault, keys_alone, make_table_in};
 use slots::{Seat, Slots};
