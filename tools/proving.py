@@ -12,6 +12,7 @@ import re
 import shutil
 import signal
 import subprocess
+import sys
 import time
 from typing import NamedTuple
 
@@ -22,6 +23,9 @@ GAIN = 0.7
 FURTHER = 0.3
 # How far the checks that others wait for least stand back, in the system's own measure.
 STANDS_BACK = 5
+# What a check starts is a group, which ends whole. It is no session of its own, where it can be: the system shares processors out to
+# sessions first, and who stands back does so within one.
+OWN_GROUP = {"process_group": 0} if sys.version_info >= (3, 11) else {"start_new_session": True}
 
 
 class NotProved(Exception):
@@ -163,7 +167,7 @@ class Check:
         self.name, self.log, self.jobs, self.began = name, log, jobs, time.monotonic()
         self.status, self.seconds, self.clock, self.memory = None, 0.0, 0.0, 0
         with open(log, "w", encoding="utf-8") as said:
-            how = {"stdin": subprocess.DEVNULL, "stdout": said, "stderr": subprocess.STDOUT, "start_new_session": True}
+            how = {"stdin": subprocess.DEVNULL, "stdout": said, "stderr": subprocess.STDOUT, **OWN_GROUP}
             self.process = subprocess.Popen(words, cwd=folder, **how)
         os.setpriority(os.PRIO_PROCESS, self.process.pid, os.getpriority(os.PRIO_PROCESS, 0) + stands_back)
 
