@@ -7,7 +7,7 @@ from typing import Optional
 SENTENCES = {
     "Limit": "--limit is 1 to 63 plies: a mate in M moves is --limit 2M-1",
     "Slots": "--slots is 1 to 1048576",
-    "TooLong": "a tree has at most 1048576 bytes, its line feed counted",
+    "TooLong": "a tree has at most 1048576 bytes, its line feed counted, and a line of a certificate 8192",
     "Deep": "more than 32 moves of the attacker are nested: no tree of 63 plies needs so many",
     "Move": "no lawful move has this name: a move is two squares and what a pawn becomes, as c4c5q",
     "NoMemory": "memory is wanting: fewer --slots or --workers take less",

@@ -119,7 +119,8 @@ class Refusals(unittest.TestCase):
         return lambda: Position(given)
 
     def test_sentences(self):
-        rows = [row for row in told_refusals() if row[0] != "Workers"]
+        # The package has no workers, and no certificates.
+        rows = [row for row in told_refusals() if row[0] not in ("Workers", "Answer", "Claim at line")]
         self.assertGreater(len(rows), 18)
         for name, given, sentence in rows:
             with self.subTest(name=name, given=given), self.assertRaises(Refused) as caught:
