@@ -1,2 +1,3 @@
 -- to be believed
 pub mod Stopping
+pub mod Placing
