@@ -1,35 +1,24 @@
 //! What a solver shares with the handle that stops it: the requests, and how far a search is.
 ghost use Rattle.std.specs.Arc.{arc_value};
 ghost use Rattle.stops.specs.Promise.{IsSeatOf, IsAsker, WantsStop, requests};
-ghost use Rattle.solver.specs.Placing.{IsPlace, IsPlaceWord};
+ghost use Rattle.solver.specs.Placing.{IsPlace};
 
 use decision::Stop;
 use std::alloc::Global;
 use std::sync::Arc;
-use std::sync::atomic::AtomicIn;
+use std::sync::atomic::AtomicU64;
 use std::sync::atomic::Ordering::SeqCst;
-use std::sync::atomic::Rule;
 use stops::{RequestSeat, Requests};
 
 /// A search is of at most so many plies, from a root of at most so many moves.
-const MOST_PLIES: u8 = 63;
-const MOST_MOVES: usize = 512;
-
-/// The parts of the word of a place have so many values each.
-const PART: u64 = 65536;
-
-/// The rule of the word that tells how far a search is.
-pub(crate) struct PlaceRule;
-
-impl Rule for PlaceRule {
-    ghost invariant = { IsPlaceWord };
-}
+const MOST_PLIES: u64 = 63;
+const MOST_MOVES: u64 = 512;
 
 /// What both share.
 #[derive(Drop)]
 pub struct Shared {
     pub requests: Requests,
-    pub(crate) place: AtomicIn<PlaceRule>,
+    pub(crate) place: AtomicU64,
 }
 
 /// How far a search is: nothing is forced within so many plies, and of so many moves of the round so many are tried.
@@ -52,18 +41,13 @@ pub struct Listener {
 impl Listener {
     /// A round begins, of so many moves: nothing is forced within so many plies.
     pub(crate) fn begin(&self, none_within: u8, moves: usize) {
-        let none_within = u64::from(none_within.min(MOST_PLIES));
-        let moves = moves.min(MOST_MOVES) as u64;
-        let place = (none_within * PART + moves) * PART;
+        let place = u64::from(none_within) << 32 | (moves as u64 & 0xFFFF) << 16;
         self.shared.place.store(place, SeqCst);
     }
 
     /// A move more is tried.
     pub(crate) fn step(&self) {
-        let place = self.shared.place.load(SeqCst);
-        if place % PART < place / PART % PART {
-            self.shared.place.store(place + 1, SeqCst);
-        }
+        self.shared.place.fetch_add(1, SeqCst);
     }
 }
 
@@ -118,10 +102,11 @@ impl StopSource {
         ensures { IsPlace result }
     {
         let place = self.shared.place.load(SeqCst);
+        let moves = (place >> 16 & 0xFFFF).min(MOST_MOVES);
         Place {
-            none_within: (place / PART / PART) as u32,
-            tried: (place % PART) as u32,
-            moves: (place / PART % PART) as u32,
+            none_within: (place >> 32).min(MOST_PLIES) as u32,
+            tried: (place & 0xFFFF).min(moves) as u32,
+            moves: moves as u32,
         }
     }
 }

@@ -10,7 +10,7 @@ use decision::{Memory, Scout};
 use slots::{MakeFault, Slots};
 use std::alloc::{AllocError, Global};
 use std::sync::Arc;
-use std::sync::atomic::AtomicIn;
+use std::sync::atomic::AtomicU64;
 use stops::Requests;
 
 /// What listens, and what it listens to.
@@ -23,7 +23,7 @@ fn make_ends(alloc: Global) -> Result<(Listener, StopSource), AllocError>
         alloc,
         Shared {
             requests,
-            place: AtomicIn::new(0),
+            place: AtomicU64::new(0),
         },
     )?;
     let again = Arc::try_clone(&shared)?;
