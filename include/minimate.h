@@ -92,7 +92,8 @@ enum {
     MINIMATE_NO_SOLVER = 5,   /* there is no solver, or nothing that stops one */
     MINIMATE_SLOTS = 6,       /* the slots are outside 1 to 1,048,576 */
     MINIMATE_NO_MEMORY = 7,   /* memory is wanting */
-    MINIMATE_ANOTHER = 8      /* one of the two is open already */
+    MINIMATE_ANOTHER = 8,     /* one of the two is open already */
+    MINIMATE_ROOM = 9         /* the room is too small for the text */
 };
 
 /* A solver that lives: question after question over one table. Its members are the library's. */
@@ -118,7 +119,8 @@ struct minimate_answer {
     struct minimate_first first;
 };
 
-/* How far a search is: nothing is forced within so many plies, and of the moves of the round so many are tried. */
+/* How far a search is: nothing is forced within so many plies, and of the moves of the round so many are tried. Of keys the moves are the
+   first moves, and no plies are told; of a tree that is built it is the place in one of its positions. */
 struct minimate_place {
     uint32_t none_within, tried, moves;
 };
@@ -130,6 +132,16 @@ uint32_t minimate_solver_open(struct minimate_solver *solver, struct minimate_st
    answer the solver serves the next call. */
 uint32_t minimate_solver_solve(struct minimate_solver *solver, const uint8_t *fen, size_t fen_length, bool stale, uint32_t limit,
                                struct minimate_answer *answer);
+
+/* Puts the text that `minimate keys` writes into the room, and its length into `*length`: MINIMATE_FORCED, or MINIMATE_NONE_WITHIN where
+   there are none. Where the room is too small it writes the length alone: MINIMATE_ROOM. Ask again with so much room: the table knows what
+   was searched, so that this takes no second search. Where there is no text the length is 0. `length` isn't null, and overlaps nothing. */
+uint32_t minimate_solver_keys(struct minimate_solver *solver, const uint8_t *fen, size_t fen_length, bool stale, uint32_t limit, uint8_t *room,
+                              size_t room_length, size_t *length);
+
+/* The same of the text that `minimate tree` writes. */
+uint32_t minimate_solver_tree(struct minimate_solver *solver, const uint8_t *fen, size_t fen_length, bool stale, uint32_t limit, uint8_t *room,
+                              size_t room_length, size_t *length);
 
 /* Gives the solver up. Where there is none nothing is done. */
 void minimate_solver_close(struct minimate_solver *solver);

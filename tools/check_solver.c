@@ -1,7 +1,7 @@
 /* A solver that lives, as a program uses it: asked again and again, and stopped from another thread.
 
-       check_solver solve SLOTS STALE LIMIT FEN ..   asks one solver about each position, and writes an answer a line
-       check_solver stop SLOTS LIMIT LONG FEN        stops a search of LONG from another thread, writes how far it was, and asks about FEN
+       check_solver WORD SLOTS STALE LIMIT FEN ..    asks one solver about each position, by solve, keys or tree, and writes its answers
+       check_solver stop WORD SLOTS LIMIT LONG FEN   stops a search of LONG from another thread, writes how far it was, and asks about FEN
        check_solver threads SLOTS LIMIT FEN          eight threads with a solver each
 
    The status is 0 where all went as it should. */
@@ -13,29 +13,75 @@
 
 #include "minimate.h"
 
-enum { THREADS = 8, MILLION = 1000000 };
+enum { THREADS = 8, MILLION = 1000000, EDGE = 64, MARK = 0xA5 };
 
-static void write_answer(uint32_t result, uint32_t limit, bool stale, const struct minimate_answer *answer) {
-    const struct minimate_first *m = &answer->first;
+static const char *why(uint32_t result) {
+    switch (result) {
+    case MINIMATE_STOPPED: return "stopped";
+    case MINIMATE_LIMIT: return "refused: Limit";
+    case MINIMATE_REFUSED: return "refused";
+    case MINIMATE_NO_MEMORY: return "refused: NoMemory";
+    default: return "wrong";
+    }
+}
+
+static uint32_t ask_solve(struct minimate_solver *solver, const char *fen, bool stale, uint32_t limit) {
+    struct minimate_answer answer = {0};
+    const struct minimate_first *m = &answer.first;
+    uint32_t result = minimate_solver_solve(solver, (const uint8_t *)fen, strlen(fen), stale, limit, &answer);
     if (result == MINIMATE_FORCED)
-        printf("%s %u %c%c%c%c%.1s\n", stale ? "goal" : "mate", (unsigned)answer->plies, 'a' + m->from_file, '1' + m->from_rank, 'a' + m->to_file,
+        printf("%s %u %c%c%c%c%.1s\n", stale ? "goal" : "mate", (unsigned)answer.plies, 'a' + m->from_file, '1' + m->from_rank, 'a' + m->to_file,
                '1' + m->to_rank, (const char *)&m->promotion);
     else if (result == MINIMATE_NONE_WITHIN)
         printf("none within %u\n", (unsigned)limit);
     else
-        printf("%s\n", result == MINIMATE_STOPPED ? "stopped" : result == MINIMATE_LIMIT ? "refused: Limit" : result == MINIMATE_REFUSED ? "refused" : "wrong");
+        printf("%s\n", why(result));
+    return result;
 }
 
-static uint32_t ask(struct minimate_solver *solver, const char *fen, bool stale, uint32_t limit) {
-    struct minimate_answer answer = {0};
-    uint32_t result = minimate_solver_solve(solver, (const uint8_t *)fen, strlen(fen), stale, limit, &answer);
-    write_answer(result, limit, stale, &answer);
+/* Keys or a tree: in no room, in exactly its room, and in a byte less. Outside its reply no byte of the room may change. */
+static uint32_t ask_text(struct minimate_solver *solver, const char *word, const char *fen, bool stale, uint32_t limit) {
+    uint32_t (*call)(struct minimate_solver *, const uint8_t *, size_t, bool, uint32_t, uint8_t *, size_t, size_t *) =
+        word[0] == 'k' ? minimate_solver_keys : minimate_solver_tree;
+    uint8_t none = 0;
+    size_t length = 1, again = 1;
+    uint32_t result = call(solver, (const uint8_t *)fen, strlen(fen), stale, limit, &none, 0, &length);
+    if (result != MINIMATE_ROOM) {
+        printf("%s\n", length == 0 ? why(result) : "wrong length");
+        return result;
+    }
+    uint8_t *room = malloc(length + 2 * EDGE);
+    if (!room) {
+        printf("refused: NoMemory\n");
+        return MINIMATE_NO_MEMORY;
+    }
+    memset(room, MARK, length + 2 * EDGE);
+    result = call(solver, (const uint8_t *)fen, strlen(fen), stale, limit, room + EDGE, length - 1, &again);
+    bool whole = result == MINIMATE_NO_MEMORY || (result == MINIMATE_ROOM && again == length);
+    for (size_t i = 0; i < length + 2 * EDGE; i++)
+        whole = whole && room[i] == MARK;
+    result = call(solver, (const uint8_t *)fen, strlen(fen), stale, limit, room + EDGE, length, &again);
+    for (size_t i = 0; i < EDGE; i++)
+        whole = whole && room[i] == MARK && room[length + EDGE + i] == MARK;
+    if (!whole)
+        printf("wrong bytes\n");
+    else if (result != MINIMATE_FORCED && result != MINIMATE_NONE_WITHIN)
+        printf("%s\n", why(result));
+    else if (again != length || (result == MINIMATE_NONE_WITHIN) != (memcmp(room + EDGE, "none", 4) == 0))
+        printf("wrong length\n");
+    else
+        printf("%.*s", (int)length, (const char *)room + EDGE);
+    free(room);
     return result;
+}
+
+static uint32_t ask(struct minimate_solver *solver, const char *word, const char *fen, bool stale, uint32_t limit) {
+    return word[0] == 's' ? ask_solve(solver, fen, stale, limit) : ask_text(solver, word, fen, stale, limit);
 }
 
 struct search {
     struct minimate_solver solver;
-    const char *fen;
+    const char *word, *fen;
     uint32_t limit, result;
     struct timespec ended;
 };
@@ -43,14 +89,23 @@ struct search {
 static void *search(void *given) {
     struct search *it = given;
     struct minimate_answer answer = {0};
-    it->result = minimate_solver_solve(&it->solver, (const uint8_t *)it->fen, strlen(it->fen), false, it->limit, &answer);
+    uint8_t room[256] = {0};
+    size_t length;
+    const uint8_t *fen = (const uint8_t *)it->fen;
+    size_t size = strlen(it->fen);
+    if (it->word[0] == 's')
+        it->result = minimate_solver_solve(&it->solver, fen, size, false, it->limit, &answer);
+    else if (it->word[0] == 'k')
+        it->result = minimate_solver_keys(&it->solver, fen, size, false, it->limit, room, sizeof room, &length);
+    else
+        it->result = minimate_solver_tree(&it->solver, fen, size, false, it->limit, room, sizeof room, &length);
     clock_gettime(CLOCK_MONOTONIC, &it->ended);
     return NULL;
 }
 
-static int stop_one(uint32_t slots, uint32_t limit, const char *long_one, const char *fen) {
+static int stop_one(const char *word, uint32_t slots, uint32_t limit, const char *long_one, const char *fen) {
     struct minimate_stop stop = {0};
-    struct search it = {{0}, long_one, 63, 0, {0, 0}};
+    struct search it = {{0}, word, long_one, 63, 0, {0, 0}};
     struct minimate_place place = {0};
     struct timespec told, while_searching = {0, 500 * MILLION};
     pthread_t thread;
@@ -70,11 +125,15 @@ static int stop_one(uint32_t slots, uint32_t limit, const char *long_one, const 
            (unsigned)place.none_within, (unsigned)place.tried, (unsigned)place.moves);
     if (minimate_stop_set(&stop, false))
         return 1;
-    ask(&it.solver, fen, false, limit);
+    ask(&it.solver, word, fen, false, limit);
     minimate_solver_close(&it.solver);
     minimate_stop_close(&stop);
     struct minimate_answer answer = {0};
+    uint8_t room = 7;
+    size_t length = 1;
     bool none = minimate_solver_solve(&it.solver, (const uint8_t *)fen, strlen(fen), false, 1, &answer) == MINIMATE_NO_SOLVER;
+    none = none && minimate_solver_keys(&it.solver, (const uint8_t *)fen, strlen(fen), false, 1, &room, 1, &length) == MINIMATE_NO_SOLVER;
+    none = none && length == 0 && room == 7 && minimate_stop_place(&stop, &place) == MINIMATE_NO_SOLVER;
     return none && minimate_stop_set(&stop, true) == MINIMATE_NO_SOLVER ? 0 : 1;
 }
 
@@ -83,7 +142,7 @@ static int all_threads(uint32_t slots, uint32_t limit, const char *fen) {
     struct search them[THREADS];
     pthread_t threads[THREADS];
     for (int i = 0; i < THREADS; i++) {
-        them[i] = (struct search){{0}, fen, limit, 9, {0, 0}};
+        them[i] = (struct search){{0}, "solve", fen, limit, 9, {0, 0}};
         if (minimate_solver_open(&them[i].solver, &stops[i], slots) || pthread_create(&threads[i], NULL, search, &them[i]))
             return 1;
     }
@@ -101,7 +160,8 @@ static int all_threads(uint32_t slots, uint32_t limit, const char *fen) {
 int main(int count, char **words) {
     if (minimate_version() != MINIMATE_VERSION_NUMBER)
         return 6;
-    if (count > 4 && strcmp(words[1], "solve") == 0) {
+    bool asks = count > 4 && (strcmp(words[1], "solve") == 0 || strcmp(words[1], "keys") == 0 || strcmp(words[1], "tree") == 0);
+    if (asks) {
         struct minimate_solver solver = {0};
         struct minimate_stop stop = {0};
         uint32_t opened = minimate_solver_open(&solver, &stop, strtoul(words[2], NULL, 10));
@@ -110,13 +170,13 @@ int main(int count, char **words) {
             return 0;
         }
         for (int i = 5; i < count; i++)
-            ask(&solver, words[i], words[3][0] == '1', strtoul(words[4], NULL, 10));
+            ask(&solver, words[1], words[i], words[3][0] == '1', strtoul(words[4], NULL, 10));
         minimate_stop_close(&stop);
         minimate_solver_close(&solver);
         return fflush(stdout) == 0 ? 0 : 5;
     }
-    if (count == 6 && strcmp(words[1], "stop") == 0)
-        return stop_one(strtoul(words[2], NULL, 10), strtoul(words[3], NULL, 10), words[4], words[5]);
+    if (count == 7 && strcmp(words[1], "stop") == 0)
+        return stop_one(words[2], strtoul(words[3], NULL, 10), strtoul(words[4], NULL, 10), words[5], words[6]);
     if (count == 5 && strcmp(words[1], "threads") == 0)
         return all_threads(strtoul(words[2], NULL, 10), strtoul(words[3], NULL, 10), words[4]);
     return 5;

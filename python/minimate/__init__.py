@@ -8,7 +8,7 @@ Answers come from the proved calls of libminimate.so; this package hands texts t
 The library is the file that MINIMATE_LIBRARY names, else the one beside this package, else the clone's (`tools/build_c --shared`), else
 the system's.
 
-A search runs in a thread of its own, so that Ctrl-C is taken at once. It ends a solve; keys and a tree go on to their end unseen.
+A search runs in a thread of its own, so that Ctrl-C ends it at once.
 """
 
 from ._calls import library_path

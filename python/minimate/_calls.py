@@ -2,23 +2,20 @@
 
 import ctypes
 import ctypes.util
-import mmap
 import operator
 import os
 import threading
 from typing import Any, Dict, List, Optional, Union
 
 from .living import Living, lives
-from .refusals import NoMemory
+from .rooms import ROOM, lent
 
 NAME = "libminimate.so"
 TOO_SMALL = ctypes.c_size_t(-1).value
 # What a number of a call can be. Outside stands nothing that a call would take.
 MOST_NUMBER = 2**32 - 1
-# Bytes that most replies have room in. One that hasn't is asked for anew with eight times as many.
-ROOM, FURTHER = 4096, 8
-# A greater room takes memory only where it is written.
-PLAIN_ROOM = 1 << 20
+# How much more room a reply gets that had too little.
+FURTHER = 8
 
 TEXT: List[Any] = [ctypes.c_char_p, ctypes.c_size_t]
 SEARCH: List[Any] = [*TEXT, ctypes.c_bool, ctypes.c_uint32, ctypes.c_uint32]
@@ -62,16 +59,6 @@ class Calls:
             if count != TOO_SMALL:
                 return ctypes.string_at(block, count)
             room *= FURTHER
-
-
-def lent(size: int) -> Any:
-    """A room of so many bytes, which are 0."""
-    if size <= PLAIN_ROOM:
-        return ctypes.create_string_buffer(size)
-    try:
-        return (ctypes.c_char * size).from_buffer(mmap.mmap(-1, size))
-    except OSError as why:
-        raise NoMemory from why
 
 
 def number(value: int) -> int:

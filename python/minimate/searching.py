@@ -17,8 +17,7 @@ _starting = threading.Lock()
 class Interrupted(KeyboardInterrupt):
     """Ctrl-C came during a search.
 
-    `none_within` is the plies within which nothing is forced, as far as that was known: 0 without progress. A solve has ended then. One of
-    keys or of a tree goes on to its end in a daemon thread, and until then takes a processor and its table's memory.
+    `none_within` is the plies within which nothing is forced, as far as that was known: 0 without progress. The search has ended then.
     """
 
     def __init__(self, none_within: int = 0) -> None:

@@ -1,9 +1,9 @@
 """The solver: searches by the library's calls."""
 
 import threading
-from typing import Callable, List, Optional, Union
+from typing import Callable, List, Optional, Tuple, Union
 
-from . import _calls
+from . import _calls, rooms
 from .answers import NONE_WITHIN, Answer, Key, read_answer, read_key
 from .living import Living
 from .moves import Move
@@ -20,6 +20,9 @@ FEW_PLIES, FEW_SLOTS, MANY_SLOTS = 5, 16381, 1048573
 TREE_ROOM = 1 << 26
 
 Progress = Callable[[int], object]
+KeysProgress = Callable[[int, int], object]
+Question = Tuple[Position, int, str]
+LivingCall = Callable[[bytes, bool, int], bytes]
 
 
 def position_of(given: Union[Position, str]) -> Position:
@@ -45,6 +48,10 @@ class Told:
         self.rounds, self.progress = all_rounds, progress
         self.none_within = 0
 
+    def look(self, living: Living) -> None:
+        """How far the search is."""
+        self.hear(living.told()[0])
+
     def hear(self, none_within: int) -> None:
         """Nothing is forced within so many plies: each round up to them is told once."""
         for plies in self.rounds if self.progress else []:
@@ -53,18 +60,43 @@ class Told:
                 self.progress(plies)
 
 
+class ToldKeys:
+    """What is told of keys: each first move that was searched."""
+
+    none_within = 0
+
+    def __init__(self, progress: Optional[KeysProgress]) -> None:
+        self.progress, self.tried = progress, 0
+
+    def look(self, living: Living) -> None:
+        """How far the search is."""
+        _, tried, moves = living.told()
+        if self.progress and self.tried < tried:
+            self.tried = tried
+            self.progress(tried, moves)
+
+
+class ToldNothing:
+    """Nothing is told of a tree, but for the plies that were searched before it."""
+
+    def __init__(self, none_within: int = 0) -> None:
+        self.none_within = none_within
+
+    def look(self, living: Living) -> None:
+        """Nothing is looked at."""
+
+
 class Solver:
     """Finds forced mates.
 
     `slots` is how many slots of 32 bytes the table of a search has, 1 to 1048576; a prime serves best. Without it the table is small up
-    to 5 plies, and has 1048573 slots beyond. No answer depends on it. A solver keeps the table of `solve` for its next one; threads may share
-    it, and then solve one after another.
+    to 5 plies, and has 1048573 slots beyond. No answer depends on it. A solver keeps its table for the next search; threads may share it, and
+    then search one after another.
 
     A position is a `Position` or its text. A limit counts plies, 1 to 63: a mate in M moves is 2M-1. The goal is ``"mate"``, or
     ``"stale"`` for mate or stalemate. What the program refuses is `Refused`, and want of memory `NoMemory`, which is a MemoryError.
 
-    A search runs in a daemon thread of its own. Ctrl-C ends `solve` at once, as `Interrupted`, which is a KeyboardInterrupt. Of `keys` and
-    `tree` it ends the wait: the search itself goes on unseen to its end.
+    A search runs in a daemon thread of its own. Ctrl-C ends it at once, as `Interrupted`, which is a KeyboardInterrupt.
     """
 
     def __init__(self, slots: Optional[int] = None) -> None:
@@ -88,25 +120,29 @@ class Solver:
         which nothing is forced; what it raises ends the search. `Interrupted` then tells these plies too.
         """
         asked, told = position_of(position), Told(rounds(limit), progress)
-        found = self._lives(_calls.number(limit))
-        if found is None:
+        living = self._lives(_calls.number(limit))
+        if living is None:
             return self._solve_apart(asked, limit, goal, told)
-        living: Living = found
+        answer = read_answer(self._ask(living, living.solve, (asked, limit, goal), told))
+        told.hear(answer.plies - 1 if answer.is_forced else MOST_PLIES)
+        return answer
+
+    def _ask(self, living: Living, call: LivingCall, question: Question, told: Union[Told, ToldKeys, ToldNothing]) -> str:
+        """What the call of a solver that lives answers. It is watched, and stopped where its caller is interrupted."""
+        position, limit, goal = question
         is_stale, plies, begun = counts_stale(goal), _calls.number(limit), threading.Event()
 
         def work() -> bytes:
             with self._solving:
                 living.begin()
                 begun.set()
-                return living.solve(asked.text.encode(), is_stale, plies)
+                return call(position.text.encode(), is_stale, plies)
 
         def watch() -> None:
-            told.hear(living.none_within() if begun.is_set() else 0)
+            if begun.is_set():
+                told.look(living)
 
-        reply = apart(work, lambda: told.none_within, watch, living.stop)
-        answer = read_answer(answered(reply))
-        told.hear(answer.plies - 1 if answer.is_forced else MOST_PLIES)
-        return answer
+        return answered(apart(work, lambda: told.none_within, watch, living.stop))
 
     def _lives(self, limit: int) -> Optional[Living]:
         """The solver of the library that serves such a limit, where the library has any."""
@@ -132,9 +168,23 @@ class Solver:
         assert answer is not None
         return answer
 
-    def keys(self, position: Union[Position, str], limit: int, goal: str = "mate") -> List[Key]:
-        """Each first move that forces the goal within the limit, in the order of moves, with the fewest plies that it takes."""
-        text = self._search("keys", position_of(position), limit, goal)
+    def keys(
+        self,
+        position: Union[Position, str],
+        limit: int,
+        goal: str = "mate",
+        progress: Optional[KeysProgress] = None,
+    ) -> List[Key]:
+        """Each first move that forces the goal within the limit, in the order of moves, with the fewest plies that it takes.
+
+        As the search goes on `progress` is called, in the caller's thread, with how many first moves are searched, and of how many; what it
+        raises ends the search.
+        """
+        asked, living = position_of(position), self._lives(_calls.number(limit))
+        if living is None:
+            text = self._search("keys", asked, limit, goal)
+        else:
+            text = self._ask(living, living.keys, (asked, limit, goal), ToldKeys(progress))
         return [] if text.startswith(NONE_WITHIN) else [read_key(line) for line in text.splitlines()]
 
     def tree(
@@ -160,13 +210,17 @@ class Solver:
         progress: Optional[Progress] = None,
     ) -> Optional[str]:
         """The same tree as `minimate tree` writes it, without a line feed."""
-        asked = position_of(position)
+        asked, known = position_of(position), 0
         if progress:
             answer = self.solve(asked, limit, goal, progress)
             if not answer.is_forced:
                 return None
-            limit = answer.plies
-        text = self._search("tree", asked, limit, goal)
+            limit, known = answer.plies, answer.plies - 1
+        living = self._lives(_calls.number(limit))
+        if living is None:
+            text = self._search("tree", asked, limit, goal)
+        else:
+            text = self._ask(living, living.tree, (asked, limit, goal), ToldNothing(known))
         return None if text.startswith(NONE_WITHIN) else text.rstrip("\n")
 
     def check(self, position: Union[Position, str], tree: Union[Tree, str], goal: str = "mate") -> Optional[int]:
@@ -185,5 +239,5 @@ class Solver:
         """What a call writes that searches."""
         is_stale, plies = counts_stale(goal), _calls.number(limit)
         values: List[Union[bytes, bool, int]] = [position.text.encode(), is_stale, plies, self._slots(plies)]
-        room = TREE_ROOM if word == "tree" else _calls.ROOM
+        room = TREE_ROOM if word == "tree" else rooms.ROOM
         return answered(apart(lambda: _calls.calls().ask(word, *values, room=room), lambda: none_within))

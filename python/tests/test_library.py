@@ -7,9 +7,10 @@ import re
 import subprocess
 import sys
 import unittest
+from unittest import mock
 
 import minimate
-from minimate import Answer, Game, Key, Move, Position, Refused, Solver, _calls
+from minimate import Answer, Game, Key, Move, Position, Refused, Solver, _calls, living
 
 TOP = os.path.dirname(os.path.dirname(os.path.dirname(os.path.abspath(__file__))))
 ROOK, PAWN, PROMOTES = "k5/6/2K3/6/6/1R4 w", "k4/2P2/1K3/5/5 w", "k5/2P3/6/6/6/5K w"
@@ -65,6 +66,32 @@ class Answers(unittest.TestCase):
             answer = Solver().solve(fen, limit, goal, progress=heard.append)
             self.assertEqual(str(answer), wanted)
             self.assertEqual(heard, [it for it in range(1, limit + 1, 2) if not answer.is_forced or it < answer.plies])
+
+    def test_what_keys_tell(self):
+        heard = []
+        keys = Solver().keys("3R2/K5/6/2PR1P/1rk3/1r4 w", 5, progress=lambda *told: heard.append(told))
+        self.assertEqual(keys, Solver().keys("3R2/K5/6/2PR1P/1rk3/1r4 w", 5))
+        self.assertEqual(heard, sorted(set(heard)))
+        count = len(Position("3R2/K5/6/2PR1P/1rk3/1r4 w").moves())
+        self.assertTrue(all(1 <= tried <= moves == count for tried, moves in heard), heard)
+
+    def test_one_table(self):
+        """Keys and a tree behind a solve over the same table, one of so few slots that little of it stays."""
+        for slots in (1, 64, None):
+            solver = Solver(slots)
+            for limit, goal, fen, wanted in bench_lines():
+                if limit <= 3:
+                    answer, keys = solver.solve(fen, limit, goal), solver.keys(fen, limit, goal)
+                    tree = solver.tree(fen, limit, goal)
+                    self.assertEqual((str(answer), tree and tree[0]), (wanted, answer.first))
+                    self.assertEqual([key for key in keys if key.plies == answer.plies][:1], [Key(answer.first, answer.plies)] if answer.is_forced else [])
+
+    def test_rooms_that_are_too_small(self):
+        """Texts that have more bytes than a reply is first given room for."""
+        with mock.patch.object(living, "ROOM", 5):
+            self.assertEqual(Solver().tree(ROOK, 3), TREE)
+            self.assertEqual(Solver().keys(PAWN, 1), [Key("c4c5q", 1), Key("c4c5r", 1)])
+            self.assertEqual((Solver().keys(ROOK, 1), Solver().tree(ROOK, 1)), ([], None))
 
     def test_by_hand(self):
         solver = Solver(slots=64)

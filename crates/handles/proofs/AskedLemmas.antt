@@ -1,5 +1,7 @@
 -- How a reply comes about.
-use Rattle.std.proofs.Common.{◌≡◌, ℕ, List, Bool, true, false, sym, subst, Option, Some}
+use Rattle.std.proofs.Common.{◌≡◌, ℕ, List, Bool, false, sym, subst, refl, ◌∙◌, Option, None, Some}
+use Rattle.std.specs.Prelude.{is_some}
+use Rattle.std.proofs.lemmas.Bool.{false≢true}
 use Rattle.board.specs.Board.{PlainBoard}
 use Rattle.rules.specs.declared.goal.Goal.{Goal}
 use Rattle.rounds.specs.Limits.{IsLimit}
@@ -7,9 +9,9 @@ use Rattle.decision.specs.declared.answer.Answer.{Answer}
 use Rattle.decision.specs.declared.answer.Answer.TheVariants as answer
 use Rattle.decision.specs.Answer.{IsAnswer}
 use Rattle.solver.specs.declared.solver.Solver.{Solver}
-use Rattle.solver.specs.Stopping.{IsStopped}
+use Rattle.solver.specs.Stopping.{IsStopped, Hears}
 use Rattle.handles.specs.declared.found.Found.{Found}
-use Rattle.handles.specs.Asked.{goal_of, found_of, IsAt, Tells, Replies, forced, none_within, Asks, asked, no_solver}
+use Rattle.handles.specs.Asked.{goal_of, IsAt, Tells, Replies, forced, none_within, Asks, asked, no_solver}
 
 -- the definition's answer, told in numbers
 pub answered : (text : List ℕ) (goal : Goal) (limit : ℕ) (Stopped : Type 0) (b : PlainBoard) (a : Answer) (number : ℕ) (found : Found)
@@ -21,12 +23,17 @@ answered text goal limit Stopped b (answer.NoneWithin n) number found is_at with
     (none_within b is_at within (subst (λ (k : ℕ). IsAnswer goal b limit (answer.NoneWithin k)) right.0 right))
 
 -- the reply of the solver that is held
-pub of_held : (text : List ℕ) (stale : Bool) (limit : ℕ) (full : Bool) (held : Option Solver) (s : Solver) (goal : Goal) (number : ℕ) (found : Found)
-    → full ≡ true → held ≡ Some s → goal ≡ goal_of stale → Replies text goal limit (IsStopped s) number found → Asks text stale limit full held number found
-of_held text stale limit full held s goal number found is_full is_held is_goal r =
-    subst (λ (p : Bool × Option Solver). Asks text stale limit p.0 p.1 number found) (λ i. (sym is_full i, sym is_held i))
-    (asked (subst (λ (g : Goal). Replies text g limit (IsStopped s) number found) is_goal r))
+pub of_held : (text : List ℕ) (stale : Bool) (limit : ℕ) (was held : Option Solver) (before s : Solver) (goal : Goal) (number : ℕ) (found : Found)
+    → was ≡ Some before → held ≡ Some s → goal ≡ goal_of stale → Hears before s → Replies text goal limit (IsStopped s) number found → Asks text stale limit was held number found
+of_held text stale limit was held before s goal number found is_before is_held is_goal hears r =
+    subst (λ (p : Option Solver × Option Solver). Asks text stale limit p.0 p.1 number found) (λ i. (sym is_before i, sym is_held i))
+    (asked hears (subst (λ (g : Goal). Replies text g limit (IsStopped s) number found) is_goal r))
 
 -- there is none
-pub of_none : (text : List ℕ) (stale : Bool) (limit : ℕ) (full : Bool) (held : Option Solver) (found : Found) → full ≡ false → Asks text stale limit full held 5 found
-of_none text stale limit full held found empty = subst (λ (b : Bool). Asks text stale limit b held 5 found) (sym empty) no_solver
+pub of_none : (text : List ℕ) (stale : Bool) (limit : ℕ) (was held : Option Solver) (found : Found) → was ≡ None → Asks text stale limit was held 5 found
+of_none text stale limit was held found empty = subst (λ (b : Option Solver). Asks text stale limit b held 5 found) (sym empty) no_solver
+
+-- what isn't some value is none
+pub none_if : {X : Type 0} (o : Option X) (full : Bool) → full ≡ is_some o → full ≡ false → o ≡ None
+none_if None full is empty = refl
+none_if (Some x) full is empty = absurd (false≢true (sym empty ∙ is))

@@ -1,2 +1,4 @@
 pub mod AsBox
 pub mod AskedLemmas
+pub mod WritingLemmas
+pub mod StopLemmas

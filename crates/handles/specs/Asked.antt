@@ -1,5 +1,5 @@
 -- What a program in another language is answered.
-use Rattle.std.specs.Prelude.{◌≡◌, ℕ, ◌≤◌, List, Bool, true, false, Option, None, Some}
+use Rattle.std.specs.Prelude.{◌≡◌, ℕ, List, Bool, true, false, Option, None, Some}
 use Rattle.std.specs.Arc.{arc_value}
 use Rattle.board.specs.declared.game.Kind.{Kind}
 use Rattle.board.specs.declared.game.Kind.TheVariants.{Queen, Rook, Bishop, Knight}
@@ -17,7 +17,7 @@ use Rattle.decision.specs.declared.answer.Answer.TheVariants as answer
 use Rattle.decision.specs.Answer.{IsAnswer}
 use Rattle.solver.specs.declared.solver.Solver.{Solver}
 use Rattle.solver.specs.declared.listening.StopSource.{StopSource}
-use Rattle.solver.specs.Stopping.{IsStopped}
+use Rattle.solver.specs.Stopping.{IsStopped, Hears}
 use Rattle.handles.specs.declared.found.First.{First}
 use Rattle.handles.specs.declared.found.Found.{Found}
 
@@ -59,10 +59,10 @@ pub data Replies (text : List ℕ) (goal : Goal) (limit : ℕ) (Stopped : Type 0
   another_limit : {found : Found} → (IsLimit limit → ⊥) → Replies text goal limit Stopped 3 found
   stopped : {found : Found} → Stopped → Replies text goal limit Stopped 4 found
 
--- the reply of the solver that a handle holds, or that it holds none
-pub data Asks (text : List ℕ) (stale : Bool) (limit : ℕ) : Bool → Option Solver → ℕ → Found → Type 0 where
-  asked : {solver : Solver} {number : ℕ} {found : Found} → Replies text (goal_of stale) limit (IsStopped solver) number found → Asks text stale limit true (Some solver) number found
-  no_solver : {held : Option Solver} {found : Found} → Asks text stale limit false held 5 found
+-- the reply of the solver that a handle holds, which it holds on, or that it holds none
+pub data Asks (text : List ℕ) (stale : Bool) (limit : ℕ) : Option Solver → Option Solver → ℕ → Found → Type 0 where
+  asked : {before after : Solver} {number : ℕ} {found : Found} → Hears before after → Replies text (goal_of stale) limit (IsStopped after) number found → Asks text stale limit (Some before) (Some after) number found
+  no_solver : {held : Option Solver} {found : Found} → Asks text stale limit None held 5 found
 
 -- a solver, and what stops it
 pub record IsOpened (held : Option Solver) (stop : Option StopSource) : Type 0 where

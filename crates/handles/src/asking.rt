@@ -3,9 +3,10 @@ ghost use Rattle.std.specs.Prelude.{◌≡◌, ◌≤◌, Bool, false, true, Mat
 ghost use Rattle.board.specs.declared.game.Kind.{Kind as AKind};
 ghost use Rattle.rules.specs.Squares.{Ply};
 ghost use Rattle.rounds.specs.Limits.{IsLimit};
-ghost use Rattle.solver.specs.Stopping.{IsStopped};
-ghost use Rattle.stops.specs.Promise.{WantsStop};
+ghost use Rattle.std.specs.Arc.{arc_value};
+ghost use Rattle.solver.specs.Stopping.{IsStopped, Hears};
 ghost use Rattle.handles.specs.Asked.{goal_of, letter_of, first_of, Tells, Replies, Asks, IsOpened};
+ghost use Rattle.handles.specs.Stopping.{AsksFor, Sets, Looks};
 
 use crate::found::{First, Found};
 use crate::handle::{SolverHandle, StopHandle};
@@ -13,36 +14,36 @@ use board::Kind;
 use decision::Answer;
 use moves::{Goal, Move, read_sound};
 use slots::MakeFault;
-use solver::{Place, Solver};
+use solver::{Place, Solver, StopSource};
 use std::alloc::Global;
 
 /// The goal is forced.
-const FORCED: u32 = 0;
+pub(crate) const FORCED: u32 = 0;
 /// It is forced within no number of plies up to the limit.
-const NONE_WITHIN: u32 = 1;
+pub(crate) const NONE_WITHIN: u32 = 1;
 /// The text is no position's.
-const REFUSED: u32 = 2;
+pub(crate) const REFUSED: u32 = 2;
 /// The limit is outside 1 to 63.
-const LIMIT: u32 = 3;
+pub(crate) const LIMIT: u32 = 3;
 /// The solver was told to stop.
-const STOPPED: u32 = 4;
+pub(crate) const STOPPED: u32 = 4;
 /// There is no solver, or nothing that stops one.
-const NO_SOLVER: u32 = 5;
+pub(crate) const NO_SOLVER: u32 = 5;
 /// The slots are outside 1 to 1,048,576.
 const SLOTS: u32 = 6;
 /// Memory was refused.
-const NO_MEMORY: u32 = 7;
+pub(crate) const NO_MEMORY: u32 = 7;
 /// There is a solver already.
 const ANOTHER: u32 = 8;
 
-fn goal_of(stale: bool) -> Goal
+pub(crate) fn goal_of(stale: bool) -> Goal
     ensures { result ≡ goal_of stale }
 {
     if stale { Goal::MateOrStale } else { Goal::Mate }
 }
 
 /// The plies of a limit that is searched.
-fn plies_of(limit: u32) -> Option<u8>
+pub(crate) fn plies_of(limit: u32) -> Option<u8>
     ensures { MatchOption result (IsLimit limit → ⊥) (λ plies. (plies ≡ limit) × IsLimit limit) }
 {
     if limit < 1 || 63 < limit {
@@ -93,7 +94,8 @@ fn told(answer: Answer, found: &mut Found) -> u32
 
 /// The reply to a question that a solver is asked.
 fn replied(solver: &mut Solver, fen: &[u8], goal: Goal, limit: u32, found: &mut Found) -> u32
-    ensures { Replies fen.now goal limit (IsStopped solver.new) result found.new }
+    ensures hears { Hears solver.old solver.new }
+    ensures reply { Replies fen.now goal limit (IsStopped solver.new) result found.new }
 {
     let Ok(position) = read_sound(fen) else {
         return REFUSED;
@@ -140,7 +142,7 @@ pub fn solve(
     limit: u32,
     found: &mut Found,
 ) -> u32
-    ensures { Asks fen.now stale limit handle.old.full handle.new.held.value result found.new }
+    ensures { Asks fen.now stale limit handle.old.held.value handle.new.held.value result found.new }
 {
     let Some(mut solver) = handle.take(alloc) else {
         return NO_SOLVER;
@@ -150,22 +152,34 @@ pub fn solve(
     result
 }
 
-/// Tells a solver to stop, or to go on.
-pub fn tell(alloc: Global, handle: &mut StopHandle, stop: bool) -> u32 {
-    let Some(mut source) = handle.take(alloc) else {
-        return NO_SOLVER;
-    };
+/// Asks for a stop, or to go on.
+fn set(source: &mut StopSource, stop: bool)
+    ensures shared { arc_value source.new.shared ≡ arc_value source.old.shared }
+    ensures asks { AsksFor stop source.new }
+{
     if stop {
         source.stop();
     } else {
         source.go_on();
     }
+}
+
+/// Tells a solver to stop, or to go on.
+pub fn tell(alloc: Global, handle: &mut StopHandle, stop: bool) -> u32
+    ensures { Sets stop handle.old.held.value handle.new.held.value result }
+{
+    let Some(mut source) = handle.take(alloc) else {
+        return NO_SOLVER;
+    };
+    set(&mut source, stop);
     handle.put(source);
     0
 }
 
 /// How far the search is.
-pub fn look(alloc: Global, handle: &mut StopHandle, place: &mut Place) -> u32 {
+pub fn look(alloc: Global, handle: &mut StopHandle, place: &mut Place) -> u32
+    ensures { Looks handle.old.held.value handle.new.held.value place.old result place.new }
+{
     let Some(source) = handle.take(alloc) else {
         return NO_SOLVER;
     };

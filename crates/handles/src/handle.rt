@@ -1,5 +1,5 @@
 //! What such a program holds: a pointer, and whether it leads to something. All zeros lead to nothing.
-ghost use Rattle.std.specs.Prelude.{◌≡◌, MatchOption, Some, false, true, is_some};
+ghost use Rattle.std.specs.Prelude.{◌≡◌, MatchOption, None, Some, false, true, is_some};
 
 use crate::solver_pointer::SolverPointer;
 use crate::stop_pointer::StopPointer;
@@ -20,7 +20,7 @@ pub struct SolverHandle {
 impl SolverHandle {
     /// Takes the solver out.
     pub fn take(&mut self, alloc: Global) -> Option<Box<Solver>>
-        ensures taken { MatchOption result (self.old.full ≡ false) (λ b. (self.old.full ≡ true) × (self.old.held.value ≡ Some b.value)) }
+        ensures taken { MatchOption result ((self.old.full ≡ false) × (self.old.held.value ≡ None)) (λ b. (self.old.full ≡ true) × (self.old.held.value ≡ Some b.value)) }
         ensures closed { self.new.full ≡ false }
     {
         if !self.full {
@@ -55,7 +55,7 @@ pub struct StopHandle {
 impl StopHandle {
     /// Takes it out.
     pub fn take(&mut self, alloc: Global) -> Option<Box<StopSource>>
-        ensures taken { MatchOption result (self.old.full ≡ false) (λ b. (self.old.full ≡ true) × (self.old.held.value ≡ Some b.value)) }
+        ensures taken { MatchOption result ((self.old.full ≡ false) × (self.old.held.value ≡ None)) (λ b. (self.old.full ≡ true) × (self.old.held.value ≡ Some b.value)) }
         ensures closed { self.new.full ≡ false }
     {
         if !self.full {

@@ -7,7 +7,9 @@ mod handle;
 mod parts;
 mod solver_pointer;
 mod stop_pointer;
+mod writing;
 
 pub use asking::{close, close_stop, look, open, solve, tell};
 pub use found::{First, Found};
 pub use handle::{SolverHandle, StopHandle};
+pub use writing::{Asked, keys, tree};

@@ -4,13 +4,15 @@
 ghost use Rattle.command_line.specs.declared.line.Action.TheVariants.{Solve, Keys, Tree};
 ghost use Rattle.std.specs.Prelude.{◌≡◌, false};
 ghost use Rattle.handles.specs.Asked.{Asks, IsOpened};
+ghost use Rattle.handles.specs.Stopping.{Sets, Looks};
+ghost use Rattle.handles.specs.Written.{KeysTold, TreeTold, Writes};
 ghost use Rattle.calls.specs.Calls.{AnswersAfter, AnswersCheck, AnswersFault, AnswersMoves, AnswersSearch, terms_of};
 
 #[cfg(test)]
 mod tests;
 
 use calls::Terms;
-use handles::{Found, SolverHandle, StopHandle};
+use handles::{Asked, Found, SolverHandle, StopHandle};
 use solver::Place;
 use std::alloc::Global;
 
@@ -135,9 +137,43 @@ pub extern "C" fn minimate_solver_solve(
     limit: u32,
     found: &mut Found,
 ) -> u32
-    ensures { Asks fen.now stale limit solver.old.full solver.new.held.value result found.new }
+    ensures { Asks fen.now stale limit solver.old.held.value solver.new.held.value result found.new }
 {
     handles::solve(alloc, solver, fen, stale, limit, found)
+}
+
+/// Asks a solver for each first move that forces the goal within the limit: their text goes into the room, and its length is told.
+#[unsafe(no_mangle)]
+pub extern "C" fn minimate_solver_keys(
+    alloc: Global,
+    solver: &mut SolverHandle,
+    fen: &[u8],
+    stale: bool,
+    limit: u32,
+    room: &mut [u8],
+    length: &mut usize,
+) -> u32
+    ensures { Writes KeysTold fen.now stale limit room.old solver.old.held.value solver.new.held.value result room.new length.new }
+{
+    let asked = Asked { fen, stale, limit };
+    handles::keys(alloc, solver, &asked, room, length)
+}
+
+/// Asks a solver for the tree that shows the answer: its text goes into the room, and its length is told.
+#[unsafe(no_mangle)]
+pub extern "C" fn minimate_solver_tree(
+    alloc: Global,
+    solver: &mut SolverHandle,
+    fen: &[u8],
+    stale: bool,
+    limit: u32,
+    room: &mut [u8],
+    length: &mut usize,
+) -> u32
+    ensures { Writes TreeTold fen.now stale limit room.old solver.old.held.value solver.new.held.value result room.new length.new }
+{
+    let asked = Asked { fen, stale, limit };
+    handles::tree(alloc, solver, &asked, room, length)
 }
 
 /// Gives a solver up.
@@ -150,7 +186,9 @@ pub extern "C" fn minimate_solver_close(alloc: Global, solver: &mut SolverHandle
 
 /// Tells a solver to stop, or to go on.
 #[unsafe(no_mangle)]
-pub extern "C" fn minimate_stop_set(alloc: Global, stop: &mut StopHandle, set: bool) -> u32 {
+pub extern "C" fn minimate_stop_set(alloc: Global, stop: &mut StopHandle, set: bool) -> u32
+    ensures { Sets set stop.old.held.value stop.new.held.value result }
+{
     handles::tell(alloc, stop, set)
 }
 
@@ -160,7 +198,9 @@ pub extern "C" fn minimate_stop_place(
     alloc: Global,
     stop: &mut StopHandle,
     place: &mut Place,
-) -> u32 {
+) -> u32
+    ensures { Looks stop.old.held.value stop.new.held.value place.old result place.new }
+{
     handles::look(alloc, stop, place)
 }
 

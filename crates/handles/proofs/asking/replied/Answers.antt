@@ -4,16 +4,16 @@ use Rattle.handles.specs.Asked.{refused, another_limit, stopped}
 use Rattle.handles.proofs.AskedLemmas.{answered}
 use Rattle.handles.proofs.asking.replied.Goals as goal
 
-pub returns-in_default : goal.returns-in_default
-returns-in_default c = refused c.in_default.field-0 c.in_default.ensures.fault
+pub returns-in_default-clause-reply : goal.returns-in_default-clause-reply
+returns-in_default-clause-reply c = refused c.in_default.field-0 c.in_default.ensures.fault
 
-pub returns-in_default-plies_of : goal.returns-in_default-plies_of
-returns-in_default-plies_of c = another_limit c.in_default-plies_of.ensures
+pub returns-in_default-plies_of-clause-reply : goal.returns-in_default-plies_of-clause-reply
+returns-in_default-plies_of-clause-reply c = another_limit c.in_default-plies_of.ensures
 
-pub returns-in-Some-solve : goal.returns-in-Some-solve
-returns-in-Some-solve c =
+pub returns-in-Some-solve-clause-reply : goal.returns-in-Some-solve-clause-reply
+returns-in-Some-solve-clause-reply c =
     answered c.args.fen.now c.args.goal c.args.limit _ c.in-Ok.position c.in-Some-solve.answer _ _ c.in-Ok.ensures.ok c.in-Some.ensures.1
     (subst (λ n. IsAnswer c.args.goal c.in-Ok.position n c.in-Some-solve.answer) c.in-Some.ensures.0 c.in-Some-solve.ensures.answer) c.told.ensures
 
-pub returns-in-None : goal.returns-in-None
-returns-in-None c = stopped c.in-None.ensures.answer
+pub returns-in-None-clause-reply : goal.returns-in-None-clause-reply
+returns-in-None-clause-reply c = stopped c.in-None.ensures.answer
