@@ -26,16 +26,16 @@ static const char *why(uint32_t result) {
 }
 
 static uint32_t ask_solve(struct minimate_solver *solver, const char *fen, bool stale, uint32_t limit) {
-    struct minimate_answer answer = {0};
+    struct minimate_answer answer = {MARK, {0}};
     const struct minimate_first *m = &answer.first;
     uint32_t result = minimate_solver_solve(solver, (const uint8_t *)fen, strlen(fen), stale, limit, &answer);
     if (result == MINIMATE_FORCED)
         printf("%s %u %c%c%c%c%.1s\n", stale ? "goal" : "mate", (unsigned)answer.plies, 'a' + m->from_file, '1' + m->from_rank, 'a' + m->to_file,
                '1' + m->to_rank, (const char *)&m->promotion);
     else if (result == MINIMATE_NONE_WITHIN)
-        printf("none within %u\n", (unsigned)limit);
+        printf("none within %u\n", answer.plies == MARK ? (unsigned)limit : 0);
     else
-        printf("%s\n", why(result));
+        printf("%s\n", answer.plies == MARK ? why(result) : "wrong");
     return result;
 }
 

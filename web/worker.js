@@ -2,10 +2,15 @@
 import { Library } from "./library.js";
 import { Rules } from "./rules.js";
 
-// Primes: a table of a power of two spreads its entries badly. Few plies need few slots, and no answer rests on their number.
-const SLOTS = 1048573;
-const FEW_SLOTS = 16381;
-const FEW_PLIES = 5;
+// Up to so many plies a table of so many slots serves, and is soon made: no answer rests on their number. All are primes, since a table of a
+// power of two spreads its entries badly.
+const SLOTS = [
+  [5, 16381],
+  [7, 131071],
+  [63, 1048573],
+];
+// A round of as many milliseconds or more is slow.
+const SLOW = 100;
 
 let library = null;
 let rules = null;
@@ -26,9 +31,10 @@ function begin(code) {
   rules = new Rules(library);
 }
 
-const asked = (name, fen, isStale, plies) => library.search(name, fen, isStale, plies, plies > FEW_PLIES ? SLOTS : FEW_SLOTS);
+const slotsFor = (plies) => (SLOTS.find(([most]) => plies <= most) ?? SLOTS.at(-1))[1];
+const asked = (name, fen, isStale, plies) => library.search(name, fen, isStale, plies, slotsFor(plies));
 
-/** Looks within 1, 3, 5 and so on plies, and tells of each; then builds the tree, or lists the keys. */
+/** Looks within 1, 3, 5 and so on plies, behind slow ones within four more, and tells of each; then builds the tree, or lists the keys. */
 function searched({ fen, isStale, limit, known, wants }) {
   const answer = answered(fen, isStale, limit, known);
   postMessage({ answer });
@@ -38,13 +44,17 @@ function searched({ fen, isStale, limit, known, wants }) {
   return { tree: asked("tree", fen, isStale, plies) };
 }
 
-// The fewest plies within a smaller limit are the fewest within the limit too. Known is within how many plies nothing is forced.
+// The fewest plies within a smaller limit are the fewest within the limit too. Known is within how many plies nothing is forced. A call begins
+// with an empty table, and with the first round: behind a slow one two rounds are asked at once, so that all calls take little longer than one.
 function answered(fen, isStale, limit, known) {
-  for (let plies = known + 1 + (known % 2); plies < limit; plies += 2) {
+  let step = 2;
+  for (let plies = known + 1 + (known % 2); plies < limit; plies += step) {
     postMessage({ plies });
+    const begun = performance.now();
     const answer = asked("solve", fen, isStale, plies);
     if (!answer.startsWith("none")) return answer;
     postMessage({ known: plies });
+    step = performance.now() - begun < SLOW ? 2 : 4;
   }
   postMessage({ plies: limit });
   return asked("solve", fen, isStale, limit);

@@ -11,6 +11,8 @@ use Rattle.rules.specs.declared.goal.Goal.TheVariants.{Mate, MateOrStale}
 use Rattle.rules.specs.Squares.{Ply}
 use Rattle.rules.specs.Reach.{IsSound}
 use Rattle.rules.specs.Reading.{IsSoundFault}
+use Rattle.slots.specs.Promise.{slots_of}
+use Rattle.stops.specs.Promise.{requests}
 use Rattle.rounds.specs.Limits.{IsLimit}
 use Rattle.decision.specs.declared.answer.Answer.{Answer}
 use Rattle.decision.specs.declared.answer.Answer.TheVariants as answer
@@ -42,32 +44,34 @@ first_of m = record { from_file = m.from.file; from_rank = m.from.rank; to_file 
 abbrev pub found_of : ℕ → Ply → Found
 found_of plies first = record { plies = plies; first = first_of first }
 
--- the number and what was found tell of the answer
-abbrev pub Tells : Answer → ℕ → Found → Type 0
-Tells (answer.Mate plies first) number found = (number ≡ 0) × (found ≡ found_of plies first)
-Tells (answer.NoneWithin limit) number found = number ≡ 1
+-- the number and what was found tell of the answer; what was found before stays where nothing is forced
+abbrev pub Tells : Answer → Found → ℕ → Found → Type 0
+Tells (answer.Mate plies first) old number found = (number ≡ 0) × (found ≡ found_of plies first)
+Tells (answer.NoneWithin limit) old number found = (number ≡ 1) × (found ≡ old)
 
 -- the text is that of the position, in which the side that isn't to move is out of check
 abbrev pub IsAt : List ℕ → PlainBoard → Type 0
 IsAt text b = IsFenText text b × IsSound b
 
 -- the number that is the reply to a question, with what was found: the answer, or why there is none
-pub data Replies (text : List ℕ) (goal : Goal) (limit : ℕ) (Stopped : Type 0) : ℕ → Found → Type 0 where
-  forced : (b : PlainBoard) {plies : ℕ} {first : Ply} → IsAt text b → IsLimit limit → IsAnswer goal b limit (answer.Mate plies first) → Replies text goal limit Stopped 0 (found_of plies first)
-  none_within : (b : PlainBoard) {found : Found} → IsAt text b → IsLimit limit → IsAnswer goal b limit (answer.NoneWithin limit) → Replies text goal limit Stopped 1 found
-  refused : (fault : FenFault) {found : Found} → IsSoundFault text fault → Replies text goal limit Stopped 2 found
-  another_limit : {found : Found} → (IsLimit limit → ⊥) → Replies text goal limit Stopped 3 found
-  stopped : {found : Found} → Stopped → Replies text goal limit Stopped 4 found
+pub data Replies (text : List ℕ) (goal : Goal) (limit : ℕ) (Stopped : Type 0) (old : Found) : ℕ → Found → Type 0 where
+  forced : (b : PlainBoard) {plies : ℕ} {first : Ply} → IsAt text b → IsLimit limit → IsAnswer goal b limit (answer.Mate plies first) → Replies text goal limit Stopped old 0 (found_of plies first)
+  none_within : (b : PlainBoard) → IsAt text b → IsLimit limit → IsAnswer goal b limit (answer.NoneWithin limit) → Replies text goal limit Stopped old 1 old
+  refused : (fault : FenFault) → IsSoundFault text fault → Replies text goal limit Stopped old 2 old
+  another_limit : (IsLimit limit → ⊥) → Replies text goal limit Stopped old 3 old
+  stopped : Stopped → Replies text goal limit Stopped old 4 old
 
 -- the reply of the solver that a handle holds, which it holds on, or that it holds none
-pub data Asks (text : List ℕ) (stale : Bool) (limit : ℕ) : Option Solver → Option Solver → ℕ → Found → Type 0 where
-  asked : {before after : Solver} {number : ℕ} {found : Found} → Hears before after → Replies text (goal_of stale) limit (IsStopped after) number found → Asks text stale limit (Some before) (Some after) number found
-  no_solver : {held : Option Solver} {found : Found} → Asks text stale limit None held 5 found
+pub data Asks (text : List ℕ) (stale : Bool) (limit : ℕ) (old : Found) : Option Solver → Option Solver → ℕ → Found → Type 0 where
+  asked : {before after : Solver} {number : ℕ} {found : Found} → Hears before after → Replies text (goal_of stale) limit (IsStopped after) old number found → Asks text stale limit old (Some before) (Some after) number found
+  no_solver : {held : Option Solver} → Asks text stale limit old None held 5 old
 
--- a solver, and what stops it
-pub record IsOpened (held : Option Solver) (stop : Option StopSource) : Type 0 where
+-- a solver over so many slots, and what stops it, which nobody has asked for yet
+pub record IsOpened (slots : ℕ) (held : Option Solver) (stop : Option StopSource) : Type 0 where
   pub solver : Solver
   pub source : StopSource
   pub is_solver : held ≡ Some solver
   pub is_source : stop ≡ Some source
   pub shared : arc_value solver.scout.stop.shared ≡ arc_value source.shared
+  pub sized : slots_of solver.slots ≡ slots
+  pub unasked : requests source.seat ≡ 0

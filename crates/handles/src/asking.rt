@@ -2,6 +2,7 @@
 ghost use Rattle.std.specs.Prelude.{◌≡◌, ◌≤◌, Bool, false, true, MatchOption, Some, Option};
 ghost use Rattle.board.specs.declared.game.Kind.{Kind as AKind};
 ghost use Rattle.rules.specs.Squares.{Ply};
+ghost use Rattle.slots.specs.Promise.{IsSize};
 ghost use Rattle.rounds.specs.Limits.{IsLimit};
 ghost use Rattle.std.specs.Arc.{arc_value};
 ghost use Rattle.solver.specs.Stopping.{IsStopped, Hears};
@@ -78,7 +79,7 @@ fn first_of(m: Move) -> First
 
 /// An answer in plain numbers.
 fn told(answer: Answer, found: &mut Found) -> u32
-    ensures { Tells answer result found.new }
+    ensures { Tells answer found.old result found.new }
 {
     match answer {
         Answer::Mate { plies, first } => {
@@ -95,7 +96,7 @@ fn told(answer: Answer, found: &mut Found) -> u32
 /// The reply to a question that a solver is asked.
 fn replied(solver: &mut Solver, fen: &[u8], goal: Goal, limit: u32, found: &mut Found) -> u32
     ensures hears { Hears solver.old solver.new }
-    ensures reply { Replies fen.now goal limit (IsStopped solver.new) result found.new }
+    ensures reply { Replies fen.now goal limit (IsStopped solver.new) found.old result found.new }
 {
     let Ok(position) = read_sound(fen) else {
         return REFUSED;
@@ -111,7 +112,8 @@ fn replied(solver: &mut Solver, fen: &[u8], goal: Goal, limit: u32, found: &mut 
 
 /// Makes a solver over so many slots, and what stops it: 0 where there are both, else why there is neither.
 pub fn open(alloc: Global, solver: &mut SolverHandle, stop: &mut StopHandle, slots: u32) -> u32
-    ensures { (result ≡ 0) → IsOpened solver.new.held.value stop.new.held.value }
+    ensures opened { (result ≡ 0) → IsOpened slots solver.new.held.value stop.new.held.value }
+    ensures slots { (result ≡ 6) → IsSize slots 1 → ⊥ }
 {
     if solver.full || stop.full {
         return ANOTHER;
@@ -142,7 +144,7 @@ pub fn solve(
     limit: u32,
     found: &mut Found,
 ) -> u32
-    ensures { Asks fen.now stale limit handle.old.held.value handle.new.held.value result found.new }
+    ensures { Asks fen.now stale limit found.old handle.old.held.value handle.new.held.value result found.new }
 {
     let Some(mut solver) = handle.take(alloc) else {
         return NO_SOLVER;

@@ -3,6 +3,7 @@
 
 ghost use Rattle.command_line.specs.declared.line.Action.TheVariants.{Solve, Keys, Tree};
 ghost use Rattle.std.specs.Prelude.{◌≡◌, false};
+ghost use Rattle.slots.specs.Promise.{IsSize};
 ghost use Rattle.handles.specs.Asked.{Asks, IsOpened};
 ghost use Rattle.handles.specs.Stopping.{Sets, Looks};
 ghost use Rattle.handles.specs.Written.{KeysTold, TreeTold, Writes};
@@ -122,7 +123,8 @@ pub extern "C" fn minimate_solver_open(
     stop: &mut StopHandle,
     slots: u32,
 ) -> u32
-    ensures { (result ≡ 0) → IsOpened solver.new.held.value stop.new.held.value }
+    ensures opened { (result ≡ 0) → IsOpened slots solver.new.held.value stop.new.held.value }
+    ensures slots { (result ≡ 6) → IsSize slots 1 → ⊥ }
 {
     handles::open(alloc, solver, stop, slots)
 }
@@ -137,7 +139,7 @@ pub extern "C" fn minimate_solver_solve(
     limit: u32,
     found: &mut Found,
 ) -> u32
-    ensures { Asks fen.now stale limit solver.old.held.value solver.new.held.value result found.new }
+    ensures { Asks fen.now stale limit found.old solver.old.held.value solver.new.held.value result found.new }
 {
     handles::solve(alloc, solver, fen, stale, limit, found)
 }

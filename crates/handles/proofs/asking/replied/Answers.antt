@@ -12,7 +12,7 @@ returns-in_default-plies_of-clause-reply c = another_limit c.in_default-plies_of
 
 pub returns-in-Some-solve-clause-reply : goal.returns-in-Some-solve-clause-reply
 returns-in-Some-solve-clause-reply c =
-    answered c.args.fen.now c.args.goal c.args.limit _ c.in-Ok.position c.in-Some-solve.answer _ _ c.in-Ok.ensures.ok c.in-Some.ensures.1
+    answered c.args.fen.now c.args.goal c.args.limit _ c.in-Ok.position c.in-Some-solve.answer c.args.found.now _ _ c.in-Ok.ensures.ok c.in-Some.ensures.1
     (subst (λ n. IsAnswer c.args.goal c.in-Ok.position n c.in-Some-solve.answer) c.in-Some.ensures.0 c.in-Some-solve.ensures.answer) c.told.ensures
 
 pub returns-in-None-clause-reply : goal.returns-in-None-clause-reply

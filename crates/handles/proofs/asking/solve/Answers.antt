@@ -7,5 +7,5 @@ returns-in_default c = of_none c.args.fen.now c.args.stale c.args.limit c.args.h
 
 pub returns : goal.returns
 returns c =
-    of_held c.args.fen.now c.args.stale c.args.limit c.args.handle.now.held.value c.put.new.self.held.value c.deref_mut.result.now c.replied-result.new.solver c.goal_of.result c.replied-result.result c.replied-result.new.found
+    of_held c.args.fen.now c.args.stale c.args.limit c.args.handle.now.held.value c.put.new.self.held.value c.deref_mut.result.now c.replied-result.new.solver c.goal_of.result c.args.found.now c.replied-result.result c.replied-result.new.found
     (c.in-Some.ensures.taken.1 ∙ ap Some (sym c.deref_mut.ensures.value)) c.put.ensures.put c.goal_of.ensures c.replied-result.ensures.hears c.replied-result.ensures.reply
