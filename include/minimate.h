@@ -1,6 +1,6 @@
 /* Forced mates in minichess, for programs in other languages: the calls of libminimate.a, which `tools/build_c` builds.
 
-   Each call but the last two answers a position with the very bytes that the program `minimate` writes for the same line, refusals among
+   The first five calls answer a position with the very bytes that the program `minimate` writes for the same line, refusals among
    them: a line or lines of text, each ended by a line feed, with no zero byte at the end. They go into room that the caller lends, and the result is their
    number. Where the room is too small the result is SIZE_MAX and no byte of the room is written: call again with more room.
 
@@ -24,7 +24,7 @@
    text is looked at whole: one that isn't UTF-8, or has a zero byte, is refused like any other that is no position, tree or move.
 
    A call starts no thread and takes no lock, and calls share nothing but what a solver and its stop do: any number of threads may each be
-   in a call. Of the calls with text those that search can't be stopped.
+   in a call. Of the first seven calls those that search can't be stopped.
 
    - A `struct minimate_solver` and a `struct minimate_stop` are all zeros before they are opened, and later what the last call left: they may
      be moved and go to another thread, but not be copied and used twice. Each is in one call at a time, and a lock, a thread's start or

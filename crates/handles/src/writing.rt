@@ -7,7 +7,9 @@ ghost use Rattle.handles.specs.Asked.{goal_of};
 ghost use Rattle.handles.specs.Written.{KeysTold, TreeTold, IsTold, IsWhy, Writes};
 ghost use Rattle.handles.specs.Putting.{PutsTold, number_of, keys_number};
 
-use crate::asking::{FORCED, LIMIT, NONE_WITHIN, NO_MEMORY, NO_SOLVER, REFUSED, STOPPED, goal_of, plies_of};
+use crate::asking::{
+    FORCED, LIMIT, NO_MEMORY, NO_SOLVER, NONE_WITHIN, REFUSED, STOPPED, goal_of, plies_of,
+};
 use crate::handle::SolverHandle;
 use board::Position;
 use decision::Answer;

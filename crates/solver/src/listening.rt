@@ -10,8 +10,10 @@ use std::sync::atomic::AtomicU64;
 use std::sync::atomic::Ordering::SeqCst;
 use stops::{RequestSeat, Requests};
 
-/// A search is of at most so many plies, from a root of at most so many moves.
+/// A search is of at most so many plies.
 const MOST_PLIES: u64 = 63;
+
+/// A root has at most so many moves.
 const MOST_MOVES: u64 = 512;
 
 /// What both share.
