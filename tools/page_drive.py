@@ -11,7 +11,7 @@ import chromium
 THIRD = "k5/6/2K3/6/6/1R4 w"
 HARD = "6/R5/1k4/6/6/K5 w"
 # A search of many seconds.
-LONG = "6/3P2/Kn4/p4k/1R4/6 w"
+LONG = "3R2/K5/6/2PR1P/1rk3/1r4 w"
 KINGS = "k5/6/6/6/6/5K w"
 FIVE = "2qK1/3B1/1k1NQ/3b1/r1Q2 w"
 ONE_PAWN = "k4/2P2/1K3/5/5 w"

@@ -249,7 +249,7 @@ def told_in_words(drive):
     is_clear = drive.hand == "mouse" or (top >= drive.box("#stage")[3] and min(right - left, bottom - top) >= 43.5)
     drive.note(is_clear and bottom <= tab.value("innerHeight"), f"the button is in view: {top} to {bottom}")
     drive.same("no wheel turns", tab.value("document.getAnimations().length"), 0)
-    drive.play("b2c2")
+    drive.play("d6e6")
     drive.square("b4")
     drive.mode("set")
     drive.square("f6")
