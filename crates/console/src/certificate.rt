@@ -3,7 +3,9 @@ ghost use Rattle.std.specs.Prelude.{◌≡◌, ◌<◌, None};
 ghost use Rattle.replies.specs.Outcome.{Gives};
 ghost use Rattle.replies.specs.Output.{ShowsAnswer};
 ghost use Rattle.console.specs.Batch.{ShowsPosition};
+ghost use Rattle.slots.specs.Promise.{IsSeatOf};
 ghost use Rattle.console.specs.Claims.{EndsClaims, EndsWriting, line_text, writing_of};
+ghost use Rattle.console.specs.Desk.{IsSolver};
 
 use crate::batch::{Desk, Solver, Stop, position_answer};
 use crate::beside::Host;
@@ -12,9 +14,11 @@ use certifying::Certificate;
 use command_line::{Limits, Subject};
 use decision::Question;
 use devices::{Sink, write_all};
+use entry::MateLore;
 use moves::{Board, Goal, read_sound};
 use refusals::Refusal;
 use replies::{answer_text, refusal_of};
+use slots::{Seat, Slots};
 use std::sync::Wait;
 use std::thread::Threads;
 use std::time::Clock;
@@ -24,6 +28,20 @@ use std::time::Clock;
 pub struct Begun {
     pub line: Vec<u8>,
     pub certificate: Certificate,
+}
+
+/// The table of what has solved, and a seat there.
+fn table_of(solver: Solver) -> (Slots<MateLore>, Seat)
+    requires { IsSolver solver }
+    ensures { IsSeatOf result.0 result.1 }
+{
+    let Solver {
+        slots,
+        mut seats,
+        ..
+    } = solver;
+    let seat = seats.take_last();
+    (slots, seat)
 }
 
 /// The answer at a position, with what makes its certificate.
@@ -45,10 +63,7 @@ fn begin_at<R: Threads + Wait + Eprint + Clock + Sync + AllocGlobal>(
         Err(fault) => return Err(refusal_of(fault)),
     };
     let line = answer_text(alloc, goal, answer)?.into_bytes();
-    let Solver {
-        slots, mut seats, ..
-    } = desk.solver;
-    let seat = seats.take_last();
+    let (slots, seat) = table_of(desk.solver);
     let root = Question {
         position: Board::of(position),
         attacker: position.mover(),

@@ -155,16 +155,15 @@ fn run_certify<R: Threads + Wait + Eprint + Clock + Sync + AllocGlobal, K: Sink,
     ensures silent { MayTell result ⊎ (errors.new ≡ errors.old) }
 {
     match begin(host, subject, limits) {
-        Ok(mut begun) => {
-            let Ok(()) = write_all(writer, begun.line.as_slice()) else {
-                return FAILED;
-            };
-            match write_claims(&mut begun.certificate, writer) {
+        Ok(mut begun) => match write_all(writer, begun.line.as_slice()) {
+            Ok(()) => match write_claims(&mut begun.certificate, writer) {
                 None => ANSWERED,
                 Some(Stop::NoMemory) => give_up_for_memory(writer),
-                Some(_) => FAILED,
-            }
-        }
+                Some(Stop::ReadFailed) => FAILED,
+                Some(Stop::WriteFailed) => FAILED,
+            },
+            Err(_) => FAILED,
+        },
         Err(refusal) => refuse_and_tell(host.rt, writer, errors, subject.fen, refusal),
     }
 }
