@@ -19,6 +19,9 @@ from typing import NamedTuple
 PARTS = ("src", "specs", "proofs")
 # One processor more makes a check quicker, though not as many times: measured on the crates of the chain, with two and with four.
 GAIN = 0.7
+# So many processes the check has that the others wait for. Each further one makes it dearer, by an eighth, so that it has more only
+# where processors are idle else.
+FEWEST = 2
 # What each further process of one check takes of the first one's memory.
 FURTHER = 0.3
 # How far the checks that others wait for least stand back, in the system's own measure.
@@ -268,12 +271,15 @@ class Proofs:
         return self.share_of(name).memory * (1 + FURTHER * (jobs - 1))
 
     def start_ready(self):
-        """Starts what can be. The check that most waits for gets all processors, and the others one each, which stands back where they are full."""
-        for name in self.ready():
+        """Starts what can be. The check that most waits for gets the processors that no other can use, two at least, and the others one each,
+        which stands back where they are full."""
+        ready = self.ready()
+        for name in ready:
             room = self.memory - sum(self.memory_of(it, check.jobs) for it, check in self.running.items())
             waited = max((self.chain(it) for it in self.running), default=0)
             is_first = self.chain(name) >= waited
-            jobs = min(self.most, self.most_jobs) if is_first else 1
+            others = len({*ready, *self.running}) - 1
+            jobs = min(self.most, self.most_jobs, max(FEWEST, self.most - others)) if is_first else 1
             while jobs > 1 and self.memory_of(name, jobs) > room:
                 jobs -= 1
             if self.running and (len(self.running) >= self.most or self.memory_of(name, jobs) > room):

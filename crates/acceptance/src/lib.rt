@@ -4,6 +4,8 @@
 #[cfg(test)]
 mod boards;
 #[cfg(test)]
+mod certified;
+#[cfg(test)]
 mod claims;
 #[cfg(test)]
 mod deciding;

@@ -9,7 +9,7 @@ use Rattle.command_line.specs.declared.line.Subject.{Subject}
 use Rattle.command_line.specs.declared.line.Action.{Action}
 use Rattle.command_line.specs.declared.line.Action.TheVariants.{Solve, Keys, Tree, Check, Moves, Show}
 use Rattle.command_line.specs.declared.line.Order.{Order}
-use Rattle.command_line.specs.declared.line.Order.TheVariants.{One, Batch, Verify}
+use Rattle.command_line.specs.declared.line.Order.TheVariants.{One, Batch, Verify, Certify}
 
 -- two texts with different bytes at one place are two names
 two_names : (k : ℕ) (a b : Text) (m n : ℕ) → slice_index a k ≡ m → slice_index b k ≡ n → (m ≡ n → ⊥) → (name : Text) → name ≡ a → name ≢ b
@@ -78,6 +78,22 @@ verify_searches_not name is = record {
   tree = two_names 0 (codes "verify") (codes "tree") 118 116 refl refl (λ e. omega arith) name is;
 }
 
+certify_searches : (name : Text) → name ≡ codes "certify" → Searches name
+certify_searches name is = record {
+  aims = record {
+    moves = two_names 0 (codes "certify") (codes "moves") 99 109 refl refl (λ e. omega arith) name is;
+    show = two_names 0 (codes "certify") (codes "show") 99 115 refl refl (λ e. omega arith) name is;
+  };
+  check = two_names 1 (codes "certify") (codes "check") 101 104 refl refl (λ e. omega arith) name is;
+}
+
+certify_searches_not : (name : Text) → name ≡ codes "certify" → NamesNoSearch name
+certify_searches_not name is = record {
+  solve = two_names 0 (codes "certify") (codes "solve") 99 115 refl refl (λ e. omega arith) name is;
+  keys = two_names 0 (codes "certify") (codes "keys") 99 107 refl refl (λ e. omega arith) name is;
+  tree = two_names 0 (codes "certify") (codes "tree") 99 116 refl refl (λ e. omega arith) name is;
+}
+
 -- ---- orders
 
 -- `batch` means none where there is no goal
@@ -85,6 +101,7 @@ pub no_batch_goal : (name : Text) (rows : List Row) (order : Order) → name ≡
 no_batch_goal name rows (One line) is none means = no_goal name rows line.action (batch_searches name is).aims none means.1
 no_batch_goal name rows (Batch goal limits) is none means = none goal means.1
 no_batch_goal name rows (Verify subject) is none means = none subject.goal means.1.1
+no_batch_goal name rows (Certify subject limits) is none means = none subject.goal means.1.1
 
 -- nor where there are no limits
 pub no_batch_limits : (name : Text) (rows : List Row) (order : Order) → name ≡ codes "batch" → ((limits : Limits) → HasLimits rows limits → ⊥)
@@ -92,9 +109,19 @@ pub no_batch_limits : (name : Text) (rows : List Row) (order : Order) → name �
 no_batch_limits name rows (One line) is none means = no_limits name rows line.action (batch_searches name is) none means.1
 no_batch_limits name rows (Batch goal limits) is none means = none limits means.2
 no_batch_limits name rows (Verify subject) is none means = two_names 0 (codes "batch") (codes "verify") 98 118 refl refl (λ e. omega arith) name is means.0
+no_batch_limits name rows (Certify subject limits) is none means = none limits means.2
 
 -- `verify` means none where there is no position or no goal
 pub no_verify : (name : Text) (rows : List Row) (order : Order) → name ≡ codes "verify" → ((subject : Subject) → HasSubject rows subject → ⊥) → MeansFound name rows order → ⊥
 no_verify name rows (One line) is none means = no_action name rows line.action (verify_searches name is) (verify_searches_not name is) means.1
 no_verify name rows (Batch goal limits) is none means = two_names 0 (codes "verify") (codes "batch") 118 98 refl refl (λ e. omega arith) name is means.0
 no_verify name rows (Verify subject) is none means = none subject means.1
+no_verify name rows (Certify subject limits) is none means = none subject means.1
+
+-- `certify` means none where there is no position, no goal or no limits
+pub no_certify : (name : Text) (rows : List Row) (order : Order) → name ≡ codes "certify" → ((subject : Subject) (limits : Limits) → HasSubject rows subject → HasLimits rows limits → ⊥)
+    → MeansFound name rows order → ⊥
+no_certify name rows (One line) is none means = no_action name rows line.action (certify_searches name is) (certify_searches_not name is) means.1
+no_certify name rows (Batch goal limits) is none means = two_names 0 (codes "certify") (codes "batch") 99 98 refl refl (λ e. omega arith) name is means.0
+no_certify name rows (Verify subject) is none means = two_names 0 (codes "certify") (codes "verify") 99 118 refl refl (λ e. omega arith) name is means.0
+no_certify name rows (Certify subject limits) is none means = none subject limits means.1 means.2

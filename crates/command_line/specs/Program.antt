@@ -48,7 +48,7 @@ limits_app app = with_rule (with_rule (with_rule (with_rule (with_rule app limit
 abbrev pub search_app : Text → App
 search_app name = with_rule (limits_app (new_app name)) fen_rule
 
--- `solve`, `keys` and `tree` search at a position
+-- `solve`, `keys`, `tree` and `certify` search at a position
 abbrev pub solve_app : App
 solve_app = search_app (codes "solve")
 
@@ -57,6 +57,9 @@ keys_app = search_app (codes "keys")
 
 abbrev pub tree_app : App
 tree_app = search_app (codes "tree")
+
+abbrev pub certify_app : App
+certify_app = search_app (codes "certify")
 
 -- a command of this name with a goal, and a position
 abbrev pub checking_app : Text → App
@@ -90,5 +93,5 @@ bare_app = let new = new_app (codes "minimate") in
 -- the program, whose first word is one of its commands
 abbrev pub program : App
 program =
-    with_subcommand (with_subcommand (with_subcommand (with_subcommand (with_subcommand (with_subcommand (with_subcommand (with_subcommand bare_app
-    solve_app.top) keys_app.top) tree_app.top) check_app.top) verify_app.top) moves_app.top) show_app.top) batch_app.top
+    with_subcommand (with_subcommand (with_subcommand (with_subcommand (with_subcommand (with_subcommand (with_subcommand (with_subcommand (with_subcommand bare_app
+    solve_app.top) keys_app.top) tree_app.top) check_app.top) verify_app.top) certify_app.top) moves_app.top) show_app.top) batch_app.top

@@ -108,6 +108,20 @@ tree in which more than 32 moves of the attacker are nested.
 Example:
   echo 'c4c5{a6a5:b1a1#}' | minimate check 'k5/6/2K3/6/6/1R4 w'";
 
+pub const CERTIFY: &str = "Write a certificate of the answer";
+
+pub const CERTIFY_NOTES: &str = "\
+Example:
+  minimate certify --limit 3 'k5/6/2K3/6/6/1R4 w' > certificate";
+
+pub const CERTIFY_MORE: &str = "\
+The first line is the answer of `solve`. The lines of claims after it prove it:
+that the mate is forced, that none is shorter and no lesser first move as good,
+or that there is none. `minimate verify` and tools/verify.py check it.
+
+Example:
+  minimate certify --limit 3 'k5/6/2K3/6/6/1R4 w' > certificate";
+
 pub const VERIFY: &str = "Check a certificate of an answer that is read from the input";
 
 pub const VERIFY_NOTES: &str = "\

@@ -10,6 +10,8 @@ pub enum Order<'a> {
     Batch(Goal, Limits),
     /// What the certificate of the input proves.
     Verify(Subject<'a>),
+    /// The certificate of the answer of a solve.
+    Certify(Subject<'a>, Limits),
 }
 
 /// What a certificate is about: a position, and what its attacker plays for.

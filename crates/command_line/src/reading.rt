@@ -11,7 +11,7 @@ ghost use Rattle.command_line.specs.declared.line.Action.{Action as TheAction};
 ghost use Rattle.clap.specs.Words.{App, FailsBy, Row, fault_of, first_of, found_of, kind_of, new_app, rows_of, subcommand_of, subcommand_rows_of, with_subcommand};
 ghost use Rattle.command_line.specs.Words.{HasGoal, HasLimits, HasLine, HasNumber, HasOrder, HasSubject, MeansAction, MeansFound, MeansOrder, MeansNoOrder, progress_word};
 ghost use Rattle.command_line.specs.Making.{IsLocal, IsLocalArg, NamesNoSearch, option_rule};
-ghost use Rattle.command_line.specs.Program.{fen_rule, goal_rule, number_rule, limit_rule, workers_rule, slots_rule, progress_rule, limits_app, search_app, checking_app, solve_app, keys_app, tree_app, check_app, verify_app, moves_app, show_app, batch_app, program};
+ghost use Rattle.command_line.specs.Program.{fen_rule, goal_rule, number_rule, limit_rule, workers_rule, slots_rule, progress_rule, limits_app, search_app, checking_app, solve_app, keys_app, tree_app, check_app, verify_app, certify_app, moves_app, show_app, batch_app, program};
 
 use crate::help;
 use crate::line::{Action, Limits, Line, Order, Subject};
@@ -265,6 +265,18 @@ fn verify_command<'a>(alloc: Global) -> Result<Command<'a>, AllocError>
     )
 }
 
+fn certify_command<'a>(alloc: Global) -> Result<Command<'a>, AllocError>
+    ensures { IfOk result (IsLocal certify_app) }
+{
+    search_command(
+        alloc,
+        "certify",
+        help::CERTIFY,
+        help::CERTIFY_NOTES,
+        help::CERTIFY_MORE,
+    )
+}
+
 /// Adds a command to another, if both could be made.
 fn added<'a>(
     command: Result<Command<'a>, AllocError>,
@@ -303,7 +315,8 @@ fn command<'a>(alloc: Global) -> Result<Command<'a>, AllocError>
     let searching = added(finding, tree_command(alloc));
     let checking = added(searching, check_command(alloc));
     let verifying = added(checking, verify_command(alloc));
-    let moving = added(verifying, moves_command(alloc));
+    let certifying = added(verifying, certify_command(alloc));
+    let moving = added(certifying, moves_command(alloc));
     let showing = added(moving, show_command(alloc));
     added(showing, batch_command(alloc))
 }
@@ -405,6 +418,7 @@ fn order_at<'a>(name: &str, values: &ArgMatches<'a>) -> Option<Order<'a>>
     match name {
         "batch" => Some(Order::Batch(goal_of(values)?, limits(values)?)),
         "verify" => Some(Order::Verify(subject_of(values)?)),
+        "certify" => Some(Order::Certify(subject_of(values)?, limits(values)?)),
         _ => Some(Order::One(line_of(name, values)?)),
     }
 }

@@ -2,7 +2,9 @@
 pub mod Run
 pub mod Batch
 pub mod Verifying
+pub mod Certifying
 pub mod Order
 pub mod Program
 -- inside
 pub mod Desk
+pub mod Claims

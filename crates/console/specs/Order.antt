@@ -5,9 +5,10 @@ use Rattle.rules.specs.declared.goal.Goal.{Goal}
 use Rattle.command_line.specs.Words.{MeansOrder, MeansNoOrder}
 use Rattle.command_line.specs.declared.line.Limits.{Limits}
 use Rattle.command_line.specs.declared.line.Order.{Order}
-use Rattle.command_line.specs.declared.line.Order.TheVariants.{One, Batch, Verify}
+use Rattle.command_line.specs.declared.line.Order.TheVariants.{One, Batch, Verify, Certify}
 use Rattle.replies.specs.Output.{MayRead, fault_of}
 use Rattle.console.specs.Batch.{RunsBatch}
+use Rattle.console.specs.Certifying.{RunsCertify}
 use Rattle.console.specs.Verifying.{RunsVerify, MayReadAbout}
 use Rattle.console.specs.Run.{Run, Writes, GivesUp, RunsLine, failures_of}
 
@@ -16,12 +17,14 @@ abbrev pub RunsOrder : Order → Run → Type 0
 RunsOrder (One line) run = RunsLine line run
 RunsOrder (Batch goal limits) run = RunsBatch goal limits run
 RunsOrder (Verify subject) run = RunsVerify subject run
+RunsOrder (Certify subject limits) run = RunsCertify subject limits run
 
 -- the order reads the input: a batch does, but where its limits are refused, and a check where its position is sound
 abbrev pub MayReadOf : Order → Type 0
 MayReadOf (One line) = MayRead line
 MayReadOf (Batch goal limits) = fault_of limits ≡ None
 MayReadOf (Verify subject) = MayReadAbout subject
+MayReadOf (Certify subject limits) = ⊥
 
 -- the words mean no order: status 2, nothing is written, and nothing fails
 abbrev pub RefusesWords : List Text → Run → Type 0

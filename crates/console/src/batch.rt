@@ -109,7 +109,7 @@ impl Desk {
 }
 
 /// The answer at a position, by the table of the batch.
-fn position_answer<R: Threads + Wait + Eprint + Clock + Sync + AllocGlobal>(
+pub fn position_answer<R: Threads + Wait + Eprint + Clock + Sync + AllocGlobal>(
     host: &Host<'_, R>,
     solver: &mut Solver,
     position: &Position,

@@ -3,6 +3,7 @@
 
 mod batch;
 mod beside;
+mod certificate;
 mod ending;
 mod program;
 mod running;

@@ -4,15 +4,17 @@ ghost use Rattle.replies.specs.Output.{fault_of, MayRead};
 ghost use Rattle.console.specs.Batch.{RunsBatch};
 ghost use Rattle.console.specs.Order.{MayReadFor, MeansBatch, RunsWords};
 ghost use Rattle.console.specs.Verifying.{RunsVerify, MayReadAbout};
+ghost use Rattle.console.specs.Certifying.{WritesCertificate};
 ghost use Rattle.console.specs.Run.{ending_of, run_of, MayTell, Refuses, RunsLine};
 
 use crate::batch::{Batch, Desk, Stop, answer_lines};
 use crate::beside::{Host, reply_shown};
+use crate::certificate::{begin, write_claims};
 use crate::ending::{
     ANSWERED, FAILED, REFUSED_WORDS, finish, give_up_for_memory, may_tell, refuse,
 };
-use command_line::{Line, LineFault, Order, Subject, asks_progress, read_order};
-use devices::{Sink, Source};
+use command_line::{Limits, Line, LineFault, Order, Subject, asks_progress, read_order};
+use devices::{Sink, Source, write_all};
 use refusals::{Refusal, Refused, advise};
 use replies::{Trouble, refusal_of, verified};
 use std::convert::AsStr;
@@ -140,6 +142,32 @@ fn run_verify<R: AllocGlobal, S: Source, K: Sink, E: Write>(
     }
 }
 
+/// Answers a position as `solve` does, with the answer's certificate. `errors` is told why it was refused.
+fn run_certify<R: Threads + Wait + Eprint + Clock + Sync + AllocGlobal, K: Sink, E: Write>(
+    host: &Host<'_, R>,
+    subject: &Subject<'_>,
+    limits: Limits,
+    writer: &mut K,
+    errors: &mut E,
+) -> u8
+    requires { K.failures writer.old < u64.MAX }
+    ensures runs { WritesCertificate subject.now limits (ending_of K.contents K.failures writer.old writer.new result) }
+    ensures silent { MayTell result ⊎ (errors.new ≡ errors.old) }
+{
+    match begin(host, subject, limits) {
+        Ok(mut begun) => match write_all(writer, begun.line.as_slice()) {
+            Ok(()) => match write_claims(&mut begun.certificate, writer) {
+                None => ANSWERED,
+                Some(Stop::NoMemory) => give_up_for_memory(writer),
+                Some(Stop::ReadFailed) => FAILED,
+                Some(Stop::WriteFailed) => FAILED,
+            },
+            Err(_) => FAILED,
+        },
+        Err(refusal) => refuse_and_tell(host.rt, writer, errors, subject.fen, refusal),
+    }
+}
+
 /// The host, and whether the words ask for a sign of life.
 fn host_of<'a, R, W: AsStr>(rt: &'a R, words: &[W]) -> Host<'a, R> {
     Host {
@@ -176,6 +204,9 @@ pub fn run<
             )
         }
         Ok(Order::Verify(subject)) => run_verify(rt, &subject, reader, writer, errors),
+        Ok(Order::Certify(subject, limits)) => {
+            run_certify(&host_of(rt, words), &subject, limits, writer, errors)
+        }
         Err(LineFault::Words) => REFUSED_WORDS,
         Err(LineFault::NoMemory) => give_up_for_memory(writer),
     }

@@ -1,7 +1,7 @@
 -- to be believed
 pub mod FirstLine
--- inside
 pub mod Words
+-- inside
 pub mod Growing
 pub mod Wins
 pub mod Parts

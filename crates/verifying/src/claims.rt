@@ -12,7 +12,7 @@ const FREE: u32 = u32::MAX;
 /// Claims, and an index from positions to the places of their claims. What it finds is compared, so nothing rests on the index but
 /// that a claim which is there is found.
 #[derive(Drop)]
-pub(crate) struct Claims {
+pub struct Claims {
     alloc: Global,
     list: Vec<Claim>,
     index: Vec<u32>,
@@ -77,7 +77,7 @@ fn is_about(claim: &Claim, position: &Board) -> bool
 
 impl Claims {
     /// No claims.
-    pub(crate) fn new(alloc: Global) -> Claims
+    pub fn new(alloc: Global) -> Claims
         ensures { result ≡ [] }
     {
         Claims {
@@ -88,14 +88,14 @@ impl Claims {
     }
 
     /// How many there are.
-    pub(crate) fn len(&self) -> usize
+    pub fn len(&self) -> usize
         ensures { result ≡ length self.now }
     {
         self.list.len()
     }
 
     /// The claim at this place.
-    pub(crate) fn claim(&self, place: usize) -> Claim
+    pub fn claim(&self, place: usize) -> Claim
         requires { place < length self.now }
         ensures { slice_get self.now place ≡ Some result }
     {
@@ -107,7 +107,7 @@ impl Claims {
     }
 
     /// The plies of a claim about the position, if the index finds one.
-    pub(crate) fn find(&self, position: &Board) -> Option<u8>
+    pub fn find(&self, position: &Board) -> Option<u8>
         ensures { IfSome result (λ plies. Contains self.now (record { position = position.now; plies = plies })) }
     {
         let words = position.words();
@@ -142,7 +142,7 @@ impl Claims {
     }
 
     /// Adds a claim at the end.
-    pub(crate) fn push(&mut self, position: Board, plies: u8) -> Result<(), AllocError>
+    pub fn push(&mut self, position: Board, plies: u8) -> Result<(), AllocError>
         ensures ok { OnOk result (self.new ≡ self.old ++ record { position = position; plies = plies } ∷ []) }
         ensures err { OnErr result (self.new ≡ self.old) }
     {

@@ -8,7 +8,7 @@ use decision::Question;
 use moves::{Board, Goal, has_lawful_move, lawful_on, mover_in_check, reaches_at_once};
 
 /// The most plies that the checker works out by itself, without a claim.
-pub(crate) const LEAF: u8 = 3;
+pub const LEAF: u8 = 3;
 
 /// Whether the side to move is where the goal wants it.
 pub(crate) fn is_reached(board: &Board, goal: Goal) -> bool

@@ -14,6 +14,10 @@ mod whole;
 mod words;
 mod yes_claims;
 
+pub use claims::Claims;
 pub use fault::Fault;
+pub use leaf::LEAF;
+pub use mate::place_of;
 pub use none::verify_none;
 pub use whole::verify;
+pub use words::Word;

@@ -22,7 +22,7 @@ fn is_same(one: Move, other: Move) -> bool
 }
 
 /// The place of the move in the list, or the list's length where it isn't there.
-fn place_of(moves: &[Move], first: Move) -> usize
+pub fn place_of(moves: &[Move], first: Move) -> usize
     ensures within { result ≤ length moves.now }
     ensures there { slice_index_or moves.now result first ≡ first }
 {

@@ -6,7 +6,7 @@ use std::alloc::AllocError;
 
 /// What a line says of a move or of a reply.
 #[derive(Clone, Copy, PartialEq, Eq, Debug)]
-pub(crate) enum Word {
+pub enum Word {
     /// `.`: no claim is needed, as the checker looks three plies ahead.
     Seen,
     /// `=`: a claim that was made before says it.

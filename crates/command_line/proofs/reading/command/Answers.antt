@@ -17,6 +17,7 @@ returns c =
     let searching = c.added-searching.ensures _ _ finding c.tree_command.ensures in
     let checking = c.added-checking.ensures _ _ searching c.check_command.ensures in
     let verifying = c.added-verifying.ensures _ _ checking c.verify_command.ensures in
-    let moving = c.added-moving.ensures _ _ verifying c.moves_command.ensures in
+    let certifying = c.added-certifying.ensures _ _ verifying c.certify_command.ensures in
+    let moving = c.added-moving.ensures _ _ certifying c.moves_command.ensures in
     let showing = c.added-showing.ensures _ _ moving c.show_command.ensures in
     c.added.ensures _ _ showing c.batch_command.ensures
