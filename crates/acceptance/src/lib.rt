@@ -26,6 +26,8 @@ mod solving;
 #[cfg(test)]
 mod tables;
 #[cfg(test)]
+mod turnings;
+#[cfg(test)]
 mod winning;
 #[cfg(test)]
 mod without_lists;
