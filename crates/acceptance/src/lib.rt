@@ -28,6 +28,8 @@ mod solving;
 #[cfg(test)]
 mod tables;
 #[cfg(test)]
+mod turnings;
+#[cfg(test)]
 mod winning;
 #[cfg(test)]
 mod without_lists;

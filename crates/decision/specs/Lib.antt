@@ -5,6 +5,7 @@ pub mod Questions
 pub mod Decisions
 pub mod Memories
 pub mod Orders
+pub mod Turned
 -- inside
 pub mod Callers
 pub mod Below

@@ -133,3 +133,14 @@ pub(crate) fn look<A: Allocator>(caller: &mut Caller<'_, A>, q: &Question, n: u8
     interval_laws();
     meet(told(q, near), told(q, far))
 }
+
+/// What the table knows of the question in the far slots alone.
+pub(crate) fn look_far<A: Allocator>(caller: &mut Caller<'_, A>, q: &Question, n: u8) -> Interval
+    ensures goes_on { GoesOn caller.old caller.new }
+    ensures right { IsKnownOf q.now result }
+{
+    let key = q.key();
+    let slot = far_slot(caller.slots, key);
+    let reply = ask(caller, key, slot, n);
+    told(q, reply)
+}

@@ -12,12 +12,13 @@ ghost use Rattle.decision.specs.Decisions.{Decides, AsksBelow, IsDecided};
 use crate::asking::{ask, first_slot, settled};
 use crate::caller::Caller;
 use crate::decision::Decision;
+use crate::first::try_moves;
 use crate::leaf::{answer_now, leaf};
 use crate::memory::Memory;
 use crate::order::in_order;
 use crate::question::Question;
 use crate::scout::{Never, Scout, Stop};
-use crate::searching::{try_moves, visit};
+use crate::searching::visit;
 use crate::storing::{keep, known_after};
 use arrayvec::ArrayVec;
 use board::{Position, Side};
@@ -130,8 +131,8 @@ pub fn decide_on<A: Allocator>(
 /// Up to so many plies the answer alone is found sooner than the table is asked.
 const UNASKED: u8 = 2;
 
-/// Whether the attacker forces the goal within n plies: the answer alone. The far slots are asked too, and an attacker's
-/// position is searched round by round.
+/// Whether the attacker forces the goal within n plies: the answer alone. The far slots are asked, for the position turned about, and
+/// an attacker's position is searched round by round.
 pub fn is_forced<A: Allocator>(
     slots: &Slots<MateLore, A>,
     seat: &mut Seat,
@@ -151,7 +152,8 @@ pub fn is_forced<A: Allocator>(
         return leaf(&mut scout.memory, q, n);
     }
     let mut caller = Caller { slots, seat };
-    let Some(yes) = visit(&mut caller, &mut scout, q, n) else {
+    let q = q.copied().turned();
+    let Some(yes) = visit(&mut caller, &mut scout, &q, n) else {
         unreachable!()
     };
     yes

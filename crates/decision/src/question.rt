@@ -4,7 +4,9 @@ ghost use Rattle.board.specs.Board.{IsPosition};
 ghost use Rattle.board.specs.Games.{is_same_side};
 ghost use Rattle.rules.specs.Moves.{IsLawful};
 ghost use Rattle.decision.specs.Questions.{key_for, LeadsTo};
+ghost use Rattle.decision.specs.Turned.{HaveOneAnswer, AnswersAfter};
 
+use crate::turning::{least, turned};
 use board::Side;
 use entry::{Interval, key_of, pack_board};
 use moves::{Board, Goal, Move, after, after_if_lawful};
@@ -48,6 +50,43 @@ impl Question {
             attacker: self.attacker,
             goal: self.goal,
         })
+    }
+
+    /// A copy of the question.
+    pub(crate) fn copied(&self) -> Question
+        ensures { result ≡ self.now }
+    {
+        Question {
+            position: self.position.copied(),
+            attacker: self.attacker,
+            goal: self.goal,
+        }
+    }
+
+    /// The same of the position turned about, so that the kings stand on the least squares.
+    pub(crate) fn turned(self) -> Question
+        ensures { HaveOneAnswer self result }
+    {
+        let turning = least(&self.position, self.attacker);
+        if turning.is_none() {
+            return self;
+        }
+        let Some(position) = turned(&self.position, turning) else {
+            return self;
+        };
+        Question {
+            position,
+            attacker: self.attacker,
+            goal: self.goal,
+        }
+    }
+
+    /// The question after a lawful move, of the position turned about.
+    pub(crate) fn turned_after(&self, m: Move) -> Question
+        requires { IsLawful self.now.position m }
+        ensures { AnswersAfter self.now m result }
+    {
+        self.after(m).turned()
     }
 
     /// Whether the attacker is to move.

@@ -1,19 +1,18 @@
-//! The search below the given position: the table is asked of each position but those of the last plies.
-ghost use Rattle.std.specs.Prelude.{◌≡◌, ◌<◌, ◌≤◌, ◌-◌, ◌↔◌, IsTrue, IfSome, All, MatchOption};
+//! The search below the first level. The table is asked of each position but those of the last plies, in the far slots alone; positions
+//! that are images of one another are searched as one.
+ghost use Rattle.std.specs.Prelude.{◌≡◌, ◌<◌, ◌≤◌, ◌-◌, ◌↔◌, IsTrue, All, MatchOption};
 ghost use Rattle.rules.specs.Moves.{IsLawful};
-ghost use Rattle.slots.specs.Promise.{slots_of, number};
-ghost use Rattle.decision.specs.Callers.{GoesOn, adds, Searches};
+ghost use Rattle.decision.specs.Callers.{GoesOn, Searches};
 ghost use Rattle.decision.specs.Questions.{IsForced, IsKnownOf};
-ghost use Rattle.decision.specs.Below.{is_own, IsCut, Tells, Asked};
-ghost use Rattle.decision.specs.Decisions.{IsAsked};
+ghost use Rattle.decision.specs.Below.{is_own, IsCut, Tells};
 
-use crate::asking::{decided, look};
+use crate::asking::{decided, look_far};
 use crate::caller::Caller;
 use crate::leaf::{answer_now, leaf};
 use crate::order::in_order;
 use crate::question::Question;
 use crate::scout::{Scout, Stop};
-use crate::storing::{keep, known_with};
+use crate::storing::{keep_far, known_with};
 use arrayvec::ArrayVec;
 use entry::Interval;
 use moves::Move;
@@ -41,8 +40,8 @@ fn is_cut<A: Allocator>(caller: &mut Caller<'_, A>, q: &Question, n: u8, moves: 
     }
     let own = q.is_own_turn();
     for m in moves {
-        let below = q.after(*m);
-        let known = look(caller, &below, n - 1);
+        let below = q.turned_after(*m);
+        let known = look_far(caller, &below, n - 1);
         match decided(known, n - 1) {
             Some(yes) if yes == own => return true,
             _ => {}
@@ -51,9 +50,9 @@ fn is_cut<A: Allocator>(caller: &mut Caller<'_, A>, q: &Question, n: u8, moves: 
     false
 }
 
-/// Tries the moves in turn, until one ends the search. The table is asked of each position below.
+/// Tries the moves in turn, until one ends the search. The table is asked of each position below, turned about.
 #[cycle(searching)]
-pub(crate) fn try_moves<S: Stop, A: Allocator>(
+fn try_below<S: Stop, A: Allocator>(
     caller: &mut Caller<'_, A>,
     scout: &mut Scout<S>,
     q: &Question,
@@ -64,12 +63,10 @@ pub(crate) fn try_moves<S: Stop, A: Allocator>(
     requires lawful { All (IsLawful q.now.position) moves.now }
     ensures goes_on { Searches S.stays caller.old caller.new scout.old scout.new }
     ensures tells { MatchOption result (S.told scout.new.stop) (Tells q.now n moves.now) }
-    ensures asked { IfSome result
-        (λ yes. Asked q.now (slots_of caller.old.slots.now) (number caller.old.seat.now) moves.now yes (adds caller.old caller.new)) }
 {
     let own = q.is_own_turn();
     for m in moves {
-        let yes = visit(caller, scout, &q.after(*m), n - 1)?;
+        let yes = visit(caller, scout, &q.turned_after(*m), n - 1)?;
         if yes == own {
             scout.memory.remember(*m, n, own);
             return Some(own);
@@ -105,20 +102,20 @@ pub(crate) fn search<S: Stop, A: Allocator>(
     if is_cut(caller, q, n, moves.as_slice()) {
         return Some(q.is_own_turn());
     }
-    try_moves(caller, scout, q, n, moves.as_slice())
+    try_below(caller, scout, q, n, moves.as_slice())
 }
 
 /// The answer for some plies, and what is known with it.
 #[derive(Drop)]
-struct Found {
-    yes: bool,
-    known: Interval,
+pub(crate) struct Found {
+    pub(crate) yes: bool,
+    pub(crate) known: Interval,
 }
 
 /// The answer for n plies, and what is known with it: an attacker's position is searched for three plies, for five and so on, from what is
 /// known on.
 #[cycle(searching)]
-fn search_in_rounds<S: Stop, A: Allocator>(
+pub(crate) fn search_in_rounds<S: Stop, A: Allocator>(
     caller: &mut Caller<'_, A>,
     scout: &mut Scout<S>,
     q: &Question,
@@ -156,7 +153,7 @@ fn first_round(q: &Question, n: u8, known: Interval) -> u8
     (known.below | 1).max(3).min(n)
 }
 
-/// The answer for n plies. The table is asked first, and what is found is stored last.
+/// The answer for n plies. The far slots are asked first, and what is found is stored last.
 #[cycle(searching)]
 pub(crate) fn visit<S: Stop, A: Allocator>(
     caller: &mut Caller<'_, A>,
@@ -166,15 +163,13 @@ pub(crate) fn visit<S: Stop, A: Allocator>(
 ) -> Option<bool>
     requires { n ≤ 63 }
     ensures goes_on { Searches S.stays caller.old caller.new scout.old scout.new }
-    ensures asked { IsAsked q.now (slots_of caller.old.slots.now) (number caller.old.seat.now)
-        (adds caller.old caller.new) }
     ensures answer { MatchOption result (S.told scout.new.stop) (λ yes. IsTrue yes ↔ IsForced q.now n) }
 {
-    let known = look(caller, q, n);
+    let known = look_far(caller, q, n);
     if let Some(yes) = decided(known, n) {
         return Some(yes);
     }
     let found = search_in_rounds(caller, scout, q, n, known)?;
-    keep(caller, q, found.known);
+    keep_far(caller, q, found.known);
     Some(found.yes)
 }

@@ -117,3 +117,13 @@ pub(crate) fn keep<A: Allocator>(caller: &mut Caller<'_, A>, q: &Question, known
     offer_far(caller, far_slot(caller.slots, key), words);
     offer(caller, first_slot(caller.slots, key), words);
 }
+
+/// Stores what is known of the question in one of the far slots.
+pub(crate) fn keep_far<A: Allocator>(caller: &mut Caller<'_, A>, q: &Question, known: Interval)
+    requires { IsKnownOf q.now known }
+    ensures { GoesOn caller.old caller.new }
+{
+    let key = q.key();
+    let entry = pack_board(&q.position, q.attacker, q.goal, known);
+    offer_far(caller, far_slot(caller.slots, key), entry);
+}

@@ -1,5 +1,5 @@
 //! A position in three words.
-ghost use Rattle.std.specs.Prelude.{◌≡◌, ◌<◌, ◌+◌, ◌*◌, ◌↔◌, ℕ, Some, None, true};
+ghost use Rattle.std.specs.Prelude.{◌≡◌, ◌<◌, ◌+◌, ◌*◌, ◌↔◌, ℕ, Some, None, true, IsTrue};
 ghost use Rattle.board.specs.declared.game.Kind.TheVariants.{King};
 ghost use Rattle.board.specs.Board.{unit_on, is_of_side, IsPosition};
 ghost use Rattle.board.specs.Games.{squares_of};
@@ -8,6 +8,7 @@ ghost use Rattle.rules.specs.Squares.{IsOnBoard, unit_at};
 ghost use Rattle.cells.specs.Mailbox.{place_in, IsCell};
 ghost use Rattle.cells.specs.CellSets.{Has};
 ghost use Rattle.moves.specs.Sets.{Holds};
+ghost use Rattle.moves.specs.Pawns.{HasPawn};
 ghost use Rattle.rules.specs.Moves.{IsPseudoLegal, IsMove, IsLawful, after};
 
 use crate::codec::{read_words, write_words};
@@ -128,6 +129,13 @@ impl Board {
         ensures king { unit_at self.now result ≡ Some (record { side = side; kind = King }) }
     {
         square_in(lowest(self.sets.kings & self.of_side(side)))
+    }
+
+    /// Whether a square has a pawn.
+    pub fn has_pawn(&self) -> bool
+        ensures { IsTrue result ↔ HasPawn self.now }
+    {
+        self.set(Class::Foot) != 0
     }
 
     /// The words of the board.

@@ -2,15 +2,13 @@ use Rattle.std.proofs.Common.{◌-◌, Bool, All, length, sym, ◌∙◌, subst,
 use Rattle.std.proofs.lemmas.Bool.Decides.{Decides-eqb}
 use Rattle.std.proofs.lemmas.List.{take_all}
 use Rattle.rules.specs.Moves.{IsLawful}
-use Rattle.slots.specs.Promise.{slots_of, number}
-use Rattle.decision.specs.Callers.{adds}
 use Rattle.decision.specs.Questions.{IsForced}
 use Rattle.decision.specs.Orders.{ListsAll}
-use Rattle.decision.specs.Below.{is_own, IsPassed, IsAskedAfter}
+use Rattle.decision.specs.Below.{is_own, IsPassed}
 use Rattle.decision.proofs.Callers.{goes_none, goes_more}
 use Rattle.decision.proofs.Replies.{known_is_right, forced_later}
-use Rattle.decision.proofs.Decided.{asked_then, asked_later, after_next}
-use Rattle.decision.proofs.Below.{none_listed, some_listed, all_listed, not_empty, ended_answer, now_for, tells_answer, passed_after, cut_after, goes_by, ends_by, beq_same, beq_apart, not_self}
+use Rattle.decision.proofs.Below.{none_listed, some_listed, all_listed, not_empty, ended_answer, now_for, tells_answer, goes_by, ends_by, beq_same, beq_apart, not_self}
+use Rattle.decision.proofs.Turns.{passed_turned, cut_turned}
 use Rattle.decision.proofs.searching.+searching.Goals as goal
 
 pub search-returns-then-is_empty-clause-answer : goal.search-returns-then-is_empty-clause-answer
@@ -32,21 +30,21 @@ search-returns-then-is_cut-clause-answer g t c =
     subst (λ (own : Bool). IsTrue own ↔ IsForced c.args.q.now c.args.n) (sym own)
     (ended_answer c.args.q.now c.args.n (is_own c.args.q.now) refl (omega (arith, c.if-n-le-LEAF.false)) w.0 w.1 w.2 w.3)
 
-pub search-try_moves-requires : goal.search-try_moves-requires
-search-try_moves-requires g t c κs within =
+pub search-try_below-requires : goal.search-try_below-requires
+search-try_below-requires g t c κs within =
     (omega (arith, c.decreases), (within.0, (within.1, ((omega (arith, c.if-n-le-LEAF.false), c.requires), subst (All (IsLawful c.args.q.now.position)) (sym c.as_slice-2.ensures.value) (all_listed c.args.q.now.position c.in_order.new.moves.items c.in_order.ensures)))))
 
 pub search-returns-clause-goes_on : goal.search-returns-clause-goes_on
 search-returns-clause-goes_on g t c = record {
-  caller = goes_more _ _ _ c.is_cut.ensures.goes_on c.try_moves.ensures.goes_on.caller;
-  stop = g.met.S.Stop.stays_on _ _ _ c.is_set.ensures.stays c.try_moves.ensures.goes_on.stop;
+  caller = goes_more _ _ _ c.is_cut.ensures.goes_on c.try_below.ensures.goes_on.caller;
+  stop = g.met.S.Stop.stays_on _ _ _ c.is_set.ensures.stays c.try_below.ensures.goes_on.stop;
 }
 
 pub search-returns-clause-answer : goal.search-returns-clause-answer
 search-returns-clause-answer g t c =
-    tells_answer c.args.q.now c.args.n _ c.try_moves.result (omega (arith, c.if-n-le-LEAF.false))
+    tells_answer c.args.q.now c.args.n _ c.try_below.result (omega (arith, c.if-n-le-LEAF.false))
     (some_listed c.args.q.now.position c.in_order.new.moves.items c.in_order.ensures (not_empty (length c.in_order.new.moves.items) c.if-is_empty.ensures))
-    c.as_slice-2.result.now (subst (ListsAll c.args.q.now.position) (sym c.as_slice-2.ensures.value) c.in_order.ensures) c.try_moves.ensures.tells
+    c.as_slice-2.result.now (subst (ListsAll c.args.q.now.position) (sym c.as_slice-2.ensures.value) c.in_order.ensures) c.try_below.ensures.tells
 
 pub search_in_rounds-returns-in_err-yes-clause-goes_on : goal.search_in_rounds-returns-in_err-yes-clause-goes_on
 search_in_rounds-returns-in_err-yes-clause-goes_on g t c = record {
@@ -81,93 +79,6 @@ search_in_rounds-returns-clause-goes_on g t c = record {
   stop = g.met.S.Stop.stays_on _ _ _ c.loop-plies.invariant.goes_on.stop c.search-2.ensures.goes_on.stop;
 }
 
-pub try_moves-after-requires : goal.try_moves-after-requires
-try_moves-after-requires g t c = subst (IsLawful c.args.q.now.position) (sym c.m-item.is) (c.requires.lawful c.loop-m.m-index c.m-item.result c.loop-m-test.true)
-
-pub try_moves-returns-in_err-yes-clause-goes_on : goal.try_moves-returns-in_err-yes-clause-goes_on
-try_moves-returns-in_err-yes-clause-goes_on g t c = record {
-  caller = goes_more _ _ _ c.loop-m.invariant.goes_on.caller c.visit.ensures.goes_on.caller;
-  stop = g.met.S.Stop.stays_on _ _ _ c.loop-m.invariant.goes_on.stop c.visit.ensures.goes_on.stop;
-}
-
-pub try_moves-returns-then-yes-own-clause-goes_on : goal.try_moves-returns-then-yes-own-clause-goes_on
-try_moves-returns-then-yes-own-clause-goes_on g t c = record {
-  caller = goes_more _ _ _ c.loop-m.invariant.goes_on.caller c.visit.ensures.goes_on.caller;
-  stop = g.met.S.Stop.stays_on _ _ _ c.loop-m.invariant.goes_on.stop c.visit.ensures.goes_on.stop;
-}
-
-pub try_moves-returns-then-yes-own-clause-tells : goal.try_moves-returns-then-yes-own-clause-tells
-try_moves-returns-then-yes-own-clause-tells g t c = record {
-  cut = λ _. cut_after c.args.q.now (c.args.n - 1) c.is_own_turn-own.result c.m-item.result c.after.result c.after.ensures
-      (ends_by c.is_own_turn-own.result c.in_ok-yes.yes _ c.in_ok-yes.ensures.answer (beq_same _ _ c.if-yes-own.true));
-  passed = λ apart. absurd (apart c.is_own_turn-own.ensures);
-}
-
-pub try_moves-returns-then-yes-own-clause-asked : goal.try_moves-returns-then-yes-own-clause-asked
-try_moves-returns-then-yes-own-clause-asked g t c = record {
-  one = λ _. (
-    c.m-item.result,
-    c.after.ensures.0,
-    c.after.ensures.1,
-    asked_later c.args.caller.now c.loop-m.caller c.visit.new.caller c.loop-m.invariant.goes_on.caller c.visit.ensures.goes_on.caller c.args.q.now c.m-item.result c.after.result c.after.ensures c.visit.ensures.asked,
-  );
-  all = λ apart. absurd (apart c.is_own_turn-own.ensures);
-}
-
-pub try_moves-loop-m-preserved : goal.try_moves-loop-m-preserved
-try_moves-loop-m-preserved g t c = record {
-  goes_on = record {
-    caller = goes_more _ _ _ c.loop-m.invariant.goes_on.caller c.visit.ensures.goes_on.caller;
-    stop = g.met.S.Stop.stays_on _ _ _ c.loop-m.invariant.goes_on.stop c.visit.ensures.goes_on.stop;
-  };
-  passed = passed_after c.args.q.now (c.args.n - 1) c.is_own_turn-own.result c.args.moves.now c.loop-m.m-index c.m-item.result c.after.result c.loop-m-test.true c.m-item.is c.after.ensures c.loop-m.invariant.passed
-      (goes_by c.is_own_turn-own.result c.in_ok-yes.yes _ c.in_ok-yes.ensures.answer (beq_apart _ _ c.if-yes-own.false));
-  asked = after_next c.args.caller.now c.loop-m.caller c.visit.new.caller c.loop-m.invariant.goes_on.caller c.visit.ensures.goes_on.caller c.args.q.now c.args.moves.now c.loop-m.m-index c.m-item.result c.after.result
-      c.loop-m-test.true c.m-item.is c.after.ensures c.loop-m.invariant.asked c.visit.ensures.asked;
-}
-
-pub try_moves-returns-clause-tells : goal.try_moves-returns-clause-tells
-try_moves-returns-clause-tells g t c = record {
-  cut = λ same. absurd (not_self c.is_own_turn-own.result (same ∙ sym c.is_own_turn-own.ensures));
-  passed = λ _.
-      subst (λ (own : Bool). All (IsPassed c.args.q.now (c.args.n - 1) own) c.args.moves.now) c.is_own_turn-own.ensures
-      (subst (All (IsPassed c.args.q.now (c.args.n - 1) c.is_own_turn-own.result)) (take_all c.loop-m.m-index c.args.moves.now c.loop-m-test.false) c.loop-m.invariant.passed);
-}
-
-pub try_moves-returns-clause-asked : goal.try_moves-returns-clause-asked
-try_moves-returns-clause-asked g t c = record {
-  one = λ same. absurd (not_self c.is_own_turn-own.result (same ∙ sym c.is_own_turn-own.ensures));
-  all = λ _. subst (All (IsAskedAfter c.args.q.now (slots_of c.args.caller.now.slots.now) (number c.args.caller.now.seat.now) (adds c.args.caller.now c.loop-m.caller))) (take_all c.loop-m.m-index c.args.moves.now c.loop-m-test.false)
-      c.loop-m.invariant.asked;
-}
-
-pub visit-returns-in-Some-clause-answer : goal.visit-returns-in-Some-clause-answer
-visit-returns-in-Some-clause-answer g t c = known_is_right c.args.q.now c.look-known.result c.look-known.ensures.right c.args.n c.in-Some.yes c.in-Some.ensures
-
-pub visit-returns-in-Some-clause-goes_on : goal.visit-returns-in-Some-clause-goes_on
-visit-returns-in-Some-clause-goes_on g t c = record { caller = c.look-known.ensures.goes_on; stop = g.met.S.Stop.stays_at_once _ }
-
-pub visit-returns-in_err-found-clause-goes_on : goal.visit-returns-in_err-found-clause-goes_on
-visit-returns-in_err-found-clause-goes_on g t c = record {
-  caller = goes_more _ _ _ c.look-known.ensures.goes_on c.search_in_rounds.ensures.goes_on.caller;
-  stop = c.search_in_rounds.ensures.goes_on.stop;
-}
-
-pub visit-returns-in_err-found-clause-asked : goal.visit-returns-in_err-found-clause-asked
-visit-returns-in_err-found-clause-asked g t c =
-    asked_then c.args.caller.now c.look-known.new.caller c.search_in_rounds.new.caller c.look-known.ensures.goes_on c.search_in_rounds.ensures.goes_on.caller c.args.q.now c.look-known.ensures.asked
-
-pub visit-returns-clause-goes_on : goal.visit-returns-clause-goes_on
-visit-returns-clause-goes_on g t c = record {
-  caller = goes_more _ _ _ (goes_more _ _ _ c.look-known.ensures.goes_on c.search_in_rounds.ensures.goes_on.caller) c.keep.ensures.goes_on;
-  stop = c.search_in_rounds.ensures.goes_on.stop;
-}
-
-pub visit-returns-clause-asked : goal.visit-returns-clause-asked
-visit-returns-clause-asked g t c =
-    asked_then c.args.caller.now c.look-known.new.caller c.keep.new.caller c.look-known.ensures.goes_on
-    (goes_more c.look-known.new.caller c.search_in_rounds.new.caller c.keep.new.caller c.search_in_rounds.ensures.goes_on.caller c.keep.ensures.goes_on) c.args.q.now c.look-known.ensures.asked
-
 pub search_in_rounds-returns-then-yes-clause-found : goal.search_in_rounds-returns-then-yes-clause-found
 search_in_rounds-returns-then-yes-clause-found g t c = (
   (
@@ -176,3 +87,61 @@ search_in_rounds-returns-then-yes-clause-found g t c = (
   ),
   c.known_with-known.ensures.right,
 )
+
+pub try_below-turned_after-requires : goal.try_below-turned_after-requires
+try_below-turned_after-requires g t c = subst (IsLawful c.args.q.now.position) (sym c.m-item.is) (c.requires.lawful c.loop-m.m-index c.m-item.result c.loop-m-test.true)
+
+pub try_below-returns-in_err-yes-clause-goes_on : goal.try_below-returns-in_err-yes-clause-goes_on
+try_below-returns-in_err-yes-clause-goes_on g t c = record {
+  caller = goes_more _ _ _ c.loop-m.invariant.goes_on.caller c.visit.ensures.goes_on.caller;
+  stop = g.met.S.Stop.stays_on _ _ _ c.loop-m.invariant.goes_on.stop c.visit.ensures.goes_on.stop;
+}
+
+pub try_below-returns-then-yes-own-clause-goes_on : goal.try_below-returns-then-yes-own-clause-goes_on
+try_below-returns-then-yes-own-clause-goes_on g t c = record {
+  caller = goes_more _ _ _ c.loop-m.invariant.goes_on.caller c.visit.ensures.goes_on.caller;
+  stop = g.met.S.Stop.stays_on _ _ _ c.loop-m.invariant.goes_on.stop c.visit.ensures.goes_on.stop;
+}
+
+pub try_below-returns-then-yes-own-clause-tells : goal.try_below-returns-then-yes-own-clause-tells
+try_below-returns-then-yes-own-clause-tells g t c = record {
+  cut = λ _. cut_turned c.args.q.now (c.args.n - 1) c.is_own_turn-own.result c.m-item.result c.turned_after.result c.turned_after.ensures
+      (ends_by c.is_own_turn-own.result c.in_ok-yes.yes _ c.in_ok-yes.ensures.answer (beq_same _ _ c.if-yes-own.true));
+  passed = λ apart. absurd (apart c.is_own_turn-own.ensures);
+}
+
+pub try_below-loop-m-preserved : goal.try_below-loop-m-preserved
+try_below-loop-m-preserved g t c = record {
+  goes_on = record {
+    caller = goes_more _ _ _ c.loop-m.invariant.goes_on.caller c.visit.ensures.goes_on.caller;
+    stop = g.met.S.Stop.stays_on _ _ _ c.loop-m.invariant.goes_on.stop c.visit.ensures.goes_on.stop;
+  };
+  passed = passed_turned c.args.q.now (c.args.n - 1) c.is_own_turn-own.result c.args.moves.now c.loop-m.m-index c.m-item.result c.turned_after.result c.loop-m-test.true c.m-item.is c.turned_after.ensures c.loop-m.invariant.passed
+      (goes_by c.is_own_turn-own.result c.in_ok-yes.yes _ c.in_ok-yes.ensures.answer (beq_apart _ _ c.if-yes-own.false));
+}
+
+pub try_below-returns-clause-tells : goal.try_below-returns-clause-tells
+try_below-returns-clause-tells g t c = record {
+  cut = λ same. absurd (not_self c.is_own_turn-own.result (same ∙ sym c.is_own_turn-own.ensures));
+  passed = λ _.
+      subst (λ (own : Bool). All (IsPassed c.args.q.now (c.args.n - 1) own) c.args.moves.now) c.is_own_turn-own.ensures
+      (subst (All (IsPassed c.args.q.now (c.args.n - 1) c.is_own_turn-own.result)) (take_all c.loop-m.m-index c.args.moves.now c.loop-m-test.false) c.loop-m.invariant.passed);
+}
+
+pub visit-returns-in-Some-clause-answer : goal.visit-returns-in-Some-clause-answer
+visit-returns-in-Some-clause-answer g t c = known_is_right c.args.q.now c.look_far-known.result c.look_far-known.ensures.right c.args.n c.in-Some.yes c.in-Some.ensures
+
+pub visit-returns-in-Some-clause-goes_on : goal.visit-returns-in-Some-clause-goes_on
+visit-returns-in-Some-clause-goes_on g t c = record { caller = c.look_far-known.ensures.goes_on; stop = g.met.S.Stop.stays_at_once _ }
+
+pub visit-returns-in_err-found-clause-goes_on : goal.visit-returns-in_err-found-clause-goes_on
+visit-returns-in_err-found-clause-goes_on g t c = record {
+  caller = goes_more _ _ _ c.look_far-known.ensures.goes_on c.search_in_rounds.ensures.goes_on.caller;
+  stop = c.search_in_rounds.ensures.goes_on.stop;
+}
+
+pub visit-returns-clause-goes_on : goal.visit-returns-clause-goes_on
+visit-returns-clause-goes_on g t c = record {
+  caller = goes_more _ _ _ (goes_more _ _ _ c.look_far-known.ensures.goes_on c.search_in_rounds.ensures.goes_on.caller) c.keep_far.ensures;
+  stop = c.search_in_rounds.ensures.goes_on.stop;
+}
