@@ -41,3 +41,17 @@ fn refuses_what_proves_nothing(rt: HostRuntime) {
     let no_position = ["minimate", "verify", "k5 w"];
     expect_with(&rt, &no_position, MATE, 1, "refused: Shape\n");
 }
+
+#[test]
+fn writes_certificates(rt: HostRuntime) {
+    let stale = [
+        "minimate", "certify", "--limit", "3", "--goal", "stale", ROOK,
+    ];
+    expect_with(&rt, &stale, b"", 0, "goal 1 b1b5\ni\n\n");
+    let none = ["minimate", "certify", "--limit", "2", ROOK];
+    expect_with(&rt, &none, b"", 0, "none within 2\n\n");
+    let limit = ["minimate", "certify", "--limit", "64", ROOK];
+    expect_with(&rt, &limit, b"", 1, "refused: Limit\n");
+    let no_position = ["minimate", "certify", "--limit", "64", "k5 w"];
+    expect_with(&rt, &no_position, b"", 1, "refused: Shape\n");
+}
