@@ -71,6 +71,25 @@ class Dealt:
         program = self.options.remote if self.options.hosts else self.program
         return shlex.join([program, *self.call(command, limit), *words])
 
+    def command(self):
+        """What a task is asked: an answer, or its certificate."""
+        return "certify" if self.options.certify else "solve"
+
+    def believed(self):
+        """The commands whose answers in the joblog count: what a certificate has proved here counts always."""
+        return ["certify"] if self.options.certify else ["solve", "certify"]
+
+    def answer_of(self, fen, line, ended):
+        """What a task has answered. Of a certificate it is what the program here finds proved."""
+        if not self.options.certify:
+            return ended.output
+        first, feed, _ = ended.output.partition("\n")
+        ran = checking.run([self.program, "verify", f"--goal={self.goal}", "--", fen], ended.output.encode(), timeout=None)
+        if (ran.output, ran.status) != ((first + feed).encode(), 0):
+            said = (ran.error or ran.output).decode(errors="replace").strip()
+            raise dealing.Fault(f"{line}: the certificate that came back from {ended.where()} proves no answer: {said}")
+        return first + feed
+
     def key(self, command, limit, fen):
         return joblog.Key(command, self.goal, str(limit), fen)
 
@@ -87,7 +106,8 @@ class Dealt:
     def rests_on(self):
         """What was computed, and where."""
         where = ", ".join(f"{count} on {host}" for host, count in sorted(self.runs.items()))
-        parts = [f"{sum(self.runs.values())} runs of minimate ({where})"]
+        checked = ", whose certificates were verified here" if self.options.certify else ""
+        parts = [f"{sum(self.runs.values())} runs of minimate ({where}){checked}"]
         if self.log and self.log.kept:
             parts.append(f"{self.log.kept} answers of {self.options.joblog}")
         return " and ".join(parts)

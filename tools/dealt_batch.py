@@ -24,11 +24,15 @@ class Batch(dealt.Dealt):
         lines = self.lines()
         self.open_log()
         answers = [self.kept(line, limit) for line in lines]
-        self.answer_here(lines, answers, limit)
+        self.answer_here(lines, answers, limit, [place for place, line in enumerate(lines) if not is_searched(line)])
+        if self.options.certify:
+            self.refuse_here(lines, answers)
         wanted = [number for number, answer in enumerate(answers) if answer is None]
         size = self.options.lines
         parts = [wanted[begin : begin + size] for begin in range(0, len(wanted), size)]
-        if parts:
+        if wanted and self.options.certify:
+            self.deal_certificates(lines, answers, wanted, limit)
+        elif wanted:
             self.deal(lines, answers, parts, limit)
         return b"".join(answers)
 
@@ -42,18 +46,38 @@ class Batch(dealt.Dealt):
 
     def kept(self, line, limit):
         """What the joblog has of a line."""
-        answer = self.log.answers.get(self.key("solve", limit, position_of(line)))
-        return answer and answer.encode()
+        found = [self.log.answers.get(self.key(command, limit, position_of(line))) for command in self.believed()]
+        return next((answer.encode() for answer in found if answer), None)
 
-    def answer_here(self, lines, answers, limit):
-        """Lines that aren't searched are the program's here to answer: they may hold any bytes."""
-        places = [place for place, line in enumerate(lines) if not is_searched(line)]
+    def answer_here(self, lines, answers, limit, places):
+        """The program here answers these lines: those that aren't searched may hold any bytes."""
         text = b"".join(lines[place] + b"\n" for place in places)
         told = lines_of(checking.run([self.program, *self.call("batch", limit)], text, timeout=None).output)
         if len(told) != len(places):
             raise dealing.Fault(f"{self.program} batch answered {len(told)} of {len(places)} lines")
         for place, answer in zip(places, told):
             answers[place] = answer + b"\n"
+
+    def refuse_here(self, lines, answers):
+        """Positions that are refused have no certificate: the program here refuses them, and answers what one ply shows."""
+        places, found = [place for place, answer in enumerate(answers) if answer is None], [None] * len(lines)
+        self.answer_here(lines, found, 1, places)
+        for place in places:
+            if not found[place].startswith(b"none "):
+                answers[place] = found[place]
+
+    def deal_certificates(self, lines, answers, wanted, limit):
+        """A task for each line, whose certificate is verified here."""
+        fens = [position_of(lines[place]) for place in wanted]
+        tasks = [self.line("certify", limit, "--", fen) for fen in fens]
+        with dealing.Dealing(tasks, self.machines()) as running:
+            for number, ended in running:
+                if not ended.is_done():
+                    raise self.unanswered(tasks[number], ended)
+                answer = self.answer_of(fens[number], tasks[number], ended)
+                self.runs[ended.where()] += 1
+                answers[wanted[number]] = answer.encode()
+                self.log.add(self.key("certify", limit, fens[number]), answer, ended)
 
     def deal(self, lines, answers, parts, limit):
         program = self.line("batch", limit)

@@ -84,7 +84,7 @@ class Solve(dealt.Dealt):
     def tasks(self, limit):
         """The last round's tasks, as the joblog's lines begin."""
         within = limit - 2 if limit % 2 else limit - 3
-        keys = dict.fromkeys(self.key("solve", within, reply.fen) for reply in all_replies(self.firsts())) if within > 0 else []
+        keys = dict.fromkeys(self.key(self.command(), within, reply.fen) for reply in all_replies(self.firsts())) if within > 0 else []
         return "".join("\t".join(key) + "\n" for key in keys)
 
     def firsts(self):
@@ -109,7 +109,7 @@ class Solve(dealt.Dealt):
 
     def recall(self, reply, within):
         """Takes what the joblog has of it."""
-        for limit, text in self.log.of(self.goal, reply.fen):
+        for limit, text in self.log.of(self.believed(), self.goal, reply.fen):
             if reply.decided(within) is None:
                 known = joblog.read_answer(text, self.goal, limit, self.moves(reply))
                 if known:
@@ -124,7 +124,7 @@ class Solve(dealt.Dealt):
     def deal_round(self, firsts, asked, within):
         for replies in asked:
             self.moves(replies[0])
-        lines = [self.line("solve", within, replies[0].fen) for replies in asked]
+        lines = [self.line(self.command(), within, replies[0].fen) for replies in asked]
         with dealing.Dealing(lines, self.machines()) as tasks:
             for number, ended in tasks:
                 self.learn(asked[number], within, lines[number], ended)
@@ -137,16 +137,20 @@ class Solve(dealt.Dealt):
 
     def learn(self, replies, within, line, ended):
         """Takes a task's answer for all that it is the answer of."""
-        known = ended.is_done() and joblog.read_answer(ended.output, self.goal, within, self.moves(replies[0]))
+        if not ended.is_done():
+            raise self.unanswered(line, ended)
+        fen = replies[0].fen
+        answer = self.answer_of(fen, line, ended)
+        known = joblog.read_answer(answer, self.goal, within, self.moves(replies[0]))
         if not known:
             raise self.unanswered(line, ended)
-        self.note(self.key("solve", within, replies[0].fen), ended)
+        self.note(self.key(self.command(), within, fen), answer, ended)
         for reply in replies:
             reply.learn(known)
 
-    def note(self, key, ended):
+    def note(self, key, answer, ended):
         self.runs[ended.where()] += 1
-        self.log.add(key, ended.output, ended)
+        self.log.add(key, answer, ended)
 
     # The tree
 
@@ -167,7 +171,7 @@ class Solve(dealt.Dealt):
                 if not ended.is_done():
                     raise self.unanswered(lines[number], ended)
                 reply = asked[number]
-                self.note(self.key("tree", reply.forced, reply.fen), ended)
+                self.note(self.key("tree", reply.forced, reply.fen), ended.output, ended)
                 texts[reply.fen] = ended.output
 
     def whole(self, text, plies):

@@ -84,13 +84,13 @@ class Joblog:
 
     def keep(self, key, answer):
         self.answers[key] = answer
-        if key.command == "solve":
-            self.solved.setdefault((key.goal, key.fen), {})[key.limit] = answer
+        if key.command in ("solve", "certify"):
+            self.solved.setdefault((key.command, key.goal, key.fen), {})[key.limit] = answer
 
-    def of(self, goal, fen):
-        """What was answered of a position, as (limit, answer)."""
-        found = self.solved.get((goal, fen), {})
-        return [(int(limit), answer) for limit, answer in found.items() if re.fullmatch(r"[1-9][0-9]?", limit)]
+    def of(self, commands, goal, fen):
+        """What one of the commands answered of a position, as (limit, answer)."""
+        found = [it for command in commands for it in self.solved.get((command, goal, fen), {}).items()]
+        return [(int(limit), answer) for limit, answer in found if re.fullmatch(r"[1-9][0-9]?", limit)]
 
     def add(self, key, answer, ended):
         """An answer that has come, by a task that ended so."""

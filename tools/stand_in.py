@@ -26,6 +26,9 @@ FULL_THERE = Hold('if [ "${SSH_CONNECTION##* }" = PORT ]; then exec "$program" "
 # A machine says mate where there is none.
 WRONG = Hold('if [ "$1" = solve ] && [ -n "$PARALLEL_SEQ" ]; then echo "mate 1 $("$program" moves "$6" | head -n 1)"; exit; fi')
 
+# A machine says that there is no mate where there is one, and has no claims for it.
+NOT_PROVED = Hold('if [ "$1" = certify ] && [ -n "$PARALLEL_SEQ" ]; then echo "none within ${2#--limit=}"; exit; fi')
+
 
 def make(program, room, hold, port="", at=""):
     """A new folder with such a program, whose path is given back. `calls` beside it has a line for each call."""
