@@ -2,7 +2,7 @@
 #![tactic(auto)]
 
 mod claim;
-mod laws;
+mod consequences;
 
 pub use claim::Claim;
-pub use laws::{certificate_laws, claim_laws};
+pub use consequences::{certificate_laws, claim_laws};

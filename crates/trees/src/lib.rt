@@ -3,9 +3,9 @@
 
 mod best;
 mod building;
-mod laws;
 mod preparing;
+mod uniqueness;
 
 pub use building::build_tree;
-pub use laws::one_best_tree;
 pub use preparing::{Wanted, build_tree_over};
+pub use uniqueness::one_best_tree;

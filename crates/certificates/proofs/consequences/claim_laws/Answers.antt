@@ -1,5 +1,5 @@
 use Rattle.certificates.proofs.Claimed.{no_claims, yes_claims}
-use Rattle.certificates.proofs.laws.claim_laws.Goals as goal
+use Rattle.certificates.proofs.consequences.claim_laws.Goals as goal
 
 pub returns-clause-no : goal.returns-clause-no
 returns-clause-no c = no_claims
