@@ -17,7 +17,7 @@ fn claims_of<R: Abort + AllocGlobal>(
     rt: &R,
     text: &str,
     goal: Goal,
-    answer: Answer,
+    answer: &Answer,
 ) -> Result<Vec<u8>, AllocError> {
     let (table, mut seats) = Slots::<MateLore>::make(rt.alloc(), 64, 1).expect(rt, "a table");
     let board = Board::of(&position(rt, text));
@@ -26,7 +26,7 @@ fn claims_of<R: Abort + AllocGlobal>(
         position: board,
         goal,
     };
-    let mut certificate = Certificate::of(rt.alloc(), table, seats.take_last(), root, answer)?;
+    let mut certificate = Certificate::of(rt.alloc(), table, seats.take_last(), root, *answer)?;
     let mut lines = Vec::new(rt.alloc());
     for _ in 0..1000 {
         match certificate.next_line()? {
@@ -48,7 +48,7 @@ fn checked<R: Threads + Wait + Abort + AllocGlobal + Sync>(
     let Ok(answer) = solved(rt, rt.alloc(), &position(rt, text), goal, limit, 64) else {
         panic!(rt; "no answer")
     };
-    let claims = claims_of(rt, text, goal, answer)?;
+    let claims = claims_of(rt, text, goal, &answer)?;
     let mut whole = Vec::new(rt.alloc());
     whole.extend_from_slice(first.as_bytes())?;
     whole.extend_from_slice(claims.as_slice())?;
@@ -63,7 +63,7 @@ fn lines_of_a_mate_at_once(rt: HostRuntime) {
     let Ok(answer) = solved(&rt, rt.alloc(), &position(&rt, rook), Goal::Mate, 1, 64) else {
         panic!(rt; "no answer")
     };
-    let lines = claims_of(&rt, rook, Goal::Mate, answer).expect(&rt, "memory");
+    let lines = claims_of(&rt, rook, Goal::Mate, &answer).expect(&rt, "memory");
     assert_eq!(rt; lines.as_slice(), b"j\n\n".as_slice());
 }
 
