@@ -131,8 +131,30 @@ pub fn decide_on<A: Allocator>(
 /// Up to so many plies the answer alone is found sooner than the table is asked.
 const UNASKED: u8 = 2;
 
-/// Whether the attacker forces the goal within n plies: the answer alone. The far slots are asked, for the position turned about, and
-/// an attacker's position is searched round by round.
+/// Whether the attacker forces the goal within n plies, or `None` where the search was told to stop: the answer alone. The far slots
+/// are asked, for the position turned about, and an attacker's position is searched round by round.
+pub fn is_forced_until<S: Stop, A: Allocator>(
+    slots: &Slots<MateLore, A>,
+    seat: &mut Seat,
+    scout: &mut Scout<S>,
+    q: &Question,
+    n: u8,
+) -> Option<bool>
+    requires seat { IsSeatOf slots.now seat.old }
+    requires plies { n ≤ 63 }
+    ensures continues { Continues slots.now seat.old seat.new }
+    ensures stop { S.stays scout.old.stop scout.new.stop }
+    ensures answer { MatchOption result (S.told scout.new.stop) (λ yes. IsTrue yes ↔ IsForced q.now n) }
+{
+    if n <= UNASKED {
+        return Some(leaf(&mut scout.memory, q, n));
+    }
+    let mut caller = Caller { slots, seat };
+    let q = q.copied().turned();
+    visit(&mut caller, scout, &q, n)
+}
+
+/// `is_forced_until`, where nothing stops it.
 pub fn is_forced<A: Allocator>(
     slots: &Slots<MateLore, A>,
     seat: &mut Seat,
@@ -148,12 +170,7 @@ pub fn is_forced<A: Allocator>(
         stop: Never,
         memory: Memory::new(),
     };
-    if n <= UNASKED {
-        return leaf(&mut scout.memory, q, n);
-    }
-    let mut caller = Caller { slots, seat };
-    let q = q.copied().turned();
-    let Some(yes) = visit(&mut caller, &mut scout, &q, n) else {
+    let Some(yes) = is_forced_until(slots, seat, &mut scout, q, n) else {
         unreachable!()
     };
     yes

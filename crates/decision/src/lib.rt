@@ -17,7 +17,7 @@ mod storing;
 mod turning;
 
 pub use answer::{Answer, MOST_LIMIT};
-pub use deciding::{decide, decide_on, decide_until, is_forced};
+pub use deciding::{decide, decide_on, decide_until, is_forced, is_forced_until};
 pub use decision::Decision;
 pub use memory::Memory;
 pub use order::in_order;

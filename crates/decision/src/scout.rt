@@ -3,7 +3,7 @@ ghost use Rattle.std.specs.Prelude.{IsTrue};
 
 use crate::memory::Memory;
 
-/// What may stop a search. It is asked before the moves of a position are tried, down to the last plies.
+/// What may stop a search, and is told how far it is. It is asked before the moves of a position are tried, down to the last plies.
 pub trait Stop {
     /// It was told to stop.
     ghost told: { Self → Type 0 };
@@ -15,6 +15,12 @@ pub trait Stop {
     fn is_set(&mut self) -> bool
         ensures told { IsTrue result → told self.new }
         ensures stays { stays self.old self.new };
+
+    /// The root's moves, so many, are about to be tried: nothing is forced within so many plies. Whoever doesn't tell it further does nothing.
+    fn begin(&self, _none_within: u8, _moves: u16) {}
+
+    /// A move of the root more was tried.
+    fn step(&self) {}
 
     // Nothing happened.
     ghost stays_at_once: { (a : Self) → stays a a };

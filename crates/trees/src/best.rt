@@ -1,33 +1,46 @@
 //! The attacker's best move.
-ghost use Rattle.std.specs.Prelude.{◌≤◌};
+ghost use Rattle.std.specs.Prelude.{◌<◌, ◌≤◌, MatchOption};
 ghost use Rattle.rules.specs.Forces.{Forces};
-ghost use Rattle.slots.specs.Promise.{IsSeatOf};
-ghost use Rattle.decision.specs.Calls.{Continues};
+ghost use Rattle.decision.specs.Answer.{IsFewest};
+ghost use Rattle.searcher.specs.Roots.{IsLimit};
 ghost use Rattle.trees.specs.Best.{IsBestMove};
 
-use alone::solve_alone;
-use decision::Answer;
-use entry::MateLore;
 use moves::{Board, Goal, Move};
-use slots::{Seat, Slots};
-use std::alloc::Allocator;
+use searcher::{Decider, Root, least_win};
 
-/// The best move, where the side to move forces the goal within the limit.
-pub(crate) fn best_move<A: Allocator>(
-    slots: &Slots<MateLore, A>,
-    seat: &mut Seat,
+/// The fewest plies, where the side to move forces the goal within the limit; or `None` where the decider was told to stop.
+fn fewest_plies<D: Decider>(decider: &mut D, root: &Root, limit: u8) -> Option<u8>
+    requires limit { limit ≤ 63 }
+    requires forced { Forces root.now.goal root.now.board.mover root.now.board limit }
+    ensures goes { D.goes decider.old decider.new }
+    ensures fewest { MatchOption result (D.told decider.new) (λ n. IsLimit n × IsFewest root.now.goal root.now.board n) }
+{
+    let q = root.question();
+    for round in 0..(limit + 1) / 2 {
+        let plies = 2 * round + 1;
+        if decider.forces(&q, plies)? {
+            return Some(plies);
+        }
+    }
+    unreachable!()
+}
+
+/// The best move, where the side to move forces the goal within the limit; or `None` where the decider was told to stop.
+pub(crate) fn best_move<D: Decider>(
+    decider: &mut D,
     board: &Board,
     goal: Goal,
     limit: u8,
-) -> Move
-    requires seat { IsSeatOf slots.now seat.old }
+) -> Option<Move>
     requires limit { limit ≤ 63 }
     requires forced { Forces goal board.now.mover board.now limit }
-    ensures continues { Continues slots.now seat.old seat.new }
-    ensures best { IsBestMove goal board.now result }
+    ensures goes { D.goes decider.old decider.new }
+    ensures best { MatchOption result (D.told decider.new) (IsBestMove goal board.now) }
 {
-    match solve_alone(slots, seat, board, goal, limit) {
-        Answer::Mate { first, .. } => first,
-        Answer::NoneWithin(_) => unreachable!(),
+    let root = Root::on(board.copied(), goal);
+    let plies = fewest_plies(decider, &root, limit)?;
+    match least_win(decider, &root, plies)? {
+        Some(job) => Some(root.moves[usize::from(job)]),
+        None => unreachable!(),
     }
 }

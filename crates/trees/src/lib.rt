@@ -6,6 +6,6 @@ mod building;
 mod preparing;
 mod uniqueness;
 
-pub use building::build_tree;
+pub use building::{build_tree, tree_by};
 pub use preparing::{Wanted, build_tree_over};
 pub use uniqueness::one_best_tree;

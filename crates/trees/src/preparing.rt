@@ -13,8 +13,10 @@ ghost use Rattle.trees.specs.Seats.{SeatsContinue};
 use crate::best::best_move;
 use crate::building::build_tree;
 use board::Position;
+use decision::{Memory, Never, Scout};
 use entry::MateLore;
 use moves::{Board, Goal, after, lawful_on};
+use searcher::{Decider, Searcher};
 use slots::{Seat, Slots};
 use std::alloc::Global;
 use std::sync::Wait;
@@ -27,13 +29,12 @@ const PREPARED_FROM: u8 = 7;
 
 /// One thread's way through the tree: each begins at another reply of a position, every other one from the last on.
 #[derive(Drop)]
-struct Walk<'a> {
-    slots: &'a Slots<MateLore>,
+struct Walk {
     goal: Goal,
     turn: usize,
 }
 
-impl Walk<'_> {
+impl Walk {
     /// The number of the reply that comes after k others, of so many.
     fn place(&self, k: usize, count: usize) -> usize
         requires { k < count }
@@ -51,33 +52,33 @@ impl Walk<'_> {
 
 /// Finds the best move, and then those after each reply.
 #[cycle(preparing)]
-fn prepare_line(walk: &Walk<'_>, seat: &mut Seat, board: &Board, limit: u8)
-    requires seat { IsSeatOf walk.now.slots.now seat.old }
+fn prepare_line<D: Decider>(walk: &Walk, decider: &mut D, board: &Board, limit: u8)
     requires limit { limit ≤ 63 }
     requires forced { Forces walk.now.goal board.now.mover board.now limit }
-    ensures { Continues walk.now.slots.now seat.old seat.new }
+    ensures { D.goes decider.old decider.new }
 {
     if limit < PREPARED_FROM {
         return;
     }
-    let attack = best_move(walk.slots, seat, board, walk.goal, limit);
-    prepare_replies(walk, seat, &after(board, attack), limit - 2);
+    let Some(attack) = best_move(decider, board, walk.goal, limit) else {
+        return;
+    };
+    prepare_replies(walk, decider, &after(board, attack), limit - 2);
 }
 
 /// Finds the best moves after each lawful reply, where each is met within so many plies.
 #[cycle(preparing)]
-fn prepare_replies(walk: &Walk<'_>, seat: &mut Seat, board: &Board, n: u8)
-    requires seat { IsSeatOf walk.now.slots.now seat.old }
+fn prepare_replies<D: Decider>(walk: &Walk, decider: &mut D, board: &Board, n: u8)
     requires plies { n ≤ 61 }
     requires forced { (m : Ply) (q : _) → IsMove board.now m q → Forces walk.now.goal q.mover q n }
-    ensures { Continues walk.now.slots.now seat.old seat.new }
+    ensures { D.goes decider.old decider.new }
 {
     let moves = lawful_on(board);
     let replies = moves.as_slice();
     let count = replies.len();
     for k in 0..count {
         let reply = replies[walk.place(k, count)];
-        prepare_line(walk, seat, &after(board, reply), n);
+        prepare_line(walk, decider, &after(board, reply), n);
     }
 }
 
@@ -122,8 +123,16 @@ fn prepare_tree<R: Threads + Wait + Sync>(
             requires { (plies ≤ 63) × Forces goal board.mover board plies × IsSeatOf slots.now seat.now }
             ensures { IsSeatOf slots.entry.now seat.exit.now × Continues slots.entry.now seat.entry.now seat.exit.now }
         {
-            let walk = Walk { slots, goal, turn };
-            prepare_line(&walk, seat, &board, plies)
+            let mut scout = Scout {
+                stop: Never,
+                memory: Memory::new(),
+            };
+            let mut searcher = Searcher {
+                slots,
+                seat,
+                scout: &mut scout,
+            };
+            prepare_line(&Walk { goal, turn }, &mut searcher, &board, plies)
         },
     );
 }

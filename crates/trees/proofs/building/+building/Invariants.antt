@@ -1,5 +1,4 @@
 use Rattle.std.proofs.Common.{◌≡◌, ◌+◌, ◌*◌, take}
-use Rattle.decision.specs.Calls.{Continues}
 use Rattle.trees.proofs.Lists.{replies_in, AreBest, AreShallow}
 use Rattle.trees.proofs.building.+building.Given as goal
 
@@ -13,7 +12,7 @@ decreases-replies_to g l = 2 * l.n + 1
 abbrev pub invariant-replies_to-loop-m : goal.invariant-replies_to-loop-m
 invariant-replies_to-loop-m g l =
     record {
-      continues : Continues l.fn.builder.slots.now l.fn.seat l.seat;
+      goes : g.D.Decider.goes l.fn.decider l.decider;
       moves : replies_in l.replies.items ≡ take l.m-index l.m-items;
       best : AreBest l.fn.builder.goal l.board l.replies.items;
       depth : AreShallow l.n l.replies.items;

@@ -1,0 +1,16 @@
+//! One thread's way through a root's moves: solves and keys, by whoever decides whether a move wins.
+#![tactic(auto)]
+
+mod decider;
+mod halt;
+mod keys;
+mod root;
+mod searcher;
+mod solving;
+
+pub use decider::Decider;
+pub use halt::Halt;
+pub use keys::{Key, keys_of, plies_of};
+pub use root::Root;
+pub use searcher::Searcher;
+pub use solving::{least_win, solve_by};
