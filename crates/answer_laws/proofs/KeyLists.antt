@@ -11,8 +11,8 @@ use Rattle.rules.proofs.Forcing.{on_own, same_side-self}
 use Rattle.decision.specs.declared.answer.Answer.TheVariants.{Mate}
 use Rattle.decision.specs.Answer.{Wins, IsAnswer}
 use Rattle.decision.proofs.Winning.{forced_by}
-use Rattle.rounds.specs.declared.keys.Key.{Key}
-use Rattle.rounds.specs.Keys.{Takes, ListsKeys}
+use Rattle.searcher.specs.declared.keys.Key.{Key}
+use Rattle.searcher.specs.Keys.{Takes, ListsKeys}
 use Rattle.wintree.proofs.Listings.{among_first, among_more}
 use Rattle.trees.proofs.Forcing.{fewest_most, some_ply}
 use Rattle.answer_laws.specs.Answers.{sooner, soonest, answer_of, IsNoBetter}

@@ -7,8 +7,8 @@ use Rattle.rules.specs.Squares.{Ply}
 use Rattle.decision.specs.declared.answer.Answer.{Answer}
 use Rattle.decision.specs.declared.answer.Answer.TheVariants.{Mate, NoneWithin}
 use Rattle.decision.specs.Answer.{IsFewest, IsLeastWin, IsAnswer}
-use Rattle.rounds.specs.declared.keys.Key.{Key}
-use Rattle.rounds.specs.Keys.{ListsKeys}
+use Rattle.searcher.specs.declared.keys.Key.{Key}
+use Rattle.searcher.specs.Keys.{ListsKeys}
 use Rattle.wintree.proofs.Listings.{lower_once}
 use Rattle.trees.proofs.Forcing.{fewest_most}
 use Rattle.answer_laws.proofs.Listings.{one_listing}

@@ -7,8 +7,8 @@ use Rattle.rules.specs.Moves.{IsMove}
 use Rattle.rules.specs.Forces.{Forces}
 use Rattle.decision.specs.declared.answer.Answer.TheVariants.{Mate, NoneWithin}
 use Rattle.decision.specs.Answer.{Wins, IsFewest, ForcesNothing}
-use Rattle.rounds.specs.declared.keys.Key.{Key}
-use Rattle.rounds.specs.Keys.{Takes}
+use Rattle.searcher.specs.declared.keys.Key.{Key}
+use Rattle.searcher.specs.Keys.{Takes}
 use Rattle.laws.specs.Turnings.{Turning, turned_move, IsTurned, MayTurn}
 use Rattle.laws.proofs.Squares.{back_of, back_of-twice}
 use Rattle.laws.proofs.Turned.{IsTurned-back, MayTurn-back}

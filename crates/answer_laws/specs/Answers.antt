@@ -7,8 +7,8 @@ use Rattle.rules.specs.Order.{IsPlyBefore}
 use Rattle.decision.specs.declared.answer.Answer.{Answer}
 use Rattle.decision.specs.declared.answer.Answer.TheVariants.{Mate, NoneWithin}
 use Rattle.decision.specs.Answer.{IsAnswer}
-use Rattle.rounds.specs.declared.keys.Key.{Key}
-use Rattle.rounds.specs.Keys.{ListsKeys}
+use Rattle.searcher.specs.declared.keys.Key.{Key}
+use Rattle.searcher.specs.Keys.{ListsKeys}
 
 -- a question has one answer
 abbrev pub OneAnswer : Type 0

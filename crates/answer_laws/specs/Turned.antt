@@ -6,8 +6,8 @@ use Rattle.rules.specs.declared.goal.Goal.{Goal}
 use Rattle.decision.specs.declared.answer.Answer.{Answer}
 use Rattle.decision.specs.declared.answer.Answer.TheVariants.{Mate, NoneWithin}
 use Rattle.decision.specs.Answer.{IsFewest, ForcesNothing, IsAnswer}
-use Rattle.rounds.specs.declared.keys.Key.{Key}
-use Rattle.rounds.specs.Keys.{ListsKeys}
+use Rattle.searcher.specs.declared.keys.Key.{Key}
+use Rattle.searcher.specs.Keys.{ListsKeys}
 use Rattle.laws.specs.Turnings.{Turning, turned_move, IsTurned, files_mirror, sides_mirror}
 use Rattle.laws.specs.Laws.{WhereTurned, StaysTurned}
 

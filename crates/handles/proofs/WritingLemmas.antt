@@ -3,15 +3,15 @@ use Rattle.std.proofs.Common.{◌≡◌, inl, inr, ℕ, ◌≤◌, List, [], ◌
 use Rattle.board.specs.Board.{PlainBoard}
 use Rattle.rules.specs.declared.goal.Goal.{Goal}
 use Rattle.decision.specs.Answer.{ForcesNothing, IsFewest}
-use Rattle.rounds.specs.declared.keys.Key.{Key}
-use Rattle.rounds.specs.Keys.{ListsKeys}
+use Rattle.searcher.specs.declared.keys.Key.{Key}
+use Rattle.searcher.specs.Keys.{ListsKeys}
 use Rattle.trees.specs.Best.{IsBest}
 use Rattle.wintree.specs.Plan.{Plan}
 use Rattle.wintree.specs.Text.{text as plan_text}
 use Rattle.refusals.specs.Reply.{line_of}
 use Rattle.replies.specs.Output.{none_text, keys_text}
-use Rattle.solver.specs.declared.halt.Halt.{Halt}
-use Rattle.solver.specs.declared.halt.Halt.TheVariants.{Stopped, NoMemory}
+use Rattle.searcher.specs.declared.halt.Halt.{Halt}
+use Rattle.searcher.specs.declared.halt.Halt.TheVariants.{Stopped, NoMemory}
 use Rattle.solver.specs.declared.solver.Solver.{Solver}
 use Rattle.solver.specs.Stopping.{IsStopped, Hears}
 use Rattle.handles.specs.declared.writing.Told.{Told}

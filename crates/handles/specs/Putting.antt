@@ -1,8 +1,8 @@
 -- What becomes of what a search found to tell.
 use Rattle.std.specs.Prelude.{◌≡◌, ◌⊎◌, ℕ, ◌<◌, ◌≤◌, List, [], ◌∷◌, ◌++◌, length, drop, Result, Ok, Err}
-use Rattle.solver.specs.declared.halt.Halt.{Halt}
-use Rattle.solver.specs.declared.halt.Halt.TheVariants.{Stopped, NoMemory}
-use Rattle.rounds.specs.declared.keys.Key.{Key}
+use Rattle.searcher.specs.declared.halt.Halt.{Halt}
+use Rattle.searcher.specs.declared.halt.Halt.TheVariants.{Stopped, NoMemory}
+use Rattle.searcher.specs.declared.keys.Key.{Key}
 use Rattle.handles.specs.declared.writing.Told.{Told}
 
 -- the number of each reason why a search ended without an answer

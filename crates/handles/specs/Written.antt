@@ -5,8 +5,8 @@ use Rattle.board.specs.Board.{PlainBoard}
 use Rattle.rules.specs.declared.goal.Goal.{Goal}
 use Rattle.rules.specs.Reading.{IsSoundFault}
 use Rattle.decision.specs.Answer.{IsFewest, ForcesNothing}
-use Rattle.rounds.specs.declared.keys.Key.{Key}
-use Rattle.rounds.specs.Keys.{ListsKeys}
+use Rattle.searcher.specs.declared.keys.Key.{Key}
+use Rattle.searcher.specs.Keys.{ListsKeys}
 use Rattle.rounds.specs.Limits.{IsLimit}
 use Rattle.trees.specs.Best.{IsBest}
 use Rattle.wintree.specs.Plan.{Plan}

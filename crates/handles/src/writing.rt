@@ -1,7 +1,7 @@
 //! What such a program asks and is answered by a text, in room that it lends.
 ghost use Rattle.std.specs.Prelude.{◌≡◌, ◌≤◌, IfErr, IfOk};
 ghost use Rattle.replies.specs.Output.{none_text, keys_text};
-ghost use Rattle.solver.specs.declared.halt.Halt.TheVariants.{Stopped as stopped, NoMemory as want};
+ghost use Rattle.searcher.specs.declared.halt.Halt.TheVariants.{Stopped as stopped, NoMemory as want};
 ghost use Rattle.solver.specs.Stopping.{IsStopped, Hears};
 ghost use Rattle.handles.specs.Asked.{goal_of};
 ghost use Rattle.handles.specs.Written.{KeysTold, TreeTold, IsTold, IsWhy, Writes};
@@ -16,7 +16,8 @@ use decision::Answer;
 use moves::{Goal, read_sound};
 use replies::{keys_text, none_line, tree_line};
 use rounds::Key;
-use solver::{Halt, Solver};
+use searcher::Halt;
+use solver::Solver;
 use std::alloc::Global;
 
 /// The room is too small for the text.

@@ -7,9 +7,9 @@ use Rattle.rules.specs.declared.goal.Goal.{Goal}
 use Rattle.rules.specs.Reading.{IsSoundFault}
 use Rattle.decision.specs.declared.answer.Answer.{Answer}
 use Rattle.decision.specs.Answer.{IsAnswer}
-use Rattle.rounds.specs.declared.keys.Key.{Key}
+use Rattle.searcher.specs.declared.keys.Key.{Key}
 use Rattle.rounds.specs.declared.task.SolveFault.{SolveFault}
-use Rattle.rounds.specs.Keys.{ListsKeys}
+use Rattle.searcher.specs.Keys.{ListsKeys}
 use Rattle.wintree.specs.Plan.{Plan}
 use Rattle.wintree.specs.Text.{text as plan_text}
 use Rattle.wintree.specs.Wins.{Wins, height}

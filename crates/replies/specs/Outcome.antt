@@ -5,9 +5,9 @@ use Rattle.rules.specs.declared.goal.Goal.{Goal}
 use Rattle.decision.specs.declared.answer.Answer.{Answer}
 use Rattle.rounds.specs.declared.task.SolveFault.{SolveFault}
 use Rattle.rounds.specs.declared.task.SolveFault.TheVariants as solve
-use Rattle.rounds.specs.declared.keys.Key.{Key}
+use Rattle.searcher.specs.declared.keys.Key.{Key}
 use Rattle.decision.specs.Answer.{IsAnswer}
-use Rattle.rounds.specs.Keys.{ListsKeys}
+use Rattle.searcher.specs.Keys.{ListsKeys}
 use Rattle.devices.specs.Input.{OfInput}
 use Rattle.replies.specs.Output.{fault_of, input_of, IsOutput}
 use Rattle.refusals.specs.Reply.{Reply, answered, refused}

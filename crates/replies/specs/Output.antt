@@ -17,8 +17,8 @@ use Rattle.decision.specs.declared.answer.Answer.TheVariants.{Mate, NoneWithin}
 use Rattle.decision.specs.Answer.{IsAnswer, IsFewest, ForcesNothing}
 use Rattle.rounds.specs.declared.task.SolveFault.{SolveFault}
 use Rattle.rounds.specs.declared.task.SolveFault.TheVariants as solve
-use Rattle.rounds.specs.declared.keys.Key.{Key}
-use Rattle.rounds.specs.Keys.{ListsKeys}
+use Rattle.searcher.specs.declared.keys.Key.{Key}
+use Rattle.searcher.specs.Keys.{ListsKeys}
 use Rattle.rounds.specs.Limits.{limits_fault}
 use Rattle.trees.specs.Best.{IsBest}
 use Rattle.wintree.specs.declared.fault.TreeFault.{TreeFault}

@@ -5,7 +5,7 @@ ghost use Rattle.decision.specs.Calls.{Continues};
 ghost use Rattle.rounds.specs.Limits.{task_fault, IsTaskRefusal, IsLimit};
 ghost use Rattle.rounds.specs.Roots.{IsRoot, IsJobOf, TakesIn};
 ghost use Rattle.rounds.specs.Seats.{AreSeats};
-ghost use Rattle.rounds.specs.Keys.{ListsKeys};
+ghost use Rattle.searcher.specs.Keys.{ListsKeys};
 ghost use Rattle.rounds.specs.Going.{GoesOn, SeatsGoOn};
 
 use crate::bench::{Decider, Root, Search};

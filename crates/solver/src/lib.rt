@@ -1,14 +1,10 @@
 //! A solver that lives: question after question over one table, by the caller's own thread alone, and stopped from another.
 #![tactic(auto)]
 
-mod building;
-mod halt;
-mod keys;
 mod listening;
 mod making;
 mod solver;
 mod solving;
 
-pub use halt::Halt;
 pub use listening::{Listener, Place, StopSource};
 pub use solver::Solver;

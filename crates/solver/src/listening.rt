@@ -40,19 +40,6 @@ pub struct Listener {
     ghost belongs: { IsSeatOf (arc_value shared).requests seat },
 }
 
-impl Listener {
-    /// A round begins, of so many moves: nothing is forced within so many plies.
-    pub(crate) fn begin(&self, none_within: u8, moves: usize) {
-        let place = u64::from(none_within) << 32 | (moves as u64 & 0xFFFF) << 16;
-        self.shared.place.store(place, SeqCst);
-    }
-
-    /// A move more is tried.
-    pub(crate) fn step(&self) {
-        self.shared.place.fetch_add(1, SeqCst);
-    }
-}
-
 impl Stop for Listener {
     ghost use Rattle.std.specs.Prelude.{◌≡◌, ◌≤◌};
     ghost use Rattle.std.proofs.Common.{◌∙◌, refl, rules};
@@ -65,6 +52,15 @@ impl Stop for Listener {
 
     fn is_set(&mut self) -> bool {
         self.shared.requests.is_stopped(&mut self.seat)
+    }
+
+    fn begin(&self, none_within: u8, moves: u16) {
+        let place = u64::from(none_within) << 32 | u64::from(moves) << 16;
+        self.shared.place.store(place, SeqCst);
+    }
+
+    fn step(&self) {
+        self.shared.place.fetch_add(1, SeqCst);
     }
 
     ghost stays_at_once = { λ _. (refl, Prim.search rules) };

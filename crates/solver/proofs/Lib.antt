@@ -1,3 +1,0 @@
-pub mod HearingLemmas
-pub mod KeyLemmas
-pub mod OptionLemmas
