@@ -10,19 +10,19 @@ ghost use Rattle.replies.specs.Outcome.{Gives, FindsKeys, Solves};
 ghost use Rattle.replies.specs.Output.{IsOutput, ShowsAnswer, ShowsKeys, ShowsPlanFound, ShowsMoves, ShowsCheck};
 ghost use Rattle.refusals.specs.Reply.{answered, line_of};
 
-use alone::solve_alone;
 use board::Position;
 use command_line::Limits;
 use decision::Answer;
 use devices::without_line_feed;
 use entry::MateLore;
-use moves::{Board, Goal, lawful, read_sound};
+use moves::{Goal, lawful, read_sound};
 use refusals::Refusal;
 use replies::{
     MOST_INPUT, Search, answer_text, keys_text, moves_text, none_line, refusal_of, search_of,
     tree_line, verdict_text,
 };
-use rounds::{Asked, Key, SolveFault, keys_alone, make_table_in};
+use rounds::{SolveFault, make_table_in};
+use searcher::{Key, Root, keys_alone, solve_alone};
 use slots::{Seat, Slots};
 use std::alloc::Allocator;
 use trees::{Wanted, build_tree};
@@ -45,7 +45,7 @@ fn searched_alone<A: Allocator + Copy>(
     } = search_of(limits);
     let (table, mut seats) = make_table_in(alloc, limit, workers, slots)?;
     let mut seat = seats.take_last();
-    let answer = solve_alone(&table, &mut seat, &Board::of(position), goal, limit);
+    let answer = solve_alone(&table, &mut seat, &Root::of(position, goal), limit);
     Ok((answer, table, seat))
 }
 
@@ -65,12 +65,8 @@ fn keys_found_alone<A: Allocator + Copy>(
     } = search_of(limits);
     let (table, mut seats) = make_table_in(alloc, limit, workers, slots)?;
     let mut seat = seats.take_last();
-    let asked = Asked {
-        position,
-        goal,
-        limit,
-    };
-    keys_alone(alloc, &asked, &table, &mut seat)
+    let root = Root::of(position, goal);
+    keys_alone(alloc, &table, &mut seat, &root, limit).map_err(|_| SolveFault::NoMemory)
 }
 
 fn keys_shown<A: Allocator + Copy>(

@@ -2,7 +2,7 @@
 use Rattle.std.proofs.Common.{◌≡◌, ℕ, List, Bool, false, sym, subst, refl, ◌∙◌, Option, None, Some}
 use Rattle.board.specs.Board.{PlainBoard}
 use Rattle.rules.specs.declared.goal.Goal.{Goal}
-use Rattle.rounds.specs.Limits.{IsLimit}
+use Rattle.searcher.specs.Roots.{IsLimit}
 use Rattle.decision.specs.declared.answer.Answer.{Answer}
 use Rattle.decision.specs.declared.answer.Answer.TheVariants as answer
 use Rattle.decision.specs.Answer.{IsAnswer}

@@ -13,7 +13,7 @@ use Rattle.rules.specs.Reach.{IsSound}
 use Rattle.rules.specs.Reading.{IsSoundFault}
 use Rattle.slots.specs.Promise.{slots_of}
 use Rattle.stops.specs.Promise.{requests}
-use Rattle.rounds.specs.Limits.{IsLimit}
+use Rattle.searcher.specs.Roots.{IsLimit}
 use Rattle.decision.specs.declared.answer.Answer.{Answer}
 use Rattle.decision.specs.declared.answer.Answer.TheVariants as answer
 use Rattle.decision.specs.Answer.{IsAnswer}

@@ -7,7 +7,7 @@ use Rattle.rules.specs.Reading.{IsSoundFault}
 use Rattle.decision.specs.Answer.{IsFewest, ForcesNothing}
 use Rattle.searcher.specs.declared.keys.Key.{Key}
 use Rattle.searcher.specs.Keys.{ListsKeys}
-use Rattle.rounds.specs.Limits.{IsLimit}
+use Rattle.searcher.specs.Roots.{IsLimit}
 use Rattle.trees.specs.Best.{IsBest}
 use Rattle.wintree.specs.Plan.{Plan}
 use Rattle.wintree.specs.Text.{text as plan_text}

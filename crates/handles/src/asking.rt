@@ -3,7 +3,7 @@ ghost use Rattle.std.specs.Prelude.{◌≡◌, ◌≤◌, Bool, false, true, Mat
 ghost use Rattle.board.specs.declared.game.Kind.{Kind as AKind};
 ghost use Rattle.rules.specs.Squares.{Ply};
 ghost use Rattle.slots.specs.Promise.{IsSize};
-ghost use Rattle.rounds.specs.Limits.{IsLimit};
+ghost use Rattle.searcher.specs.Roots.{IsLimit};
 ghost use Rattle.std.specs.Arc.{arc_value};
 ghost use Rattle.solver.specs.Stopping.{IsStopped, Hears};
 ghost use Rattle.handles.specs.Asked.{goal_of, letter_of, first_of, Tells, Replies, Asks, IsOpened};

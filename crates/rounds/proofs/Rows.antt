@@ -43,12 +43,6 @@ module _ (win : ℕ → Type 0) (row : List Verdict) (right : AreRight win row) 
     subst (λ i. AreRight win (set row i v)) (sym same) (row_right job v (omega (arith, count, h)) is),
   )
 
--- none of the jobs below one, nor that one
-pub none_next : (win : ℕ → Type 0) (i : ℕ) → (win i → ⊥) → ((k : ℕ) → k < i → win k → ⊥) → (k : ℕ) → k < i + 1 → win k → ⊥
-none_next win i last before k h w = dite (ℕ_discrete k i)
-    (λ e. last (subst win e w))
-    (λ other. before k (omega (arith, h, other)) w)
-
 -- what is known falls, and no job is found to win by it
 pub knows_less : (row : List Verdict) (a b : ℕ) → b ≤ a → KnowsWins row a → KnowsWins row b
 knows_less row a b falls knows job e = omega (arith, falls, knows job e)

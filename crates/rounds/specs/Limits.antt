@@ -1,5 +1,5 @@
 -- What a solve by workers accepts.
-use Rattle.std.specs.Prelude.{◌≡◌, ◌⊎◌, ℕ, nat_lt, ◌<◌, ◌≤◌, ◌||◌, Option, None, Some, if◌then◌else◌}
+use Rattle.std.specs.Prelude.{◌≡◌, ◌⊎◌, ℕ, nat_lt, ◌||◌, Option, None, Some, if◌then◌else◌}
 use Rattle.rounds.specs.declared.task.SolveFault.{SolveFault}
 use Rattle.rounds.specs.declared.task.SolveFault.TheVariants.{Limit, Workers, Slots, NoMemory}
 
@@ -27,7 +27,3 @@ abbrev pub IsTaskRefusal : ℕ → ℕ → SolveFault → Type 0
 IsTaskRefusal limit seats fault =
     ((fault ≡ NoMemory) × (task_fault limit seats ≡ None))
     ⊎ (task_fault limit seats ≡ Some fault)
-
--- so many plies are searched: 1 to 63
-abbrev pub IsLimit : ℕ → Type 0
-IsLimit plies = (0 < plies) × (plies ≤ 63)

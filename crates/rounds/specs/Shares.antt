@@ -10,9 +10,9 @@ use Rattle.rounds.specs.declared.share.Part.{Part}
 use Rattle.rounds.specs.declared.share.Share.{Share}
 use Rattle.rounds.specs.declared.share.Verdict.{Verdict}
 use Rattle.rounds.specs.declared.share.Verdict.TheVariants.{Open, Wins}
-use Rattle.rounds.specs.Limits.{IsLimit}
 use Rattle.rounds.specs.Deals.{Deals}
-use Rattle.rounds.specs.Roots.{IsRoot, WinsIn, root_jobs}
+use Rattle.searcher.specs.Roots.{IsRoot, IsLimit, WinsIn}
+use Rattle.rounds.specs.RootSets.{root_jobs}
 use Rattle.rounds.specs.Verdicts.{AreRight}
 
 -- the jobs are the lawful moves, so many, the round is one that is searched, and the word is that of its jobs

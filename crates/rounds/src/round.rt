@@ -1,17 +1,17 @@
 //! A round: its jobs are dealt out, worked on by all threads, and settled by the caller.
 ghost use Rattle.std.specs.Prelude.{◌≡◌, ◌<◌, ◌≤◌, ◌↔◌, [], All, IfOk, IsTrue, length, vec_capacity};
 ghost use Rattle.rounds.specs.Verdicts.{IsRight};
-ghost use Rattle.rounds.specs.Roots.{IsRoot, EndsRound};
+ghost use Rattle.searcher.specs.Roots.{IsRoot, IsLimit, EndsRound};
 ghost use Rattle.rounds.specs.Seats.{AreSeats, AreCallers, AreJobSeats};
-ghost use Rattle.rounds.specs.Limits.{IsLimit};
 ghost use Rattle.rounds.specs.Shares.{IsBench, WinsHere, IsPart, IsShare, AreDealt, seats_back};
 ghost use Rattle.rounds.specs.Going.{GoesOn, EachGoesOn, SeatsGoOn};
 
-use crate::bench::{Bench, Decider, RootJobs, Search};
+use crate::bench::{Bench, RootJobs, Search};
 use crate::deal::{Count, Thief, deal};
 use crate::help::{Out, all_outs};
 use crate::share::{Part, Share, Verdict};
 use crate::task::Gate;
+use crate::telling::decide_job;
 use least::{JobSeat, Least, MakeFault};
 use slots::Seat;
 use std::alloc::{AllocError, Global};
@@ -171,7 +171,7 @@ fn wins<J: Count, T: Gate>(
     match found(bench, shares, own, job) {
         Verdict::Wins => true,
         Verdict::Loses => false,
-        Verdict::Open => <&T>::decide(bench.search, &mut own.seat, job, bench.plies),
+        Verdict::Open => decide_job(bench.search, &mut own.seat, job, bench.plies),
     }
 }
 
@@ -243,7 +243,7 @@ fn play<J: Count + Send + Sync, T: Gate, R: Threads + Wait + Sync>(
 pub(crate) fn round<J: Count + Send + Sync, T: Gate, R: Threads + Wait + Sync>(
     rt: &R,
     alloc: Global,
-    search: &Search<'_, &T>,
+    search: &Search<'_, T>,
     plies: u8,
     seats: &mut Vec<Seat>,
 ) -> Result<Option<u16>, AllocError>
@@ -257,7 +257,7 @@ pub(crate) fn round<J: Count + Send + Sync, T: Gate, R: Threads + Wait + Sync>(
 {
     let root = &search.root;
     let callers = seats.len() as u8;
-    match Least::make(alloc, &root.wins_within(plies), root.jobs(), callers) {
+    match Least::make(alloc, &RootJobs::of(root, plies), root.jobs(), callers) {
         Ok((least, job_seats)) => {
             let bench = Bench {
                 search,

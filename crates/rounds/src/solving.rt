@@ -2,18 +2,19 @@
 ghost use Rattle.std.specs.Prelude.{◌≡◌, ◌+◌, All, IfOk, IfErr, None, Some, length};
 ghost use Rattle.slots.specs.Promise.{slots_of, IsSeatOf, AllNew};
 ghost use Rattle.decision.specs.Answer.{IsAnswer};
-ghost use Rattle.rounds.specs.Limits.{limits_fault, IsRefusal, task_fault, IsTaskRefusal, IsLimit};
-ghost use Rattle.rounds.specs.Roots.{IsRoot};
+ghost use Rattle.searcher.specs.Roots.{IsRoot, IsLimit};
+ghost use Rattle.rounds.specs.Limits.{limits_fault, IsRefusal, task_fault, IsTaskRefusal};
 ghost use Rattle.rounds.specs.Seats.{AreSeats, AreCallers};
 ghost use Rattle.rounds.specs.Going.{SeatsGoOn};
 
-use crate::bench::{Root, Search};
+use crate::bench::Search;
 use crate::round::round;
 use crate::task::{Ended, Gate, SolveFault, Task};
 use board::Position;
 use decision::{Answer, MOST_LIMIT};
 use entry::MateLore;
 use moves::Goal;
+use searcher::Root;
 use slots::{MOST_SLOTS, Seat, Slots};
 use std::alloc::{AllocError, Allocator, Global};
 use std::marker::Brand;
@@ -109,7 +110,7 @@ pub fn make_table_in<A: Allocator + Copy>(
 fn play_rounds<T: Gate, R: Threads + Wait + Sync>(
     rt: &R,
     alloc: Global,
-    search: &Search<'_, &T>,
+    search: &Search<'_, T>,
     limit: u8,
     seats: &mut Vec<Seat>,
 ) -> Result<Answer, AllocError>

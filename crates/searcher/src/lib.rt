@@ -1,6 +1,7 @@
 //! One thread's way through a root's moves: solves and keys, by whoever decides whether a move wins.
 #![tactic(auto)]
 
+mod alone;
 mod decider;
 mod halt;
 mod keys;
@@ -8,6 +9,7 @@ mod root;
 mod searcher;
 mod solving;
 
+pub use alone::{keys_alone, solve_alone};
 pub use decider::Decider;
 pub use halt::Halt;
 pub use keys::{Key, keys_of, plies_of};

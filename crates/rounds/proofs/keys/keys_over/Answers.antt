@@ -8,17 +8,17 @@ use Rattle.rounds.proofs.keys.keys_over.Goals as goal
 pub returns-in_err-look_at-clause-go_on : goal.returns-in_err-look_at-clause-go_on
 returns-in_err-look_at-clause-go_on g c = seats_none g.T.Gate.keeps c.args.slots.now c.args.seats.now.items c.requires
 
-pub keys_of-keys-requires-clause-seat : goal.keys_of-keys-requires-clause-seat
-keys_of-keys-requires-clause-seat g c = (All-popped (IsSeatOf c.args.slots.now) _ _ _ c.take_last-own.ensures.items c.prepare.ensures.seats.1).1
+pub own_keys-keys-requires-clause-seat : goal.own_keys-keys-requires-clause-seat
+own_keys-keys-requires-clause-seat g c κs within = (All-popped (IsSeatOf c.args.slots.now) _ _ _ c.take_last-own.ensures.items c.prepare.ensures.seats.1).1
 
 pub returns-clause-seats : goal.returns-clause-seats
 returns-clause-seats g c = (
   grind (arith, common_steps),
-  All-snoc (IsSeatOf c.args.slots.now) _ _ _ c.push_reserved.ensures.items (All-popped (IsSeatOf c.args.slots.now) _ _ _ c.take_last-own.ensures.items c.prepare.ensures.seats.1).0 c.keys_of-keys.ensures.seat,
+  All-snoc (IsSeatOf c.args.slots.now) _ _ _ c.push_reserved.ensures.items (All-popped (IsSeatOf c.args.slots.now) _ _ _ c.take_last-own.ensures.items c.prepare.ensures.seats.1).0 c.own_keys-keys.ensures.seat,
 )
 
 pub returns-clause-go_on : goal.returns-clause-go_on
 returns-clause-go_on g c = let t = c.args.slots.now in
     seats_more g.T.Gate.keeps t c.args.seats.now.items c.prepare.new.seats.items c.push_reserved.new.self.items c.prepare.ensures.go_on
-    (seats_last g.T.Gate.keeps t c.prepare.new.seats.items c.push_reserved.new.self.items c.take_last-own.new.self.items c.take_last-own.result c.keys_of-keys.new.seat
-    c.take_last-own.ensures.items c.push_reserved.ensures.items (All-popped (IsSeatOf t) _ _ _ c.take_last-own.ensures.items c.prepare.ensures.seats.1).0 c.keys_of-keys.ensures.goes_on)
+    (seats_last g.T.Gate.keeps t c.prepare.new.seats.items c.push_reserved.new.self.items c.take_last-own.new.self.items c.take_last-own.result c.own_keys-keys.new.seat
+    c.take_last-own.ensures.items c.push_reserved.ensures.items (All-popped (IsSeatOf t) _ _ _ c.take_last-own.ensures.items c.prepare.ensures.seats.1).0 c.own_keys-keys.ensures.goes_on)

@@ -5,9 +5,9 @@ use Rattle.decision.proofs.Zips.{take_whole, zip_each}
 use Rattle.rounds.proofs.keys.prepare.Goals as goal
 
 pub returns-then-threads-lt2-clause-go_on : goal.returns-then-threads-lt2-clause-go_on
-returns-then-threads-lt2-clause-go_on g c = seats_none g.D.Decider.keeps c.args.search.now.slots.now c.args.seats.now.items c.requires.seats
+returns-then-threads-lt2-clause-go_on g c = seats_none g.T.Gate.keeps c.args.search.now.slots.now c.args.seats.now.items c.requires.seats
 
 pub returns-clause-go_on : goal.returns-clause-go_on
 returns-clause-go_on g c =
-    subst (SeatsGoOn g.D.Decider.keeps c.args.search.now.slots.now c.args.seats.now.items) (sym (take_whole c.args.seats.now.len c.for_each_mut.new.s _ (search rules)))
-    (zip_each (GoesOn g.D.Decider.keeps c.args.search.now.slots.now) c.args.seats.now.items c.for_each_mut.new.s (search rules) (λ i d lt. search rules))
+    subst (SeatsGoOn g.T.Gate.keeps c.args.search.now.slots.now c.args.seats.now.items) (sym (take_whole c.args.seats.now.len c.for_each_mut.new.s _ (search rules)))
+    (zip_each (GoesOn g.T.Gate.keeps c.args.search.now.slots.now) c.args.seats.now.items c.for_each_mut.new.s (search rules) (λ i d lt. search rules))

@@ -9,4 +9,4 @@ returns-in-Loses-clause-goes_on g c = goes_none g.T.Gate.keeps c.args.bench.now.
 
 pub returns-in-Open-clause-own : goal.returns-in-Open-clause-own
 returns-in-Open-clause-own g c = let s = c.requires.own in
-    record { bench = s.bench; seat = c.decide.ensures.seat; stop = s.stop; row = s.row; right = s.right; knows = s.knows }
+    record { bench = s.bench; seat = c.decide_job.ensures.seat; stop = s.stop; row = s.row; right = s.right; knows = s.knows }

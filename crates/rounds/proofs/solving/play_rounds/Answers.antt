@@ -1,7 +1,7 @@
 use Rattle.std.proofs.Common.{refl, rules, subst, ◌∙◌, ◌+◌, ◌*◌}
-use Rattle.rounds.specs.Roots.{EndsRound}
+use Rattle.searcher.specs.Roots.{EndsRound}
 use Rattle.rounds.proofs.Going.{seats_none, seats_more}
-use Rattle.rounds.proofs.Jobs.{move_at, answered, more_rounds}
+use Rattle.searcher.proofs.Jobs.{move_at, answered, more_rounds}
 use Rattle.decision.proofs.Winning.{nothing_at_once}
 use Rattle.rounds.proofs.solving.play_rounds.Goals as goal
 
