@@ -2,7 +2,8 @@
 use crate::solves::{read, root};
 use board::Position;
 use moves::{Goal, Move, Square};
-use rounds::{Key, NoGate, SolveFault, Task, keys_over, make_table};
+use rounds::{NoGate, SolveFault, Task, keys_over, make_table};
+use searcher::Key;
 use std::alloc::Global;
 use std::process::Abort;
 use std::sync::Wait;

@@ -2,7 +2,7 @@
 use board::{Position, read_fen};
 use decision::Answer;
 use moves::{Goal, Move, Square};
-use rounds::Key;
+use searcher::Key;
 use searcher::Halt;
 use solver::{Solver, StopSource};
 use std::alloc::Global;
