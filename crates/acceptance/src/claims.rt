@@ -4,7 +4,7 @@ use decision::Answer;
 use moves::{Board, Goal, Move, Square, read_sound};
 use std::alloc::Global;
 use std::process::Abort;
-use verifying::{Fault, verify, verify_none};
+use verifying::{Fault, verify};
 
 fn board(rt: &impl Abort, text: &str) -> Board {
     Board::of(&read_sound(text.as_bytes()).expect(rt, "a position"))
@@ -26,39 +26,45 @@ const PAWN: &str = "k4/2P2/1K3/5/5 w";
 fn takes_what_shows_that_nothing_is_forced(rt: HostRuntime) {
     let kings = board(&rt, KINGS);
     for (limit, text) in [
-        (1, "\n"),
-        (2, "\n"),
-        (3, "aaa\n"),
-        (4, "acb\n"),
-        (5, "aaa\n"),
+        (1, "none within 1\n\n"),
+        (2, "none within 2\n\n"),
+        (3, "none within 3\naaa\n"),
+        (4, "none within 4\nacb\n"),
+        (5, "none within 5\naaa\n"),
+        // the three positions behind the replies are claims too: a king on e1 has five moves, on e2 eight, on f2 five
+        (7, "none within 7\naaa\naaaaa\naaaaaaaa\naaaaa\n"),
     ] {
-        let answer = verify_none(rt.alloc(), &kings, Goal::Mate, limit, text.as_bytes());
+        let answer = verify(rt.alloc(), &kings, Goal::Mate, text.as_bytes());
         assert!(rt; answer == Ok(Answer::NoneWithin(limit)), "{text}");
     }
-    // within seven plies the three positions behind the replies are claims too: a king on e1 has five moves, on e2 eight, on f2 five
-    let seven = verify_none(
-        rt.alloc(),
-        &kings,
-        Goal::Mate,
-        7,
-        b"aaa\naaaaa\naaaaaaaa\naaaaa\n",
-    );
-    assert!(rt; seven == Ok(Answer::NoneWithin(7)));
 }
 
 #[test]
 fn refuses_what_shows_nothing(rt: HostRuntime) {
     let kings = board(&rt, KINGS);
     for text in [
-        "", "aaa", "aa\n", "aaaa\n", "aad\n", "aa.\n", "aa-\n", "a a\n", "\n",
+        "none within 3\n",
+        "none within 3\naaa",
+        "none within 3\naa\n",
+        "none within 3\naaaa\n",
+        "none within 3\naad\n",
+        "none within 3\naa.\n",
+        "none within 3\naa-\n",
+        "none within 3\na a\n",
+        "none within 3\n\n",
     ] {
-        let answer = verify_none(rt.alloc(), &kings, Goal::Mate, 3, text.as_bytes());
+        let answer = verify(rt.alloc(), &kings, Goal::Mate, text.as_bytes());
         assert!(rt; answer == Err(Fault::Claim(2)), "{text}");
     }
-    let more = verify_none(rt.alloc(), &kings, Goal::Mate, 3, b"aaa\naaa\n");
+    let more = verify(
+        rt.alloc(),
+        &kings,
+        Goal::Mate,
+        b"none within 3\naaa\naaa\n",
+    );
     assert!(rt; more == Err(Fault::Claim(3)));
     let mate = board(&rt, "k5/6/1K4/6/6/5R w");
-    let within_one = verify_none(rt.alloc(), &mate, Goal::Mate, 1, b"\n");
+    let within_one = verify(rt.alloc(), &mate, Goal::Mate, b"none within 1\n\n");
     assert!(rt; within_one == Err(Fault::Claim(2)));
 }
 

@@ -26,7 +26,7 @@ pub struct Certificate {
     plies: u8,
     /// The answer's move, as long as yes claims have no line yet.
     first: Option<Move>,
-    claims: Claims,
+    claims: Claims<Global>,
     next: usize,
 }
 
@@ -85,7 +85,7 @@ impl Certificate {
         self.next = 0;
         self.claims = Claims::new(self.chooser.alloc);
         if plies > 0 {
-            self.claims.push(self.root.position.copied(), plies)?;
+            self.claims.push(&self.root.position, plies)?;
         }
         Ok(())
     }

@@ -5,11 +5,11 @@ ghost use Rattle.rules.specs.Moves.{IsLawful};
 use crate::choosing::Chooser;
 use decision::Question;
 use moves::{Move, lawful_on};
-use std::alloc::AllocError;
+use std::alloc::{AllocError, Global};
 use verifying::{Claims, LEAF, Word, place_of};
 
 /// The place of the first reply to a position that is claimed for so many plies.
-fn claimed_place(claims: &Claims, q: &Question, replies: &[Move], left: u8) -> Option<usize>
+fn claimed_place(claims: &Claims<Global>, q: &Question, replies: &[Move], left: u8) -> Option<usize>
     requires { All (IsLawful q.now.position) replies.now }
 {
     for place in 0..replies.len() {
@@ -25,7 +25,7 @@ fn claimed_place(claims: &Claims, q: &Question, replies: &[Move], left: u8) -> O
 /// claim gets one, unless the checker looks itself.
 fn escape(
     chooser: &mut Chooser,
-    claims: &mut Claims,
+    claims: &mut Claims<Global>,
     q: &Question,
     left: u8,
 ) -> Result<Word, AllocError>
@@ -39,7 +39,7 @@ fn escape(
         return Ok(Word::Stalemated);
     };
     if left > LEAF {
-        claims.push(q.after(reply).position, left)?;
+        claims.push(&q.after(reply).position, left)?;
     }
     Ok(Word::Place(place_of(replies.as_slice(), reply)))
 }
@@ -47,7 +47,7 @@ fn escape(
 /// What the line of a no claim says of these moves.
 pub(crate) fn no_words(
     chooser: &mut Chooser,
-    claims: &mut Claims,
+    claims: &mut Claims<Global>,
     q: &Question,
     moves: &[Move],
     plies: u8,

@@ -5,13 +5,13 @@ ghost use Rattle.rules.specs.Moves.{IsLawful};
 use crate::choosing::Chooser;
 use decision::Question;
 use moves::{Move, lawful_on};
-use std::alloc::AllocError;
+use std::alloc::{AllocError, Global};
 use verifying::{Claims, LEAF, Word, place_of};
 
 /// What meets a reply, at the position after it. A position that has no claim gets one, unless the checker looks itself.
 fn met(
     chooser: &mut Chooser,
-    claims: &mut Claims,
+    claims: &mut Claims<Global>,
     q: &Question,
     left: u8,
 ) -> Result<Word, AllocError>
@@ -24,14 +24,14 @@ fn met(
     if plies <= LEAF {
         return Ok(Word::Seen);
     }
-    claims.push(q.position.copied(), plies)?;
+    claims.push(&q.position, plies)?;
     Ok(Word::Place(usize::from(plies / 2)))
 }
 
 /// What meets each of the replies.
 fn met_all(
     chooser: &mut Chooser,
-    claims: &mut Claims,
+    claims: &mut Claims<Global>,
     q: &Question,
     replies: &[Move],
     left: u8,
@@ -50,7 +50,7 @@ fn met_all(
 /// What the line of a yes claim says, whose move wins.
 pub(crate) fn yes_words(
     chooser: &mut Chooser,
-    claims: &mut Claims,
+    claims: &mut Claims<Global>,
     q: &Question,
     m: Move,
     plies: u8,

@@ -1,2 +1,3 @@
 mod DeviceLemmas
 pub mod LineLemmas
+pub mod WithinLemmas

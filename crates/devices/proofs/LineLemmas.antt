@@ -75,12 +75,12 @@ line_ended raw held line short pushed holds =
 
 -- ---- steps of the reading
 
-byte_gone : (now after : Option (List ℕ)) (byte : ℕ) → TakesByte now after (Some byte) → Consumes now after (byte ∷ [])
+pub byte_gone : (now after : Option (List ℕ)) (byte : ℕ) → TakesByte now after (Some byte) → Consumes now after (byte ∷ [])
 byte_gone None after byte takes = tt
 byte_gone (Some xs) None byte (ys, one, left) = absurd cc
 byte_gone (Some xs) (Some zs) byte (ys, one, left) = let same : ys ≡ zs = cc in one ∙ ap (λ l. byte ∷ l) same
 
-at_end : (now after : Option (List ℕ)) → TakesByte now after None → IsAtEnd now
+pub at_end : (now after : Option (List ℕ)) → TakesByte now after None → IsAtEnd now
 at_end None after takes = tt
 at_end (Some xs) after takes = takes.0
 

@@ -2,3 +2,4 @@
 pub mod Device
 pub mod Input
 pub mod Lines
+pub mod Within

@@ -4,6 +4,7 @@
 mod device;
 mod lines;
 mod transfer;
+mod within;
 
 pub use device::{Counted, Failed, Sink, Source};
 pub use lines::{Held, Next, Taken, Unread};

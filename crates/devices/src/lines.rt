@@ -69,7 +69,7 @@ impl Unread {
     }
 
     /// The next byte, or none at the end of the input.
-    fn next_byte<S: Source>(&mut self, reader: &mut S) -> Result<Option<u8>, Failed>
+    pub(crate) fn next_byte<S: Source>(&mut self, reader: &mut S) -> Result<Option<u8>, Failed>
         requires bounds { IsUnread self.old }
         requires room { S.failures reader.old < u64.MAX }
         ensures bounds { IsUnread self.new }

@@ -1,15 +1,23 @@
 -- The reply to a certificate.
-use Rattle.std.proofs.Common.{◌≡◌, List, ℕ, Option, Result, Ok, Err, IsErr, IsErrAnd, inl, inr, refl}
+use Rattle.std.proofs.Common.{◌≡◌, List, ℕ, Option, Result, Ok, Err, IsErr, IsErrAnd, inl, inr, refl, ap, sym, subst}
 use Rattle.board.specs.Board.{PlainBoard}
 use Rattle.board.specs.declared.fault.FenFault.{FenFault}
 use Rattle.rules.specs.Reading.{IsSoundFault}
+use Rattle.rules.specs.declared.goal.Goal.{Goal}
+use Rattle.decision.specs.declared.answer.Answer.{Answer}
+use Rattle.decision.specs.Answer.{IsAnswer}
+use Rattle.certificates.specs.Answers.{IsUpTo}
+use Rattle.verifying.specs.declared.fault.Fault.{Fault}
+use Rattle.verifying.specs.declared.fault.Fault.TheVariants as certificate
+use Rattle.verifying.specs.Refusals.{TellsOf}
+use Rattle.refusals.specs.declared.refusal.Refusal.TheVariants as refusal
 use Rattle.command_line.specs.declared.line.Subject.{Subject}
 use Rattle.devices.specs.Input.{OfInput}
 use Rattle.replies.specs.Outcome.{GivesIfRead}
 use Rattle.refusals.specs.Reply.{Reply, answered, refused}
-use Rattle.replies.specs.Output.{IsSoundText}
+use Rattle.replies.specs.Output.{IsSoundText, answer_text}
 use Rattle.refusals.specs.Refusal.{refusal_of_fen}
-use Rattle.replies.specs.Verdict.{ShowsVerified, IsVerdict, GivesVerdict}
+use Rattle.replies.specs.Verdict.{ShowsProved, IsVerdict, GivesVerdict, trouble_of_certificate}
 use Rattle.replies.specs.declared.trouble.Trouble.{Trouble}
 use Rattle.replies.specs.declared.trouble.Trouble.TheVariants.{Refused, ReadFailed}
 use Rattle.replies.proofs.ReplyLemmas.{of_any, of_input_then, refusal_gives}
@@ -24,12 +32,35 @@ gives_weaker bytes P Q (Err ReadFailed) so gives = tt
 
 -- what is shown at the sound position of the subject is the verdict
 pub verdict_at : {B : Type 0} (bytes : B → List ℕ) (subject : Subject) (known : Option (List ℕ)) (b : PlainBoard) (r : Result B Trouble) → IsSoundText subject.fen.now b
-    → OfInput known (λ input. GivesIfRead bytes (ShowsVerified subject.goal b input) r) → GivesVerdict bytes subject known r
+    → OfInput known (λ input. GivesIfRead bytes (ShowsProved subject.goal b input) r) → GivesVerdict bytes subject known r
 verdict_at bytes subject known b r sound gives = of_input_then known _ _ gives
-    (λ input one. gives_weaker bytes (ShowsVerified subject.goal b input) (IsVerdict subject input) r (λ reply shows. inl (b, sound, shows)) one)
+    (λ input one. gives_weaker bytes (ShowsProved subject.goal b input) (IsVerdict subject input) r (λ reply shows. inl (b, sound, shows)) one)
 
 -- and so is the refusal of the text's fault, whatever the input
 pub verdict_fault : {B : Type 0} (bytes : B → List ℕ) (subject : Subject) (known : Option (List ℕ)) (r : Result B Trouble) (fault : FenFault)
     → IsSoundFault subject.fen.now fault → IsErr r × IsErrAnd r (λ trouble. trouble ≡ Refused (refusal_of_fen fault)) → GivesVerdict bytes subject known r
 verdict_fault bytes subject known r fault is err =
     of_any known _ (λ input. refusal_gives bytes (IsVerdict subject input) r (refusal_of_fen fault) (inr (inr (fault, is, refl))) err)
+
+-- what the answer tells of the input is shown
+pub answer_shown : {B : Type 0} (bytes : B → List ℕ) (goal : Goal) (b : PlainBoard) (known : Option (List ℕ)) (answer : Answer) (text : B) → ((limit : ℕ) → IsUpTo limit answer → IsAnswer goal b limit answer)
+    → OfInput known (λ input. TellsOf goal input (Ok answer)) → bytes text ≡ answer_text goal answer → OfInput known (λ input. GivesIfRead bytes (ShowsProved goal b input) (Ok text))
+answer_shown bytes goal b known answer text right tells is = of_input_then known _ _ tells (λ input one. inl (answer, (right, one), ap answered is))
+
+-- and so is what a fault tells
+pub fault_shown : {B : Type 0} (bytes : B → List ℕ) (goal : Goal) (b : PlainBoard) (known : Option (List ℕ)) (fault : Fault) (trouble : Trouble) → OfInput known (λ input. TellsOf goal input (Err fault)) → trouble ≡ trouble_of_certificate fault
+    → OfInput known (λ input. GivesIfRead bytes (ShowsProved goal b input) (Err trouble))
+fault_shown bytes goal b known fault trouble tells is = of_input_then known _ _ tells
+    (λ input one. subst (λ (t : Trouble). GivesIfRead bytes (ShowsProved goal b input) (Err t)) (sym is) (of_fault input fault one))
+  where
+    of_fault : (input : List ℕ) (fault : Fault) → TellsOf goal input (Err fault) → GivesIfRead bytes (ShowsProved goal b input) (Err (trouble_of_certificate fault))
+    of_fault input certificate.Answer one = inr (inr (refusal.Answer, one, refl))
+    of_fault input (certificate.Claim line) one = inr (inr (refusal.Claim line, one, refl))
+    of_fault input certificate.TooLong one = inr (inr (refusal.TooLong, one, refl))
+    of_fault input certificate.NoMemory one = inl refl
+    of_fault input certificate.ReadFailed one = tt
+
+-- want of memory is a reply to each certificate
+pub memory_shown : {B : Type 0} (bytes : B → List ℕ) (goal : Goal) (b : PlainBoard) (known : Option (List ℕ)) (r : Result B Trouble) → IsErr r × IsErrAnd r (λ trouble. trouble ≡ Refused refusal.NoMemory)
+    → OfInput known (λ input. GivesIfRead bytes (ShowsProved goal b input) r)
+memory_shown bytes goal b known r err = of_any known _ (λ input. refusal_gives bytes (ShowsProved goal b input) r refusal.NoMemory (inl refl) err)

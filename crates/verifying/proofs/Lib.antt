@@ -7,3 +7,5 @@ pub mod Winning
 pub mod Shown
 pub mod FirstLines
 pub mod Mates
+pub mod Standing
+pub mod Taken

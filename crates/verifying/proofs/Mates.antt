@@ -1,5 +1,5 @@
--- What the two parts of a mate's certificate show, and that it certifies the mate.
-use Rattle.std.proofs.Common.{◌≡◌, ◌⊎◌, ◌<◌, ℕ, ◌-◌, List, [], ◌∷◌, ◌++◌, length, get_or, take, inl, inr, sym, ap, ◌∙◌, subst, arith, All, Contains, Some, slice_get, Result, Ok, Err, OnOk}
+-- The first line of each part of a mate's certificate.
+use Rattle.std.proofs.Common.{◌≡◌, ◌⊎◌, ◌<◌, ℕ, ◌-◌, List, [], ◌∷◌, ◌++◌, length, get_or, take, inl, inr, sym, ap, ◌∙◌, subst, arith, All, Contains, Some, slice_get}
 use Rattle.std.proofs.lemmas.List.{get_or-take, length-take, get_or_default}
 use Rattle.std.proofs.lemmas.List.Elements.{All-get_or, All-take, Contains-push}
 use Rattle.board.specs.Board.{PlainBoard}
@@ -7,15 +7,14 @@ use Rattle.rules.specs.declared.goal.Goal.{Goal}
 use Rattle.rules.specs.Squares.{Ply}
 use Rattle.rules.specs.Moves.{IsLawful}
 use Rattle.rules.specs.Order.{IsPlyBefore, ListsLawful}
-use Rattle.decision.specs.declared.answer.Answer.TheVariants.{Mate}
 use Rattle.certificates.specs.declared.claim.Claim.{Claim}
-use Rattle.certificates.specs.Claims.{FailsBy, WinsBy, IsWon, AllWon, AllHold}
-use Rattle.certificates.specs.Answers.{IsOdd, HasClaim, Certifies}
+use Rattle.certificates.specs.Claims.{FailsBy, WinsBy, IsWon}
+use Rattle.certificates.specs.Answers.{HasClaim}
 use Rattle.verifying.specs.Growing.{Extends}
-use Rattle.verifying.specs.Parts.{ShowsWin, HasFewer, LesserFail, ShowsLeast}
-use Rattle.verifying.proofs.Growing.{still_there, still_wins, still_fails}
+use Rattle.verifying.specs.Parts.{HasFewer, LesserFail, ShowsFewer}
+use Rattle.verifying.proofs.Growing.{still_there, still_fails}
 use Rattle.verifying.proofs.Failing.{all_lawful}
-use Rattle.verifying.proofs.Places.{claim_more}
+use Rattle.verifying.proofs.Places.{claim_more, one_item}
 
 -- ---- the first claim of a part
 
@@ -27,20 +26,16 @@ pub some_claim : (none claims : List Claim) (c : Claim) → none ≡ [] → clai
 some_claim none claims c empty is = subst (λ (l : List Claim). 0 < length l) (sym (is ∙ ap (λ (l : List Claim). l ++ c ∷ []) empty)) (omega arith)
 
 -- what its line showed of it
-pub first_won : (goal : Goal) (new : List Claim) (b copy : PlainBoard) (n k : ℕ) (m first : Ply) → copy ≡ b → m ≡ first → WinsBy goal new copy k m → k ≡ n → WinsBy goal new b n first
-first_won goal new b copy n k m first same is wins plies =
-    subst (λ (x : PlainBoard). WinsBy goal new x n first) same (subst (λ (j : ℕ). WinsBy goal new copy j first) plies (subst (λ (x : Ply). WinsBy goal new copy k x) is wins))
+module _ (goal : Goal) (old start new : List Claim) (b : PlainBoard) (n : ℕ) (read : Claim) (m first : Ply) (empty : old ≡ []) (is : start ≡ old ++ record { position = b; plies = n } ∷ []) (at : slice_get start 0 ≡ Some read) (wins : WinsBy goal new read.position read.plies m) where
+  pub first_wins : m ≡ first → WinsBy goal new b n first
+  first_wins same =
+      let one : read ≡ record { position = b; plies = n } = one_item read _ (sym at ∙ first_claim old start _ empty is) in
+      subst (λ (x : Claim). WinsBy goal new x.position x.plies first) one (subst (λ (x : Ply). WinsBy goal new read.position read.plies x) same wins)
 
-pub first_of : (goal : Goal) (old new : List Claim) (m : Ply) → Extends old new → 0 < length old → ((c : Claim) → slice_get old 0 ≡ Some c → WinsBy goal new c.position c.plies m) → All (IsWon goal new) (take 1 new)
-first_of goal old new m grown some wins =
-    claim_more (IsWon goal new) (IsWon goal new) old new 0 grown some (λ c won. won) (λ k d lt. absurd (omega (arith, lt))) (λ c at. (m, wins c at))
-
--- the only claim is the answer's, and its line names the answer's move
-pub win_shown : (goal : Goal) (b copy : PlainBoard) (n k : ℕ) (m first : Ply) (none start middle claims : List Claim) → copy ≡ b → none ≡ [] → start ≡ none ++ record { position = copy; plies = k } ∷ []
-    → ((c : Claim) → slice_get start 0 ≡ Some c → WinsBy goal middle c.position c.plies m) → m ≡ first → Extends middle claims → k ≡ n → AllWon goal claims → ShowsWin goal b n first
-win_shown goal b copy n k m first none start middle claims same empty is wins one grown plies won =
-    let only : Claim = record { position = copy; plies = k } in
-    (claims, won, first_won goal claims b copy n k m first same one (still_wins middle claims grown goal copy k m (wins only (first_claim none start only empty is))) plies)
+  pub first_won : Extends start new → All (IsWon goal new) (take 1 new)
+  first_won grown =
+      claim_more (IsWon goal new) (IsWon goal new) start new 0 grown (some_claim old start _ empty is) (λ c won. won) (λ k d lt. absurd (omega (arith, lt)))
+      (λ c here. (m, subst (λ (x : Claim). WinsBy goal new x.position x.plies m) (one_item read c (sym at ∙ here)) wins))
 
 -- ---- moves before one of a list
 
@@ -79,35 +74,17 @@ module _ (goal : Goal) (claims : List Claim) (b : PlainBoard) (n : ℕ) (moves :
 pub front_lawful : (b : PlainBoard) (moves list : List Ply) (place : ℕ) → ListsLawful b moves → list ≡ moves → All (IsLawful b) (take place list)
 front_lawful b moves list place lists same = All-take (IsLawful b) place list (all_lawful b moves list lists same)
 
--- ---- the parts
+-- ---- the no claim of two plies fewer
 
-pub fewer_claim : (b copy : PlainBoard) (n k : ℕ) (none claims : List Claim) → copy ≡ b → claims ≡ none ++ record { position = copy; plies = k } ∷ [] → k ≡ n - 2 → HasFewer claims b n
-fewer_claim b copy n k none claims same is plies =
-    let there : HasClaim claims copy k = subst (λ (l : List Claim). Contains l (record { position = copy; plies = k })) (sym is) (Contains-push none _) in
-    inr (subst (λ (j : ℕ). HasClaim claims b j) plies (subst (λ (x : PlainBoard). HasClaim claims x k) same there))
+pub fewer_claim : (b : PlainBoard) (n k : ℕ) (old claims : List Claim) → claims ≡ old ++ record { position = b; plies = k } ∷ [] → k ≡ n - 2 → HasFewer claims b n
+fewer_claim b n k old claims is plies =
+    let there : HasClaim claims b k = subst (λ (l : List Claim). Contains l (record { position = b; plies = k })) (sym is) (Contains-push old _) in
+    inr (subst (λ (j : ℕ). HasClaim claims b j) plies there)
 
 pub still_fewer : (old new : List Claim) → Extends old new → (b : PlainBoard) (n : ℕ) → HasFewer old b n → HasFewer new b n
 still_fewer old new grown b n (inl one) = inl one
 still_fewer old new grown b n (inr claimed) = inr (still_there old new grown _ claimed)
 
-pub shows_least : (goal : Goal) (b copy : PlainBoard) (n : ℕ) (m : Ply) (start middle claims : List Claim) → copy ≡ b → HasFewer start b n → Extends start middle → LesserFail goal middle copy n m → Extends middle claims → AllHold goal claims → ShowsLeast goal b n m
-shows_least goal b copy n m start middle claims same fewer grown lesser more held = (
-  claims,
-  held,
-  still_fewer middle claims more b n (still_fewer start middle grown b n fewer),
-  subst (λ (x : PlainBoard). LesserFail goal claims x n m) same (λ l before. still_fails middle claims more goal copy n l (lesser l before)),
-)
-
-pub mate_shown : (goal : Goal) (b : PlainBoard) (n : ℕ) (m : Ply) → IsOdd n → ShowsWin goal b n m → ShowsLeast goal b n m → Certifies goal b (Mate n m)
-mate_shown goal b n m odd win least = record {
-  yes_claims = win.0;
-  no_claims = least.0;
-  won = win.1;
-  held = least.1;
-  shown = record { odd = odd; wins = win.2; no_fewer = least.2; no_lesser = least.3 };
-}
-
--- what holds anyhow holds where something was read
-pub if_read : {T E : Type 0} {P : Type 0} (read : Result T E) → P → OnOk read P
-if_read (Ok x) p = p
-if_read (Err e) p = tt
+pub still_shows_fewer : (goal : Goal) (old new : List Claim) → Extends old new → (b : PlainBoard) (n : ℕ) (m : Ply) → ShowsFewer goal old b n m → ShowsFewer goal new b n m
+still_shows_fewer goal old new grown b n m (fewer, lesser) =
+    (still_fewer old new grown b n fewer, λ l before. still_fails old new grown goal b n l (lesser l before))

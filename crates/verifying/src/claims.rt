@@ -1,9 +1,10 @@
 //! The claims of a certificate, in the order of their lines.
 ghost use Rattle.std.specs.Prelude.{◌≡◌, ◌<◌, ◌++◌, ◌∷◌, [], Contains, IfOk, IfSome, IsTrue, OnErr, OnOk, length, slice_get, Some};
 
+use crate::kept::Kept;
 use certificates::Claim;
 use moves::Board;
-use std::alloc::{AllocError, Global};
+use std::alloc::{AllocError, Allocator};
 use std::marker::Model;
 
 /// A place of the index where no claim's number stands.
@@ -12,13 +13,13 @@ const FREE: u32 = u32::MAX;
 /// Claims, and an index from positions to the places of their claims. What it finds is compared, so nothing rests on the index but
 /// that a claim which is there is found.
 #[derive(Drop)]
-pub struct Claims {
-    alloc: Global,
-    list: Vec<Claim>,
-    index: Vec<u32>,
+pub struct Claims<A: Allocator> {
+    alloc: A,
+    list: Vec<Kept, A>,
+    index: Vec<u32, A>,
 }
 
-impl Model for Claims {
+impl<A: Allocator> Model for Claims<A> {
     ghost use Rattle.std.specs.Prelude.{List};
     ghost use Rattle.certificates.specs.declared.claim.Claim.{Claim};
 
@@ -40,7 +41,7 @@ fn first_place(words: &[u64; 3], places: usize) -> usize
 }
 
 /// Puts the number into the first free place for the words, if there is one.
-fn enter(index: &mut Vec<u32>, words: &[u64; 3], number: u32) {
+fn enter(index: &mut [u32], words: &[u64; 3], number: u32) {
     let places = index.len();
     if places == 0 {
         return;
@@ -56,28 +57,23 @@ fn enter(index: &mut Vec<u32>, words: &[u64; 3], number: u32) {
 }
 
 /// An index with so many places, in which the claims stand.
-fn index_of(alloc: Global, list: &[Claim], places: usize) -> Result<Vec<u32>, AllocError> {
+fn index_of<A: Allocator>(
+    alloc: A,
+    list: &[Kept],
+    places: usize,
+) -> Result<Vec<u32, A>, AllocError> {
     let mut index = vec![in alloc; FREE; places]?;
     for number in 0..list.len() {
         if number < FREE as usize {
-            enter(&mut index, &list[number].position.words(), number as u32);
+            enter(index.as_mut_slice(), &list[number].words(), number as u32);
         }
     }
     Ok(index)
 }
 
-/// Whether the claim is about the position.
-fn is_about(claim: &Claim, position: &Board) -> bool
-    ensures { IsTrue result → claim.now.position ≡ position.now }
-{
-    let words = claim.position.words();
-    let others = position.words();
-    words == others
-}
-
-impl Claims {
+impl<A: Allocator + Copy> Claims<A> {
     /// No claims.
-    pub fn new(alloc: Global) -> Claims
+    pub fn new(alloc: A) -> Claims<A>
         ensures { result ≡ [] }
     {
         Claims {
@@ -99,11 +95,7 @@ impl Claims {
         requires { place < length self.now }
         ensures { slice_get self.now place ≡ Some result }
     {
-        let claim = &self.list[place];
-        Claim {
-            position: claim.position.copied(),
-            plies: claim.plies,
-        }
+        self.list[place].claim()
     }
 
     /// The plies of a claim about the position, if the index finds one.
@@ -118,8 +110,8 @@ impl Claims {
         let mut place = first_place(&words, places);
         for _ in 0..places {
             let claim = self.list.get(self.index[place] as usize)?;
-            if is_about(claim, position) {
-                return Some(claim.plies);
+            if claim.is_about(position) {
+                return Some(claim.plies());
             }
             place = (place + 1) % places;
         }
@@ -136,21 +128,29 @@ impl Claims {
             return Err(AllocError);
         }
         if wanted > self.index.len() / 4 * 3 {
-            self.index = index_of(self.alloc, self.list.as_slice(), wanted * 4)?;
+            self.index = index_of(self.alloc, self.list.as_slice(), wanted * 2)?;
         }
         Ok(())
     }
 
     /// Adds a claim at the end.
-    pub fn push(&mut self, position: Board, plies: u8) -> Result<(), AllocError>
-        ensures ok { OnOk result (self.new ≡ self.old ++ record { position = position; plies = plies } ∷ []) }
+    pub fn push(&mut self, position: &Board, plies: u8) -> Result<(), AllocError>
+        ensures ok { OnOk result (self.new ≡ self.old ++ record { position = position.now; plies = plies } ∷ []) }
         ensures err { OnErr result (self.new ≡ self.old) }
     {
         self.make_room()?;
         let words = position.words();
         let number = self.list.len() as u32;
-        self.list.push(Claim { position, plies })?;
-        enter(&mut self.index, &words, number);
+        self.list.push(Kept::of(position, plies))?;
+        enter(self.index.as_mut_slice(), &words, number);
         Ok(())
+    }
+
+    /// Leaves no claims.
+    pub fn clear(&mut self)
+        ensures { self.new ≡ [] }
+    {
+        self.list.clear();
+        self.index.clear();
     }
 }

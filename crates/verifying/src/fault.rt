@@ -1,8 +1,9 @@
 //! Why a certificate proves nothing.
+use devices::InputFault;
 use std::alloc::AllocError;
 use thiserror::Error;
 
-/// The first fault of a certificate, or that memory ran out.
+/// The first fault of a certificate, or that memory ran out or a read failed.
 #[derive(Debug, Clone, Copy, PartialEq, Eq, Error)]
 pub enum Fault {
     /// The first line is no answer.
@@ -17,6 +18,9 @@ pub enum Fault {
     /// There is no memory for the claims.
     #[error("NoMemory")]
     NoMemory,
+    /// A read failed.
+    #[error("a read failed")]
+    ReadFailed,
 }
 
 impl From<AllocError> for Fault {
@@ -27,5 +31,20 @@ impl From<AllocError> for Fault {
 
     fn from(_error: AllocError) -> Fault {
         Fault::NoMemory
+    }
+}
+
+impl From<InputFault> for Fault {
+    ghost use Rattle.std.specs.Prelude.{◌≡◌};
+    ghost use Rattle.verifying.specs.Refusals.{fault_of_input};
+
+    ghost from_gives = { λ input fault. fault ≡ fault_of_input input };
+
+    fn from(input: InputFault) -> Fault {
+        match input {
+            InputFault::ReadFailed => Fault::ReadFailed,
+            InputFault::TooLong => Fault::TooLong,
+            InputFault::NoMemory => Fault::NoMemory,
+        }
     }
 }

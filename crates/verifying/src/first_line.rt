@@ -1,12 +1,11 @@
 //! The first line of a certificate, which is its answer.
-ghost use Rattle.std.specs.Prelude.{◌≡◌, ◌+◌, ◌<◌, ◌≤◌, ◌++◌, ◌∷◌, [], IfSome, Some, length, take};
+ghost use Rattle.std.specs.Prelude.{◌≡◌, ◌≢◌, ◌+◌, ◌<◌, ◌≤◌, ◌++◌, ◌∷◌, [], ℕ, IfSome, MatchOption, Some, length, slice_index, take};
 ghost use Rattle.std.specs.Fmt.{decimal};
 ghost use Rattle.rules.specs.MoveText.{square_text, promotion_text, move_text};
 ghost use Rattle.rules.specs.Moves.{IsPromoted};
 ghost use Rattle.certificates.specs.Answers.{IsOdd};
 ghost use Rattle.verifying.specs.FirstLine.{goal_text, answer_text, IsInRange};
 
-use crate::lines::first_place;
 use board::Kind;
 use decision::{Answer, MOST_LIMIT};
 use moves::{Goal, Move, Square};
@@ -117,6 +116,21 @@ fn move_of(name: &[u8]) -> Option<Move>
     if name.len() == 5 {
         let kind = kind_of(name[4])?;
         return move_to(name, Some(kind));
+    }
+    None
+}
+
+/// The place of the first such byte.
+fn first_place(bytes: &[u8], wanted: u8) -> Option<usize>
+    ensures { MatchOption result
+        ((k : ℕ) → k < length bytes.now → slice_index bytes.now k ≢ wanted)
+        (λ at. (at < length bytes.now) × (slice_index bytes.now at ≡ wanted)
+        × ((k : ℕ) → k < at → slice_index bytes.now k ≢ wanted)) }
+{
+    for at in 0..bytes.len() {
+        if bytes[at] == wanted {
+            return Some(at);
+        }
     }
     None
 }

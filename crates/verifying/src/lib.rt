@@ -1,15 +1,15 @@
 //! The checker of certificates, which trusts no solver: it reads claims line by line, and looks three plies ahead.
 #![tactic(auto)]
 
+mod checker;
 mod claims;
 mod fault;
 mod first_line;
+mod kept;
 mod leaf;
-mod lines;
-mod mate;
 mod no_claims;
-mod none;
-mod parts;
+mod part;
+mod steps;
 mod whole;
 mod words;
 mod yes_claims;
@@ -17,7 +17,6 @@ mod yes_claims;
 pub use claims::Claims;
 pub use fault::Fault;
 pub use leaf::LEAF;
-pub use mate::place_of;
-pub use none::verify_none;
-pub use whole::verify;
+pub use steps::place_of;
+pub use whole::{verify, verify_input};
 pub use words::Word;

@@ -13,19 +13,24 @@ use crate::leaf::{LEAF, is_forced_within, is_reached};
 use crate::words::Word;
 use certificates::Claim;
 use moves::{Board, Goal, Move, after, lawful_on};
-use std::alloc::AllocError;
+use std::alloc::{AllocError, Allocator};
 
 /// Whether nothing is forced at the position within so many plies, or a claim says so. A claim about a position that has none is
 /// made.
-fn resists(claims: &mut Claims, goal: Goal, position: Board, plies: u8) -> Result<bool, AllocError>
+fn resists<A: Allocator + Copy>(
+    claims: &mut Claims<A>,
+    goal: Goal,
+    position: &Board,
+    plies: u8,
+) -> Result<bool, AllocError>
     ensures more { Extends claims.old claims.new }
     ensures holds { IfOk result (λ yes. IsTrue yes
-        → ForcesNothing goal position plies ⊎ ClaimsSoMany claims.new position plies) }
+        → ForcesNothing goal position.now plies ⊎ ClaimsSoMany claims.new position.now plies) }
 {
     if plies <= LEAF {
-        return Ok(!is_forced_within(&position, goal, plies));
+        return Ok(!is_forced_within(position, goal, plies));
     }
-    match claims.find(&position) {
+    match claims.find(position) {
         Some(claimed) => {
             if claimed < plies {
                 return Ok(false);
@@ -40,8 +45,8 @@ fn resists(claims: &mut Claims, goal: Goal, position: Board, plies: u8) -> Resul
 }
 
 /// Whether the attacker's move, after which the defender is to move, fails within the plies that are left, as the word says.
-fn fails(
-    claims: &mut Claims,
+fn fails<A: Allocator + Copy>(
+    claims: &mut Claims<A>,
     goal: Goal,
     board: &Board,
     left: u8,
@@ -59,7 +64,7 @@ fn fails(
                 return Ok(false);
             }
             let reply = replies.as_slice()[place];
-            resists(claims, goal, after(board, reply), left)
+            resists(claims, goal, &after(board, reply), left)
         }
         _ => Ok(false),
     }
@@ -79,8 +84,8 @@ fn none_reaches(goal: Goal, board: &Board, moves: &[Move]) -> bool
 }
 
 /// Whether each of the moves fails within the claim's plies, as the words say, one each.
-pub(crate) fn all_fail(
-    claims: &mut Claims,
+pub(crate) fn all_fail<A: Allocator + Copy>(
+    claims: &mut Claims<A>,
     goal: Goal,
     claim: &Claim,
     moves: &[Move],

@@ -1,36 +1,58 @@
 //! Whole certificates.
-ghost use Rattle.std.specs.Prelude.{ℕ, IfOk};
+ghost use Rattle.std.specs.Prelude.{◌≡◌, ◌+◌, ◌<◌, ℕ, IfOk};
 ghost use Rattle.decision.specs.Answer.{IsAnswer};
+ghost use Rattle.devices.specs.Input.{OfInput};
 ghost use Rattle.certificates.specs.Answers.{IsUpTo};
-ghost use Rattle.verifying.specs.FirstLine.{BeginsWith};
+ghost use Rattle.verifying.specs.Refusals.{TellsOf, reads_failed};
 
+use crate::checker::Checker;
 use crate::fault::Fault;
-use crate::first_line::answer_of;
-use crate::lines::{Lines, cut_line};
-use crate::mate::read_mate;
-use crate::none::verify_none;
 use decision::Answer;
+use devices::{Counted, Source, Unread};
 use moves::{Board, Goal};
-use std::alloc::Global;
+use std::alloc::Allocator;
 
-/// The answer of the certificate's first line, if the other lines prove it of the position.
-pub fn verify(alloc: Global, board: &Board, goal: Goal, text: &[u8]) -> Result<Answer, Fault>
+/// The most bytes of a line, its feed not counted.
+const MOST_LINE: usize = 8192;
+
+/// The answer of the first line of the certificate that the reader gives, if the other lines prove it of the position. Nothing is read
+/// behind the first fault.
+pub fn verify_input<S: Source, A: Allocator + Copy>(
+    alloc: A,
+    board: &Board,
+    goal: Goal,
+    reader: &mut S,
+) -> Result<Answer, Fault>
+    requires { S.failures reader.old < u64.MAX }
     // The answer of none within a limit is that of this limit, and a mate that of its plies and of any more.
     ensures answer { IfOk result (λ answer. (limit : ℕ) → IsUpTo limit answer → IsAnswer goal board.now limit answer) }
 
-    // It is what the text says.
-    ensures first_line { IfOk result (λ answer. BeginsWith goal answer text.now) }
+    // It is what the text says, or the fault is one of the text.
+    ensures text { OfInput (S.remaining reader.old) (λ input. TellsOf goal input result) }
+    ensures counts { S.failures reader.new ≡ S.failures reader.old + reads_failed result }
 {
-    let (line, rest) = cut_line(text, Fault::Answer)?;
-    let Some(answer) = answer_of(line, goal) else {
-        return Err(Fault::Answer);
-    };
-    match answer {
-        Answer::Mate { plies, first } => {
-            let mut lines = Lines::behind_answer(alloc, rest);
-            read_mate(&mut lines, board, goal, plies, first)?;
-            Ok(Answer::Mate { plies, first })
+    let mut checker = Checker::new(alloc, board, goal);
+    let mut unread = Unread::new();
+    let mut line = Vec::new(alloc);
+    for _ in 0..u64::MAX {
+        if !unread.next_line_within(reader, &mut line, MOST_LINE)? {
+            return checker.ended(line.as_slice());
         }
-        Answer::NoneWithin(limit) => verify_none(alloc, board, goal, limit, rest),
+        checker.take(line.as_slice())?;
     }
+    Err(Fault::NoMemory)
+}
+
+/// The same of a text.
+pub fn verify<A: Allocator + Copy>(
+    alloc: A,
+    board: &Board,
+    goal: Goal,
+    text: &[u8],
+) -> Result<Answer, Fault>
+    ensures answer { IfOk result (λ answer. (limit : ℕ) → IsUpTo limit answer → IsAnswer goal board.now limit answer) }
+    ensures text { TellsOf goal text.now result }
+{
+    let mut reader = Counted::new(text);
+    verify_input(alloc, board, goal, &mut reader)
 }

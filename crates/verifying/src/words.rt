@@ -2,7 +2,7 @@
 ghost use Rattle.std.specs.Prelude.{◌≡◌, ◌≢◌, ◌<◌, ◌≤◌, ◌∷◌, ◌++◌, [], ℕ, IfOk, IsTrue, MatchOption, length, replicate};
 ghost use Rattle.verifying.specs.Words.{letter_of, word_text, line_text};
 
-use std::alloc::AllocError;
+use std::alloc::{AllocError, Allocator};
 
 /// What a line says of a move or of a reply.
 #[derive(Clone, Copy, PartialEq, Eq, Debug)]
@@ -65,7 +65,10 @@ fn word_of(fifties: usize, byte: u8) -> Option<Word>
 }
 
 /// Puts the words of the line into the list, in place of what it held. Answers whether the line is one of words.
-pub(crate) fn read_words(line: &[u8], words: &mut Vec<Word>) -> Result<bool, AllocError>
+pub(crate) fn read_words<A: Allocator>(
+    line: &[u8],
+    words: &mut Vec<Word, A>,
+) -> Result<bool, AllocError>
     requires { length line.now ≤ 8192 }
     ensures { IfOk result (λ all. IsTrue all → line.now ≡ line_text words.new.items) }
 {

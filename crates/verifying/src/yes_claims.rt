@@ -12,22 +12,22 @@ use crate::leaf::{LEAF, is_forced_within, is_reached};
 use crate::words::Word;
 use certificates::Claim;
 use moves::{Board, Goal, Move, after, lawful_on};
-use std::alloc::AllocError;
+use std::alloc::{AllocError, Allocator};
 
 /// The greatest place that tells a claim's plies: twice that and one more are 63.
 const MOST_PLACE: usize = 31;
 
 /// Makes a claim about the position, which has none yet. The place tells its plies, at most those that are left.
-fn claim_anew(
-    claims: &mut Claims,
-    position: Board,
+fn claim_anew<A: Allocator + Copy>(
+    claims: &mut Claims<A>,
+    position: &Board,
     left: u8,
     place: usize,
 ) -> Result<bool, AllocError>
     ensures more { Extends claims.old claims.new }
-    ensures claimed { IfOk result (λ yes. IsTrue yes → ClaimsSoFew claims.new position left) }
+    ensures claimed { IfOk result (λ yes. IsTrue yes → ClaimsSoFew claims.new position.now left) }
 {
-    if place > MOST_PLACE || claims.find(&position).is_some() {
+    if place > MOST_PLACE || claims.find(position).is_some() {
         return Ok(false);
     }
     let plies = 2 * place as u8 + 1;
@@ -39,7 +39,7 @@ fn claim_anew(
 }
 
 /// Whether a claim says that the goal is forced within the plies that are left.
-fn has_claim(claims: &Claims, position: &Board, left: u8) -> bool
+fn has_claim<A: Allocator + Copy>(claims: &Claims<A>, position: &Board, left: u8) -> bool
     ensures { IsTrue result → ClaimsSoFew claims.now position.now left }
 {
     match claims.find(position) {
@@ -49,8 +49,8 @@ fn has_claim(claims: &Claims, position: &Board, left: u8) -> bool
 }
 
 /// Whether the attacker, to move at the position, forces the goal within the plies that are left, as the word says.
-fn meets(
-    claims: &mut Claims,
+fn meets<A: Allocator + Copy>(
+    claims: &mut Claims<A>,
     goal: Goal,
     position: Board,
     left: u8,
@@ -62,14 +62,14 @@ fn meets(
     match word {
         Word::Seen => Ok(is_forced_within(&position, goal, left.min(LEAF))),
         Word::Claimed => Ok(has_claim(claims, &position, left)),
-        Word::Place(place) => claim_anew(claims, position, left, place),
+        Word::Place(place) => claim_anew(claims, &position, left, place),
         Word::Stalemated => Ok(false),
     }
 }
 
 /// Whether each reply of the defender is met within the plies that are left, as the words say, one each.
-fn all_met(
-    claims: &mut Claims,
+fn all_met<A: Allocator + Copy>(
+    claims: &mut Claims<A>,
     goal: Goal,
     board: &Board,
     left: u8,
@@ -93,8 +93,8 @@ fn all_met(
 }
 
 /// Whether the attacker's move, after which the defender is to move, wins within the plies, as the words say.
-fn wins_after(
-    claims: &mut Claims,
+fn wins_after<A: Allocator + Copy>(
+    claims: &mut Claims<A>,
     goal: Goal,
     board: &Board,
     plies: u8,
@@ -131,8 +131,8 @@ fn named_move(board: &Board, words: &[Word]) -> Option<Move>
 }
 
 /// The attacker's move that wins within the claim's plies, as the words say.
-pub(crate) fn winning_move(
-    claims: &mut Claims,
+pub(crate) fn winning_move<A: Allocator + Copy>(
+    claims: &mut Claims<A>,
     goal: Goal,
     claim: &Claim,
     words: &[Word],

@@ -1,22 +1,12 @@
-use Rattle.std.proofs.Common.{vec_items}
-use Rattle.replies.specs.Verdict.{ShowsProved}
-use Rattle.replies.proofs.ReplyLemmas.{input_refused, input_shown, input_unread}
+use Rattle.std.proofs.Common.{◌∙◌, ℕ, List, ap, vec_items}
+use Rattle.replies.proofs.VerdictLemmas.{answer_shown, fault_shown}
 use Rattle.replies.proofs.certified.verified_at.Goals as goal
 
-pub returns-in_err-proved_text-clause-shown : goal.returns-in_err-proved_text-clause-shown
-returns-in_err-proved_text-clause-shown g c =
-    input_refused _ 268435456 (ShowsProved c.args.goal c.args.position.now)
-    (g.S.Source.remaining c.args.reader.now) c.in_ok-input.input.items _ c.in_err-proved_text.field-0.0 c.in_ok-input.ensures.all
-    (rw (← c.as_slice.ensures.value) c.in_err-proved_text.ensures) c.from_residual-in_err-proved_text.ensures
+pub returns-in_ok-answer_text-in-Ok-clause-shown : goal.returns-in_ok-answer_text-in-Ok-clause-shown
+returns-in_ok-answer_text-in-Ok-clause-shown g c =
+    answer_shown vec_items c.args.goal c.args.position.now (g.S.Source.remaining c.args.reader.now) c.in-Ok.answer c.into_bytes.result (rw (← c.of.ensures) c.in-Ok.ensures.answer) c.in-Ok.ensures.text
+    (ap vec_items c.into_bytes.ensures.value ∙ c.in_ok-answer_text-in-Ok.ensures)
 
-pub returns-clause-shown : goal.returns-clause-shown
-returns-clause-shown g c =
-    input_shown vec_items 268435456 (ShowsProved c.args.goal c.args.position.now)
-    (g.S.Source.remaining c.args.reader.now) c.in_ok-input.input.items c.in_ok-proved_text.field-0 c.in_ok-input.ensures.all
-    (rw (← c.as_slice.ensures.value) c.in_ok-proved_text.ensures)
-
-pub returns-in_err-input-clause-shown : goal.returns-in_err-input-clause-shown
-returns-in_err-input-clause-shown g c =
-    input_unread _ 268435456 (ShowsProved c.args.goal c.args.position.now)
-    (g.S.Source.remaining c.args.reader.now) c.from_residual.result c.in_err-input.field-0.0
-    c.in_err-input.ensures.too_long c.from_residual.ensures
+pub returns-in-Err-clause-shown : goal.returns-in-Err-clause-shown
+returns-in-Err-clause-shown g c =
+    fault_shown (λ (x : List ℕ). x) c.args.goal c.args.position.now (g.S.Source.remaining c.args.reader.now) c.in-Err.fault c.trouble_of_certificate.result c.in-Err.ensures.text c.trouble_of_certificate.ensures

@@ -5,7 +5,7 @@ use Rattle.verifying.proofs.no_claims.all_fail.Given as goal
 
 -- each move so far fails over the claims as they are now
 abbrev pub invariant-loop-i : goal.invariant-loop-i
-invariant-loop-i l = record {
+invariant-loop-i g l = record {
   same_length : length l.words ≡ length l.moves;
   more : Extends l.fn.claims l.claims;
   failed : All (FailsBy l.goal l.claims l.claim.position l.claim.plies) (take l.i l.moves);

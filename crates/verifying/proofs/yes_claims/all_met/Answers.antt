@@ -7,13 +7,13 @@ use Rattle.verifying.proofs.Winning.{met_after, met_more, each_met}
 use Rattle.verifying.proofs.yes_claims.all_met.Goals as goal
 
 pub after-requires : goal.after-requires
-after-requires c = listed_item c.args.board.now c.lawful_on-replies.result.items c.as_slice.result.now c.loop-i.i c.index-as_slice-i.result c.lawful_on-replies.ensures c.as_slice.ensures.value (omega (arith, c.loop-i-test.true, c.len-i-end.ensures.value)) c.index-as_slice-i.is
+after-requires g c = listed_item c.args.board.now c.lawful_on-replies.result.items c.as_slice.result.now c.loop-i.i c.index-as_slice-i.result c.lawful_on-replies.ensures c.as_slice.ensures.value (omega (arith, c.loop-i-test.true, c.len-i-end.ensures.value)) c.index-as_slice-i.is
 
 pub returns-then-not-branch-clause-more : goal.returns-then-not-branch-clause-more
-returns-then-not-branch-clause-more c = extends_twice c.args.claims.now c.loop-i.claims c.meets.new.claims c.loop-i.invariant.more c.meets.ensures.more
+returns-then-not-branch-clause-more g c = extends_twice c.args.claims.now c.loop-i.claims c.meets.new.claims c.loop-i.invariant.more c.meets.ensures.more
 
 pub loop-i-preserved : goal.loop-i-preserved
-loop-i-preserved c =
+loop-i-preserved g c =
     let q = c.args.board.now in
     let new = c.meets.new.claims in
     let r = c.index-as_slice-i.result in
@@ -25,6 +25,6 @@ loop-i-preserved c =
     }
 
 pub returns-clause-met : goal.returns-clause-met
-returns-clause-met c = λ _.
+returns-clause-met g c = λ _.
     each_met c.args.goal c.loop-i.claims c.args.board.now c.args.left c.lawful_on-replies.result.items c.lawful_on-replies.ensures
     (subst (All (IsMet c.args.goal c.loop-i.claims c.args.board.now c.args.left)) (take_all c.loop-i.i c.lawful_on-replies.result.items (omega (arith, c.loop-i-test.false, c.len-i-end.ensures.value))) c.loop-i.invariant.met)

@@ -5,7 +5,7 @@ use Rattle.verifying.proofs.yes_claims.all_met.Given as goal
 
 -- each reply so far is met over the claims as they are now
 abbrev pub invariant-loop-i : goal.invariant-loop-i
-invariant-loop-i l = record {
+invariant-loop-i g l = record {
   same_length : length l.words ≡ length l.replies.items;
   more : Extends l.fn.claims l.claims;
   met : All (IsMet l.goal l.claims l.board l.left) (take l.i l.replies.items);

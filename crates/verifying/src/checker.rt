@@ -1,0 +1,227 @@
+//! The checker, which takes a certificate line by line.
+ghost use Rattle.std.specs.Prelude.{◌≡◌, ◌+◌, ◌<◌, ◌≤◌, [], IfErr, IfOk, IfSome, OnOk, Some, length};
+ghost use Rattle.board.specs.Board.{PlainBoard};
+ghost use Rattle.decision.specs.declared.answer.Answer.TheVariants.{Mate as TheMate};
+ghost use Rattle.certificates.specs.Answers.{Certifies, IsOdd};
+ghost use Rattle.verifying.specs.FirstLine.{IsInRange};
+ghost use Rattle.verifying.specs.declared.part.Part.TheVariants.{First};
+ghost use Rattle.verifying.specs.Parts.{IsYesUpTo, Stands, answer_of};
+ghost use Rattle.verifying.specs.Taking.{Refuses, Takes, fault_at};
+
+use crate::claims::Claims;
+use crate::fault::Fault;
+use crate::first_line::answer_of;
+use crate::part::{Mate, Part};
+use crate::steps::{shows_lesser, shows_no, shows_win, shows_yes};
+use crate::words::{Word, read_words};
+use decision::Answer;
+use moves::{Board, Goal};
+use std::alloc::{AllocError, Allocator};
+
+/// What was taken of a certificate: how many lines, what the next one is, and the claims of the part that is under way.
+#[derive(Drop)]
+pub(crate) struct Checker<A: Allocator> {
+    pub(crate) board: Board,
+    pub(crate) goal: Goal,
+    pub(crate) number: u64,
+    pub(crate) part: Part,
+    pub(crate) claims: Claims<A>,
+    pub(crate) words: Vec<Word, A>,
+}
+
+/// Begins the claims of an answer. Answers what its next line is.
+fn begun<A: Allocator + Copy>(
+    claims: &mut Claims<A>,
+    board: &Board,
+    answer: Answer,
+) -> Result<Part, AllocError>
+    requires none { claims.old ≡ [] }
+    requires range { IsInRange answer }
+    ensures stands { IfOk result (λ part. (goal : Goal) → Stands goal board.now part claims.new) }
+    ensures told { IfOk result (λ part. answer_of part ≡ Some answer) }
+{
+    match answer {
+        Answer::Mate { plies, first } => Ok(Part::Win(Mate { plies, first })),
+        Answer::NoneWithin(limit) => {
+            claims.push(board, limit - 1 + limit % 2)?;
+            Ok(Part::No(answer, 0))
+        }
+    }
+}
+
+/// What comes behind the yes claim at this place.
+fn behind_yes<A: Allocator + Copy>(claims: &Claims<A>, mate: Mate, place: usize) -> Part
+    requires { place < length claims.now }
+    ensures stands { (goal : Goal) (b : PlainBoard) → IsOdd mate.plies → IsYesUpTo goal claims.now b mate (place + 1)
+        → Stands goal b result claims.now }
+    ensures told { answer_of result ≡ Some (TheMate mate.plies mate.first) }
+{
+    let count = claims.len();
+    if place + 1 < count {
+        Part::Yes(mate, place + 1)
+    } else {
+        Part::Lesser(mate)
+    }
+}
+
+/// What comes behind the line of the part, if its words show what they have to.
+fn shown<A: Allocator + Copy>(
+    claims: &mut Claims<A>,
+    board: &Board,
+    goal: Goal,
+    part: Part,
+    words: &[Word],
+) -> Result<Option<Part>, AllocError>
+    requires { Stands goal board.now part claims.old }
+    ensures stands { IfOk result (λ next. IfSome next (λ new. Stands goal board.now new claims.new)) }
+    ensures told { IfOk result (λ next. IfSome next (λ new. answer_of new ≡ answer_of part)) }
+    ensures later { IfOk result (λ next. IfSome next (λ new. part ≡ First → ⊥)) }
+{
+    match part {
+        Part::First => Ok(None),
+        Part::Win(mate) => {
+            if !shows_win(claims, board, goal, mate, words)? {
+                return Ok(None);
+            }
+            Ok(Some(behind_yes(claims, mate, 0)))
+        }
+        Part::Yes(mate, place) => {
+            if place >= claims.len() || !shows_yes(claims, goal, place, words)? {
+                return Ok(None);
+            }
+            Ok(Some(behind_yes(claims, mate, place)))
+        }
+        Part::Lesser(mate) => {
+            if !shows_lesser(claims, board, goal, mate, words)? {
+                return Ok(None);
+            }
+            let Mate { plies, first } = mate;
+            Ok(Some(Part::No(Answer::Mate { plies, first }, 0)))
+        }
+        Part::No(answer, place) => {
+            if place >= claims.len() || !shows_no(claims, goal, place, words)? {
+                return Ok(None);
+            }
+            Ok(Some(Part::No(answer, place + 1)))
+        }
+    }
+}
+
+impl<A: Allocator + Copy> Checker<A> {
+    /// Nothing was taken yet.
+    pub(crate) fn new(alloc: A, board: &Board, goal: Goal) -> Checker<A>
+        ensures stands { Stands result.goal result.board result.part result.claims }
+        ensures about { (result.goal ≡ goal) × (result.board ≡ board.now) }
+        ensures none { result.number ≡ 0 }
+        ensures first { result.part ≡ First }
+    {
+        Checker {
+            board: board.copied(),
+            goal,
+            number: 0,
+            part: Part::First,
+            claims: Claims::new(alloc),
+            words: Vec::new(alloc),
+        }
+    }
+
+    /// What comes behind the first line, if it is an answer's.
+    fn first_part(&mut self, line: &[u8]) -> Result<Option<Part>, AllocError>
+        requires { self.old.claims ≡ [] }
+        ensures about { (self.new.goal ≡ self.old.goal) × (self.new.board ≡ self.old.board) }
+        ensures counts { self.new.number ≡ self.old.number }
+        ensures stands { IfOk result (λ next. IfSome next (λ new. Stands self.new.goal self.new.board new self.new.claims)) }
+        ensures takes { IfOk result (λ next. IfSome next (λ new. Takes self.new.goal First line.now new)) }
+    {
+        let Some(answer) = answer_of(line, self.goal) else {
+            return Ok(None);
+        };
+        let part = begun(&mut self.claims, &self.board, answer)?;
+        Ok(Some(part))
+    }
+
+    /// What comes behind a line of claims, if it is one and shows what it has to.
+    fn next_part(&mut self, line: &[u8]) -> Result<Option<Part>, AllocError>
+        requires short { length line.now ≤ 8192 }
+        requires stands { Stands self.old.goal self.old.board self.old.part self.old.claims }
+        ensures about { (self.new.goal ≡ self.old.goal) × (self.new.board ≡ self.old.board) }
+        ensures counts { self.new.number ≡ self.old.number }
+        ensures stands { IfOk result (λ next. IfSome next (λ new. Stands self.new.goal self.new.board new self.new.claims)) }
+        ensures takes { IfOk result (λ next. IfSome next (λ new. Takes self.new.goal self.old.part line.now new)) }
+    {
+        if !read_words(line, &mut self.words)? {
+            return Ok(None);
+        }
+        shown(
+            &mut self.claims,
+            &self.board,
+            self.goal,
+            self.part,
+            self.words.as_slice(),
+        )
+    }
+
+    /// The fault of a line that isn't there, or isn't right.
+    fn fault(&self) -> Fault
+        requires { self.now.number < u64.MAX }
+        ensures { result ≡ fault_at self.now.part self.now.number }
+    {
+        match self.part {
+            Part::First => Fault::Answer,
+            _ => Fault::Claim(self.number + 1),
+        }
+    }
+
+    /// Takes the next line, which stands without its feed.
+    pub(crate) fn take(&mut self, line: &[u8]) -> Result<(), Fault>
+        requires short { length line.now ≤ 8192 }
+        requires room { self.old.number < u64.MAX }
+        requires stands { Stands self.old.goal self.old.board self.old.part self.old.claims }
+        ensures about { (self.new.goal ≡ self.old.goal) × (self.new.board ≡ self.old.board) }
+        ensures stands { OnOk result (Stands self.new.goal self.new.board self.new.part self.new.claims) }
+        ensures takes { OnOk result (Takes self.old.goal self.old.part line.now self.new.part) }
+        ensures counts { OnOk result (self.new.number ≡ self.old.number + 1) }
+        ensures refuses { IfErr result (Refuses self.old.part self.old.number) }
+    {
+        let fault = self.fault();
+        let next = match self.part {
+            Part::First => self.first_part(line)?,
+            _ => self.next_part(line)?,
+        };
+        let Some(part) = next else {
+            return Err(fault);
+        };
+        self.part = part;
+        self.number += 1;
+        Ok(())
+    }
+
+    /// The answer, where no line is left out.
+    pub(crate) fn answer(&self) -> Option<Answer>
+        requires { Stands self.now.goal self.now.board self.now.part self.now.claims }
+        ensures certified { IfSome result (Certifies self.now.goal self.now.board) }
+        ensures told { IfSome result (λ answer. answer_of self.now.part ≡ Some answer) }
+    {
+        match self.part {
+            Part::No(answer, place) if place >= self.claims.len() => Some(answer),
+            _ => None,
+        }
+    }
+
+    /// The answer, where the input ends behind this rest of a line.
+    pub(crate) fn ended(&self, rest: &[u8]) -> Result<Answer, Fault>
+        requires room { self.now.number < u64.MAX }
+        requires stands { Stands self.now.goal self.now.board self.now.part self.now.claims }
+        ensures certified { IfOk result (Certifies self.now.goal self.now.board) }
+        ensures told { IfOk result (λ answer. (answer_of self.now.part ≡ Some answer) × (rest.now ≡ [])) }
+        ensures refuses { IfErr result (λ fault. fault ≡ fault_at self.now.part self.now.number) }
+    {
+        if !rest.is_empty() {
+            return Err(self.fault());
+        }
+        match self.answer() {
+            Some(answer) => Ok(answer),
+            None => Err(self.fault()),
+        }
+    }
+}
