@@ -16,9 +16,13 @@ number_rule name = record (new_rule name) {
   parser = Some (parser.Signed (pos 0) (pos 4294967295));
 }
 
--- the limit, which must be there
+-- the limit, in plies
 abbrev pub limit_rule : Rule
-limit_rule = record (number_rule (codes "limit")) { required = true }
+limit_rule = number_rule (codes "limit")
+
+-- the limit, in moves of the attacker
+abbrev pub mate_rule : Rule
+mate_rule = number_rule (codes "mate")
 
 -- the workers, 2 where they are not given
 abbrev pub workers_rule : Rule
@@ -40,9 +44,10 @@ goal_rule = record (new_rule (codes "goal")) {
 abbrev pub progress_rule : Rule
 progress_rule = record (new_rule (codes "progress")) { long = Some (codes "progress"); action = Some SetTrue }
 
--- with the options of a search: `--limit N [--workers K] [--slots S] [--goal GOAL] [--progress]`
+-- with the options of a search: `(--limit N | --mate M) [--workers K] [--slots S] [--goal GOAL] [--progress]`
 abbrev pub limits_app : App → App
-limits_app app = with_rule (with_rule (with_rule (with_rule (with_rule app limit_rule) workers_rule) slots_rule) goal_rule) progress_rule
+limits_app app =
+    with_rule (with_rule (with_rule (with_rule (with_rule (with_rule app limit_rule) mate_rule) workers_rule) slots_rule) goal_rule) progress_rule
 
 -- a command of this name with the options of a search, and a position
 abbrev pub search_app : Text → App

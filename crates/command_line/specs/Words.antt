@@ -1,5 +1,5 @@
 -- The order that the words of the command line mean: what `clap` finds in them, read as an order.
-use Rattle.std.specs.Prelude.{◌≡◌, ◌≢◌, ◌⊎◌, ◌<◌, ◌^◌, ℕ, List, [], Option, Some, IsSomeAnd, codes}
+use Rattle.std.specs.Prelude.{◌≡◌, ◌≢◌, ◌⊎◌, ◌<◌, ◌*◌, ◌-◌, ◌^◌, ℕ, List, [], Option, None, Some, IsSomeAnd, MatchOption, codes, min}
 use Rattle.std.specs.Str.Parse.{IsNumeral, digits_value, without_leading_plus}
 use Rattle.clap.specs.Words.{Row, Text, fault_of, first_of, one_of, subcommand_of}
 use Rattle.rules.specs.declared.goal.Goal.{Goal}
@@ -22,9 +22,18 @@ IsNumber text n = (IsNumeral 10 (without_leading_plus text) × (digits_value 10 
 abbrev pub HasNumber : Text → List Row → ℕ → Type 0
 HasNumber id rows n = (text : Text) × (one_of id rows ≡ Some text) × IsNumber text n
 
+-- the plies of a mate in so many moves; more than 32 bits hold are the greatest of these numbers
+abbrev pub plies_of : ℕ → ℕ
+plies_of moves = min (2 * moves - 1) 4294967295
+
+-- the limit is that of `--limit`, or where `--mate` is given, and `--limit` is not, the plies of so many moves
+abbrev pub HasLimit : List Row → ℕ → Type 0
+HasLimit rows n = MatchOption (first_of (codes "mate") rows) (HasNumber (codes "limit") rows n)
+    (λ _. (first_of (codes "limit") rows ≡ None) × ((moves : ℕ) × HasNumber (codes "mate") rows moves × (n ≡ plies_of moves)))
+
 -- what was found for the limits' names
 pub record HasLimits (rows : List Row) (limits : Limits) : Type 0 where
-  pub limit : HasNumber (codes "limit") rows limits.limit
+  pub limit : HasLimit rows limits.limit
   pub workers : HasNumber (codes "workers") rows limits.workers
   pub slots : HasNumber (codes "slots") rows limits.slots
 

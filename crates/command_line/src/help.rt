@@ -200,6 +200,12 @@ pub const LIMIT_MORE: &str = "\
 The most plies to the goal, 1 to 63. A ply is one move of one side,
 so a mate in M moves is 2M-1.";
 
+pub const MATE: &str = "The most moves to the goal, 1 to 32, in place of --limit";
+
+pub const MATE_MORE: &str = "\
+The most moves of the attacker to the goal, 1 to 32: `--mate M` is
+`--limit 2M-1`. Give one of the two. Answers stay in plies.";
+
 pub const GOAL: &str = "What to play for, `mate` or `stale`";
 
 pub const GOAL_MORE: &str = "\

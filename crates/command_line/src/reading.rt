@@ -1,5 +1,5 @@
 //! Reading the words of a command line.
-ghost use Rattle.std.specs.Prelude.{◌≡◌, ◌≢◌, ◌↔◌, All, Any, IfErr, List, IfNone, IfOk, IfSome, MatchBool, None, OnErr, Some, ℕ, codes, map};
+ghost use Rattle.std.specs.Prelude.{◌≡◌, ◌≢◌, ◌↔◌, ◌*◌, ◌-◌, All, Any, IfErr, List, IfNone, IfOk, IfSome, MatchBool, None, OnErr, Some, ℕ, codes, map, min};
 ghost use Rattle.rules.specs.declared.goal.Goal.{Goal as TheGoal};
 ghost use Rattle.clap.specs.declared.error.kind.ErrorKind.TheVariants.{OutOfMemory};
 ghost use Rattle.command_line.specs.declared.reading.LineFault.TheVariants.{NoMemory, Words};
@@ -9,9 +9,9 @@ ghost use Rattle.command_line.specs.declared.line.Limits.{Limits as TheLimits};
 ghost use Rattle.command_line.specs.declared.line.Subject.{Subject as TheSubject};
 ghost use Rattle.command_line.specs.declared.line.Action.{Action as TheAction};
 ghost use Rattle.clap.specs.Words.{App, FailsBy, Row, fault_of, first_of, found_of, kind_of, new_app, rows_of, subcommand_of, subcommand_rows_of, with_subcommand};
-ghost use Rattle.command_line.specs.Words.{HasGoal, HasLimits, HasLine, HasNumber, HasOrder, HasSubject, MeansAction, MeansFound, MeansOrder, MeansNoOrder, progress_word};
+ghost use Rattle.command_line.specs.Words.{HasGoal, HasLimit, HasLimits, HasLine, HasNumber, HasOrder, HasSubject, MeansAction, MeansFound, MeansOrder, MeansNoOrder, progress_word};
 ghost use Rattle.command_line.specs.Making.{IsLocal, IsLocalArg, NamesNoSearch, option_rule};
-ghost use Rattle.command_line.specs.Program.{fen_rule, goal_rule, number_rule, limit_rule, workers_rule, slots_rule, progress_rule, limits_app, search_app, checking_app, solve_app, keys_app, tree_app, check_app, verify_app, certify_app, moves_app, show_app, batch_app, program};
+ghost use Rattle.command_line.specs.Program.{fen_rule, goal_rule, number_rule, limit_rule, mate_rule, workers_rule, slots_rule, progress_rule, limits_app, search_app, checking_app, solve_app, keys_app, tree_app, check_app, verify_app, certify_app, moves_app, show_app, batch_app, program};
 
 use crate::help;
 use crate::line::{Action, Limits, Line, Order, Subject};
@@ -90,7 +90,13 @@ fn goal<'a>(alloc: Global) -> Arg<'a>
 fn limit<'a>(alloc: Global) -> Arg<'a>
     ensures { IsLocalArg limit_rule result }
 {
-    number(alloc, "limit", "N", help::LIMIT, help::LIMIT_MORE).required(true)
+    number(alloc, "limit", "N", help::LIMIT, help::LIMIT_MORE)
+}
+
+fn mate<'a>(alloc: Global) -> Arg<'a>
+    ensures { IsLocalArg mate_rule result }
+{
+    number(alloc, "mate", "M", help::MATE, help::MATE_MORE)
 }
 
 fn workers<'a>(alloc: Global) -> Arg<'a>
@@ -139,7 +145,10 @@ fn with_limits<'a>(alloc: Global, command: Command<'a>) -> Result<Command<'a>, A
     let Ok(limited) = command.arg(limit(alloc)) else {
         return Err(AllocError);
     };
-    let Ok(manned) = limited.arg(workers(alloc)) else {
+    let Ok(mating) = limited.arg(mate(alloc)) else {
+        return Err(AllocError);
+    };
+    let Ok(manned) = mating.arg(workers(alloc)) else {
         return Err(AllocError);
     };
     let Ok(remembering) = manned.arg(slots(alloc)) else {
@@ -336,12 +345,34 @@ fn number_of(matches: &ArgMatches<'_>, id: &str) -> Option<u32>
     matches.get_one::<u32>(id)
 }
 
+/// The plies of a mate in so many moves, or the greatest number where they are more.
+fn plies_of(moves: u32) -> u32
+    ensures { result ≡ min (2 * moves - 1) 4294967295 }
+{
+    let plies = (2 * u64::from(moves)).saturating_sub(1);
+    u32::try_from(plies).unwrap_or(u32::MAX)
+}
+
+/// The most plies, by `--limit` or by `--mate`. Where both are given, or neither, there is none.
+fn limit_of(matches: &ArgMatches<'_>) -> Option<u32>
+    ensures some { IfSome result (HasLimit (rows_of (found_of matches.now))) }
+    ensures none { IfNone result ((n : ℕ) → HasLimit (rows_of (found_of matches.now)) n → ⊥) }
+{
+    match matches.get_str("mate") {
+        None => number_of(matches, "limit"),
+        Some(_) => match matches.get_str("limit") {
+            None => Some(plies_of(number_of(matches, "mate")?)),
+            Some(_) => None,
+        },
+    }
+}
+
 fn limits(matches: &ArgMatches<'_>) -> Option<Limits>
     ensures some { IfSome result (HasLimits (rows_of (found_of matches.now))) }
     ensures none { IfNone result ((values : TheLimits) → HasLimits (rows_of (found_of matches.now)) values → ⊥) }
 {
     Some(Limits {
-        limit: number_of(matches, "limit")?,
+        limit: limit_of(matches)?,
         workers: number_of(matches, "workers")?,
         slots: number_of(matches, "slots")?,
     })

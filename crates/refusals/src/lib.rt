@@ -6,6 +6,8 @@ mod board_text;
 mod kings;
 mod refusal;
 mod spelling;
+mod words;
 
-pub use advice::{Refused, advise, advise_words};
+pub use advice::{Refused, advise};
 pub use refusal::{Refusal, refused_text};
+pub use words::{advise_limit, advise_words};
