@@ -8,6 +8,10 @@ use Rattle.clap.specs.declared.builder.value_parser.ValueParser.TheVariants as p
 abbrev pub fen_rule : Rule
 fen_rule = record (new_rule (codes "FEN")) { required = true }
 
+-- one word behind the position that must be there
+abbrev pub move_rule : Rule
+move_rule = record (new_rule (codes "MOVE")) { required = true }
+
 -- a number of 32 bits after `--name`
 abbrev pub number_rule : Text → Rule
 number_rule name = record (new_rule name) {
@@ -86,6 +90,10 @@ moves_app = with_rule (new_app (codes "moves")) fen_rule
 abbrev pub show_app : App
 show_app = with_rule (new_app (codes "show")) fen_rule
 
+-- `after FEN MOVE`
+abbrev pub after_app : App
+after_app = with_rule (with_rule (new_app (codes "after")) fen_rule) move_rule
+
 -- `batch`, and the options of a search
 abbrev pub batch_app : App
 batch_app = limits_app (new_app (codes "batch"))
@@ -98,5 +106,5 @@ bare_app = let new = new_app (codes "minimate") in
 -- the program, whose first word is one of its commands
 abbrev pub program : App
 program =
-    with_subcommand (with_subcommand (with_subcommand (with_subcommand (with_subcommand (with_subcommand (with_subcommand (with_subcommand (with_subcommand bare_app
-    solve_app.top) keys_app.top) tree_app.top) check_app.top) verify_app.top) certify_app.top) moves_app.top) show_app.top) batch_app.top
+    with_subcommand (with_subcommand (with_subcommand (with_subcommand (with_subcommand (with_subcommand (with_subcommand (with_subcommand (with_subcommand (with_subcommand bare_app
+    solve_app.top) keys_app.top) tree_app.top) check_app.top) verify_app.top) certify_app.top) moves_app.top) show_app.top) after_app.top) batch_app.top

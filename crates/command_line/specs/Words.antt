@@ -8,10 +8,11 @@ use Rattle.command_line.specs.Program.{program}
 use Rattle.command_line.specs.declared.line.Line.{Line}
 use Rattle.command_line.specs.declared.line.Limits.{Limits}
 use Rattle.command_line.specs.declared.line.Subject.{Subject}
+use Rattle.command_line.specs.declared.line.Played.{Played}
 use Rattle.command_line.specs.declared.line.Action.{Action}
 use Rattle.command_line.specs.declared.line.Action.TheVariants.{Solve, Keys, Tree, Check, Moves, Show}
 use Rattle.command_line.specs.declared.line.Order.{Order}
-use Rattle.command_line.specs.declared.line.Order.TheVariants.{One, Batch, Verify, Certify}
+use Rattle.command_line.specs.declared.line.Order.TheVariants.{One, Batch, Verify, Certify, After}
 
 -- the text is the number: decimal digits, perhaps after a plus, below 2^32
 abbrev pub IsNumber : Text → ℕ → Type 0
@@ -63,12 +64,17 @@ HasLine name rows line = (first_of (codes "FEN") rows ≡ Some line.fen.now) × 
 abbrev pub HasSubject : List Row → Subject → Type 0
 HasSubject rows subject = (first_of (codes "FEN") rows ≡ Some subject.fen.now) × HasGoal rows subject.goal
 
+-- what was found for the position and for the move
+abbrev pub HasPlayed : List Row → Played → Type 0
+HasPlayed rows played = (first_of (codes "FEN") rows ≡ Some played.fen.now) × (first_of (codes "MOVE") rows ≡ Some played.name.now)
+
 -- the command of that name with what was found for it
 abbrev pub MeansFound : Text → List Row → Order → Type 0
 MeansFound name rows (One line) = HasLine name rows line
 MeansFound name rows (Batch goal limits) = (name ≡ codes "batch") × HasGoal rows goal × HasLimits rows limits
 MeansFound name rows (Verify subject) = (name ≡ codes "verify") × HasSubject rows subject
 MeansFound name rows (Certify subject limits) = (name ≡ codes "certify") × HasSubject rows subject × HasLimits rows limits
+MeansFound name rows (After played) = (name ≡ codes "after") × HasPlayed rows played
 
 -- a command was found, and it is the order
 abbrev pub HasOrder : Option (Text × List Row) → Order → Type 0

@@ -168,6 +168,21 @@ each empty square, and the side to move.
 Example:
   minimate show 'k5/6/1K4/6/6/5R w'";
 
+pub const AFTER: &str = "Write the position after a move";
+
+pub const AFTER_NOTES: &str = "\
+Example:
+  minimate after 'k5/6/2K3/6/6/1R4 w' c4c5";
+
+pub const AFTER_MORE: &str = "\
+The output is the position after the move, in the notation of FEN. The move is
+named as `minimate moves` names it; what is no lawful move's name is refused as
+`Move`.
+
+Example:
+  minimate after 'k5/6/2K3/6/6/1R4 w' c4c5
+  k5/6/2K3/6/6/1R4 b";
+
 pub const BATCH: &str = "Solve each position that is read from the input";
 
 pub const BATCH_NOTES: &str = "\
@@ -193,6 +208,12 @@ p Black's, and a digit is a run of empty squares. Six ranks of six
 are Los Alamos chess, five of five Gardner minichess.
 'k5/6/1K4/6/6/5R w': Black's king on a6, White's on b4, White's rook
 on f1, White to move.";
+
+pub const MOVE: &str = "The move, as c4c5, or c5c6q for a promotion";
+
+pub const MOVE_MORE: &str = "\
+The move: the square it leaves, the square it comes to, and for a
+promotion q, r, b or n, as c5c6q.";
 
 pub const LIMIT: &str = "The most plies to the goal, 1 to 63";
 

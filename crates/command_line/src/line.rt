@@ -12,6 +12,17 @@ pub enum Order<'a> {
     Verify(Subject<'a>),
     /// The certificate of the answer of a solve.
     Certify(Subject<'a>, Limits),
+    /// The position after a move.
+    After(Played<'a>),
+}
+
+/// A move to be played at a position.
+#[derive(Clone, Copy)]
+pub struct Played<'a> {
+    /// The position's text.
+    pub fen: &'a [u8],
+    /// The move's name, as `c4c5q`.
+    pub name: &'a [u8],
 }
 
 /// What a certificate is about: a position, and what its attacker plays for.

@@ -7,14 +7,15 @@ ghost use Rattle.command_line.specs.declared.line.Line.{Line as TheLine};
 ghost use Rattle.command_line.specs.declared.line.Order.{Order as TheOrder};
 ghost use Rattle.command_line.specs.declared.line.Limits.{Limits as TheLimits};
 ghost use Rattle.command_line.specs.declared.line.Subject.{Subject as TheSubject};
+ghost use Rattle.command_line.specs.declared.line.Played.{Played as ThePlayed};
 ghost use Rattle.command_line.specs.declared.line.Action.{Action as TheAction};
 ghost use Rattle.clap.specs.Words.{App, FailsBy, Row, fault_of, first_of, found_of, kind_of, new_app, rows_of, subcommand_of, subcommand_rows_of, with_subcommand};
-ghost use Rattle.command_line.specs.Words.{HasGoal, HasLimit, HasLimits, HasLine, HasNumber, HasOrder, HasSubject, MeansAction, MeansFound, MeansOrder, MeansNoOrder, progress_word};
+ghost use Rattle.command_line.specs.Words.{HasGoal, HasLimit, HasLimits, HasLine, HasNumber, HasOrder, HasPlayed, HasSubject, MeansAction, MeansFound, MeansOrder, MeansNoOrder, progress_word};
 ghost use Rattle.command_line.specs.Making.{IsLocal, IsLocalArg, NamesNoSearch, option_rule};
-ghost use Rattle.command_line.specs.Program.{fen_rule, goal_rule, number_rule, limit_rule, mate_rule, workers_rule, slots_rule, progress_rule, limits_app, search_app, checking_app, solve_app, keys_app, tree_app, check_app, verify_app, certify_app, moves_app, show_app, batch_app, program};
+ghost use Rattle.command_line.specs.Program.{after_app, fen_rule, move_rule, goal_rule, number_rule, limit_rule, mate_rule, workers_rule, slots_rule, progress_rule, limits_app, search_app, checking_app, solve_app, keys_app, tree_app, check_app, verify_app, certify_app, moves_app, show_app, batch_app, program};
 
 use crate::help;
-use crate::line::{Action, Limits, Line, Order, Subject};
+use crate::line::{Action, Limits, Line, Order, Played, Subject};
 use clap::error::ErrorKind;
 use clap::{Arg, ArgAction, ArgMatches, Command, Error, value_parser};
 use moves::Goal;
@@ -50,6 +51,15 @@ fn fen<'a>(alloc: Global) -> Arg<'a>
         .required(true)
         .help(help::FEN)
         .long_help(help::FEN_MORE)
+}
+
+fn played_move<'a>(alloc: Global) -> Arg<'a>
+    ensures { IsLocalArg move_rule result }
+{
+    Arg::new(alloc, "MOVE")
+        .required(true)
+        .help(help::MOVE)
+        .long_help(help::MOVE_MORE)
 }
 
 /// A value after `--name`, and what its short and its long help say.
@@ -234,6 +244,22 @@ fn show_command<'a>(alloc: Global) -> Result<Command<'a>, AllocError>
     named(alloc, "show", help::SHOW, help::SHOW_NOTES, help::SHOW_MORE).arg(fen(alloc))
 }
 
+fn after_command<'a>(alloc: Global) -> Result<Command<'a>, AllocError>
+    ensures { IfOk result (IsLocal after_app) }
+{
+    let bare = named(
+        alloc,
+        "after",
+        help::AFTER,
+        help::AFTER_NOTES,
+        help::AFTER_MORE,
+    );
+    let Ok(placed) = bare.arg(fen(alloc)) else {
+        return Err(AllocError);
+    };
+    placed.arg(played_move(alloc))
+}
+
 /// A command that reads what it checks of a position and a goal.
 fn checking_command<'a>(
     alloc: Global,
@@ -327,7 +353,8 @@ fn command<'a>(alloc: Global) -> Result<Command<'a>, AllocError>
     let certifying = added(verifying, certify_command(alloc));
     let moving = added(certifying, moves_command(alloc));
     let showing = added(moving, show_command(alloc));
-    added(showing, batch_command(alloc))
+    let playing = added(showing, after_command(alloc));
+    added(playing, batch_command(alloc))
 }
 
 /// What `clap` makes of the words.
@@ -424,6 +451,14 @@ fn fen_of<'a>(values: &ArgMatches<'a>) -> Option<&'a [u8]>
     Some(text.as_bytes())
 }
 
+fn name_of<'a>(values: &ArgMatches<'a>) -> Option<&'a [u8]>
+    ensures some { IfSome result (λ name. first_of (codes "MOVE") (rows_of (found_of values.now)) ≡ Some name.now) }
+    ensures none { IfNone result (first_of (codes "MOVE") (rows_of (found_of values.now)) ≡ None) }
+{
+    let text = values.get_str("MOVE")?;
+    Some(text.as_bytes())
+}
+
 fn line_of<'a>(name: &str, values: &ArgMatches<'a>) -> Option<Line<'a>>
     ensures some { IfSome result (HasLine name.now (rows_of (found_of values.now))) }
     ensures none { IfNone result ((line : TheLine) → HasLine name.now (rows_of (found_of values.now)) line → ⊥) }
@@ -442,6 +477,15 @@ fn subject_of<'a>(values: &ArgMatches<'a>) -> Option<Subject<'a>>
     Some(Subject { fen, goal })
 }
 
+fn played_of<'a>(values: &ArgMatches<'a>) -> Option<Played<'a>>
+    ensures some { IfSome result (HasPlayed (rows_of (found_of values.now))) }
+    ensures none { IfNone result ((played : ThePlayed) → HasPlayed (rows_of (found_of values.now)) played → ⊥) }
+{
+    let fen = fen_of(values)?;
+    let name = name_of(values)?;
+    Some(Played { fen, name })
+}
+
 fn order_at<'a>(name: &str, values: &ArgMatches<'a>) -> Option<Order<'a>>
     ensures some { IfSome result (MeansFound name.now (rows_of (found_of values.now))) }
     ensures none { IfNone result ((order : TheOrder) → MeansFound name.now (rows_of (found_of values.now)) order → ⊥) }
@@ -450,6 +494,7 @@ fn order_at<'a>(name: &str, values: &ArgMatches<'a>) -> Option<Order<'a>>
         "batch" => Some(Order::Batch(goal_of(values)?, limits(values)?)),
         "verify" => Some(Order::Verify(subject_of(values)?)),
         "certify" => Some(Order::Certify(subject_of(values)?, limits(values)?)),
+        "after" => Some(Order::After(played_of(values)?)),
         _ => Some(Order::One(line_of(name, values)?)),
     }
 }

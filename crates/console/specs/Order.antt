@@ -5,11 +5,12 @@ use Rattle.rules.specs.declared.goal.Goal.{Goal}
 use Rattle.command_line.specs.Words.{MeansOrder, MeansNoOrder}
 use Rattle.command_line.specs.declared.line.Limits.{Limits}
 use Rattle.command_line.specs.declared.line.Order.{Order}
-use Rattle.command_line.specs.declared.line.Order.TheVariants.{One, Batch, Verify, Certify}
+use Rattle.command_line.specs.declared.line.Order.TheVariants.{One, Batch, Verify, Certify, After}
 use Rattle.replies.specs.Output.{MayRead, fault_of}
 use Rattle.console.specs.Batch.{RunsBatch}
 use Rattle.console.specs.Certifying.{RunsCertify}
 use Rattle.console.specs.Verifying.{RunsVerify, MayReadAbout}
+use Rattle.console.specs.Playing.{RunsAfter}
 use Rattle.console.specs.Run.{Run, Writes, GivesUp, RunsLine, failures_of}
 
 -- the run is one of the order
@@ -18,6 +19,7 @@ RunsOrder (One line) run = RunsLine line run
 RunsOrder (Batch goal limits) run = RunsBatch goal limits run
 RunsOrder (Verify subject) run = RunsVerify subject run
 RunsOrder (Certify subject limits) run = RunsCertify subject limits run
+RunsOrder (After played) run = RunsAfter played run
 
 -- the order reads the input: a batch does, but where its limits are refused, and a check where its position is sound
 abbrev pub MayReadOf : Order → Type 0
@@ -25,6 +27,7 @@ MayReadOf (One line) = MayRead line
 MayReadOf (Batch goal limits) = fault_of limits ≡ None
 MayReadOf (Verify subject) = MayReadAbout subject
 MayReadOf (Certify subject limits) = ⊥
+MayReadOf (After played) = ⊥
 
 -- the words mean no order: status 2, nothing is written, and nothing fails
 abbrev pub RefusesWords : List Text → Run → Type 0

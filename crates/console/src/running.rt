@@ -5,6 +5,7 @@ ghost use Rattle.console.specs.Batch.{RunsBatch};
 ghost use Rattle.console.specs.Order.{MayReadFor, MeansBatch, RunsWords};
 ghost use Rattle.console.specs.Verifying.{RunsVerify, MayReadAbout};
 ghost use Rattle.console.specs.Certifying.{WritesCertificate};
+ghost use Rattle.console.specs.Playing.{WritesAfter};
 ghost use Rattle.console.specs.Run.{ending_of, run_of, MayTell, Refuses, RunsLine};
 
 use crate::batch::{Batch, Desk, Stop, answer_lines};
@@ -13,12 +14,12 @@ use crate::certificate::{begin, write_claims};
 use crate::ending::{
     ANSWERED, FAILED, REFUSED_WORDS, finish, give_up_for_memory, may_tell, refuse,
 };
-use command_line::{Limits, Line, LineFault, Order, Subject, asks_progress, read_order};
+use command_line::{Limits, Line, LineFault, Order, Played, Subject, asks_progress, read_order};
 use devices::{Sink, Source, write_all};
-use refusals::{Refusal, Refused, advise};
-use replies::{Trouble, refusal_of, verified};
+use refusals::{Refusal, Refused, advise, advise_move};
+use replies::{Trouble, after_reply, refusal_of, verified};
 use std::convert::AsStr;
-use std::io::{Write, sink};
+use std::io::{self, Write, sink};
 use std::sync::Wait;
 use std::sync::atomic::AtomicU64;
 use std::thread::Threads;
@@ -168,6 +169,44 @@ fn run_certify<R: Threads + Wait + Eprint + Clock + Sync + AllocGlobal, K: Sink,
     }
 }
 
+/// Tells why no position is written for a move.
+fn tell_move<E: Write>(errors: &mut E, played: &Played<'_>, refusal: Refusal) -> io::Result<()> {
+    match refusal {
+        Refusal::Move => advise_move(errors, played.fen, played.name),
+        _ => {
+            let refused = Refused {
+                refusal,
+                fen: played.fen,
+                line: None,
+            };
+            advise(errors, &refused)
+        }
+    }
+}
+
+/// Answers the position after a move. `errors` is told why it was refused.
+fn run_after<R: AllocGlobal, K: Sink, E: Write>(
+    rt: &R,
+    played: &Played<'_>,
+    writer: &mut K,
+    errors: &mut E,
+) -> u8
+    requires { K.failures writer.old < u64.MAX }
+    ensures runs { WritesAfter played.now (ending_of K.contents K.failures writer.old writer.new result) }
+    ensures silent { MayTell result ⊎ (errors.new ≡ errors.old) }
+{
+    match after_reply(rt.alloc(), played.fen, played.name) {
+        Ok(text) => finish(writer, text.as_slice(), ANSWERED),
+        Err(refusal) => {
+            let status = refuse(rt.alloc(), writer, refusal);
+            if may_tell(status) {
+                let _ = tell_move(errors, played, refusal);
+            }
+            status
+        }
+    }
+}
+
 /// The host, and whether the words ask for a sign of life.
 fn host_of<'a, R, W: AsStr>(rt: &'a R, words: &[W]) -> Host<'a, R> {
     Host {
@@ -207,6 +246,7 @@ pub fn run<
         Ok(Order::Certify(subject, limits)) => {
             run_certify(&host_of(rt, words), &subject, limits, writer, errors)
         }
+        Ok(Order::After(played)) => run_after(rt, &played, writer, errors),
         Err(LineFault::Words) => REFUSED_WORDS,
         Err(LineFault::NoMemory) => give_up_for_memory(writer),
     }
