@@ -1,23 +1,30 @@
 //! What is told of a move that can't be played, and of a side that has none.
-use board::{Position, Side};
+use board::{Position, Side, Unit};
 use moves::{Move, Square, in_check, lawful, read_sound};
 use std::io::{self, Write};
 
 /// The square of two bytes, if it is one of the board's.
 fn square_of(position: &Position, text: &[u8]) -> Option<Square> {
+    let width = position.game().width();
     match text {
         [file, rank] => {
-            let square = Square {
-                file: file.checked_sub(b'a')?,
-                rank: rank.checked_sub(b'1')?,
-            };
-            if square.is_on_board(position.game()) {
-                Some(square)
+            let (file, rank) = (file.checked_sub(b'a')?, rank.checked_sub(b'1')?);
+            if file < width && rank < width {
+                Some(Square { file, rank })
             } else {
                 None
             }
         }
         _ => None,
+    }
+}
+
+/// The unit on a square, if it is one of the board's.
+fn unit_on(position: &Position, square: Square) -> Option<Unit> {
+    if square.is_on_board(position.game()) {
+        position.unit(square.number(position.game()))
+    } else {
+        None
     }
 }
 
@@ -63,7 +70,7 @@ fn advise_unit<E: Write>(errors: &mut E, position: &Position, from: Square) -> i
 
 /// Tells why no lawful move goes from a square to another.
 fn advise_from<E: Write>(errors: &mut E, position: &Position, from: Square) -> io::Result<()> {
-    match position.unit(from.number(position.game())) {
+    match unit_on(position, from) {
         None => write!(errors, "nothing stands on {from}"),
         Some(unit) if unit.side != position.mover() => write!(
             errors,
