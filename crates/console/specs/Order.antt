@@ -1,12 +1,18 @@
 -- What a run of the words does: what they ask for, if they mean an order.
-use Rattle.std.specs.Prelude.{◌≡◌, ◌⊎◌, List, [], None}
+use Rattle.std.specs.Prelude.{◌≡◌, ◌⊎◌, ⊤, List, [], None}
 use Rattle.clap.specs.Words.{Text}
 use Rattle.rules.specs.declared.goal.Goal.{Goal}
 use Rattle.command_line.specs.Words.{MeansOrder, MeansNoOrder}
 use Rattle.command_line.specs.declared.line.Limits.{Limits}
 use Rattle.command_line.specs.declared.line.Order.{Order}
 use Rattle.command_line.specs.declared.line.Order.TheVariants.{One, Batch, Verify, Certify, After}
-use Rattle.replies.specs.Output.{MayRead, fault_of}
+use Rattle.board.specs.Board.{PlainBoard}
+use Rattle.rules.specs.Moves.{IsLawful}
+use Rattle.rules.specs.Squares.{Ply}
+use Rattle.command_line.specs.declared.line.Line.{Line}
+use Rattle.command_line.specs.declared.line.Action.{Action}
+use Rattle.command_line.specs.declared.line.Action.TheVariants.{Solve, Keys, Tree}
+use Rattle.replies.specs.Output.{IsSoundText, MayRead, fault_of}
 use Rattle.console.specs.Batch.{RunsBatch}
 use Rattle.console.specs.Certifying.{RunsCertify}
 use Rattle.console.specs.Verifying.{RunsVerify, MayReadAbout}
@@ -38,9 +44,24 @@ RefusesWords words run =
 abbrev pub MayReadFor : List Text → Type 0
 MayReadFor words = (order : Order) × MeansOrder words order × MayReadOf order
 
+-- the action is a search at a position
+abbrev pub Searches : Action → Type 0
+Searches (Solve goal limits) = ⊤
+Searches (Keys goal limits) = ⊤
+Searches (Tree goal limits) = ⊤
+Searches _ = ⊥
+
+-- the line searches where the side to move has no lawful move: it is mated already, or stalemated
+abbrev pub IsOver : Line → Type 0
+IsOver line = Searches line.action × ((b : PlainBoard) × IsSoundText line.fen.now b × ((m : Ply) → IsLawful b m → ⊥))
+
 -- the words mean a batch, which tells why it refuses a line
 abbrev pub MeansBatch : List Text → Type 0
 MeansBatch words = (goal : Goal) × (limits : Limits) × MeansOrder words (Batch goal limits)
+
+-- the words mean a batch, or a search where there is no lawful move: standard error may be told more than why a run refuses
+abbrev pub TellsMore : List Text → Type 0
+TellsMore words = MeansBatch words ⊎ ((line : Line) × MeansOrder words (One line) × IsOver line)
 
 -- the words mean no order, or memory is wanting, or the run is one of the order that the words mean
 abbrev pub RunsWords : List Text → Run → Type 0

@@ -2,7 +2,7 @@
 ghost use Rattle.std.specs.Prelude.{◌≡◌, ◌⊎◌, ◌<◌, OnOk, codes};
 ghost use Rattle.std.specs.Io.KnownBytes.{Appends};
 ghost use Rattle.console.specs.Run.{ending_of, run_of, MayTell};
-ghost use Rattle.console.specs.Program.{RunsProgram, MayReadIn, MeansBatchIn, no_text, no_goal};
+ghost use Rattle.console.specs.Program.{RunsProgram, MayReadIn, TellsMoreIn, no_text, no_goal};
 
 use crate::ending::{REFUSED_WORDS, give_up_for_memory};
 use crate::running::run;
@@ -72,7 +72,7 @@ pub fn run_program<
     ensures runs { RunsProgram words (run_of S.remaining S.failures reader.old reader.new
         (ending_of K.contents K.failures writer.old writer.new result)) }
     ensures unread { MayReadIn words ⊎ (reader.new ≡ reader.old) }
-    ensures silent { (result ≡ 2) ⊎ MayTell result ⊎ MeansBatchIn words ⊎ (errors.new ≡ errors.old) }
+    ensures silent { (result ≡ 2) ⊎ MayTell result ⊎ TellsMoreIn words ⊎ (errors.new ≡ errors.old) }
 {
     let alloc = rt.alloc();
     match words {

@@ -1,8 +1,8 @@
 //! A run of the program over any reader and writer.
-ghost use Rattle.std.specs.Prelude.{◌≡◌, ◌⊎◌, ◌<◌, None, map};
+ghost use Rattle.std.specs.Prelude.{◌≡◌, ◌⊎◌, ◌↔◌, ◌<◌, IfSome, IsTrue, None, map};
 ghost use Rattle.replies.specs.Output.{fault_of, MayRead};
 ghost use Rattle.console.specs.Batch.{RunsBatch};
-ghost use Rattle.console.specs.Order.{MayReadFor, MeansBatch, RunsWords};
+ghost use Rattle.console.specs.Order.{IsOver, MayReadFor, RunsWords, Searches, TellsMore};
 ghost use Rattle.console.specs.Verifying.{RunsVerify, MayReadAbout};
 ghost use Rattle.console.specs.Certifying.{WritesCertificate};
 ghost use Rattle.console.specs.Playing.{WritesAfter};
@@ -14,9 +14,13 @@ use crate::certificate::{begin, write_claims};
 use crate::ending::{
     ANSWERED, FAILED, REFUSED_WORDS, finish, give_up_for_memory, may_tell, refuse,
 };
-use command_line::{Limits, Line, LineFault, Order, Played, Subject, asks_progress, read_order};
+use board::Position;
+use command_line::{
+    Action, Limits, Line, LineFault, Order, Played, Subject, asks_progress, read_order,
+};
 use devices::{Sink, Source, write_all};
-use refusals::{Refusal, Refused, advise, advise_move};
+use moves::{Board, has_lawful_move, read_sound};
+use refusals::{Refusal, Refused, advise, advise_move, advise_over};
 use replies::{Trouble, after_reply, refusal_of, verified};
 use std::convert::AsStr;
 use std::io::{self, Write, sink};
@@ -47,6 +51,41 @@ pub fn run_line<R: Threads + Wait + Eprint + Clock + Sync + AllocGlobal, S: Sour
     run_line_on(&host, line, reader, writer, &mut sink())
 }
 
+/// The position of a line that searches, where the side to move has no lawful move.
+fn over_at(line: &Line<'_>) -> Option<Position>
+    ensures { IfSome result (λ _. IsOver line.now) }
+{
+    if !searches(line.action) {
+        return None;
+    }
+    let Ok(position) = read_sound(line.fen) else {
+        return None;
+    };
+    if has_lawful_move(&Board::of(&position)) {
+        None
+    } else {
+        Some(position)
+    }
+}
+
+fn searches(action: Action) -> bool
+    ensures { IsTrue result ↔ Searches action }
+{
+    matches!(
+        action,
+        Action::Solve(..) | Action::Keys(..) | Action::Tree(..)
+    )
+}
+
+/// Tells where a search is for a side that is mated or stalemated already.
+fn tell_if_over<E: Write>(errors: &mut E, line: &Line<'_>)
+    ensures { IsOver line.now ⊎ (errors.new ≡ errors.old) }
+{
+    if let Some(position) = over_at(line) {
+        let _ = advise_over(errors, &position);
+    }
+}
+
 /// Answers a line for a host that may show how far a search is. `errors` is told why a line was refused;
 /// whether it takes that changes nothing.
 fn run_line_on<
@@ -60,10 +99,13 @@ fn run_line_on<
     ensures unread { MayRead line.now ⊎ (reader.new ≡ reader.old) }
     ensures runs { RunsLine line.now (run_of S.remaining S.failures reader.old reader.new
         (ending_of K.contents K.failures writer.old writer.new result)) }
-    ensures silent { MayTell result ⊎ (errors.new ≡ errors.old) }
+    ensures silent { MayTell result ⊎ IsOver line.now ⊎ (errors.new ≡ errors.old) }
 {
     match reply_shown(host, line, reader) {
-        Ok(text) => finish(writer, text.as_slice(), ANSWERED),
+        Ok(text) => {
+            tell_if_over(errors, line);
+            finish(writer, text.as_slice(), ANSWERED)
+        }
         Err(Trouble::Refused(refusal)) => {
             refuse_and_tell(host.rt, writer, errors, line.fen, refusal)
         }
@@ -184,6 +226,25 @@ fn tell_move<E: Write>(errors: &mut E, played: &Played<'_>, refusal: Refusal) ->
     }
 }
 
+/// Writes why a move isn't played, and tells it with a sentence.
+fn refuse_move<R: AllocGlobal, K: Sink, E: Write>(
+    rt: &R,
+    writer: &mut K,
+    errors: &mut E,
+    played: &Played<'_>,
+    refusal: Refusal,
+) -> u8
+    requires { K.failures writer.old < u64.MAX }
+    ensures refuses { Refuses (ending_of K.contents K.failures writer.old writer.new result) refusal }
+    ensures silent { MayTell result ⊎ (errors.new ≡ errors.old) }
+{
+    let status = refuse(rt.alloc(), writer, refusal);
+    if may_tell(status) {
+        let _ = tell_move(errors, played, refusal);
+    }
+    status
+}
+
 /// Answers the position after a move. `errors` is told why it was refused.
 fn run_after<R: AllocGlobal, K: Sink, E: Write>(
     rt: &R,
@@ -197,13 +258,7 @@ fn run_after<R: AllocGlobal, K: Sink, E: Write>(
 {
     match after_reply(rt.alloc(), played.fen, played.name) {
         Ok(text) => finish(writer, text.as_slice(), ANSWERED),
-        Err(refusal) => {
-            let status = refuse(rt.alloc(), writer, refusal);
-            if may_tell(status) {
-                let _ = tell_move(errors, played, refusal);
-            }
-            status
-        }
+        Err(refusal) => refuse_move(rt, writer, errors, played, refusal),
     }
 }
 
@@ -229,7 +284,7 @@ pub fn run<
     ensures unread { MayReadFor (map W.text words.now) ⊎ (reader.new ≡ reader.old) }
     ensures runs { RunsWords (map W.text words.now) (run_of S.remaining S.failures reader.old reader.new
         (ending_of K.contents K.failures writer.old writer.new result)) }
-    ensures silent { MayTell result ⊎ MeansBatch (map W.text words.now) ⊎ (errors.new ≡ errors.old) }
+    ensures silent { MayTell result ⊎ TellsMore (map W.text words.now) ⊎ (errors.new ≡ errors.old) }
 {
     match read_order(rt.alloc(), words) {
         Ok(Order::One(line)) => run_line_on(&host_of(rt, words), &line, reader, writer, errors),
