@@ -116,7 +116,7 @@ after_searches_not name is = record {
 -- `batch` means none where there is no goal
 pub no_batch_goal : (name : Text) (rows : List Row) (order : Order) → name ≡ codes "batch" → ((goal : Goal) → HasGoal rows goal → ⊥) → MeansFound name rows order → ⊥
 no_batch_goal name rows (One line) is none means = no_goal name rows line.action (batch_searches name is).aims none means.1
-no_batch_goal name rows (Batch goal limits) is none means = none goal means.1
+no_batch_goal name rows (Batch goal limits manner) is none means = none goal means.1
 no_batch_goal name rows (Verify subject) is none means = none subject.goal means.1.1
 no_batch_goal name rows (Certify subject limits) is none means = none subject.goal means.1.1
 no_batch_goal name rows (After played) is none means = two_names 0 (codes "batch") (codes "after") 98 97 refl refl (λ e. omega arith) name is means.0
@@ -125,7 +125,7 @@ no_batch_goal name rows (After played) is none means = two_names 0 (codes "batch
 pub no_batch_limits : (name : Text) (rows : List Row) (order : Order) → name ≡ codes "batch" → ((limits : Limits) → HasLimits rows limits → ⊥)
     → MeansFound name rows order → ⊥
 no_batch_limits name rows (One line) is none means = no_limits name rows line.action (batch_searches name is) none means.1
-no_batch_limits name rows (Batch goal limits) is none means = none limits means.2
+no_batch_limits name rows (Batch goal limits manner) is none means = none limits means.2
 no_batch_limits name rows (Verify subject) is none means = two_names 0 (codes "batch") (codes "verify") 98 118 refl refl (λ e. omega arith) name is means.0
 no_batch_limits name rows (Certify subject limits) is none means = none limits means.2
 no_batch_limits name rows (After played) is none means = two_names 0 (codes "batch") (codes "after") 98 97 refl refl (λ e. omega arith) name is means.0
@@ -133,7 +133,7 @@ no_batch_limits name rows (After played) is none means = two_names 0 (codes "bat
 -- `verify` means none where there is no position or no goal
 pub no_verify : (name : Text) (rows : List Row) (order : Order) → name ≡ codes "verify" → ((subject : Subject) → HasSubject rows subject → ⊥) → MeansFound name rows order → ⊥
 no_verify name rows (One line) is none means = no_action name rows line.action (verify_searches name is) (verify_searches_not name is) means.1
-no_verify name rows (Batch goal limits) is none means = two_names 0 (codes "verify") (codes "batch") 118 98 refl refl (λ e. omega arith) name is means.0
+no_verify name rows (Batch goal limits manner) is none means = two_names 0 (codes "verify") (codes "batch") 118 98 refl refl (λ e. omega arith) name is means.0
 no_verify name rows (Verify subject) is none means = none subject means.1
 no_verify name rows (Certify subject limits) is none means = none subject means.1
 no_verify name rows (After played) is none means = two_names 0 (codes "verify") (codes "after") 118 97 refl refl (λ e. omega arith) name is means.0
@@ -142,7 +142,7 @@ no_verify name rows (After played) is none means = two_names 0 (codes "verify") 
 pub no_certify : (name : Text) (rows : List Row) (order : Order) → name ≡ codes "certify" → ((subject : Subject) (limits : Limits) → HasSubject rows subject → HasLimits rows limits → ⊥)
     → MeansFound name rows order → ⊥
 no_certify name rows (One line) is none means = no_action name rows line.action (certify_searches name is) (certify_searches_not name is) means.1
-no_certify name rows (Batch goal limits) is none means = two_names 0 (codes "certify") (codes "batch") 99 98 refl refl (λ e. omega arith) name is means.0
+no_certify name rows (Batch goal limits manner) is none means = two_names 0 (codes "certify") (codes "batch") 99 98 refl refl (λ e. omega arith) name is means.0
 no_certify name rows (Verify subject) is none means = two_names 0 (codes "certify") (codes "verify") 99 118 refl refl (λ e. omega arith) name is means.0
 no_certify name rows (Certify subject limits) is none means = none subject limits means.1 means.2
 no_certify name rows (After played) is none means = two_names 0 (codes "certify") (codes "after") 99 97 refl refl (λ e. omega arith) name is means.0
@@ -150,7 +150,7 @@ no_certify name rows (After played) is none means = two_names 0 (codes "certify"
 -- `after` means none where there is no position or no move
 pub no_after : (name : Text) (rows : List Row) (order : Order) → name ≡ codes "after" → ((played : Played) → HasPlayed rows played → ⊥) → MeansFound name rows order → ⊥
 no_after name rows (One line) is none means = no_action name rows line.action (after_searches name is) (after_searches_not name is) means.1
-no_after name rows (Batch goal limits) is none means = two_names 0 (codes "after") (codes "batch") 97 98 refl refl (λ e. omega arith) name is means.0
+no_after name rows (Batch goal limits manner) is none means = two_names 0 (codes "after") (codes "batch") 97 98 refl refl (λ e. omega arith) name is means.0
 no_after name rows (Verify subject) is none means = two_names 0 (codes "after") (codes "verify") 97 118 refl refl (λ e. omega arith) name is means.0
 no_after name rows (Certify subject limits) is none means = two_names 0 (codes "after") (codes "certify") 97 99 refl refl (λ e. omega arith) name is means.0
 no_after name rows (After played) is none means = none played means.1

@@ -94,9 +94,17 @@ show_app = with_rule (new_app (codes "show")) fen_rule
 abbrev pub after_app : App
 after_app = with_rule (with_rule (new_app (codes "after")) fen_rule) move_rule
 
--- `batch`, and the options of a search
+-- `--echo`, which takes no value
+abbrev pub echo_rule : Rule
+echo_rule = record (new_rule (codes "echo")) { long = Some (codes "echo"); action = Some SetTrue }
+
+-- the lines of the input
+abbrev pub lines_rule : Rule
+lines_rule = number_rule (codes "lines")
+
+-- `batch [--echo] [--lines L]`, and the options of a search
 abbrev pub batch_app : App
-batch_app = limits_app (new_app (codes "batch"))
+batch_app = with_rule (with_rule (limits_app (new_app (codes "batch"))) echo_rule) lines_rule
 
 -- the program without its commands
 abbrev pub bare_app : App

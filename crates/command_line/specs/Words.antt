@@ -1,5 +1,5 @@
 -- The order that the words of the command line mean: what `clap` finds in them, read as an order.
-use Rattle.std.specs.Prelude.{◌≡◌, ◌≢◌, ◌⊎◌, ◌<◌, ◌*◌, ◌-◌, ◌^◌, ℕ, List, [], Option, None, Some, IsSomeAnd, MatchOption, codes, min}
+use Rattle.std.specs.Prelude.{◌≡◌, ◌≢◌, ◌↔◌, ◌⊎◌, ◌<◌, ◌*◌, ◌-◌, ◌^◌, ℕ, List, [], Option, None, Some, IsSomeAnd, IsTrue, MatchOption, codes, min}
 use Rattle.std.specs.Str.Parse.{IsNumeral, digits_value, without_leading_plus}
 use Rattle.clap.specs.Words.{Row, Text, fault_of, first_of, one_of, subcommand_of}
 use Rattle.rules.specs.declared.goal.Goal.{Goal}
@@ -9,6 +9,7 @@ use Rattle.command_line.specs.declared.line.Line.{Line}
 use Rattle.command_line.specs.declared.line.Limits.{Limits}
 use Rattle.command_line.specs.declared.line.Subject.{Subject}
 use Rattle.command_line.specs.declared.line.Played.{Played}
+use Rattle.command_line.specs.declared.line.Manner.{Manner}
 use Rattle.command_line.specs.declared.line.Action.{Action}
 use Rattle.command_line.specs.declared.line.Action.TheVariants.{Solve, Keys, Tree, Check, Moves, Show}
 use Rattle.command_line.specs.declared.line.Order.{Order}
@@ -60,6 +61,11 @@ MeansAction name rows Show = name ≡ codes "show"
 abbrev pub HasLine : Text → List Row → Line → Type 0
 HasLine name rows line = (first_of (codes "FEN") rows ≡ Some line.fen.now) × MeansAction name rows line.action
 
+-- what was found for the manner of a batch: whether the positions are written too, and a number of lines, where one is given
+pub record HasManner (rows : List Row) (manner : Manner) : Type 0 where
+  pub echo : IsTrue manner.echo ↔ (first_of (codes "echo") rows ≡ Some (codes "true"))
+  pub lines : MatchOption manner.lines ((n : ℕ) → HasNumber (codes "lines") rows n → ⊥) (HasNumber (codes "lines") rows)
+
 -- what was found for the position and for the goal
 abbrev pub HasSubject : List Row → Subject → Type 0
 HasSubject rows subject = (first_of (codes "FEN") rows ≡ Some subject.fen.now) × HasGoal rows subject.goal
@@ -71,7 +77,7 @@ HasPlayed rows played = (first_of (codes "FEN") rows ≡ Some played.fen.now) ×
 -- the command of that name with what was found for it
 abbrev pub MeansFound : Text → List Row → Order → Type 0
 MeansFound name rows (One line) = HasLine name rows line
-MeansFound name rows (Batch goal limits) = (name ≡ codes "batch") × HasGoal rows goal × HasLimits rows limits
+MeansFound name rows (Batch goal limits manner) = (name ≡ codes "batch") × HasGoal rows goal × HasLimits rows limits × HasManner rows manner
 MeansFound name rows (Verify subject) = (name ≡ codes "verify") × HasSubject rows subject
 MeansFound name rows (Certify subject limits) = (name ≡ codes "certify") × HasSubject rows subject × HasLimits rows limits
 MeansFound name rows (After played) = (name ≡ codes "after") × HasPlayed rows played

@@ -198,6 +198,18 @@ bytes.
 Example:
   minimate batch --limit 5 --slots 1048573 < positions";
 
+pub const ECHO: &str = "Write the position and a tab before each answer";
+
+pub const ECHO_MORE: &str = "\
+Writes the position and a tab before each answer or refusal.";
+
+pub const LINES: &str = "How many lines the input has, to tell how far it is";
+
+pub const LINES_MORE: &str = "\
+How many lines the input has, or 0: shows on standard error, at most
+once a second, how many are answered and how long the rest may take.
+The launcher gives it where standard error alone is a terminal.";
+
 pub const FEN: &str = "The position as one word, as 'k5/6/1K4/6/6/5R w'";
 
 pub const FEN_MORE: &str = "\

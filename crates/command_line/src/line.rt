@@ -7,13 +7,22 @@ pub enum Order<'a> {
     /// A command at one position.
     One(Line<'a>),
     /// A solve of each position of the input.
-    Batch(Goal, Limits),
+    Batch(Goal, Limits, Manner),
     /// What the certificate of the input proves.
     Verify(Subject<'a>),
     /// The certificate of the answer of a solve.
     Certify(Subject<'a>, Limits),
     /// The position after a move.
     After(Played<'a>),
+}
+
+/// How the replies of a batch are written, and what is known of its input.
+#[derive(Clone, Copy, PartialEq, Eq)]
+pub struct Manner {
+    /// Whether the position stands before each answer.
+    pub echo: bool,
+    /// How many lines the input has, which standard error is told; 0 where they aren't known.
+    pub lines: Option<u32>,
 }
 
 /// A move to be played at a position.

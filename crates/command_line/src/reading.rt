@@ -1,5 +1,5 @@
 //! Reading the words of a command line.
-ghost use Rattle.std.specs.Prelude.{◌≡◌, ◌≢◌, ◌↔◌, ◌*◌, ◌-◌, All, Any, IfErr, List, IfNone, IfOk, IfSome, MatchBool, None, OnErr, Some, ℕ, codes, map, min};
+ghost use Rattle.std.specs.Prelude.{◌≡◌, ◌≢◌, ◌↔◌, ◌*◌, ◌-◌, All, Any, IfErr, List, IfNone, IfOk, IfSome, IsTrue, MatchBool, None, OnErr, Some, ℕ, codes, map, min};
 ghost use Rattle.rules.specs.declared.goal.Goal.{Goal as TheGoal};
 ghost use Rattle.clap.specs.declared.error.kind.ErrorKind.TheVariants.{OutOfMemory};
 ghost use Rattle.command_line.specs.declared.reading.LineFault.TheVariants.{NoMemory, Words};
@@ -10,12 +10,12 @@ ghost use Rattle.command_line.specs.declared.line.Subject.{Subject as TheSubject
 ghost use Rattle.command_line.specs.declared.line.Played.{Played as ThePlayed};
 ghost use Rattle.command_line.specs.declared.line.Action.{Action as TheAction};
 ghost use Rattle.clap.specs.Words.{App, FailsBy, Row, fault_of, first_of, found_of, kind_of, new_app, rows_of, subcommand_of, subcommand_rows_of, with_subcommand};
-ghost use Rattle.command_line.specs.Words.{HasGoal, HasLimit, HasLimits, HasLine, HasNumber, HasOrder, HasPlayed, HasSubject, MeansAction, MeansFound, MeansOrder, MeansNoOrder, progress_word};
+ghost use Rattle.command_line.specs.Words.{HasGoal, HasLimit, HasLimits, HasLine, HasManner, HasNumber, HasOrder, HasPlayed, HasSubject, MeansAction, MeansFound, MeansOrder, MeansNoOrder, progress_word};
 ghost use Rattle.command_line.specs.Making.{IsLocal, IsLocalArg, NamesNoSearch, option_rule};
-ghost use Rattle.command_line.specs.Program.{after_app, fen_rule, move_rule, goal_rule, number_rule, limit_rule, mate_rule, workers_rule, slots_rule, progress_rule, limits_app, search_app, checking_app, solve_app, keys_app, tree_app, check_app, verify_app, certify_app, moves_app, show_app, batch_app, program};
+ghost use Rattle.command_line.specs.Program.{after_app, fen_rule, move_rule, goal_rule, number_rule, limit_rule, mate_rule, workers_rule, slots_rule, progress_rule, echo_rule, lines_rule, limits_app, search_app, checking_app, solve_app, keys_app, tree_app, check_app, verify_app, certify_app, moves_app, show_app, batch_app, program};
 
 use crate::help;
-use crate::line::{Action, Limits, Line, Order, Played, Subject};
+use crate::line::{Action, Limits, Line, Manner, Order, Played, Subject};
 use clap::error::ErrorKind;
 use clap::{Arg, ArgAction, ArgMatches, Command, Error, value_parser};
 use moves::Goal;
@@ -51,6 +51,22 @@ fn fen<'a>(alloc: Global) -> Arg<'a>
         .required(true)
         .help(help::FEN)
         .long_help(help::FEN_MORE)
+}
+
+fn echo<'a>(alloc: Global) -> Arg<'a>
+    ensures { IsLocalArg echo_rule result }
+{
+    Arg::new(alloc, "echo")
+        .long("echo")
+        .action(ArgAction::SetTrue)
+        .help(help::ECHO)
+        .long_help(help::ECHO_MORE)
+}
+
+fn lines<'a>(alloc: Global) -> Arg<'a>
+    ensures { IsLocalArg lines_rule result }
+{
+    number(alloc, "lines", "L", help::LINES, help::LINES_MORE)
 }
 
 fn played_move<'a>(alloc: Global) -> Arg<'a>
@@ -213,16 +229,20 @@ fn tree_command<'a>(alloc: Global) -> Result<Command<'a>, AllocError>
 fn batch_command<'a>(alloc: Global) -> Result<Command<'a>, AllocError>
     ensures { IfOk result (IsLocal batch_app) }
 {
-    with_limits(
+    let bare = named(
         alloc,
-        named(
-            alloc,
-            "batch",
-            help::BATCH,
-            help::BATCH_NOTES,
-            help::BATCH_MORE,
-        ),
-    )
+        "batch",
+        help::BATCH,
+        help::BATCH_NOTES,
+        help::BATCH_MORE,
+    );
+    let Ok(limited) = with_limits(alloc, bare) else {
+        return Err(AllocError);
+    };
+    let Ok(echoing) = limited.arg(echo(alloc)) else {
+        return Err(AllocError);
+    };
+    echoing.arg(lines(alloc))
 }
 
 fn moves_command<'a>(alloc: Global) -> Result<Command<'a>, AllocError>
@@ -477,6 +497,28 @@ fn subject_of<'a>(values: &ArgMatches<'a>) -> Option<Subject<'a>>
     Some(Subject { fen, goal })
 }
 
+/// Whether `--echo` was given.
+fn echoes(values: &ArgMatches<'_>) -> bool
+    ensures { IsTrue result ↔ (first_of (codes "echo") (rows_of (found_of values.now)) ≡ Some (codes "true")) }
+{
+    match values.get_str("echo") {
+        None => false,
+        Some(word) => match word {
+            "true" => true,
+            _ => false,
+        },
+    }
+}
+
+fn manner_of(values: &ArgMatches<'_>) -> Manner
+    ensures { HasManner (rows_of (found_of values.now)) result }
+{
+    Manner {
+        echo: echoes(values),
+        lines: number_of(values, "lines"),
+    }
+}
+
 fn played_of<'a>(values: &ArgMatches<'a>) -> Option<Played<'a>>
     ensures some { IfSome result (HasPlayed (rows_of (found_of values.now))) }
     ensures none { IfNone result ((played : ThePlayed) → HasPlayed (rows_of (found_of values.now)) played → ⊥) }
@@ -491,7 +533,7 @@ fn order_at<'a>(name: &str, values: &ArgMatches<'a>) -> Option<Order<'a>>
     ensures none { IfNone result ((order : TheOrder) → MeansFound name.now (rows_of (found_of values.now)) order → ⊥) }
 {
     match name {
-        "batch" => Some(Order::Batch(goal_of(values)?, limits(values)?)),
+        "batch" => Some(Order::Batch(goal_of(values)?, limits(values)?, manner_of(values))),
         "verify" => Some(Order::Verify(subject_of(values)?)),
         "certify" => Some(Order::Certify(subject_of(values)?, limits(values)?)),
         "after" => Some(Order::After(played_of(values)?)),

@@ -4,6 +4,7 @@ use Rattle.clap.specs.Words.{Text}
 use Rattle.rules.specs.declared.goal.Goal.{Goal}
 use Rattle.command_line.specs.Words.{MeansOrder, MeansNoOrder}
 use Rattle.command_line.specs.declared.line.Limits.{Limits}
+use Rattle.command_line.specs.declared.line.Manner.{Manner}
 use Rattle.command_line.specs.declared.line.Order.{Order}
 use Rattle.command_line.specs.declared.line.Order.TheVariants.{One, Batch, Verify, Certify, After}
 use Rattle.board.specs.Board.{PlainBoard}
@@ -22,7 +23,7 @@ use Rattle.console.specs.Run.{Run, Writes, GivesUp, RunsLine, failures_of}
 -- the run is one of the order
 abbrev pub RunsOrder : Order → Run → Type 0
 RunsOrder (One line) run = RunsLine line run
-RunsOrder (Batch goal limits) run = RunsBatch goal limits run
+RunsOrder (Batch goal limits manner) run = RunsBatch goal limits manner.echo run
 RunsOrder (Verify subject) run = RunsVerify subject run
 RunsOrder (Certify subject limits) run = RunsCertify subject limits run
 RunsOrder (After played) run = RunsAfter played run
@@ -30,7 +31,7 @@ RunsOrder (After played) run = RunsAfter played run
 -- the order reads the input: a batch does, but where its limits are refused, and a check where its position is sound
 abbrev pub MayReadOf : Order → Type 0
 MayReadOf (One line) = MayRead line
-MayReadOf (Batch goal limits) = fault_of limits ≡ None
+MayReadOf (Batch goal limits manner) = fault_of limits ≡ None
 MayReadOf (Verify subject) = MayReadAbout subject
 MayReadOf (Certify subject limits) = ⊥
 MayReadOf (After played) = ⊥
@@ -57,7 +58,7 @@ IsOver line = Searches line.action × ((b : PlainBoard) × IsSoundText line.fen.
 
 -- the words mean a batch, which tells why it refuses a line
 abbrev pub MeansBatch : List Text → Type 0
-MeansBatch words = (goal : Goal) × (limits : Limits) × MeansOrder words (Batch goal limits)
+MeansBatch words = (goal : Goal) × (limits : Limits) × (manner : Manner) × MeansOrder words (Batch goal limits manner)
 
 -- the words mean a batch, or a search where there is no lawful move: standard error may be told more than why a run refuses
 abbrev pub TellsMore : List Text → Type 0

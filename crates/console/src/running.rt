@@ -14,6 +14,7 @@ use crate::certificate::{begin, write_claims};
 use crate::ending::{
     ANSWERED, FAILED, REFUSED_WORDS, finish, give_up_for_memory, may_tell, refuse,
 };
+use crate::tally::Tally;
 use board::Position;
 use command_line::{
     Action, Limits, Line, LineFault, Order, Played, Subject, asks_progress, read_order,
@@ -47,6 +48,7 @@ pub fn run_line<R: Threads + Wait + Eprint + Clock + Sync + AllocGlobal, S: Sour
         rt,
         shows: false,
         line: AtomicU64::new(0),
+        tally: Tally::quiet(),
     };
     run_line_on(&host, line, reader, writer, &mut sink())
 }
@@ -147,10 +149,10 @@ pub fn run_batch<
     requires reads { S.failures reader.old < u64.MAX }
     requires writes { K.failures writer.old < u64.MAX }
     ensures unread { (fault_of batch.limits ≡ None) ⊎ (reader.new ≡ reader.old) }
-    ensures runs { RunsBatch batch.goal batch.limits (run_of S.remaining S.failures reader.old reader.new
+    ensures runs { RunsBatch batch.goal batch.limits batch.echo (run_of S.remaining S.failures reader.old reader.new
         (ending_of K.contents K.failures writer.old writer.new result)) }
 {
-    match Desk::open(host.rt.alloc(), batch.goal, batch.limits) {
+    match Desk::open(host.rt.alloc(), batch) {
         Ok(mut desk) => match answer_lines(host, &mut desk, reader, writer, errors) {
             None => ANSWERED,
             Some(Stop::NoMemory) => give_up_for_memory(writer),
@@ -262,12 +264,23 @@ fn run_after<R: AllocGlobal, K: Sink, E: Write>(
     }
 }
 
+/// The host of a batch whose input has so many lines, and whether the words ask for a sign of life.
+fn batch_host<'a, R: Clock, W: AsStr>(rt: &'a R, words: &[W], lines: Option<u32>) -> Host<'a, R> {
+    Host {
+        rt,
+        shows: asks_progress(words),
+        line: AtomicU64::new(0),
+        tally: Tally::new(rt, lines),
+    }
+}
+
 /// The host, and whether the words ask for a sign of life.
 fn host_of<'a, R, W: AsStr>(rt: &'a R, words: &[W]) -> Host<'a, R> {
     Host {
         rt,
         shows: asks_progress(words),
         line: AtomicU64::new(0),
+        tally: Tally::quiet(),
     }
 }
 
@@ -288,10 +301,14 @@ pub fn run<
 {
     match read_order(rt.alloc(), words) {
         Ok(Order::One(line)) => run_line_on(&host_of(rt, words), &line, reader, writer, errors),
-        Ok(Order::Batch(goal, limits)) => {
+        Ok(Order::Batch(goal, limits, manner)) => {
             run_batch(
-                &host_of(rt, words),
-                Batch { goal, limits },
+                &batch_host(rt, words, manner.lines),
+                Batch {
+                    goal,
+                    limits,
+                    echo: manner.echo,
+                },
                 reader,
                 writer,
                 errors,
