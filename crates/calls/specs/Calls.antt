@@ -9,7 +9,8 @@ use Rattle.command_line.specs.declared.line.Line.{Line}
 use Rattle.command_line.specs.declared.line.Limits.{Limits}
 use Rattle.replies.specs.Output.{IsOutput}
 use Rattle.refusals.specs.Reply.{Reply, refused}
-use Rattle.calls.specs.Playing.{IsAfterReply, IsFaultReply}
+use Rattle.replies.specs.Playing.{IsAfterReply}
+use Rattle.calls.specs.Playing.{IsFaultReply}
 use Rattle.refusals.specs.declared.refusal.Refusal.TheVariants.{NoMemory}
 use Rattle.calls.specs.declared.answering.Terms.{Terms}
 use Rattle.calls.specs.Room.{IsPut}

@@ -2,31 +2,10 @@
 use Rattle.std.specs.Prelude.{◌≡◌, ◌⊎◌, ◌++◌, List, ℕ, []}
 use Rattle.board.specs.declared.fault.FenFault.{FenFault}
 use Rattle.board.specs.Board.{PlainBoard}
-use Rattle.board.specs.Fen.{IsFenText}
-use Rattle.rules.specs.MoveText.{move_text}
-use Rattle.rules.specs.Moves.{IsMove, IsLawful}
 use Rattle.rules.specs.Reading.{IsSoundFault}
-use Rattle.rules.specs.Squares.{Ply}
 use Rattle.replies.specs.Output.{IsSoundText}
-use Rattle.refusals.specs.Reply.{Reply, answered, refused, line_of}
+use Rattle.refusals.specs.Reply.{Reply, refused}
 use Rattle.refusals.specs.Refusal.{refusal_of_fen}
-use Rattle.refusals.specs.declared.refusal.Refusal.TheVariants.{Move}
-
--- no lawful move has this name
-abbrev pub NamesNone : PlainBoard → List ℕ → Type 0
-NamesNone b name = (m : Ply) → IsLawful b m → move_text m ≡ name → ⊥
-
--- the text, on a line, of the position after the lawful move of this name, or that no lawful move has it
-abbrev pub ShowsAfter : PlainBoard → List ℕ → Reply → Type 0
-ShowsAfter b name reply =
-    ((m : Ply) × (move_text m ≡ name) × ((q : PlainBoard) × IsMove b m q × ((text : List ℕ) × IsFenText text q × (reply ≡ answered (line_of text)))))
-    ⊎ (NamesNone b name × (reply ≡ refused Move))
-
--- the same at the sound position of a text, or the refusal of the text's fault
-abbrev pub IsAfterReply : List ℕ → List ℕ → Reply → Type 0
-IsAfterReply fen name reply =
-    ((b : PlainBoard) × IsSoundText fen b × ShowsAfter b name reply)
-    ⊎ ((fault : FenFault) × IsSoundFault fen fault × (reply ≡ refused (refusal_of_fen fault)))
 
 -- nothing, where the text is a sound position's; or else the refusal of its fault, and behind it a sentence, of which nothing is said here
 abbrev pub IsFaultReply : List ℕ → Reply → Type 0

@@ -4,7 +4,8 @@ ghost use Rattle.calls.specs.Calls.{AnswersAfter, AnswersCheck, AnswersFault, An
 
 use crate::answering::{Terms, goal_of, limits_of, put_reply};
 use crate::one_thread::{check_reply, keys_reply, moves_reply, solve_reply, tree_reply};
-use crate::playing::{after_reply, fault_reply};
+use crate::playing::fault_reply;
+use replies::after_reply;
 use std::alloc::Allocator;
 
 /// What `minimate moves` writes of the position.

@@ -2,14 +2,15 @@
 use Rattle.std.proofs.Common.{◌≡◌, ◌≢◌, ◌∙◌, List, ℕ, ap, arith, codes, refl, slice_index, sym}
 use Rattle.clap.specs.Words.{Row, Text}
 use Rattle.command_line.specs.Making.{NamesNoSearch}
-use Rattle.command_line.specs.Words.{HasGoal, HasLimits, HasSubject, MeansAction, MeansFound}
+use Rattle.command_line.specs.Words.{HasGoal, HasLimits, HasPlayed, HasSubject, MeansAction, MeansFound}
 use Rattle.rules.specs.declared.goal.Goal.{Goal}
 use Rattle.command_line.specs.declared.line.Limits.{Limits}
 use Rattle.command_line.specs.declared.line.Subject.{Subject}
+use Rattle.command_line.specs.declared.line.Played.{Played}
 use Rattle.command_line.specs.declared.line.Action.{Action}
 use Rattle.command_line.specs.declared.line.Action.TheVariants.{Solve, Keys, Tree, Check, Moves, Show}
 use Rattle.command_line.specs.declared.line.Order.{Order}
-use Rattle.command_line.specs.declared.line.Order.TheVariants.{One, Batch, Verify, Certify}
+use Rattle.command_line.specs.declared.line.Order.TheVariants.{One, Batch, Verify, Certify, After}
 
 -- two texts with different bytes at one place are two names
 two_names : (k : ℕ) (a b : Text) (m n : ℕ) → slice_index a k ≡ m → slice_index b k ≡ n → (m ≡ n → ⊥) → (name : Text) → name ≡ a → name ≢ b
@@ -94,34 +95,62 @@ certify_searches_not name is = record {
   tree = two_names 0 (codes "certify") (codes "tree") 99 116 refl refl (λ e. omega arith) name is;
 }
 
+after_searches : (name : Text) → name ≡ codes "after" → Searches name
+after_searches name is = record {
+  aims = record {
+    moves = two_names 0 (codes "after") (codes "moves") 97 109 refl refl (λ e. omega arith) name is;
+    show = two_names 0 (codes "after") (codes "show") 97 115 refl refl (λ e. omega arith) name is;
+  };
+  check = two_names 0 (codes "after") (codes "check") 97 99 refl refl (λ e. omega arith) name is;
+}
+
+after_searches_not : (name : Text) → name ≡ codes "after" → NamesNoSearch name
+after_searches_not name is = record {
+  solve = two_names 0 (codes "after") (codes "solve") 97 115 refl refl (λ e. omega arith) name is;
+  keys = two_names 0 (codes "after") (codes "keys") 97 107 refl refl (λ e. omega arith) name is;
+  tree = two_names 0 (codes "after") (codes "tree") 97 116 refl refl (λ e. omega arith) name is;
+}
+
 -- ---- orders
 
 -- `batch` means none where there is no goal
 pub no_batch_goal : (name : Text) (rows : List Row) (order : Order) → name ≡ codes "batch" → ((goal : Goal) → HasGoal rows goal → ⊥) → MeansFound name rows order → ⊥
 no_batch_goal name rows (One line) is none means = no_goal name rows line.action (batch_searches name is).aims none means.1
-no_batch_goal name rows (Batch goal limits) is none means = none goal means.1
+no_batch_goal name rows (Batch goal limits manner) is none means = none goal means.1
 no_batch_goal name rows (Verify subject) is none means = none subject.goal means.1.1
 no_batch_goal name rows (Certify subject limits) is none means = none subject.goal means.1.1
+no_batch_goal name rows (After played) is none means = two_names 0 (codes "batch") (codes "after") 98 97 refl refl (λ e. omega arith) name is means.0
 
 -- nor where there are no limits
 pub no_batch_limits : (name : Text) (rows : List Row) (order : Order) → name ≡ codes "batch" → ((limits : Limits) → HasLimits rows limits → ⊥)
     → MeansFound name rows order → ⊥
 no_batch_limits name rows (One line) is none means = no_limits name rows line.action (batch_searches name is) none means.1
-no_batch_limits name rows (Batch goal limits) is none means = none limits means.2
+no_batch_limits name rows (Batch goal limits manner) is none means = none limits means.2
 no_batch_limits name rows (Verify subject) is none means = two_names 0 (codes "batch") (codes "verify") 98 118 refl refl (λ e. omega arith) name is means.0
 no_batch_limits name rows (Certify subject limits) is none means = none limits means.2
+no_batch_limits name rows (After played) is none means = two_names 0 (codes "batch") (codes "after") 98 97 refl refl (λ e. omega arith) name is means.0
 
 -- `verify` means none where there is no position or no goal
 pub no_verify : (name : Text) (rows : List Row) (order : Order) → name ≡ codes "verify" → ((subject : Subject) → HasSubject rows subject → ⊥) → MeansFound name rows order → ⊥
 no_verify name rows (One line) is none means = no_action name rows line.action (verify_searches name is) (verify_searches_not name is) means.1
-no_verify name rows (Batch goal limits) is none means = two_names 0 (codes "verify") (codes "batch") 118 98 refl refl (λ e. omega arith) name is means.0
+no_verify name rows (Batch goal limits manner) is none means = two_names 0 (codes "verify") (codes "batch") 118 98 refl refl (λ e. omega arith) name is means.0
 no_verify name rows (Verify subject) is none means = none subject means.1
 no_verify name rows (Certify subject limits) is none means = none subject means.1
+no_verify name rows (After played) is none means = two_names 0 (codes "verify") (codes "after") 118 97 refl refl (λ e. omega arith) name is means.0
 
 -- `certify` means none where there is no position, no goal or no limits
 pub no_certify : (name : Text) (rows : List Row) (order : Order) → name ≡ codes "certify" → ((subject : Subject) (limits : Limits) → HasSubject rows subject → HasLimits rows limits → ⊥)
     → MeansFound name rows order → ⊥
 no_certify name rows (One line) is none means = no_action name rows line.action (certify_searches name is) (certify_searches_not name is) means.1
-no_certify name rows (Batch goal limits) is none means = two_names 0 (codes "certify") (codes "batch") 99 98 refl refl (λ e. omega arith) name is means.0
+no_certify name rows (Batch goal limits manner) is none means = two_names 0 (codes "certify") (codes "batch") 99 98 refl refl (λ e. omega arith) name is means.0
 no_certify name rows (Verify subject) is none means = two_names 0 (codes "certify") (codes "verify") 99 118 refl refl (λ e. omega arith) name is means.0
 no_certify name rows (Certify subject limits) is none means = none subject limits means.1 means.2
+no_certify name rows (After played) is none means = two_names 0 (codes "certify") (codes "after") 99 97 refl refl (λ e. omega arith) name is means.0
+
+-- `after` means none where there is no position or no move
+pub no_after : (name : Text) (rows : List Row) (order : Order) → name ≡ codes "after" → ((played : Played) → HasPlayed rows played → ⊥) → MeansFound name rows order → ⊥
+no_after name rows (One line) is none means = no_action name rows line.action (after_searches name is) (after_searches_not name is) means.1
+no_after name rows (Batch goal limits manner) is none means = two_names 0 (codes "after") (codes "batch") 97 98 refl refl (λ e. omega arith) name is means.0
+no_after name rows (Verify subject) is none means = two_names 0 (codes "after") (codes "verify") 97 118 refl refl (λ e. omega arith) name is means.0
+no_after name rows (Certify subject limits) is none means = two_names 0 (codes "after") (codes "certify") 97 99 refl refl (λ e. omega arith) name is means.0
+no_after name rows (After played) is none means = none played means.1

@@ -8,6 +8,10 @@ use Rattle.clap.specs.declared.builder.value_parser.ValueParser.TheVariants as p
 abbrev pub fen_rule : Rule
 fen_rule = record (new_rule (codes "FEN")) { required = true }
 
+-- one word behind the position that must be there
+abbrev pub move_rule : Rule
+move_rule = record (new_rule (codes "MOVE")) { required = true }
+
 -- a number of 32 bits after `--name`
 abbrev pub number_rule : Text → Rule
 number_rule name = record (new_rule name) {
@@ -16,9 +20,13 @@ number_rule name = record (new_rule name) {
   parser = Some (parser.Signed (pos 0) (pos 4294967295));
 }
 
--- the limit, which must be there
+-- the limit, in plies
 abbrev pub limit_rule : Rule
-limit_rule = record (number_rule (codes "limit")) { required = true }
+limit_rule = number_rule (codes "limit")
+
+-- the limit, in moves of the attacker
+abbrev pub mate_rule : Rule
+mate_rule = number_rule (codes "mate")
 
 -- the workers, 2 where they are not given
 abbrev pub workers_rule : Rule
@@ -40,9 +48,10 @@ goal_rule = record (new_rule (codes "goal")) {
 abbrev pub progress_rule : Rule
 progress_rule = record (new_rule (codes "progress")) { long = Some (codes "progress"); action = Some SetTrue }
 
--- with the options of a search: `--limit N [--workers K] [--slots S] [--goal GOAL] [--progress]`
+-- with the options of a search: `(--limit N | --mate M) [--workers K] [--slots S] [--goal GOAL] [--progress]`
 abbrev pub limits_app : App → App
-limits_app app = with_rule (with_rule (with_rule (with_rule (with_rule app limit_rule) workers_rule) slots_rule) goal_rule) progress_rule
+limits_app app =
+    with_rule (with_rule (with_rule (with_rule (with_rule (with_rule app limit_rule) mate_rule) workers_rule) slots_rule) goal_rule) progress_rule
 
 -- a command of this name with the options of a search, and a position
 abbrev pub search_app : Text → App
@@ -81,9 +90,21 @@ moves_app = with_rule (new_app (codes "moves")) fen_rule
 abbrev pub show_app : App
 show_app = with_rule (new_app (codes "show")) fen_rule
 
--- `batch`, and the options of a search
+-- `after FEN MOVE`
+abbrev pub after_app : App
+after_app = with_rule (with_rule (new_app (codes "after")) fen_rule) move_rule
+
+-- `--echo`, which takes no value
+abbrev pub echo_rule : Rule
+echo_rule = record (new_rule (codes "echo")) { long = Some (codes "echo"); action = Some SetTrue }
+
+-- the lines of the input
+abbrev pub lines_rule : Rule
+lines_rule = number_rule (codes "lines")
+
+-- `batch [--echo] [--lines L]`, and the options of a search
 abbrev pub batch_app : App
-batch_app = limits_app (new_app (codes "batch"))
+batch_app = with_rule (with_rule (limits_app (new_app (codes "batch"))) echo_rule) lines_rule
 
 -- the program without its commands
 abbrev pub bare_app : App
@@ -93,5 +114,5 @@ bare_app = let new = new_app (codes "minimate") in
 -- the program, whose first word is one of its commands
 abbrev pub program : App
 program =
-    with_subcommand (with_subcommand (with_subcommand (with_subcommand (with_subcommand (with_subcommand (with_subcommand (with_subcommand (with_subcommand bare_app
-    solve_app.top) keys_app.top) tree_app.top) check_app.top) verify_app.top) certify_app.top) moves_app.top) show_app.top) batch_app.top
+    with_subcommand (with_subcommand (with_subcommand (with_subcommand (with_subcommand (with_subcommand (with_subcommand (with_subcommand (with_subcommand (with_subcommand bare_app
+    solve_app.top) keys_app.top) tree_app.top) check_app.top) verify_app.top) certify_app.top) moves_app.top) show_app.top) after_app.top) batch_app.top

@@ -1,5 +1,5 @@
 -- The order that the words of the command line mean: what `clap` finds in them, read as an order.
-use Rattle.std.specs.Prelude.{◌≡◌, ◌≢◌, ◌⊎◌, ◌<◌, ◌^◌, ℕ, List, [], Option, Some, IsSomeAnd, codes}
+use Rattle.std.specs.Prelude.{◌≡◌, ◌≢◌, ◌↔◌, ◌⊎◌, ◌<◌, ◌*◌, ◌-◌, ◌^◌, ℕ, List, [], Option, None, Some, IsSomeAnd, IsTrue, MatchOption, codes, min}
 use Rattle.std.specs.Str.Parse.{IsNumeral, digits_value, without_leading_plus}
 use Rattle.clap.specs.Words.{Row, Text, fault_of, first_of, one_of, subcommand_of}
 use Rattle.rules.specs.declared.goal.Goal.{Goal}
@@ -8,10 +8,12 @@ use Rattle.command_line.specs.Program.{program}
 use Rattle.command_line.specs.declared.line.Line.{Line}
 use Rattle.command_line.specs.declared.line.Limits.{Limits}
 use Rattle.command_line.specs.declared.line.Subject.{Subject}
+use Rattle.command_line.specs.declared.line.Played.{Played}
+use Rattle.command_line.specs.declared.line.Manner.{Manner}
 use Rattle.command_line.specs.declared.line.Action.{Action}
 use Rattle.command_line.specs.declared.line.Action.TheVariants.{Solve, Keys, Tree, Check, Moves, Show}
 use Rattle.command_line.specs.declared.line.Order.{Order}
-use Rattle.command_line.specs.declared.line.Order.TheVariants.{One, Batch, Verify, Certify}
+use Rattle.command_line.specs.declared.line.Order.TheVariants.{One, Batch, Verify, Certify, After}
 
 -- the text is the number: decimal digits, perhaps after a plus, below 2^32
 abbrev pub IsNumber : Text → ℕ → Type 0
@@ -22,9 +24,18 @@ IsNumber text n = (IsNumeral 10 (without_leading_plus text) × (digits_value 10 
 abbrev pub HasNumber : Text → List Row → ℕ → Type 0
 HasNumber id rows n = (text : Text) × (one_of id rows ≡ Some text) × IsNumber text n
 
+-- the plies of a mate in so many moves; more than 32 bits hold are the greatest of these numbers
+abbrev pub plies_of : ℕ → ℕ
+plies_of moves = min (2 * moves - 1) 4294967295
+
+-- the limit is that of `--limit`, or where `--mate` is given, and `--limit` is not, the plies of so many moves
+abbrev pub HasLimit : List Row → ℕ → Type 0
+HasLimit rows n = MatchOption (first_of (codes "mate") rows) (HasNumber (codes "limit") rows n)
+    (λ _. (first_of (codes "limit") rows ≡ None) × ((moves : ℕ) × HasNumber (codes "mate") rows moves × (n ≡ plies_of moves)))
+
 -- what was found for the limits' names
 pub record HasLimits (rows : List Row) (limits : Limits) : Type 0 where
-  pub limit : HasNumber (codes "limit") rows limits.limit
+  pub limit : HasLimit rows limits.limit
   pub workers : HasNumber (codes "workers") rows limits.workers
   pub slots : HasNumber (codes "slots") rows limits.slots
 
@@ -50,16 +61,26 @@ MeansAction name rows Show = name ≡ codes "show"
 abbrev pub HasLine : Text → List Row → Line → Type 0
 HasLine name rows line = (first_of (codes "FEN") rows ≡ Some line.fen.now) × MeansAction name rows line.action
 
+-- what was found for the manner of a batch: whether the positions are written too, and a number of lines, where one is given
+pub record HasManner (rows : List Row) (manner : Manner) : Type 0 where
+  pub echo : IsTrue manner.echo ↔ (first_of (codes "echo") rows ≡ Some (codes "true"))
+  pub lines : MatchOption manner.lines ((n : ℕ) → HasNumber (codes "lines") rows n → ⊥) (HasNumber (codes "lines") rows)
+
 -- what was found for the position and for the goal
 abbrev pub HasSubject : List Row → Subject → Type 0
 HasSubject rows subject = (first_of (codes "FEN") rows ≡ Some subject.fen.now) × HasGoal rows subject.goal
 
+-- what was found for the position and for the move
+abbrev pub HasPlayed : List Row → Played → Type 0
+HasPlayed rows played = (first_of (codes "FEN") rows ≡ Some played.fen.now) × (first_of (codes "MOVE") rows ≡ Some played.name.now)
+
 -- the command of that name with what was found for it
 abbrev pub MeansFound : Text → List Row → Order → Type 0
 MeansFound name rows (One line) = HasLine name rows line
-MeansFound name rows (Batch goal limits) = (name ≡ codes "batch") × HasGoal rows goal × HasLimits rows limits
+MeansFound name rows (Batch goal limits manner) = (name ≡ codes "batch") × HasGoal rows goal × HasLimits rows limits × HasManner rows manner
 MeansFound name rows (Verify subject) = (name ≡ codes "verify") × HasSubject rows subject
 MeansFound name rows (Certify subject limits) = (name ≡ codes "certify") × HasSubject rows subject × HasLimits rows limits
+MeansFound name rows (After played) = (name ≡ codes "after") × HasPlayed rows played
 
 -- a command was found, and it is the order
 abbrev pub HasOrder : Option (Text × List Row) → Order → Type 0

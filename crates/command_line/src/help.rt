@@ -168,6 +168,21 @@ each empty square, and the side to move.
 Example:
   minimate show 'k5/6/1K4/6/6/5R w'";
 
+pub const AFTER: &str = "Write the position after a move";
+
+pub const AFTER_NOTES: &str = "\
+Example:
+  minimate after 'k5/6/2K3/6/6/1R4 w' c4c5";
+
+pub const AFTER_MORE: &str = "\
+The output is the position after the move, in the notation of FEN. The move is
+named as `minimate moves` names it; what is no lawful move's name is refused as
+`Move`.
+
+Example:
+  minimate after 'k5/6/2K3/6/6/1R4 w' c4c5
+  k5/6/2K3/6/6/1R4 b";
+
 pub const BATCH: &str = "Solve each position that is read from the input";
 
 pub const BATCH_NOTES: &str = "\
@@ -183,6 +198,18 @@ bytes.
 Example:
   minimate batch --limit 5 --slots 1048573 < positions";
 
+pub const ECHO: &str = "Write the position and a tab before each answer";
+
+pub const ECHO_MORE: &str = "\
+Writes the position and a tab before each answer or refusal.";
+
+pub const LINES: &str = "How many lines the input has, to tell how far it is";
+
+pub const LINES_MORE: &str = "\
+How many lines the input has, or 0: shows on standard error, at most
+once a second, how many are answered and how long the rest may take.
+The launcher gives it where standard error alone is a terminal.";
+
 pub const FEN: &str = "The position as one word, as 'k5/6/1K4/6/6/5R w'";
 
 pub const FEN_MORE: &str = "\
@@ -194,11 +221,23 @@ are Los Alamos chess, five of five Gardner minichess.
 'k5/6/1K4/6/6/5R w': Black's king on a6, White's on b4, White's rook
 on f1, White to move.";
 
+pub const MOVE: &str = "The move, as c4c5, or c5c6q for a promotion";
+
+pub const MOVE_MORE: &str = "\
+The move: the square it leaves, the square it comes to, and for a
+promotion q, r, b or n, as c5c6q.";
+
 pub const LIMIT: &str = "The most plies to the goal, 1 to 63";
 
 pub const LIMIT_MORE: &str = "\
 The most plies to the goal, 1 to 63. A ply is one move of one side,
 so a mate in M moves is 2M-1.";
+
+pub const MATE: &str = "The most moves to the goal, 1 to 32, in place of --limit";
+
+pub const MATE_MORE: &str = "\
+The most moves of the attacker to the goal, 1 to 32: `--mate M` is
+`--limit 2M-1`. Give one of the two. Answers stay in plies.";
 
 pub const GOAL: &str = "What to play for, `mate` or `stale`";
 

@@ -7,11 +7,31 @@ pub enum Order<'a> {
     /// A command at one position.
     One(Line<'a>),
     /// A solve of each position of the input.
-    Batch(Goal, Limits),
+    Batch(Goal, Limits, Manner),
     /// What the certificate of the input proves.
     Verify(Subject<'a>),
     /// The certificate of the answer of a solve.
     Certify(Subject<'a>, Limits),
+    /// The position after a move.
+    After(Played<'a>),
+}
+
+/// How the replies of a batch are written, and what is known of its input.
+#[derive(Clone, Copy, PartialEq, Eq)]
+pub struct Manner {
+    /// Whether the position stands before each answer.
+    pub echo: bool,
+    /// How many lines the input has, which standard error is told; 0 where they aren't known.
+    pub lines: Option<u32>,
+}
+
+/// A move to be played at a position.
+#[derive(Clone, Copy)]
+pub struct Played<'a> {
+    /// The position's text.
+    pub fen: &'a [u8],
+    /// The move's name, as `c4c5q`.
+    pub name: &'a [u8],
 }
 
 /// What a certificate is about: a position, and what its attacker plays for.

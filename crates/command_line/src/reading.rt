@@ -1,5 +1,5 @@
 //! Reading the words of a command line.
-ghost use Rattle.std.specs.Prelude.{◌≡◌, ◌≢◌, ◌↔◌, All, Any, IfErr, List, IfNone, IfOk, IfSome, MatchBool, None, OnErr, Some, ℕ, codes, map};
+ghost use Rattle.std.specs.Prelude.{◌≡◌, ◌≢◌, ◌↔◌, ◌*◌, ◌-◌, All, Any, IfErr, List, IfNone, IfOk, IfSome, IsTrue, MatchBool, None, OnErr, Some, ℕ, codes, map, min};
 ghost use Rattle.rules.specs.declared.goal.Goal.{Goal as TheGoal};
 ghost use Rattle.clap.specs.declared.error.kind.ErrorKind.TheVariants.{OutOfMemory};
 ghost use Rattle.command_line.specs.declared.reading.LineFault.TheVariants.{NoMemory, Words};
@@ -7,14 +7,15 @@ ghost use Rattle.command_line.specs.declared.line.Line.{Line as TheLine};
 ghost use Rattle.command_line.specs.declared.line.Order.{Order as TheOrder};
 ghost use Rattle.command_line.specs.declared.line.Limits.{Limits as TheLimits};
 ghost use Rattle.command_line.specs.declared.line.Subject.{Subject as TheSubject};
+ghost use Rattle.command_line.specs.declared.line.Played.{Played as ThePlayed};
 ghost use Rattle.command_line.specs.declared.line.Action.{Action as TheAction};
 ghost use Rattle.clap.specs.Words.{App, FailsBy, Row, fault_of, first_of, found_of, kind_of, new_app, rows_of, subcommand_of, subcommand_rows_of, with_subcommand};
-ghost use Rattle.command_line.specs.Words.{HasGoal, HasLimits, HasLine, HasNumber, HasOrder, HasSubject, MeansAction, MeansFound, MeansOrder, MeansNoOrder, progress_word};
+ghost use Rattle.command_line.specs.Words.{HasGoal, HasLimit, HasLimits, HasLine, HasManner, HasNumber, HasOrder, HasPlayed, HasSubject, MeansAction, MeansFound, MeansOrder, MeansNoOrder, progress_word};
 ghost use Rattle.command_line.specs.Making.{IsLocal, IsLocalArg, NamesNoSearch, option_rule};
-ghost use Rattle.command_line.specs.Program.{fen_rule, goal_rule, number_rule, limit_rule, workers_rule, slots_rule, progress_rule, limits_app, search_app, checking_app, solve_app, keys_app, tree_app, check_app, verify_app, certify_app, moves_app, show_app, batch_app, program};
+ghost use Rattle.command_line.specs.Program.{after_app, fen_rule, move_rule, goal_rule, number_rule, limit_rule, mate_rule, workers_rule, slots_rule, progress_rule, echo_rule, lines_rule, limits_app, search_app, checking_app, solve_app, keys_app, tree_app, check_app, verify_app, certify_app, moves_app, show_app, batch_app, program};
 
 use crate::help;
-use crate::line::{Action, Limits, Line, Order, Subject};
+use crate::line::{Action, Limits, Line, Manner, Order, Played, Subject};
 use clap::error::ErrorKind;
 use clap::{Arg, ArgAction, ArgMatches, Command, Error, value_parser};
 use moves::Goal;
@@ -50,6 +51,31 @@ fn fen<'a>(alloc: Global) -> Arg<'a>
         .required(true)
         .help(help::FEN)
         .long_help(help::FEN_MORE)
+}
+
+fn echo<'a>(alloc: Global) -> Arg<'a>
+    ensures { IsLocalArg echo_rule result }
+{
+    Arg::new(alloc, "echo")
+        .long("echo")
+        .action(ArgAction::SetTrue)
+        .help(help::ECHO)
+        .long_help(help::ECHO_MORE)
+}
+
+fn lines<'a>(alloc: Global) -> Arg<'a>
+    ensures { IsLocalArg lines_rule result }
+{
+    number(alloc, "lines", "L", help::LINES, help::LINES_MORE)
+}
+
+fn played_move<'a>(alloc: Global) -> Arg<'a>
+    ensures { IsLocalArg move_rule result }
+{
+    Arg::new(alloc, "MOVE")
+        .required(true)
+        .help(help::MOVE)
+        .long_help(help::MOVE_MORE)
 }
 
 /// A value after `--name`, and what its short and its long help say.
@@ -90,7 +116,13 @@ fn goal<'a>(alloc: Global) -> Arg<'a>
 fn limit<'a>(alloc: Global) -> Arg<'a>
     ensures { IsLocalArg limit_rule result }
 {
-    number(alloc, "limit", "N", help::LIMIT, help::LIMIT_MORE).required(true)
+    number(alloc, "limit", "N", help::LIMIT, help::LIMIT_MORE)
+}
+
+fn mate<'a>(alloc: Global) -> Arg<'a>
+    ensures { IsLocalArg mate_rule result }
+{
+    number(alloc, "mate", "M", help::MATE, help::MATE_MORE)
 }
 
 fn workers<'a>(alloc: Global) -> Arg<'a>
@@ -139,7 +171,10 @@ fn with_limits<'a>(alloc: Global, command: Command<'a>) -> Result<Command<'a>, A
     let Ok(limited) = command.arg(limit(alloc)) else {
         return Err(AllocError);
     };
-    let Ok(manned) = limited.arg(workers(alloc)) else {
+    let Ok(mating) = limited.arg(mate(alloc)) else {
+        return Err(AllocError);
+    };
+    let Ok(manned) = mating.arg(workers(alloc)) else {
         return Err(AllocError);
     };
     let Ok(remembering) = manned.arg(slots(alloc)) else {
@@ -194,16 +229,20 @@ fn tree_command<'a>(alloc: Global) -> Result<Command<'a>, AllocError>
 fn batch_command<'a>(alloc: Global) -> Result<Command<'a>, AllocError>
     ensures { IfOk result (IsLocal batch_app) }
 {
-    with_limits(
+    let bare = named(
         alloc,
-        named(
-            alloc,
-            "batch",
-            help::BATCH,
-            help::BATCH_NOTES,
-            help::BATCH_MORE,
-        ),
-    )
+        "batch",
+        help::BATCH,
+        help::BATCH_NOTES,
+        help::BATCH_MORE,
+    );
+    let Ok(limited) = with_limits(alloc, bare) else {
+        return Err(AllocError);
+    };
+    let Ok(echoing) = limited.arg(echo(alloc)) else {
+        return Err(AllocError);
+    };
+    echoing.arg(lines(alloc))
 }
 
 fn moves_command<'a>(alloc: Global) -> Result<Command<'a>, AllocError>
@@ -223,6 +262,22 @@ fn show_command<'a>(alloc: Global) -> Result<Command<'a>, AllocError>
     ensures { IfOk result (IsLocal show_app) }
 {
     named(alloc, "show", help::SHOW, help::SHOW_NOTES, help::SHOW_MORE).arg(fen(alloc))
+}
+
+fn after_command<'a>(alloc: Global) -> Result<Command<'a>, AllocError>
+    ensures { IfOk result (IsLocal after_app) }
+{
+    let bare = named(
+        alloc,
+        "after",
+        help::AFTER,
+        help::AFTER_NOTES,
+        help::AFTER_MORE,
+    );
+    let Ok(placed) = bare.arg(fen(alloc)) else {
+        return Err(AllocError);
+    };
+    placed.arg(played_move(alloc))
 }
 
 /// A command that reads what it checks of a position and a goal.
@@ -318,7 +373,8 @@ fn command<'a>(alloc: Global) -> Result<Command<'a>, AllocError>
     let certifying = added(verifying, certify_command(alloc));
     let moving = added(certifying, moves_command(alloc));
     let showing = added(moving, show_command(alloc));
-    added(showing, batch_command(alloc))
+    let playing = added(showing, after_command(alloc));
+    added(playing, batch_command(alloc))
 }
 
 /// What `clap` makes of the words.
@@ -336,12 +392,34 @@ fn number_of(matches: &ArgMatches<'_>, id: &str) -> Option<u32>
     matches.get_one::<u32>(id)
 }
 
+/// The plies of a mate in so many moves, or the greatest number where they are more.
+fn plies_of(moves: u32) -> u32
+    ensures { result ≡ min (2 * moves - 1) 4294967295 }
+{
+    let plies = (2 * u64::from(moves)).saturating_sub(1);
+    u32::try_from(plies).unwrap_or(u32::MAX)
+}
+
+/// The most plies, by `--limit` or by `--mate`. Where both are given, or neither, there is none.
+fn limit_of(matches: &ArgMatches<'_>) -> Option<u32>
+    ensures some { IfSome result (HasLimit (rows_of (found_of matches.now))) }
+    ensures none { IfNone result ((n : ℕ) → HasLimit (rows_of (found_of matches.now)) n → ⊥) }
+{
+    match matches.get_str("mate") {
+        None => number_of(matches, "limit"),
+        Some(_) => match matches.get_str("limit") {
+            None => Some(plies_of(number_of(matches, "mate")?)),
+            Some(_) => None,
+        },
+    }
+}
+
 fn limits(matches: &ArgMatches<'_>) -> Option<Limits>
     ensures some { IfSome result (HasLimits (rows_of (found_of matches.now))) }
     ensures none { IfNone result ((values : TheLimits) → HasLimits (rows_of (found_of matches.now)) values → ⊥) }
 {
     Some(Limits {
-        limit: number_of(matches, "limit")?,
+        limit: limit_of(matches)?,
         workers: number_of(matches, "workers")?,
         slots: number_of(matches, "slots")?,
     })
@@ -393,6 +471,14 @@ fn fen_of<'a>(values: &ArgMatches<'a>) -> Option<&'a [u8]>
     Some(text.as_bytes())
 }
 
+fn name_of<'a>(values: &ArgMatches<'a>) -> Option<&'a [u8]>
+    ensures some { IfSome result (λ name. first_of (codes "MOVE") (rows_of (found_of values.now)) ≡ Some name.now) }
+    ensures none { IfNone result (first_of (codes "MOVE") (rows_of (found_of values.now)) ≡ None) }
+{
+    let text = values.get_str("MOVE")?;
+    Some(text.as_bytes())
+}
+
 fn line_of<'a>(name: &str, values: &ArgMatches<'a>) -> Option<Line<'a>>
     ensures some { IfSome result (HasLine name.now (rows_of (found_of values.now))) }
     ensures none { IfNone result ((line : TheLine) → HasLine name.now (rows_of (found_of values.now)) line → ⊥) }
@@ -411,14 +497,46 @@ fn subject_of<'a>(values: &ArgMatches<'a>) -> Option<Subject<'a>>
     Some(Subject { fen, goal })
 }
 
+/// Whether `--echo` was given.
+fn echoes(values: &ArgMatches<'_>) -> bool
+    ensures { IsTrue result ↔ (first_of (codes "echo") (rows_of (found_of values.now)) ≡ Some (codes "true")) }
+{
+    match values.get_str("echo") {
+        None => false,
+        Some(word) => match word {
+            "true" => true,
+            _ => false,
+        },
+    }
+}
+
+fn manner_of(values: &ArgMatches<'_>) -> Manner
+    ensures { HasManner (rows_of (found_of values.now)) result }
+{
+    Manner {
+        echo: echoes(values),
+        lines: number_of(values, "lines"),
+    }
+}
+
+fn played_of<'a>(values: &ArgMatches<'a>) -> Option<Played<'a>>
+    ensures some { IfSome result (HasPlayed (rows_of (found_of values.now))) }
+    ensures none { IfNone result ((played : ThePlayed) → HasPlayed (rows_of (found_of values.now)) played → ⊥) }
+{
+    let fen = fen_of(values)?;
+    let name = name_of(values)?;
+    Some(Played { fen, name })
+}
+
 fn order_at<'a>(name: &str, values: &ArgMatches<'a>) -> Option<Order<'a>>
     ensures some { IfSome result (MeansFound name.now (rows_of (found_of values.now))) }
     ensures none { IfNone result ((order : TheOrder) → MeansFound name.now (rows_of (found_of values.now)) order → ⊥) }
 {
     match name {
-        "batch" => Some(Order::Batch(goal_of(values)?, limits(values)?)),
+        "batch" => Some(Order::Batch(goal_of(values)?, limits(values)?, manner_of(values))),
         "verify" => Some(Order::Verify(subject_of(values)?)),
         "certify" => Some(Order::Certify(subject_of(values)?, limits(values)?)),
+        "after" => Some(Order::After(played_of(values)?)),
         _ => Some(Order::One(line_of(name, values)?)),
     }
 }

@@ -22,7 +22,7 @@ use Rattle.refusals.specs.Reply.{answered, refused}
 use Rattle.refusals.specs.Refusal.{refusal_of_fen}
 use Rattle.refusals.specs.declared.refusal.Refusal.{Refusal}
 use Rattle.refusals.specs.declared.refusal.Refusal.TheVariants.{TooLong}
-use Rattle.console.specs.Batch.{AnswersLines, EndsBatch, IsLineReply, IsReplyText, RunsBatch, is_remark, joined, lines_of, onto, said_in}
+use Rattle.console.specs.Batch.{AnswersLines, EndsBatch, IsLineReply, HasReplyText, IsReplyText, RunsBatch, is_remark, joined, lines_of, onto, said_in}
 use Rattle.console.specs.Desk.{Fails, GivesNext, GivesSaid, IsFirstOf, RepliesTo, SameSolver, Step, TakesLines, TakesStep}
 use Rattle.devices.specs.Lines.{HasNoFeed, IsFed, IsLastOf, IsReadAs, TakesLine, left_of}
 use Rattle.console.specs.Run.{Ending, Finishes, Refuses, Run, no_memory}
@@ -102,7 +102,8 @@ kept_first s left written = ([], [], All-nil IsFed, tt, Consumes-nil left, Appen
 
 -- a reply for the same question
 same_reply : (s s' : Solver) (line text : List ℕ) → SameSolver s s' → RepliesTo s' line text → RepliesTo s line text
-same_reply s s' line text same reply = subst (λ g. IsLineReply g s.limits line text) same.0 (subst (λ l. IsLineReply s'.goal l line text) same.1 reply)
+same_reply s s' line text same reply = subst (λ g. IsLineReply g s.limits s.echo line text) same.0
+    (subst (λ l. IsLineReply s'.goal l s.echo line text) same.1 (subst (λ e. IsLineReply s'.goal s'.limits e line text) same.2 reply))
 
 same_replies : (s s' : Solver) (lines texts : List (List ℕ)) → SameSolver s s' → AllZip (RepliesTo s') lines texts → AllZip (RepliesTo s) lines texts
 same_replies s s' [] [] same zip = tt
@@ -128,7 +129,7 @@ nothing_more written mid after text grown none = subst (Appends written after) (
 
 -- the lines that are answered, where others may be left
 front_answered : (s : Solver) (status : ℕ) (left now : Option (List ℕ)) (front texts : List (List ℕ)) → (status ≡ 0 → ⊥) → All IsFed front
-    → AllZip (RepliesTo s) front texts → Consumes left now (joined front) → OfInput left (AnswersLines s.goal s.limits status texts)
+    → AllZip (RepliesTo s) front texts → Consumes left now (joined front) → OfInput left (AnswersLines s.goal s.limits s.echo status texts)
 front_answered s status None now front texts other fed zip gone =
     (joined front, tt, (front, [], ap lines_of (sym (append-nil (joined front))) ∙ fed_front front [] fed, zip, λ e. absurd (other e)))
 front_answered s status (Some xs) None front texts other fed zip gone = absurd gone
@@ -138,7 +139,7 @@ front_answered s status (Some xs) (Some ys) front texts other fed zip gone =
 -- the same with one line more
 one_answered : (s : Solver) (status : ℕ) (left now : Option (List ℕ)) (front texts : List (List ℕ)) (line text : List ℕ) → (status ≡ 0 → ⊥) → All IsFed front
     → AllZip (RepliesTo s) front texts → Consumes left now (joined front) → IsFirstOf now line → RepliesTo s line text
-    → OfInput left (AnswersLines s.goal s.limits status (texts ++ text ∷ []))
+    → OfInput left (AnswersLines s.goal s.limits s.echo status (texts ++ text ∷ []))
 one_answered s status None now front texts line text other fed zip gone (one, first) reply = (
   joined front ++ line,
   tt,
@@ -235,10 +236,10 @@ pub too_long_reply : (s : Solver) (text line : List ℕ) → (0 < length line) �
 too_long_reply s text line next is = (next.0, rw (lt-ltb 256 (length (without_line_feed line)) next.1) is)
 
 -- any other is answered by what it says
-pub line_reply : (s : Solver) (held : Vec ℕ Global) (text line : List ℕ) → IsReadAs line (Line held) → IsReplyText s.goal s.limits (said_in held.items) text
+pub line_reply : (s : Solver) (held : Vec ℕ Global) (text line : List ℕ) → IsReadAs line (Line held) → HasReplyText s.goal s.limits s.echo (said_in held.items) text
     → (0 < length line) × RepliesTo s line text
 line_reply s held text line next reply =
-    (next.0, rw (le-ltb 256 (length (without_line_feed line)) next.2) (subst (λ l. IsReplyText s.goal s.limits (said_in l) text) next.1 reply))
+    (next.0, rw (le-ltb 256 (length (without_line_feed line)) next.2) (subst (λ l. HasReplyText s.goal s.limits s.echo (said_in l) text) next.1 reply))
 
 -- how a line was taken
 abbrev IsTaken : Option (List ℕ) → Option (List ℕ) → Bool → List ℕ → Type 0
@@ -316,24 +317,25 @@ finishes_after a b c old mid new status asked text more written same (inr ((take
     inr ((text ++ taken, rest, ap (λ l. text ++ l) cut ∙ sym (append_assoc text taken rest), Appends-trans a b c text taken written grown), omega (arith, same, one), four)
 
 -- the limits are searched, and lines were answered
-pub batch_ran : (s : Solver) (goal : Goal) (limits : Limits) (run : Run) (left : Option (List ℕ)) (texts : List (List ℕ)) → fault_of s.limits ≡ None
-    → s.goal ≡ goal → s.limits ≡ limits → left ≡ run.input → OfInput left (AnswersLines s.goal s.limits run.ending.status texts)
-    → EndsBatch run (joined texts) → RunsBatch goal limits run
-batch_ran s goal limits run left texts searched same_goal same_limits same answers ends =
+pub batch_ran : (s : Solver) (goal : Goal) (limits : Limits) (echo : Bool) (run : Run) (left : Option (List ℕ)) (texts : List (List ℕ)) → fault_of s.limits ≡ None
+    → s.goal ≡ goal → s.limits ≡ limits → s.echo ≡ echo → left ≡ run.input → OfInput left (AnswersLines s.goal s.limits s.echo run.ending.status texts)
+    → EndsBatch run (joined texts) → RunsBatch goal limits echo run
+batch_ran s goal limits echo run left texts searched same_goal same_limits same_echo same answers ends =
     let none : fault_of limits ≡ None = subst (λ l. fault_of l ≡ None) same_limits searched in
     rw none (
       texts,
-      subst (λ o. OfInput o (AnswersLines goal limits run.ending.status texts)) same
-          (subst (λ l. OfInput left (AnswersLines goal l run.ending.status texts)) same_limits
-          (subst (λ g. OfInput left (AnswersLines g s.limits run.ending.status texts)) same_goal answers)),
+      subst (λ o. OfInput o (AnswersLines goal limits echo run.ending.status texts)) same
+          (subst (λ l. OfInput left (AnswersLines goal l echo run.ending.status texts)) same_limits
+          (subst (λ g. OfInput left (AnswersLines g s.limits echo run.ending.status texts)) same_goal
+          (subst (λ e. OfInput left (AnswersLines s.goal s.limits e run.ending.status texts)) same_echo answers))),
       ends,
     )
 
 -- the limits are refused, or memory is wanting before anything is read
-pub batch_refused : (goal : Goal) (limits : Limits) (run : Run) (fault : SolveFault) → run.failed_reads ≡ 0
-    → (fault_of limits ≡ Some fault) ⊎ ((fault_of limits ≡ None) × (fault ≡ solve.NoMemory)) → Refuses run.ending (refusal_of_solve fault) → RunsBatch goal limits run
-batch_refused goal limits run fault unread (inl is) refuses = rw is (unread, refuses)
-batch_refused goal limits run fault unread (inr (none, memory)) refuses =
+pub batch_refused : (goal : Goal) (limits : Limits) (echo : Bool) (run : Run) (fault : SolveFault) → run.failed_reads ≡ 0
+    → (fault_of limits ≡ Some fault) ⊎ ((fault_of limits ≡ None) × (fault ≡ solve.NoMemory)) → Refuses run.ending (refusal_of_solve fault) → RunsBatch goal limits echo run
+batch_refused goal limits echo run fault unread (inl is) refuses = rw is (unread, refuses)
+batch_refused goal limits echo run fault unread (inr (none, memory)) refuses =
     let wrote : Finishes run.ending no_memory 3 = elim (subst (λ f. Refuses run.ending (refusal_of_solve f)) memory refuses) [ inl a ↦ a | inr b ↦ b ] in
     rw none ([], of_any run.input _ (λ input. ([], lines_of input, refl, tt, λ e. elim wrote [ inl w ↦ absurd (omega (arith, w.2, e)) | inr w ↦ absurd (omega (arith, w.2, e)) ])), inr (inr (unread, wrote)))
 
@@ -343,7 +345,7 @@ gave_up ending text (inl whole) none = absurd (omega (arith, whole.2, none))
 gave_up ending text (inr cut) none = absurd (omega (arith, cut.2, none))
 
 -- where lines may be left, the status plays no part
-pub answers_with : (goal : Goal) (limits : Limits) (m status : ℕ) (left : Option (List ℕ)) (texts : List (List ℕ)) → (status ≡ 0 → ⊥)
-    → OfInput left (AnswersLines goal limits m texts) → OfInput left (AnswersLines goal limits status texts)
-answers_with goal limits m status left texts other answers = of_input_then left _ _ answers (λ xs a.
+pub answers_with : (goal : Goal) (limits : Limits) (echo : Bool) (m status : ℕ) (left : Option (List ℕ)) (texts : List (List ℕ)) → (status ≡ 0 → ⊥)
+    → OfInput left (AnswersLines goal limits echo m texts) → OfInput left (AnswersLines goal limits echo status texts)
+answers_with goal limits echo m status left texts other answers = of_input_then left _ _ answers (λ xs a.
     let (front, rest, split, zip, end) = a in (front, rest, split, zip, λ e. absurd (other e)))

@@ -1,5 +1,5 @@
 -- A batch: what is written for the lines of an input.
-use Rattle.std.specs.Prelude.{◌≡◌, ◌⊎◌, ◌-◌, ◌==◌, ℕ, Bool, true, List, [], ◌∷◌, ◌++◌, length, take, slice_index, nat_lt, if◌then◌else◌, MatchBool, MatchOption}
+use Rattle.std.specs.Prelude.{◌≡◌, ◌⊎◌, ◌-◌, ◌==◌, ◌&&◌, ℕ, Bool, true, not, List, [], ◌∷◌, ◌++◌, length, take, slice_index, nat_lt, if◌then◌else◌, MatchBool, MatchOption}
 use Rattle.std.specs.List.{AllZip, flat_map}
 use Rattle.board.specs.Board.{PlainBoard}
 use Rattle.board.specs.declared.fault.FenFault.{FenFault}
@@ -51,10 +51,18 @@ abbrev pub IsReplyText : Goal → Limits → List ℕ → List ℕ → Type 0
 IsReplyText goal limits said text =
     MatchBool (is_remark said) (text ≡ line_of said) ((reply : Reply) × ShowsPosition goal limits said reply × (text ≡ reply.text))
 
+-- a text with the position before it, and a tab; a remark as it is
+abbrev pub with_position : Bool → List ℕ → List ℕ → List ℕ
+with_position echo said text = if echo && not (is_remark said) then said ++ (9 ∷ text) else text
+
+-- what is written for what a line says, in the manner that was asked for
+abbrev pub HasReplyText : Goal → Limits → Bool → List ℕ → List ℕ → Type 0
+HasReplyText goal limits echo said text = (plain : List ℕ) × IsReplyText goal limits said plain × (text ≡ with_position echo said plain)
+
 -- what is written for a line; one of more than 256 bytes, its feed not counted, is too long
-abbrev pub IsLineReply : Goal → Limits → List ℕ → List ℕ → Type 0
-IsLineReply goal limits line text =
-    MatchBool (nat_lt 256 (length (without_line_feed line))) (text ≡ (refused TooLong).text) (IsReplyText goal limits (said_in line) text)
+abbrev pub IsLineReply : Goal → Limits → Bool → List ℕ → List ℕ → Type 0
+IsLineReply goal limits echo line text =
+    MatchBool (nat_lt 256 (length (without_line_feed line))) (text ≡ (refused TooLong).text) (HasReplyText goal limits echo (said_in line) text)
 
 -- the texts, all in one
 abbrev pub joined : List (List ℕ) → List ℕ
@@ -63,9 +71,9 @@ joined texts = flat_map (λ text. text) texts
 -- ---- a run
 
 -- the texts are the replies to the first lines of the input, one each, and to all of them where the status is 0
-abbrev pub AnswersLines : Goal → Limits → ℕ → List (List ℕ) → List ℕ → Type 0
-AnswersLines goal limits status texts input =
-    (front : List (List ℕ)) × (rest : List (List ℕ)) × (lines_of input ≡ front ++ rest) × AllZip (IsLineReply goal limits) front texts
+abbrev pub AnswersLines : Goal → Limits → Bool → ℕ → List (List ℕ) → List ℕ → Type 0
+AnswersLines goal limits echo status texts input =
+    (front : List (List ℕ)) × (rest : List (List ℕ)) × (lines_of input ≡ front ++ rest) × AllZip (IsLineReply goal limits echo) front texts
     × (status ≡ 0 → rest ≡ [])
 
 -- a read failed, after all of the text was written
@@ -78,7 +86,7 @@ EndsBatch run text =
     ((run.failed_reads ≡ 0) × Finishes run.ending text 0) ⊎ EndsUnread run text ⊎ ((run.failed_reads ≡ 0) × Finishes run.ending (text ++ no_memory) 3)
 
 -- the run is one of the batch: the limits are refused, or its lines are answered as far as it came
-abbrev pub RunsBatch : Goal → Limits → Run → Type 0
-RunsBatch goal limits run = MatchOption (fault_of limits)
-    ((texts : List (List ℕ)) × OfInput run.input (AnswersLines goal limits run.ending.status texts) × EndsBatch run (joined texts))
+abbrev pub RunsBatch : Goal → Limits → Bool → Run → Type 0
+RunsBatch goal limits echo run = MatchOption (fault_of limits)
+    ((texts : List (List ℕ)) × OfInput run.input (AnswersLines goal limits echo run.ending.status texts) × EndsBatch run (joined texts))
     (λ fault. (run.failed_reads ≡ 0) × Refuses run.ending (refusal_of_solve fault))

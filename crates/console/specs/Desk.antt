@@ -18,6 +18,7 @@ use Rattle.devices.specs.declared.transfer.InputFault.{InputFault}
 use Rattle.devices.specs.declared.transfer.InputFault.TheVariants as input
 use Rattle.console.specs.Batch.{AnswersLines, IsLineReply, IsReplyText, joined, lines_of}
 use Rattle.devices.specs.Lines.{IsFed, IsLastOf, IsReadAs, IsUnread, left_of}
+use Rattle.console.specs.declared.batch.Batch.{Batch}
 use Rattle.console.specs.declared.batch.Desk.{Desk}
 use Rattle.console.specs.declared.batch.Solver.{Solver}
 use Rattle.console.specs.declared.batch.Stop.{Stop}
@@ -32,16 +33,16 @@ IsSolver s = (fault_of s.limits ≡ None) × AreSeats s.slots (s.limits.workers 
 
 -- the same is asked
 abbrev pub SameSolver : Solver → Solver → Type 0
-SameSolver a b = (b.goal ≡ a.goal) × (b.limits ≡ a.limits)
+SameSolver a b = (b.goal ≡ a.goal) × (b.limits ≡ a.limits) × (b.echo ≡ a.echo)
 
 abbrev pub IsDesk : Desk → Type 0
 IsDesk desk = IsSolver desk.solver × IsUnread desk.unread
 
 -- a desk at which nothing was read, or the first fault of the limits, or want of memory
-abbrev pub OpensDesk : Goal → Limits → Result Desk SolveFault → Type 0
-OpensDesk goal limits (Ok desk) =
-    IsDesk desk × (desk.solver.goal ≡ goal) × (desk.solver.limits ≡ limits) × (desk.unread.from ≡ 0) × (desk.unread.to ≡ 0)
-OpensDesk goal limits (Err fault) = (fault_of limits ≡ Some fault) ⊎ ((fault_of limits ≡ None) × (fault ≡ solve.NoMemory))
+abbrev pub OpensDesk : Batch → Result Desk SolveFault → Type 0
+OpensDesk batch (Ok desk) =
+    IsDesk desk × (desk.solver.goal ≡ batch.goal) × (desk.solver.limits ≡ batch.limits) × (desk.solver.echo ≡ batch.echo) × (desk.unread.from ≡ 0) × (desk.unread.to ≡ 0)
+OpensDesk batch (Err fault) = (fault_of batch.limits ≡ Some fault) ⊎ ((fault_of batch.limits ≡ None) × (fault ≡ solve.NoMemory))
 
 -- a text is a reply to what a line says, and a refusal is one or is want of memory
 abbrev pub GivesSaid : Goal → Limits → List ℕ → Result (Vec ℕ Global) Refusal → Type 0
@@ -79,7 +80,7 @@ Fails step reads writes = (step.failed_reads_after ≡ step.failed_reads + reads
 
 -- the text is the reply to a line
 abbrev pub RepliesTo : Solver → List ℕ → List ℕ → Type 0
-RepliesTo s line text = IsLineReply s.goal s.limits line text
+RepliesTo s line text = IsLineReply s.goal s.limits s.echo line text
 
 -- the text is the reply to what comes next of the input; none comes at its end
 abbrev pub GivesNext : Solver → Next → Option (Vec ℕ Global) → Type 0
@@ -121,7 +122,7 @@ WritesUntil step (Some NoMemory) text = Appends step.written step.written_after 
 -- lines are taken and answered
 abbrev pub TakesLines : Solver → Step → Option Stop → Type 0
 TakesLines s step stop =
-    (texts : List (List ℕ)) × OfInput step.left (AnswersLines s.goal s.limits (stop_status stop) texts) × WritesUntil step stop (joined texts)
+    (texts : List (List ℕ)) × OfInput step.left (AnswersLines s.goal s.limits s.echo (stop_status stop) texts) × WritesUntil step stop (joined texts)
 
 -- what stops a batch at each fault of the input
 abbrev pub stop_of : InputFault → Stop

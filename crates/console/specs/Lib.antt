@@ -3,6 +3,7 @@ pub mod Run
 pub mod Batch
 pub mod Verifying
 pub mod Certifying
+pub mod Playing
 pub mod Order
 pub mod Program
 -- inside

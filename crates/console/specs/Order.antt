@@ -1,30 +1,40 @@
 -- What a run of the words does: what they ask for, if they mean an order.
-use Rattle.std.specs.Prelude.{◌≡◌, ◌⊎◌, List, [], None}
+use Rattle.std.specs.Prelude.{◌≡◌, ◌⊎◌, ⊤, List, [], None}
 use Rattle.clap.specs.Words.{Text}
 use Rattle.rules.specs.declared.goal.Goal.{Goal}
 use Rattle.command_line.specs.Words.{MeansOrder, MeansNoOrder}
 use Rattle.command_line.specs.declared.line.Limits.{Limits}
+use Rattle.command_line.specs.declared.line.Manner.{Manner}
 use Rattle.command_line.specs.declared.line.Order.{Order}
-use Rattle.command_line.specs.declared.line.Order.TheVariants.{One, Batch, Verify, Certify}
-use Rattle.replies.specs.Output.{MayRead, fault_of}
+use Rattle.command_line.specs.declared.line.Order.TheVariants.{One, Batch, Verify, Certify, After}
+use Rattle.board.specs.Board.{PlainBoard}
+use Rattle.rules.specs.Moves.{IsLawful}
+use Rattle.rules.specs.Squares.{Ply}
+use Rattle.command_line.specs.declared.line.Line.{Line}
+use Rattle.command_line.specs.declared.line.Action.{Action}
+use Rattle.command_line.specs.declared.line.Action.TheVariants.{Solve, Keys, Tree}
+use Rattle.replies.specs.Output.{IsSoundText, MayRead, fault_of}
 use Rattle.console.specs.Batch.{RunsBatch}
 use Rattle.console.specs.Certifying.{RunsCertify}
 use Rattle.console.specs.Verifying.{RunsVerify, MayReadAbout}
+use Rattle.console.specs.Playing.{RunsAfter}
 use Rattle.console.specs.Run.{Run, Writes, GivesUp, RunsLine, failures_of}
 
 -- the run is one of the order
 abbrev pub RunsOrder : Order → Run → Type 0
 RunsOrder (One line) run = RunsLine line run
-RunsOrder (Batch goal limits) run = RunsBatch goal limits run
+RunsOrder (Batch goal limits manner) run = RunsBatch goal limits manner.echo run
 RunsOrder (Verify subject) run = RunsVerify subject run
 RunsOrder (Certify subject limits) run = RunsCertify subject limits run
+RunsOrder (After played) run = RunsAfter played run
 
 -- the order reads the input: a batch does, but where its limits are refused, and a check where its position is sound
 abbrev pub MayReadOf : Order → Type 0
 MayReadOf (One line) = MayRead line
-MayReadOf (Batch goal limits) = fault_of limits ≡ None
+MayReadOf (Batch goal limits manner) = fault_of limits ≡ None
 MayReadOf (Verify subject) = MayReadAbout subject
 MayReadOf (Certify subject limits) = ⊥
+MayReadOf (After played) = ⊥
 
 -- the words mean no order: status 2, nothing is written, and nothing fails
 abbrev pub RefusesWords : List Text → Run → Type 0
@@ -35,9 +45,24 @@ RefusesWords words run =
 abbrev pub MayReadFor : List Text → Type 0
 MayReadFor words = (order : Order) × MeansOrder words order × MayReadOf order
 
+-- the action is a search at a position
+abbrev pub Searches : Action → Type 0
+Searches (Solve goal limits) = ⊤
+Searches (Keys goal limits) = ⊤
+Searches (Tree goal limits) = ⊤
+Searches _ = ⊥
+
+-- the line searches where the side to move has no lawful move: it is mated already, or stalemated
+abbrev pub IsOver : Line → Type 0
+IsOver line = Searches line.action × ((b : PlainBoard) × IsSoundText line.fen.now b × ((m : Ply) → IsLawful b m → ⊥))
+
 -- the words mean a batch, which tells why it refuses a line
 abbrev pub MeansBatch : List Text → Type 0
-MeansBatch words = (goal : Goal) × (limits : Limits) × MeansOrder words (Batch goal limits)
+MeansBatch words = (goal : Goal) × (limits : Limits) × (manner : Manner) × MeansOrder words (Batch goal limits manner)
+
+-- the words mean a batch, or a search where there is no lawful move: standard error may be told more than why a run refuses
+abbrev pub TellsMore : List Text → Type 0
+TellsMore words = MeansBatch words ⊎ ((line : Line) × MeansOrder words (One line) × IsOver line)
 
 -- the words mean no order, or memory is wanting, or the run is one of the order that the words mean
 abbrev pub RunsWords : List Text → Run → Type 0

@@ -5,7 +5,7 @@ use Rattle.std.specs.declared.io.Error.{Error}
 use Rattle.std.specs.declared.io.ErrorKind.{ErrorKind}
 use Rattle.std.specs.declared.io.ErrorKind.TheVariants.{OutOfMemory}
 use Rattle.std.specs.declared.alloc.Global.{Global}
-use Rattle.console.specs.Order.{RunsWords, MayReadFor, MeansBatch}
+use Rattle.console.specs.Order.{RunsWords, MayReadFor, TellsMore}
 use Rattle.console.specs.Run.{Run, Writes, GivesUp, failures_of}
 
 -- the words, as the system hands them over
@@ -34,10 +34,10 @@ abbrev pub MayReadIn : Result Words Error → Type 0
 MayReadIn (Ok words) = MayReadFor (texts_of words)
 MayReadIn (Err error) = ⊥
 
--- there are words, and they mean a batch
-abbrev pub MeansBatchIn : Result Words Error → Type 0
-MeansBatchIn (Ok words) = MeansBatch (texts_of words)
-MeansBatchIn (Err error) = ⊥
+-- there are words, and they mean a batch, or a search where there is no lawful move
+abbrev pub TellsMoreIn : Result Words Error → Type 0
+TellsMoreIn (Ok words) = TellsMore (texts_of words)
+TellsMoreIn (Err error) = ⊥
 
 -- what is said of a word that is no text
 abbrev pub no_text : List ℕ

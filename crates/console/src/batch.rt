@@ -3,7 +3,7 @@ ghost use Rattle.std.specs.Prelude.{◌≡◌, ◌<◌, IfOk, vec_items};
 ghost use Rattle.replies.specs.Outcome.{Gives, Solves};
 ghost use Rattle.replies.specs.Output.{ShowsAnswer};
 ghost use Rattle.refusals.specs.Reply.{refused};
-ghost use Rattle.console.specs.Batch.{IsReplyText, said_in};
+ghost use Rattle.console.specs.Batch.{HasReplyText, IsReplyText, said_in, with_position};
 ghost use Rattle.console.specs.Desk.{GivesNext, GivesSaid, IsDesk, IsSolver, OpensDesk, SameSolver, TakesLines, TakesStep, step_of, stop_of};
 ghost use Rattle.console.specs.declared.batch.Stop.TheVariants.{NoMemory, WriteFailed};
 
@@ -33,6 +33,8 @@ use std::time::Clock;
 pub struct Batch {
     pub goal: Goal,
     pub limits: Limits,
+    /// Whether the position stands before each answer.
+    pub echo: bool,
 }
 
 /// What solves the positions of a batch: one table for all of them.
@@ -40,6 +42,7 @@ pub struct Batch {
 pub struct Solver {
     pub goal: Goal,
     pub limits: Limits,
+    pub echo: bool,
     pub slots: Slots<MateLore>,
     pub seats: Vec<Seat>,
 }
@@ -90,15 +93,17 @@ impl From<AllocError> for Stop {
 
 impl Desk {
     /// A desk with a table for these limits, or the first of them that is refused.
-    pub fn open(alloc: Global, goal: Goal, limits: Limits) -> Result<Desk, SolveFault>
-        ensures { OpensDesk goal limits result }
+    pub fn open(alloc: Global, batch: Batch) -> Result<Desk, SolveFault>
+        ensures { OpensDesk batch result }
     {
+        let Batch { goal, limits, echo } = batch;
         let search = search_of(limits);
         let (slots, seats) = make_table(alloc, search.limit, search.workers, search.slots)?;
         Ok(Desk {
             solver: Solver {
                 goal,
                 limits,
+                echo,
                 slots,
                 seats,
             },
@@ -195,8 +200,40 @@ fn refusal_line<E: Write>(
     Ok(refused_text(alloc, why.refusal)?.into_bytes())
 }
 
+/// The text, with the position before it, if that is asked for.
+fn echoed(alloc: Global, echo: bool, said: &[u8], plain: Vec<u8>) -> Result<Vec<u8>, AllocError>
+    ensures { IfOk result (λ text. text.items ≡ with_position echo said.now plain.items) }
+{
+    if !echo || is_remark(said) {
+        return Ok(plain);
+    }
+    let mut text = Vec::new(alloc);
+    text.extend_from_slice(said)?;
+    text.push(b'\t')?;
+    text.extend_from_slice(plain.as_slice())?;
+    Ok(text)
+}
+
 /// What is written for a line.
 fn line_text<R: Threads + Wait + Eprint + Clock + Sync + AllocGlobal, E: Write>(
+    host: &Host<'_, R>,
+    solver: &mut Solver,
+    line: &[u8],
+    number: u64,
+    errors: &mut E,
+) -> Result<Vec<u8>, AllocError>
+    requires { IsSolver solver.old }
+    ensures solver { IsSolver solver.new }
+    ensures same { SameSolver solver.old solver.new }
+    ensures text { IfOk result (λ text. HasReplyText solver.old.goal solver.old.limits solver.old.echo (said_in line.now) text.items) }
+{
+    let echo = solver.echo;
+    let plain = plain_text(host, solver, line, number, errors)?;
+    echoed(host.rt.alloc(), echo, said_in(line), plain)
+}
+
+/// What is written for a line, without its position.
+fn plain_text<R: Threads + Wait + Eprint + Clock + Sync + AllocGlobal, E: Write>(
     host: &Host<'_, R>,
     solver: &mut Solver,
     line: &[u8],
@@ -273,9 +310,11 @@ fn answer_next<
     host.line.store(desk.number, Ordering::SeqCst);
     let Taken { next, is_last } = desk.unread.next_line(host.rt, host.rt.alloc(), reader)?;
     let Some(text) = next_text(host, &mut desk.solver, next, desk.number, errors)? else {
+        host.tally.clear(errors);
         return Ok(false);
     };
     write_all(writer, text.as_slice())?;
+    host.tally.tell(host.rt, desk.number, errors);
     Ok(!is_last)
 }
 

@@ -8,6 +8,7 @@ ghost use Rattle.replies.specs.Outcome.{GivesReply, reads_failed};
 ghost use Rattle.replies.specs.Output.{input_of, MayRead};
 ghost use Rattle.progress.specs.Signs.{IsLastRound};
 
+use crate::tally::Tally;
 use board::Position;
 use command_line::{Action, Limits, Line};
 use decision::Answer;
@@ -30,6 +31,7 @@ pub struct Host<'a, R> {
     pub shows: bool,
     /// The number of a batch's line, and 0 where there is no batch.
     pub line: AtomicU64,
+    pub tally: Tally,
 }
 
 impl<R: Clock + AllocGlobal> Host<'_, R> {

@@ -8,6 +8,7 @@ mod ending;
 mod program;
 mod running;
 mod said;
+mod tally;
 
 pub use program::run_program;
 pub use running::{run, run_line};

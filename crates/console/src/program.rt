@@ -2,12 +2,13 @@
 ghost use Rattle.std.specs.Prelude.{◌≡◌, ◌⊎◌, ◌<◌, OnOk, codes};
 ghost use Rattle.std.specs.Io.KnownBytes.{Appends};
 ghost use Rattle.console.specs.Run.{ending_of, run_of, MayTell};
-ghost use Rattle.console.specs.Program.{RunsProgram, MayReadIn, MeansBatchIn, no_text, no_goal};
+ghost use Rattle.console.specs.Program.{RunsProgram, MayReadIn, TellsMoreIn, no_text, no_goal};
 
 use crate::ending::{REFUSED_WORDS, give_up_for_memory};
 use crate::running::run;
+use clap::ArgMatches;
 use devices::{Sink, Source};
-use refusals::advise_words;
+use refusals::{advise_limit, advise_words};
 use std::alloc::Global;
 use std::io::{self, Write};
 use std::sync::Wait;
@@ -28,11 +29,29 @@ fn say_no_goal<E: Write>(errors: &mut E) -> io::Result<()>
     errors.write_all(b"error: the goal is neither `mate` nor `stale`\n")
 }
 
+/// Whether the goal that was found is one.
+fn has_goal(values: &ArgMatches<'_>) -> bool {
+    match values.get_str("goal") {
+        Some(goal) => goal == "mate" || goal == "stale",
+        None => false,
+    }
+}
+
+/// Says why what was found is no order: the goal is none, or a search has both limits, or neither.
+fn say_no_order<E: Write>(errors: &mut E, matches: &ArgMatches<'_>) -> io::Result<()> {
+    match matches.subcommand() {
+        Some((_, values)) if has_goal(values) => {
+            advise_limit(errors, values.get_str("limit").is_some())
+        }
+        _ => say_no_goal(errors),
+    }
+}
+
 /// Says why the words mean no line, or gives the help that they ask for. The parser takes any word for
 /// a goal.
 fn explain<E: Write>(alloc: Global, words: &[String], errors: &mut E) -> io::Result<()> {
     match command_line::matches(alloc, words) {
-        Ok(_) => say_no_goal(errors),
+        Ok(found) => say_no_order(errors, &found),
         Err(error) => {
             write!(errors, "{error}")?;
             advise_words(errors, words)
@@ -53,7 +72,7 @@ pub fn run_program<
     ensures runs { RunsProgram words (run_of S.remaining S.failures reader.old reader.new
         (ending_of K.contents K.failures writer.old writer.new result)) }
     ensures unread { MayReadIn words ⊎ (reader.new ≡ reader.old) }
-    ensures silent { (result ≡ 2) ⊎ MayTell result ⊎ MeansBatchIn words ⊎ (errors.new ≡ errors.old) }
+    ensures silent { (result ≡ 2) ⊎ MayTell result ⊎ TellsMoreIn words ⊎ (errors.new ≡ errors.old) }
 {
     let alloc = rt.alloc();
     match words {

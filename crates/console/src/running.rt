@@ -1,10 +1,11 @@
 //! A run of the program over any reader and writer.
-ghost use Rattle.std.specs.Prelude.{◌≡◌, ◌⊎◌, ◌<◌, None, map};
+ghost use Rattle.std.specs.Prelude.{◌≡◌, ◌⊎◌, ◌↔◌, ◌<◌, IfSome, IsTrue, None, map};
 ghost use Rattle.replies.specs.Output.{fault_of, MayRead};
 ghost use Rattle.console.specs.Batch.{RunsBatch};
-ghost use Rattle.console.specs.Order.{MayReadFor, MeansBatch, RunsWords};
+ghost use Rattle.console.specs.Order.{IsOver, MayReadFor, RunsWords, Searches, TellsMore};
 ghost use Rattle.console.specs.Verifying.{RunsVerify, MayReadAbout};
 ghost use Rattle.console.specs.Certifying.{WritesCertificate};
+ghost use Rattle.console.specs.Playing.{WritesAfter};
 ghost use Rattle.console.specs.Run.{ending_of, run_of, MayTell, Refuses, RunsLine};
 
 use crate::batch::{Batch, Desk, Stop, answer_lines};
@@ -13,12 +14,17 @@ use crate::certificate::{begin, write_claims};
 use crate::ending::{
     ANSWERED, FAILED, REFUSED_WORDS, finish, give_up_for_memory, may_tell, refuse,
 };
-use command_line::{Limits, Line, LineFault, Order, Subject, asks_progress, read_order};
+use crate::tally::Tally;
+use board::Position;
+use command_line::{
+    Action, Limits, Line, LineFault, Order, Played, Subject, asks_progress, read_order,
+};
 use devices::{Sink, Source, write_all};
-use refusals::{Refusal, Refused, advise};
-use replies::{Trouble, refusal_of, verified};
+use moves::{Board, has_lawful_move, read_sound};
+use refusals::{Refusal, Refused, advise, advise_move, advise_over};
+use replies::{Trouble, after_reply, refusal_of, verified};
 use std::convert::AsStr;
-use std::io::{Write, sink};
+use std::io::{self, Write, sink};
 use std::sync::Wait;
 use std::sync::atomic::AtomicU64;
 use std::thread::Threads;
@@ -42,8 +48,44 @@ pub fn run_line<R: Threads + Wait + Eprint + Clock + Sync + AllocGlobal, S: Sour
         rt,
         shows: false,
         line: AtomicU64::new(0),
+        tally: Tally::quiet(),
     };
     run_line_on(&host, line, reader, writer, &mut sink())
+}
+
+/// The position of a line that searches, where the side to move has no lawful move.
+fn over_at(line: &Line<'_>) -> Option<Position>
+    ensures { IfSome result (λ _. IsOver line.now) }
+{
+    if !searches(line.action) {
+        return None;
+    }
+    let Ok(position) = read_sound(line.fen) else {
+        return None;
+    };
+    if has_lawful_move(&Board::of(&position)) {
+        None
+    } else {
+        Some(position)
+    }
+}
+
+fn searches(action: Action) -> bool
+    ensures { IsTrue result ↔ Searches action }
+{
+    matches!(
+        action,
+        Action::Solve(..) | Action::Keys(..) | Action::Tree(..)
+    )
+}
+
+/// Tells where a search is for a side that is mated or stalemated already.
+fn tell_if_over<E: Write>(errors: &mut E, line: &Line<'_>)
+    ensures { IsOver line.now ⊎ (errors.new ≡ errors.old) }
+{
+    if let Some(position) = over_at(line) {
+        let _ = advise_over(errors, &position);
+    }
 }
 
 /// Answers a line for a host that may show how far a search is. `errors` is told why a line was refused;
@@ -59,10 +101,13 @@ fn run_line_on<
     ensures unread { MayRead line.now ⊎ (reader.new ≡ reader.old) }
     ensures runs { RunsLine line.now (run_of S.remaining S.failures reader.old reader.new
         (ending_of K.contents K.failures writer.old writer.new result)) }
-    ensures silent { MayTell result ⊎ (errors.new ≡ errors.old) }
+    ensures silent { MayTell result ⊎ IsOver line.now ⊎ (errors.new ≡ errors.old) }
 {
     match reply_shown(host, line, reader) {
-        Ok(text) => finish(writer, text.as_slice(), ANSWERED),
+        Ok(text) => {
+            tell_if_over(errors, line);
+            finish(writer, text.as_slice(), ANSWERED)
+        }
         Err(Trouble::Refused(refusal)) => {
             refuse_and_tell(host.rt, writer, errors, line.fen, refusal)
         }
@@ -104,10 +149,10 @@ pub fn run_batch<
     requires reads { S.failures reader.old < u64.MAX }
     requires writes { K.failures writer.old < u64.MAX }
     ensures unread { (fault_of batch.limits ≡ None) ⊎ (reader.new ≡ reader.old) }
-    ensures runs { RunsBatch batch.goal batch.limits (run_of S.remaining S.failures reader.old reader.new
+    ensures runs { RunsBatch batch.goal batch.limits batch.echo (run_of S.remaining S.failures reader.old reader.new
         (ending_of K.contents K.failures writer.old writer.new result)) }
 {
-    match Desk::open(host.rt.alloc(), batch.goal, batch.limits) {
+    match Desk::open(host.rt.alloc(), batch) {
         Ok(mut desk) => match answer_lines(host, &mut desk, reader, writer, errors) {
             None => ANSWERED,
             Some(Stop::NoMemory) => give_up_for_memory(writer),
@@ -168,12 +213,74 @@ fn run_certify<R: Threads + Wait + Eprint + Clock + Sync + AllocGlobal, K: Sink,
     }
 }
 
+/// Tells why no position is written for a move.
+fn tell_move<E: Write>(errors: &mut E, played: &Played<'_>, refusal: Refusal) -> io::Result<()> {
+    match refusal {
+        Refusal::Move => advise_move(errors, played.fen, played.name),
+        _ => {
+            let refused = Refused {
+                refusal,
+                fen: played.fen,
+                line: None,
+            };
+            advise(errors, &refused)
+        }
+    }
+}
+
+/// Writes why a move isn't played, and tells it with a sentence.
+fn refuse_move<R: AllocGlobal, K: Sink, E: Write>(
+    rt: &R,
+    writer: &mut K,
+    errors: &mut E,
+    played: &Played<'_>,
+    refusal: Refusal,
+) -> u8
+    requires { K.failures writer.old < u64.MAX }
+    ensures refuses { Refuses (ending_of K.contents K.failures writer.old writer.new result) refusal }
+    ensures silent { MayTell result ⊎ (errors.new ≡ errors.old) }
+{
+    let status = refuse(rt.alloc(), writer, refusal);
+    if may_tell(status) {
+        let _ = tell_move(errors, played, refusal);
+    }
+    status
+}
+
+/// Answers the position after a move. `errors` is told why it was refused.
+fn run_after<R: AllocGlobal, K: Sink, E: Write>(
+    rt: &R,
+    played: &Played<'_>,
+    writer: &mut K,
+    errors: &mut E,
+) -> u8
+    requires { K.failures writer.old < u64.MAX }
+    ensures runs { WritesAfter played.now (ending_of K.contents K.failures writer.old writer.new result) }
+    ensures silent { MayTell result ⊎ (errors.new ≡ errors.old) }
+{
+    match after_reply(rt.alloc(), played.fen, played.name) {
+        Ok(text) => finish(writer, text.as_slice(), ANSWERED),
+        Err(refusal) => refuse_move(rt, writer, errors, played, refusal),
+    }
+}
+
+/// The host of a batch whose input has so many lines, and whether the words ask for a sign of life.
+fn batch_host<'a, R: Clock, W: AsStr>(rt: &'a R, words: &[W], lines: Option<u32>) -> Host<'a, R> {
+    Host {
+        rt,
+        shows: asks_progress(words),
+        line: AtomicU64::new(0),
+        tally: Tally::new(rt, lines),
+    }
+}
+
 /// The host, and whether the words ask for a sign of life.
 fn host_of<'a, R, W: AsStr>(rt: &'a R, words: &[W]) -> Host<'a, R> {
     Host {
         rt,
         shows: asks_progress(words),
         line: AtomicU64::new(0),
+        tally: Tally::quiet(),
     }
 }
 
@@ -190,14 +297,18 @@ pub fn run<
     ensures unread { MayReadFor (map W.text words.now) ⊎ (reader.new ≡ reader.old) }
     ensures runs { RunsWords (map W.text words.now) (run_of S.remaining S.failures reader.old reader.new
         (ending_of K.contents K.failures writer.old writer.new result)) }
-    ensures silent { MayTell result ⊎ MeansBatch (map W.text words.now) ⊎ (errors.new ≡ errors.old) }
+    ensures silent { MayTell result ⊎ TellsMore (map W.text words.now) ⊎ (errors.new ≡ errors.old) }
 {
     match read_order(rt.alloc(), words) {
         Ok(Order::One(line)) => run_line_on(&host_of(rt, words), &line, reader, writer, errors),
-        Ok(Order::Batch(goal, limits)) => {
+        Ok(Order::Batch(goal, limits, manner)) => {
             run_batch(
-                &host_of(rt, words),
-                Batch { goal, limits },
+                &batch_host(rt, words, manner.lines),
+                Batch {
+                    goal,
+                    limits,
+                    echo: manner.echo,
+                },
                 reader,
                 writer,
                 errors,
@@ -207,6 +318,7 @@ pub fn run<
         Ok(Order::Certify(subject, limits)) => {
             run_certify(&host_of(rt, words), &subject, limits, writer, errors)
         }
+        Ok(Order::After(played)) => run_after(rt, &played, writer, errors),
         Err(LineFault::Words) => REFUSED_WORDS,
         Err(LineFault::NoMemory) => give_up_for_memory(writer),
     }

@@ -283,7 +283,8 @@ error: line 7: White is in check, and Black is to move: write w for the side, or
 #[test]
 fn explains_values(rt: HostRuntime) {
     let limit = tell(&rt, "minimate,solve,--limit,64", FEN);
-    let plies = "error: --limit is 1 to 63 plies: a mate in M moves is --limit 2M-1\n";
+    let plies =
+        "error: --limit is 1 to 63 plies: a mate in M moves is --limit 2M-1, or --mate M, 1 to 32\n";
     expect(&rt, &limit, 1, "refused: Limit\n", plies);
     let workers = tell(&rt, "minimate,tree,--limit=1,--workers,17", FEN);
     let threads = "error: --workers is 1 to 16\n";
@@ -349,4 +350,121 @@ fn explains_that_there_are_no_words(rt: HostRuntime) {
     let no_memory = io::Error::from(io::ErrorKind::OutOfMemory);
     let told = tell_of(&rt, Err(no_memory), b"");
     expect(&rt, &told, 3, "refused: NoMemory\n", "");
+}
+
+/// Expects that the words between the commas are told a sentence behind what the parser says, and that with the change that it names
+/// they are a line.
+fn expect_hint<R: Threads + Wait + Abort + AllocGlobal + Eprint + Clock + Sync>(
+    rt: &R,
+    words: &str,
+    sentence: &str,
+    changed: &str,
+) {
+    let (words, last) = words.rsplit_once(',').expect(rt, "two words");
+    let told = explained(rt, words, last);
+    let wanted = format!(in rt.alloc(); "error: {sentence}\n").expect(rt, "memory");
+    assert!(rt; told.as_slice().ends_with(wanted.as_bytes()));
+    let (words, last) = changed.rsplit_once(',').expect(rt, "two words");
+    assert!(rt; tell(rt, words, last).status != 2);
+}
+
+/// Expects what each line of a table says: words, their sentence, and the words with the change that the sentence names.
+fn expect_hints<R: Threads + Wait + Abort + AllocGlobal + Eprint + Clock + Sync>(
+    rt: &R,
+    table: &str,
+) {
+    for line in table.lines() {
+        let (words, told) = line.split_once('|').expect(rt, "a sentence");
+        let (sentence, changed) = told.split_once('|').expect(rt, "a change");
+        expect_hint(rt, words, sentence, changed);
+    }
+}
+
+#[test]
+fn explains_limits_of_words(rt: HostRuntime) {
+    let limits =
+        "minimate,solve,k5/6/2K3/6/6/1R4 w|a search has a limit: add --limit 3, in plies, or --mate 2, in moves|minimate,solve,--mate,2,k5/6/2K3/6/6/1R4 w
+minimate,keys,--limit=3,--mate=2,k5/6/2K3/6/6/1R4 w|--limit and --mate say the same: leave one of them out|minimate,keys,--limit=3,k5/6/2K3/6/6/1R4 w
+minimate,solve,--moves,2,k5/6/2K3/6/6/1R4 w|moves of the attacker are counted by --mate: write that in place of --moves|minimate,solve,--mate,2,k5/6/2K3/6/6/1R4 w
+minimate,solve,3,k5/6/2K3/6/6/1R4 w|a limit stands behind its option: write '--limit 3' in place of '3'|minimate,solve,--limit,3,k5/6/2K3/6/6/1R4 w";
+    expect_hints(&rt, limits);
+    let numbers =
+        "minimate,solve,--limit,1.5,k5/6/2K3/6/6/1R4 w|--limit is a number from 1 to 63: write 3 in place of '1.5'|minimate,solve,--limit,3,k5/6/2K3/6/6/1R4 w
+minimate,tree,--mate=two,k5/6/2K3/6/6/1R4 w|--mate is a number from 1 to 32: write 2 in place of 'two'|minimate,tree,--mate=2,k5/6/2K3/6/6/1R4 w
+minimate,keys,--limit,3,--slots,64M,k5/6/2K3/6/6/1R4 w|--slots is a number from 1 to 1048576: write 1048573 in place of '64M'|minimate,keys,--limit,3,--slots,1048573,k5/6/2K3/6/6/1R4 w
+minimate,solve,--limit,3,--workers=4294967296,k5/6/2K3/6/6/1R4 w|--workers is a number from 1 to 16: write 2 in place of '4294967296'|minimate,solve,--limit,3,--workers=2,k5/6/2K3/6/6/1R4 w";
+    expect_hints(&rt, numbers);
+}
+
+#[test]
+fn explains_words_of_another_kind(rt: HostRuntime) {
+    let words =
+        "minimate,--moves,k5/6/2K3/6/6/1R4 w|moves is a command: write it without dashes|minimate,moves,k5/6/2K3/6/6/1R4 w
+minimate,batch,--limit,3,positions|batch reads positions from its input: write '< positions' in place of 'positions'|minimate,batch,--limit,3
+minimate,check,--mate,2,k5/6/2K3/6/6/1R4 w|check makes no search: leave out --mate 2|minimate,check,k5/6/2K3/6/6/1R4 w
+minimate,moves,--limit=3,k5/6/2K3/6/6/1R4 w|moves makes no search: leave out --limit=3|minimate,moves,k5/6/2K3/6/6/1R4 w
+minimate,show,--progress,k5/6/2K3/6/6/1R4 w|show makes no search: leave out --progress|minimate,show,k5/6/2K3/6/6/1R4 w";
+    expect_hints(&rt, words);
+}
+
+// What can't be played is told by the square that the move leaves, and a lawful move from there.
+#[test]
+fn explains_moves(rt: HostRuntime) {
+    for (fen, name, sentence) in [
+        (
+            "k5/6/2K3/6/6/1R4 w",
+            "c4",
+            "a move is two squares of the board, and what a pawn becomes, as c4c5 or c5c6q",
+        ),
+        (
+            "k4/5/2K2/5/1R3 w",
+            "c3c6",
+            "a move is two squares of the board, and what a pawn becomes, as c4c5 or c5c6q",
+        ),
+        (
+            "k5/6/2K3/6/6/1R4 w",
+            "c4c5k",
+            "a move is two squares of the board, and what a pawn becomes, as c4c5 or c5c6q",
+        ),
+        ("k5/6/2K3/6/6/1R4 w", "d4d5", "nothing stands on d4"),
+        (
+            "k5/6/2K3/6/6/1R4 w",
+            "a6a5",
+            "White is to move, and the unit on a6 is Black's",
+        ),
+        (
+            "k5/2K3/6/6/6/1R4 b",
+            "a6b6",
+            "that isn't lawful: write one of a6a5",
+        ),
+        (
+            "k5/6/1PK3/1P4/6/6 w",
+            "b3b4",
+            "the unit on b3 has no lawful move",
+        ),
+        (
+            "k4/2P2/1K3/5/5 w",
+            "c4c5",
+            "that isn't lawful: write one of c4c5q c4c5r c4c5b c4c5n",
+        ),
+    ] {
+        let words = format!(in rt.alloc(); "minimate,after,{fen}").expect(&rt, "memory");
+        let told = tell(&rt, words.as_str(), name);
+        let wanted = format!(in rt.alloc(); "error: '{name}': {sentence}\n").expect(&rt, "memory");
+        expect(&rt, &told, 1, "refused: Move\n", wanted.as_str());
+    }
+}
+
+// A search for a side that has no move says why it has none, beside its answer; another command says nothing.
+#[test]
+fn tells_of_a_side_without_moves(rt: HostRuntime) {
+    let mated = tell(&rt, "minimate,solve,--limit,3", "k4R/6/1K4/6/6/6 b");
+    expect(&rt, &mated, 0, "none within 3\n", "Black is mated already\n");
+    let stalemated = tell(&rt, "minimate,keys,--mate,1", "k5/2Q3/6/6/6/5K b");
+    expect(&rt, &stalemated, 0, "none within 1\n", "Black is stalemated already\n");
+    let tree = tell(&rt, "minimate,tree,--limit,2", "K4r/6/1k4/6/6/6 w");
+    expect(&rt, &tree, 0, "none within 2\n", "White is mated already\n");
+    expect(&rt, &tell(&rt, "minimate,moves", "k4R/6/1K4/6/6/6 b"), 0, "", "");
+    let refused = tell(&rt, "minimate,solve,--limit,3,--workers,0", "k4R/6/1K4/6/6/6 b");
+    expect(&rt, &refused, 1, "refused: Workers\n", "error: --workers is 1 to 16\n");
 }

@@ -113,6 +113,14 @@ minimate,check||
 minimate,check,--limit,1,rnqknr/pppppp/6/6/PPPPPP/RNQKNR w||
 minimate,solve,rnqknr/pppppp/6/6/PPPPPP/RNQKNR w||
 minimate,tree,rnqknr/pppppp/6/6/PPPPPP/RNQKNR w||
+minimate,batch|k5/6/1K4/6/6/5R w|
+minimate,solve,--limit,1,--mate,1,k5/6/1K4/6/6/5R w||
+minimate,keys,--mate,1,--limit,64,k5/6/1K4/6/6/5R w||
+minimate,solve,--mate,1,--mate,1,k5/6/1K4/6/6/5R w||
+minimate,solve,--mate,x,k5/6/1K4/6/6/5R w||
+minimate,check,--mate,1,k5/6/1K4/6/6/5R w||
+minimate,after,k5/6/2K3/6/6/1R4 w||
+minimate,after,k5/6/2K3/6/6/1R4 w,c4c5,a6a5||
 minimate,moves,--workers,1,rnqknr/pppppp/6/6/PPPPPP/RNQKNR w||
 minimate,solve,--limit,x,rnqknr/pppppp/6/6/PPPPPP/RNQKNR w||
 minimate,solve,--limit,,rnqknr/pppppp/6/6/PPPPPP/RNQKNR w||

@@ -57,6 +57,56 @@ minimate,solve,--limit,5,k5/2Q3/6/6/6/5K b||none within 5;",
     );
 }
 
+// A mate in M moves is one within 2M-1 plies.
+#[test]
+fn takes_the_limit_in_moves(rt: HostRuntime) {
+    expect_runs(
+        &rt,
+        0,
+        "minimate,solve,--mate,1,k5/6/2K3/6/6/1R4 w||none within 1;
+minimate,solve,--mate=2,k5/6/2K3/6/6/1R4 w||mate 3 c4c5;
+minimate,solve,k5/6/2K3/6/6/1R4 w,--mate,+2||mate 3 c4c5;
+minimate,tree,--mate,2,k5/6/2K3/6/6/1R4 w||c4c5{a6a5:b1a1#};
+minimate,keys,--mate,1,--goal,stale,k5/6/2K3/6/6/1R4 w||b1b5 1;
+minimate,solve,--mate,3,k5/2Q3/6/6/6/5K b||none within 5;
+minimate,batch,--mate,2|k5/6/2K3/6/6/1R4 w|mate 3 c4c5;",
+    );
+    expect_runs(
+        &rt,
+        1,
+        "minimate,solve,--mate,0,k5/6/1K4/6/6/5R w||refused: Limit;
+minimate,solve,--mate,33,k5/6/1K4/6/6/5R w||refused: Limit;
+minimate,keys,--mate,129,k5/6/1K4/6/6/5R w||refused: Limit;
+minimate,tree,--mate,2147483649,k5/6/1K4/6/6/5R w||refused: Limit;
+minimate,solve,--mate,4294967295,k5/6/1K4/6/6/5R w||refused: Limit;",
+    );
+}
+
+// A pawn takes, and one becomes a queen or a rook; Gardner's king moves; a king leaves check.
+#[test]
+fn plays_a_move(rt: HostRuntime) {
+    expect_runs(
+        &rt,
+        0,
+        "minimate,after,k5/6/2K3/6/6/1R4 w,c4c5||k5/2K3/6/6/6/1R4 b;
+minimate,after,k4/2P2/1K3/5/5 w,c4c5q||k1Q2/5/1K3/5/5 b;
+minimate,after,k4/2P2/1K3/5/5 w,c4c5r||k1R2/5/1K3/5/5 b;
+minimate,after,k5/6/6/1p4/P5/5K b,b3a2||k5/6/6/6/p5/5K w;
+minimate,after,k4R/6/6/6/6/K5 b,a6a5||5R/k5/6/6/6/K5 w;",
+    );
+    expect_runs(
+        &rt,
+        1,
+        "minimate,after,k5/6/2K3/6/6/1R4 w,c4c6||refused: Move;
+minimate,after,k5/6/2K3/6/6/1R4 w,c4c5q||refused: Move;
+minimate,after,k5/6/2K3/6/6/1R4 w,a6a5||refused: Move;
+minimate,after,k4/2P2/1K3/5/5 w,c4c5||refused: Move;
+minimate,after,k5/6/2K3/6/6/1R4 w,||refused: Move;
+minimate,after,k5/6/2K3/6/6/1R4 w,C4C5||refused: Move;
+minimate,after,k5/6/2K3/6/6/1R4 x,c4c5||refused: Side;",
+    );
+}
+
 #[test]
 fn plays_for_the_goal(rt: HostRuntime) {
     expect_runs(

@@ -48,7 +48,8 @@ fn values_advice(refusal: Refusal) -> &'static str {
     match refusal {
         Refusal::Move =>
             "no lawful move has this name: a move is two squares and what a pawn becomes, as c4c5q",
-        Refusal::Limit => "--limit is 1 to 63 plies: a mate in M moves is --limit 2M-1",
+        Refusal::Limit =>
+            "--limit is 1 to 63 plies: a mate in M moves is --limit 2M-1, or --mate M, 1 to 32",
         Refusal::Workers => "--workers is 1 to 16",
         Refusal::Slots => "--slots is 1 to 1048576",
         Refusal::Deep =>
@@ -345,18 +346,4 @@ fn advise_grammar<E: Write>(errors: &mut E, offset: usize) -> io::Result<()> {
             "after its first {offset} bytes the input is no tree: a tree is a move with # or =, or with replies, as c4c5{{a6a5:b1a1#}}"
         ),
     }
-}
-
-/// What a word of a command line is told that stands behind a board: both are one word.
-pub fn advise_words<E: Write>(errors: &mut E, words: &[String]) -> io::Result<()> {
-    for i in 1..words.len() {
-        let (board, side) = (words[i - 1].as_str(), words[i].as_str());
-        if board_text::is_cut(board.as_bytes(), side.as_bytes()) {
-            return write!(
-                errors,
-                "error: a position is one word, so quote it: '{board} {side}'\n"
-            );
-        }
-    }
-    Ok(())
 }

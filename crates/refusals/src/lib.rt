@@ -4,8 +4,12 @@
 mod advice;
 mod board_text;
 mod kings;
+mod moving;
 mod refusal;
 mod spelling;
+mod words;
 
-pub use advice::{Refused, advise, advise_words};
+pub use advice::{Refused, advise};
+pub use moving::{advise_move, advise_over};
 pub use refusal::{Refusal, refused_text};
+pub use words::{advise_limit, advise_words};

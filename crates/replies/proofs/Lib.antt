@@ -1,3 +1,4 @@
 pub mod ReplyLemmas
 mod VerdictLemmas
 mod DrawingLemmas
+mod PlayingLemmas

@@ -2,4 +2,5 @@
 pub mod Drawing
 pub mod Output
 pub mod Verdict
+pub mod Playing
 pub mod Outcome

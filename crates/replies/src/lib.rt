@@ -3,10 +3,12 @@
 
 mod certified;
 mod drawing;
+mod played;
 mod replying;
 mod trouble;
 
 pub use certified::verified;
+pub use played::after_reply;
 pub use replying::{
     MOST_INPUT, Search, Told, answer_text, keys_text, moves_text, none_line, reply, reply_told,
     search_of, tree_line, verdict_text,

@@ -1,4 +1,4 @@
-use Rattle.calls.specs.Playing.{IsAfterReply}
+use Rattle.replies.specs.Playing.{IsAfterReply}
 use Rattle.calls.proofs.CallLemmas.{puts}
 use Rattle.calls.proofs.calling.after.Goals as goal
 

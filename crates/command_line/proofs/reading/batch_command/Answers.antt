@@ -1,4 +1,9 @@
+use Rattle.std.proofs.lemmas.Result.{IfOk-weaker}
+use Rattle.command_line.proofs.OneMore.{one_argument}
 use Rattle.command_line.proofs.reading.batch_command.Goals as goal
 
 pub returns : goal.returns
-returns c = c.with_limits.ensures _ c.named.ensures
+returns c =
+    let limited = c.in-Ok.ensures _ c.named-bare.ensures in
+    let echoing = one_argument _ _ _ _ _ limited c.echo.ensures c.in-Ok-arg.ensures in
+    IfOk-weaker c.arg-2.result _ _ (λ made adds. one_argument _ _ _ made _ echoing c.lines.ensures adds) c.arg-2.ensures

@@ -20,4 +20,5 @@ returns c =
     let certifying = c.added-certifying.ensures _ _ verifying c.certify_command.ensures in
     let moving = c.added-moving.ensures _ _ certifying c.moves_command.ensures in
     let showing = c.added-showing.ensures _ _ moving c.show_command.ensures in
-    c.added.ensures _ _ showing c.batch_command.ensures
+    let playing = c.added-playing.ensures _ _ showing c.after_command.ensures in
+    c.added.ensures _ _ playing c.batch_command.ensures

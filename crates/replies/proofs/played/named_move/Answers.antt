@@ -2,8 +2,8 @@ use Rattle.std.proofs.Common.{arith, sym, subst, ◌∙◌}
 use Rattle.std.proofs.lemmas.Bool.{false≢true}
 use lib.Pointwise.{bytes_decides}
 use Rattle.rules.specs.Order.{ListsLawful}
-use Rattle.calls.proofs.PlayingLemmas.{none_next, names_none}
-use Rattle.calls.proofs.playing.named_move.Goals as goal
+use Rattle.replies.proofs.PlayingLemmas.{none_next, names_none}
+use Rattle.replies.proofs.played.named_move.Goals as goal
 
 pub loop-m-init : goal.loop-m-init
 loop-m-init g c = λ k d lt. absurd (omega (arith, lt))

@@ -1,7 +1,7 @@
 use Rattle.std.proofs.Common.{◌∙◌, ap, inl, inr}
 use Rattle.std.proofs.lemmas.Result.{IfOk-weaker}
 use Rattle.refusals.specs.Refusal.{refusal_status}
-use Rattle.console.proofs.batch.line_text.Goals as goal
+use Rattle.console.proofs.batch.plain_text.Goals as goal
 
 pub returns-in-Ok-clause-text : goal.returns-in-Ok-clause-text
 returns-in-Ok-clause-text g c = rw (← c.said_in-fen.ensures) c.in-Ok.ensures.gives

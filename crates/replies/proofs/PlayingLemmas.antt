@@ -7,7 +7,7 @@ use Rattle.board.specs.Board.{PlainBoard}
 use Rattle.rules.specs.Squares.{Ply}
 use Rattle.rules.specs.MoveText.{move_text}
 use Rattle.rules.specs.Order.{ListsLawful}
-use Rattle.calls.specs.Playing.{NamesNone}
+use Rattle.replies.specs.Playing.{NamesNone}
 
 -- the moves before, and one more
 pub none_next : (name : List ℕ) (xs : List Ply) (i : ℕ) (m : Ply) → i < length xs → m ≡ get_or xs i m → (move_text m ≡ name → ⊥)

@@ -1,0 +1,15 @@
+-- A run of `after`.
+use Rattle.std.specs.Prelude.{◌≡◌, ◌⊎◌}
+use Rattle.command_line.specs.declared.line.Played.{Played}
+use Rattle.refusals.specs.Reply.{Reply}
+use Rattle.replies.specs.Playing.{IsAfterReply}
+use Rattle.console.specs.Run.{Ending, Run, Finishes, no_memory}
+
+-- the position after the move is written, or why there is none, with its status; or the line for want of memory
+abbrev pub WritesAfter : Played → Ending → Type 0
+WritesAfter played ending =
+    ((reply : Reply) × IsAfterReply played.fen.now played.name.now reply × Finishes ending reply.text reply.status) ⊎ Finishes ending no_memory 3
+
+-- the run is one of a move that is played, which reads nothing
+abbrev pub RunsAfter : Played → Run → Type 0
+RunsAfter played run = (run.failed_reads ≡ 0) × WritesAfter played run.ending
