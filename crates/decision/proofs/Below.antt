@@ -249,7 +249,7 @@ lists_permuted b xs ys p lists m = (
 )
 
 -- a list of the same length written over another
-pub refilled : (xs ys : List Ply) → length ys ≡ length xs → refill (length xs) xs ys ≡ ys
+pub refilled : {X : Type 0} (xs ys : List X) → length ys ≡ length xs → refill (length xs) xs ys ≡ ys
 refilled xs ys same = grind (arith, common_steps, elements)
 
 -- ---- by the questions below

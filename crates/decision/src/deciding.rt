@@ -73,12 +73,12 @@ fn decide_with<S: Stop, A: Allocator>(
             first,
         });
     }
-    scout.memory.expanded = 0;
+    scout.memory.learned.expanded = 0;
     let yes = search_given(caller, scout, q, n)?;
     keep(caller, q, known_after(q, n, yes, first));
     Some(Decision {
         yes,
-        expanded: scout.memory.expanded.saturating_add(1),
+        expanded: scout.memory.learned.expanded.saturating_add(1),
         first,
     })
 }

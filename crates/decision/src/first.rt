@@ -57,7 +57,7 @@ pub(crate) fn try_moves<S: Stop, A: Allocator>(
     for m in moves {
         let yes = visit_child(caller, scout, &q.after(*m), n - 1)?;
         if yes == own {
-            scout.memory.remember(*m, n, own);
+            scout.memory.learned.remember(*m, n, own);
             return Some(own);
         }
     }

@@ -4,8 +4,8 @@ ghost use Rattle.rules.specs.Forces.{IsReached};
 ghost use Rattle.decision.specs.Questions.{IsForced};
 ghost use Rattle.decision.specs.Below.{is_own};
 
-use crate::memory::Memory;
-use crate::order::in_order;
+use crate::memory::{Learned, Memory};
+use crate::order::order_into;
 use crate::question::Question;
 use arrayvec::ArrayVec;
 use moves::{Board, Goal, Move, has_lawful_move, list_lawful, mover_in_check, reaches_at_once};
@@ -32,35 +32,35 @@ pub(crate) fn answer_now(q: &Question) -> bool
 }
 
 /// Whether the attacker, who is to move, reaches the goal by its next move.
-fn wins_at_once(memory: &mut Memory, q: &Question) -> bool
+fn wins_at_once(learned: &mut Learned, q: &Question) -> bool
     requires { is_own q.now ≡ true }
     ensures { IsTrue result ↔ IsForced q.now 1 }
 {
-    memory.count();
+    learned.count();
     reaches_at_once(&q.position, q.goal)
 }
 
 /// Whether the move is one of the defender's, and keeps the attacker from reaching the goal by its next.
-fn refutes(memory: &mut Memory, q: &Question, m: Move) -> bool
+fn refutes(learned: &mut Learned, q: &Question, m: Move) -> bool
     requires { is_own q.now ≡ false }
     ensures { IsTrue result → IsForced q.now 2 → ⊥ }
 {
     let Some(next) = q.after_if_lawful(m) else {
         return false;
     };
-    !wins_at_once(memory, &next)
+    !wins_at_once(learned, &next)
 }
 
 /// One of the replies that refuted last, if it does again: where it does, no list is made.
-fn remembered_refutation(memory: &mut Memory, q: &Question) -> Option<Move>
+fn remembered_refutation(learned: &mut Learned, q: &Question) -> Option<Move>
     requires { is_own q.now ≡ false }
     ensures { IfSome result (λ _. IsForced q.now 2 → ⊥) }
 {
-    for reply in memory.replies() {
+    for reply in learned.replies() {
         let Some(m) = reply else {
             continue;
         };
-        if refutes(memory, q, m) {
+        if refutes(learned, q, m) {
             return Some(m);
         }
     }
@@ -68,20 +68,19 @@ fn remembered_refutation(memory: &mut Memory, q: &Question) -> Option<Move>
 }
 
 /// Whether each move of the defender, who is to move and has one, lets the attacker reach the goal by its next, by the list of them.
-// It stands apart, since most calls find a remembered reply, and the list's room is cleared where it begins.
+// It stands apart, since most calls find a remembered reply.
 #[inline(never)]
-fn loses_by_all(memory: &mut Memory, q: &Question) -> bool
+fn loses_by_all(learned: &mut Learned, replies: &mut ArrayVec<Move, 512>, q: &Question) -> bool
     requires { is_own q.now ≡ false }
     ensures { IsTrue result ↔ IsForced q.now 2 }
 {
-    let mut moves = ArrayVec::new();
-    list_lawful(&q.position, &mut moves);
-    if moves.is_empty() {
+    list_lawful(&q.position, replies);
+    if replies.is_empty() {
         return is_reached(&q.position, q.goal);
     }
-    for m in moves.as_slice() {
-        if !wins_at_once(memory, &q.after(*m)) {
-            memory.remember_reply(*m);
+    for m in replies.as_slice() {
+        if !wins_at_once(learned, &q.after(*m)) {
+            learned.remember_reply(*m);
             return false;
         }
     }
@@ -90,16 +89,16 @@ fn loses_by_all(memory: &mut Memory, q: &Question) -> bool
 
 /// Whether each move of the defender, who is to move and has one, lets the attacker reach the goal by its next.
 #[inline(never)]
-fn loses_in_two(memory: &mut Memory, q: &Question) -> bool
+fn loses_in_two(learned: &mut Learned, replies: &mut ArrayVec<Move, 512>, q: &Question) -> bool
     requires { is_own q.now ≡ false }
     ensures { IsTrue result ↔ IsForced q.now 2 }
 {
-    memory.count();
-    if let Some(m) = remembered_refutation(memory, q) {
-        memory.remember_reply(m);
+    learned.count();
+    if let Some(m) = remembered_refutation(learned, q) {
+        learned.remember_reply(m);
         return false;
     }
-    loses_by_all(memory, q)
+    loses_by_all(learned, replies, q)
 }
 
 /// Whether the attacker, who is to move, forces the goal within three plies.
@@ -108,11 +107,12 @@ fn wins_in_three(memory: &mut Memory, q: &Question) -> bool
     requires { is_own q.now ≡ true }
     ensures { IsTrue result ↔ IsForced q.now 3 }
 {
-    memory.count();
-    let mut moves = ArrayVec::new();
-    in_order(memory, q, 3, &mut moves);
-    for m in moves.as_slice() {
-        if loses_in_two(memory, &q.after(*m)) {
+    let learned = &mut memory.learned;
+    let rooms = &mut memory.rooms;
+    learned.count();
+    order_into(learned, q, 3, &mut rooms.costed, &mut rooms.moves);
+    for m in rooms.moves.as_slice() {
+        if loses_in_two(learned, &mut rooms.replies, &q.after(*m)) {
             return true;
         }
     }
@@ -129,7 +129,7 @@ fn own_leaf(memory: &mut Memory, q: &Question, n: u8) -> bool
         return answer_now(q);
     }
     if n < 3 {
-        return wins_at_once(memory, q);
+        return wins_at_once(&mut memory.learned, q);
     }
     wins_in_three(memory, q)
 }
@@ -146,5 +146,5 @@ pub(crate) fn leaf(memory: &mut Memory, q: &Question, n: u8) -> bool
     if n < 2 {
         return answer_now(q);
     }
-    loses_in_two(memory, q)
+    loses_in_two(&mut memory.learned, &mut memory.rooms.replies, q)
 }

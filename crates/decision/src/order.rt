@@ -1,19 +1,20 @@
 //! Which moves are tried first. No answer depends on it.
-ghost use Rattle.std.specs.Prelude.{◌<◌, ◌≤◌, All, IfSome, length};
+ghost use Rattle.std.specs.Prelude.{◌≡◌, ◌<◌, ◌≤◌, [], ◌++◌, All, IfSome, length, map};
 ghost use Rattle.std.specs.List.Sorted.{IsPermutation};
 ghost use Rattle.rules.specs.Moves.{IsLawful};
-ghost use Rattle.decision.specs.Orders.{ListsAll};
+ghost use Rattle.decision.specs.Orders.{ListsAll, moves_of};
 
-use crate::memory::{Memory, pair_of};
+use crate::memory::{Learned, Memory};
 use crate::question::Question;
 use arrayvec::ArrayVec;
 use board::{Kind, Side};
 use moves::{Board, Move, after, count_lawful, list_lawful, mover_in_check};
 
-/// The costs of moves, by their two squares: those of less cost are tried first.
-#[derive(Drop)]
-struct Costs {
-    of_pair: [u16; 1296],
+/// A move, and what counts against it: those of less cost are tried first.
+#[derive(Clone, Copy, Default)]
+pub(crate) struct Costed {
+    pub(crate) cost: u16,
+    pub(crate) m: Move,
 }
 
 /// From so many plies on the replies to an attacker's move are counted.
@@ -65,48 +66,101 @@ fn cost_of_reply(q: &Question, m: Move, next: &Board) -> u16
 
 /// What counts against the attacker's move to the board `next`: that it gives no check, then how many replies it leaves, and then how
 /// seldom it won.
-fn cost_of_move(memory: &Memory, n: u8, m: Move, next: &Board) -> u16 {
+fn cost_of_move(learned: &Learned, n: u8, m: Move, next: &Board) -> u16 {
     let replies = if n < COUNTED_FROM {
         0
     } else {
         count_lawful(next).min(127)
     };
     let quiet = if mover_in_check(next) { 0 } else { 0x8000 };
-    let seldom = u8::MAX - memory.wins_of(m);
+    let seldom = u8::MAX - learned.wins_of(m);
     quiet + replies * 256 + u16::from(seldom)
 }
 
 /// What counts against the move.
-fn cost(memory: &Memory, q: &Question, n: u8, m: Move) -> u16
+fn cost(learned: &Learned, q: &Question, n: u8, m: Move) -> u16
     requires { IsLawful q.now.position m }
 {
     let next = after(&q.position, m);
     if q.is_own_turn() {
-        cost_of_move(memory, n, m, &next)
+        cost_of_move(learned, n, m, &next)
     } else {
         cost_of_reply(q, m, &next)
     }
 }
 
-/// The costs of the moves. Where moves have the same two squares, it is that of the last.
-fn costs_of(memory: &Memory, q: &Question, n: u8, moves: &[Move]) -> Costs
-    requires { All (IsLawful q.now.position) moves.now }
+/// The last of the moves from this one on that have its two squares: they differ in what a pawn becomes.
+fn last_alike(moves: &[Move], first: usize) -> usize
+    requires { first < length moves.now }
+    ensures { result < length moves.now }
 {
-    let mut costs = Costs { of_pair: [0; 1296] };
-    for m in moves {
-        costs.of_pair[pair_of(*m)] = cost(memory, q, n, *m);
+    let m = moves[first];
+    let mut last = first;
+    while last + 1 < moves.len() {
+        let next = moves[last + 1];
+        if next.from != m.from || next.to != m.to {
+            break;
+        }
+        last += 1;
     }
-    costs
+    last
 }
 
-/// Puts the lawful moves into the list in place of what it held, those of least cost first.
+/// Puts the moves with their costs into the list in place of what it held. Where moves have the same two squares, the cost is that of
+/// the last.
+fn cost_all(
+    learned: &Learned,
+    q: &Question,
+    n: u8,
+    moves: &[Move],
+    costed: &mut ArrayVec<Costed, 512>,
+)
+    requires lawful { All (IsLawful q.now.position) moves.now }
+    requires room { length moves.now ≤ 512 }
+    ensures { moves_of costed.new.items ≡ moves.now }
+{
+    costed.clear();
+    for i in 0..moves.len() {
+        let m = moves[i];
+        let cost = cost(learned, q, n, moves[last_alike(moves, i)]);
+        costed.push(Costed { cost, m });
+    }
+}
+
+/// Puts the moves into the list in place of what it held, without their costs.
+fn put_moves(costed: &[Costed], moves: &mut ArrayVec<Move, 512>)
+    requires { length costed.now ≤ 512 }
+    ensures { moves.new.items ≡ moves_of costed.now }
+{
+    moves.clear();
+    for it in costed {
+        moves.push(it.m);
+    }
+}
+
+/// Puts the lawful moves into the list in place of what it held, those of least cost first. The other list has room for their costs.
 #[inline(never)]
-pub fn in_order(memory: &Memory, q: &Question, n: u8, moves: &mut ArrayVec<Move, 512>)
+pub(crate) fn order_into(
+    learned: &Learned,
+    q: &Question,
+    n: u8,
+    costed: &mut ArrayVec<Costed, 512>,
+    moves: &mut ArrayVec<Move, 512>,
+)
     ensures { ListsAll q.now.position moves.new.items }
 {
     list_lawful(&q.position, moves);
-    let costs = costs_of(memory, q, n, moves.as_slice());
-    moves
+    cost_all(learned, q, n, moves.as_slice(), costed);
+    costed
         .as_mut_slice()
-        .sort_unstable_by_key(|m: &Move| costs.of_pair[pair_of(*m)]);
+        .sort_unstable_by_key(|it: &Costed| it.cost);
+    put_moves(costed.as_slice(), moves);
+}
+
+/// Puts the lawful moves into the list in place of what it held, those of least cost first.
+pub fn in_order(memory: &Memory, q: &Question, n: u8, moves: &mut ArrayVec<Move, 512>)
+    ensures { ListsAll q.now.position moves.new.items }
+{
+    let mut costed = ArrayVec::new();
+    order_into(&memory.learned, q, n, &mut costed, moves);
 }

@@ -1,15 +1,16 @@
 //! The search below the first level. The table is asked of each position but those of the last plies, in the far slots alone; positions
 //! that are images of one another are searched as one.
-ghost use Rattle.std.specs.Prelude.{◌≡◌, ◌<◌, ◌≤◌, ◌-◌, ◌↔◌, IsTrue, All, MatchOption};
+ghost use Rattle.std.specs.Prelude.{◌≡◌, ◌<◌, ◌≤◌, ◌-◌, ◌↔◌, IsTrue, All, MatchOption, length};
+ghost use Rattle.arrayvec.specs.ArrayVec.{array_vec_len};
 ghost use Rattle.rules.specs.Moves.{IsLawful};
 ghost use Rattle.decision.specs.Callers.{GoesOn, Searches};
 ghost use Rattle.decision.specs.Questions.{IsForced, IsKnownOf};
 ghost use Rattle.decision.specs.Below.{is_own, IsCut, Tells};
+ghost use Rattle.decision.specs.Orders.{ListsAll};
 
 use crate::asking::{decided, look_far};
 use crate::caller::Caller;
 use crate::leaf::{answer_now, leaf};
-use crate::order::in_order;
 use crate::question::Question;
 use crate::scout::{Scout, Stop};
 use crate::storing::{keep_far, known_with};
@@ -68,11 +69,82 @@ fn try_below<S: Stop, A: Allocator>(
     for m in moves {
         let yes = visit(caller, scout, &q.turned_after(*m), n - 1)?;
         if yes == own {
-            scout.memory.remember(*m, n, own);
+            scout.memory.learned.remember(*m, n, own);
             return Some(own);
         }
     }
     Some(!own)
+}
+
+/// A list of the moves.
+fn copied<const CAP: usize>(moves: &[Move]) -> ArrayVec<Move, CAP>
+    requires { length moves.now ≤ CAP }
+    ensures { result.items ≡ moves.now }
+{
+    let mut list = ArrayVec::new();
+    let Ok(()) = list.try_extend_from_slice(moves) else {
+        unreachable!()
+    };
+    list
+}
+
+/// The answer for n plies by the positions after the moves, which are all.
+#[cycle(searching)]
+fn search_listed<S: Stop, A: Allocator>(
+    caller: &mut Caller<'_, A>,
+    scout: &mut Scout<S>,
+    q: &Question,
+    n: u8,
+    moves: &[Move],
+) -> Option<bool>
+    requires plies { (3 < n) × (n ≤ 63) }
+    requires lists { ListsAll q.now.position moves.now }
+    requires some { 0 < length moves.now }
+    ensures goes_on { Searches S.stays caller.old caller.new scout.old scout.new }
+    ensures answer { MatchOption result (S.told scout.new.stop) (λ yes. IsTrue yes ↔ IsForced q.now n) }
+{
+    if is_cut(caller, q, n, moves) {
+        return Some(q.is_own_turn());
+    }
+    try_below(caller, scout, q, n, moves)
+}
+
+/// The answer by the moves in the room for them, where they are few. A longer list takes longer to clear.
+#[cycle(searching)]
+fn search_few<S: Stop, A: Allocator>(
+    caller: &mut Caller<'_, A>,
+    scout: &mut Scout<S>,
+    q: &Question,
+    n: u8,
+) -> Option<bool>
+    requires plies { (3 < n) × (n ≤ 63) }
+    requires lists { ListsAll q.now.position scout.old.memory.rooms.moves.items }
+    requires some { 0 < array_vec_len scout.old.memory.rooms.moves }
+    requires few { array_vec_len scout.old.memory.rooms.moves ≤ 64 }
+    ensures goes_on { Searches S.stays caller.old caller.new scout.old scout.new }
+    ensures answer { MatchOption result (S.told scout.new.stop) (λ yes. IsTrue yes ↔ IsForced q.now n) }
+{
+    let moves = copied::<64>(scout.memory.rooms.moves.as_slice());
+    search_listed(caller, scout, q, n, moves.as_slice())
+}
+
+/// The answer by the moves in the room for them.
+#[cycle(searching)]
+#[inline(never)]
+fn search_many<S: Stop, A: Allocator>(
+    caller: &mut Caller<'_, A>,
+    scout: &mut Scout<S>,
+    q: &Question,
+    n: u8,
+) -> Option<bool>
+    requires plies { (3 < n) × (n ≤ 63) }
+    requires lists { ListsAll q.now.position scout.old.memory.rooms.moves.items }
+    requires some { 0 < array_vec_len scout.old.memory.rooms.moves }
+    ensures goes_on { Searches S.stays caller.old caller.new scout.old scout.new }
+    ensures answer { MatchOption result (S.told scout.new.stop) (λ yes. IsTrue yes ↔ IsForced q.now n) }
+{
+    let moves = copied::<512>(scout.memory.rooms.moves.as_slice());
+    search_listed(caller, scout, q, n, moves.as_slice())
 }
 
 /// The answer for n plies by the positions below.
@@ -93,16 +165,17 @@ pub(crate) fn search<S: Stop, A: Allocator>(
     if scout.stop.is_set() {
         return None;
     }
-    scout.memory.count();
-    let mut moves = ArrayVec::new();
-    in_order(&scout.memory, q, n, &mut moves);
-    if moves.is_empty() {
+    scout.memory.learned.count();
+    scout.memory.order(q, n);
+    let count = scout.memory.rooms.moves.len();
+    if count == 0 {
         return Some(answer_now(q));
     }
-    if is_cut(caller, q, n, moves.as_slice()) {
-        return Some(q.is_own_turn());
+    if count <= 64 {
+        search_few(caller, scout, q, n)
+    } else {
+        search_many(caller, scout, q, n)
     }
-    try_below(caller, scout, q, n, moves.as_slice())
 }
 
 /// The answer for some plies, and what is known with it.

@@ -6,7 +6,7 @@ ghost use Rattle.rules.specs.Squares.{IsOnBoard};
 ghost use Rattle.laws.specs.Turnings.{mirrored, turned_place, IsTurned, MayTurn};
 ghost use Rattle.decision.specs.Turned.{way_of, IsTurnedWell};
 
-use board::{Game, Position, Side, Unit};
+use board::{Game, Side, Unit};
 use moves::{Board, Square};
 
 /// A way to turn a board about: left and right are exchanged, then top and bottom, and then files and ranks.
@@ -82,10 +82,7 @@ pub fn turned(board: &Board, turning: Turning) -> Option<Board>
         return None;
     }
     let units = turned_units(board, turning);
-    let Some(position) = Position::of(board.game(), board.mover(), &units) else {
-        unreachable!()
-    };
-    Some(Board::of(&position))
+    Some(Board::of_units(board.game(), board.mover(), &units))
 }
 
 /// Whether a file or a rank of the attacker's king, and where that is in the middle, of the defender's, is nearer to the far edge.

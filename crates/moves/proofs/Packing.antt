@@ -205,6 +205,29 @@ module _ (g : Game) (f : ℕ) (units : List (Option Man)) (v u : List ℕ) (n co
     free = λ k i none flag. p.elsewhere k i (λ a b. none n (omega arith) (sym a) (sym b)) ∙ h.free k i (λ m less. none m (omega (arith, less))) flag;
   }
 
+-- what is no unit is none
+pub none_where : (o : Option Man) → ((u : Man) → o ≡ Some u → ⊥) → o ≡ None
+none_where None not_one = refl
+none_where (Some u) not_one = absurd (not_one u refl)
+
+-- a square with no unit, on which nothing is put
+pub IsFilled-none : (g : Game) (f : ℕ) (units : List (Option Man)) (words : List ℕ) (n : ℕ) → get_or units n None ≡ None → IsFilled g f units words n → IsFilled g f units words (n + 1)
+IsFilled-none g f units words n none h = record {
+  flags = h.flags;
+  done = λ k less. elim (cases_eq k n) [
+    | inl e ↦ subst (λ x. man_of (code_on g words x) ≡ get_or units x None) (sym e) (ap man_of zero_there ∙ sym none)
+    | inr other ↦ h.done k (omega (arith, less, other))
+  ];
+  small = λ k less. elim (cases_eq k n) [
+    | inl e ↦ subst (λ x. code_on g words x < 13) (sym e) (subst (λ x. x < 13) (sym zero_there) (omega arith))
+    | inr other ↦ h.small k (omega (arith, less, other))
+  ];
+  free = λ k i apart flag. h.free k i (λ m less. apart m (omega (arith, less))) flag;
+}
+  where
+    zero_there : code_on g words n ≡ 0
+    zero_there = h.free (word_of g n) (place_of g n) (λ m less. other_place g m n (λ same. omega (arith, same, less))) (λ _ e. not_flags g n (sym e))
+
 off_unit : (b : PlainBoard) (o : Option Man) (k : ℕ) → IfSome o (MayStandOn b.game k) → squares_of b.game ≤ k → o ≡ None
 off_unit b None k _ h = refl
 off_unit b (Some u) k m h = absurd (omega (arith, m.on_board, h))

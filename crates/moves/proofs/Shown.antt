@@ -16,7 +16,7 @@ use Rattle.rules.specs.Squares.{Place, Ply, IsOnBoard, square_number, unit_at}
 use Rattle.rules.specs.Moves.{IsPseudoLegal, placed, after}
 use Rattle.cells.specs.Mailbox.{cell_of, place_in, IsCell}
 use Rattle.cells.specs.CellSets.{Has}
-use Rattle.moves.specs.Sets.{IsOf, StandsAs, Holds, Shows, HasMoved, AreMoved}
+use Rattle.moves.specs.Sets.{IsOf, StandsAs, Holds, Shows, HasMoved, AreMoved, AreAdded, HasNone}
 use Rattle.cells.proofs.CellNumbers.{IsCell-cell_of, place_in-cell_of, cell_of-place_in}
 use Rattle.cells.proofs.Reached.{same_cell}
 use Rattle.rules.proofs.Keeps.{to_on_board}
@@ -147,9 +147,9 @@ HeldBelow-none b class set n none held i = (
   ],
 )
 
-pub HeldBelow-unit : (b : PlainBoard) (class : Class) (set more n : ℕ) (s : Place) (u : Man) (r : Bool) → IsOnBoard b.game s → square_number b.game s ≡ n → unit_on b n ≡ Some u → (IsTrue r ↔ IsOf class u)
-    → ((i : ℕ) → Has more i ↔ (Has set i ⊎ (IsTrue r × (cell_of s ≡ i)))) → HeldBelow b class set n → HeldBelow b class more (n + 1)
-HeldBelow-unit b class set more n s u r on number stands is added held i = (
+pub HeldBelow-unit : (b : PlainBoard) (class : Class) (set more n : ℕ) (s : Place) (u : Man) (R : Type 0) → IsOnBoard b.game s → square_number b.game s ≡ n → unit_on b n ≡ Some u → (R ↔ IsOf class u)
+    → ((i : ℕ) → Has more i ↔ (Has set i ⊎ (R × (cell_of s ≡ i)))) → HeldBelow b class set n → HeldBelow b class more (n + 1)
+HeldBelow-unit b class set more n s u R on number stands is added held i = (
   λ h. elim ((added i).0 h) [
     | inl x ↦ let w = (held i).0 x in let l = w.1 in (w.0, omega (arith, l))
     | inr (told, same) ↦
@@ -173,6 +173,69 @@ HeldBelow-all b class set n all held i = (
   λ h. ((held i).0 h).0,
   λ w. (held i).1 (w, subst (λ k. square_number b.game (place_in i) < k) (sym all) (number_within b.game (place_in i) w.0.on_board)),
 )
+
+-- ---- all classes
+
+-- each set has the cells of its class on the squares numbered below n
+pub record ShownBelow (b : PlainBoard) (s : Sets) (n : ℕ) : Type 0 where
+  pub white : HeldBelow b White s.white n
+  pub black : HeldBelow b Black s.black n
+  pub kings : HeldBelow b Crowned s.kings n
+  pub straight : HeldBelow b Straight s.straight n
+  pub slanted : HeldBelow b Slanted s.slanted n
+  pub knights : HeldBelow b Horsed s.knights n
+  pub pawns : HeldBelow b Foot s.pawns n
+
+held_start : (b : PlainBoard) (class : Class) (set : ℕ) → set ≡ 0 → HeldBelow b class set 0
+held_start b class set e = subst (λ x. HeldBelow b class x 0) (sym e) (HeldBelow-start b class 0 refl)
+
+pub ShownBelow-start : (b : PlainBoard) (s : Sets) → HasNone s → ShownBelow b s 0
+ShownBelow-start b s e = record {
+  white = held_start b White s.white e.white;
+  black = held_start b Black s.black e.black;
+  kings = held_start b Crowned s.kings e.kings;
+  straight = held_start b Straight s.straight e.straight;
+  slanted = held_start b Slanted s.slanted e.slanted;
+  knights = held_start b Horsed s.knights e.knights;
+  pawns = held_start b Foot s.pawns e.pawns;
+}
+
+pub ShownBelow-none : (b : PlainBoard) (s : Sets) (n : ℕ) → unit_on b n ≡ None → ShownBelow b s n → ShownBelow b s (n + 1)
+ShownBelow-none b s n none h = record {
+  white = HeldBelow-none b White s.white n none h.white;
+  black = HeldBelow-none b Black s.black n none h.black;
+  kings = HeldBelow-none b Crowned s.kings n none h.kings;
+  straight = HeldBelow-none b Straight s.straight n none h.straight;
+  slanted = HeldBelow-none b Slanted s.slanted n none h.slanted;
+  knights = HeldBelow-none b Horsed s.knights n none h.knights;
+  pawns = HeldBelow-none b Foot s.pawns n none h.pawns;
+}
+
+module _ (b : PlainBoard) (s t : Sets) (n : ℕ) (at : Place) (u : Man) (on : IsOnBoard b.game at) (number : square_number b.game at ≡ n) (stands : unit_on b n ≡ Some u) (h : ShownBelow b s n) where
+  held_unit : (class : Class) (set more : ℕ) → ((i : ℕ) → Has more i ↔ (Has set i ⊎ (IsOf class u × (cell_of at ≡ i)))) → HeldBelow b class set n → HeldBelow b class more (n + 1)
+  held_unit class set more added held = HeldBelow-unit b class set more n at u (IsOf class u) on number stands (λ x. x, λ x. x) added held
+
+  pub ShownBelow-unit : AreAdded s t (cell_of at) u → ShownBelow b t (n + 1)
+  ShownBelow-unit a = record {
+    white = held_unit White s.white t.white a.white h.white;
+    black = held_unit Black s.black t.black a.black h.black;
+    kings = held_unit Crowned s.kings t.kings a.kings h.kings;
+    straight = held_unit Straight s.straight t.straight a.straight h.straight;
+    slanted = held_unit Slanted s.slanted t.slanted a.slanted h.slanted;
+    knights = held_unit Horsed s.knights t.knights a.knights h.knights;
+    pawns = held_unit Foot s.pawns t.pawns a.pawns h.pawns;
+  }
+
+pub ShownBelow-all : (b : PlainBoard) (s : Sets) (n : ℕ) → n ≡ squares_of b.game → ShownBelow b s n → Shows b s
+ShownBelow-all b s n all h = record {
+  white = HeldBelow-all b White s.white n all h.white;
+  black = HeldBelow-all b Black s.black n all h.black;
+  kings = HeldBelow-all b Crowned s.kings n all h.kings;
+  straight = HeldBelow-all b Straight s.straight n all h.straight;
+  slanted = HeldBelow-all b Slanted s.slanted n all h.slanted;
+  knights = HeldBelow-all b Horsed s.knights n all h.knights;
+  pawns = HeldBelow-all b Foot s.pawns n all h.pawns;
+}
 
 -- ---- a class after a move
 

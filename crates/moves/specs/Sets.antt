@@ -58,6 +58,30 @@ pub record AreMoved (s t : Sets) (from to : ℕ) (placed : Man) : Type 0 where
   pub knights : (i : ℕ) → Has t.knights i ↔ HasMoved s.knights Horsed from to placed i
   pub pawns : (i : ℕ) → Has t.pawns i ↔ HasMoved s.pawns Foot from to placed i
 
+-- a cell of the class once the unit stands in the cell too
+abbrev pub HasAdded : ℕ → Class → ℕ → Man → ℕ → Type 0
+HasAdded set class cell unit i = Has set i ⊎ (IsOf class unit × (cell ≡ i))
+
+-- each set then
+pub record AreAdded (s t : Sets) (cell : ℕ) (unit : Man) : Type 0 where
+  pub white : (i : ℕ) → Has t.white i ↔ HasAdded s.white White cell unit i
+  pub black : (i : ℕ) → Has t.black i ↔ HasAdded s.black Black cell unit i
+  pub kings : (i : ℕ) → Has t.kings i ↔ HasAdded s.kings Crowned cell unit i
+  pub straight : (i : ℕ) → Has t.straight i ↔ HasAdded s.straight Straight cell unit i
+  pub slanted : (i : ℕ) → Has t.slanted i ↔ HasAdded s.slanted Slanted cell unit i
+  pub knights : (i : ℕ) → Has t.knights i ↔ HasAdded s.knights Horsed cell unit i
+  pub pawns : (i : ℕ) → Has t.pawns i ↔ HasAdded s.pawns Foot cell unit i
+
+-- all sets are empty
+pub record HasNone (s : Sets) : Type 0 where
+  pub white : s.white ≡ 0
+  pub black : s.black ≡ 0
+  pub kings : s.kings ≡ 0
+  pub straight : s.straight ≡ 0
+  pub slanted : s.slanted ≡ 0
+  pub knights : s.knights ≡ 0
+  pub pawns : s.pawns ≡ 0
+
 -- a rider comes to the cell along a rank or a file
 abbrev pub RidesStraight : PlainBoard → ℕ → ℕ → Type 0
 RidesStraight b i j = Rides b North i j ⊎ (Rides b South i j ⊎ (Rides b East i j ⊎ Rides b West i j))

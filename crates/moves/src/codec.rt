@@ -1,11 +1,11 @@
 //! A position as three words, and back. Nothing else makes digits of squares, or squares of digits.
 ghost use Rattle.std.specs.Prelude.{◌≡◌, ◌<◌, IfNone, IfSome};
-ghost use Rattle.board.specs.Board.{PlainBoard, unit_on, IsPosition};
+ghost use Rattle.board.specs.Board.{PlainBoard, board_of, unit_on, IsPosition};
 ghost use Rattle.board.specs.Games.{squares_of};
 ghost use Rattle.moves.specs.Words.{man_of, game_of_flags, mover_of_flags, IsFlags, unpacked, Spells, IsPacked};
 
 use crate::words::{code_of, code_on, put, unit_of, with_digit};
-use board::{Game, Position, Side};
+use board::{Game, Position, Side, Unit};
 use rules::Square;
 
 /// The code of what stands on a square.
@@ -48,6 +48,23 @@ pub fn write_words(position: &Position) -> [u64; 3]
     for square in 0..game.squares() {
         let at = Square::of_number(game, square);
         put(&mut words, game, at, code_in(position, square));
+    }
+    words
+}
+
+/// The words of the position of these units, by square number.
+pub(crate) fn write_units(game: Game, mover: Side, units: &[Option<Unit>; 36]) -> [u64; 3]
+    requires { IsPosition (board_of game mover units.now) }
+    ensures value { unpacked result ≡ board_of game mover units.now }
+    ensures packed { IsPacked result }
+{
+    let flags = flags_of(game, mover);
+    let mut words = [with_digit(0, 12, flags), 0, 0];
+    for square in 0..game.squares() {
+        if let Some(unit) = units[square as usize] {
+            let at = Square::of_number(game, square);
+            put(&mut words, game, at, code_of(unit));
+        }
     }
     words
 }

@@ -1,7 +1,7 @@
 //! A position in three words.
 ghost use Rattle.std.specs.Prelude.{◌≡◌, ◌<◌, ◌+◌, ◌*◌, ◌↔◌, ℕ, Some, None, true, IsTrue};
 ghost use Rattle.board.specs.declared.game.Kind.TheVariants.{King};
-ghost use Rattle.board.specs.Board.{unit_on, is_of_side, IsPosition};
+ghost use Rattle.board.specs.Board.{board_of, unit_on, is_of_side, IsPosition};
 ghost use Rattle.board.specs.Games.{squares_of};
 ghost use Rattle.moves.specs.Words.{man_of, unpacked, IsPacked};
 ghost use Rattle.rules.specs.Squares.{IsOnBoard, unit_at};
@@ -11,7 +11,7 @@ ghost use Rattle.moves.specs.Sets.{Holds};
 ghost use Rattle.moves.specs.Pawns.{HasPawn};
 ghost use Rattle.rules.specs.Moves.{IsPseudoLegal, IsMove, IsLawful, after};
 
-use crate::codec::{read_words, write_words};
+use crate::codec::{read_words, write_units, write_words};
 use crate::sets::{Class, Sets};
 use crate::words::{code_of, code_on, put, turned, unit_of};
 use board::{Game, Position, Side, Unit};
@@ -45,6 +45,16 @@ impl Board {
     {
         let words = write_words(position);
         let sets = Sets::of(position);
+        Board { words, sets }
+    }
+
+    /// The board of the position of these units, by square number. No position is made.
+    pub fn of_units(game: Game, mover: Side, units: &[Option<Unit>; 36]) -> Board
+        requires { IsPosition (board_of game mover units.now) }
+        ensures { result ≡ board_of game mover units.now }
+    {
+        let words = write_units(game, mover, units);
+        let sets = Sets::of_units(game, mover, units);
         Board { words, sets }
     }
 

@@ -1,13 +1,13 @@
 //! The units of a board as sets of cells, one bit a cell.
 ghost use Rattle.std.specs.Prelude.{◌≡◌, ◌<◌, ◌↔◌, ℕ, IsTrue, Some, None};
-ghost use Rattle.board.specs.Board.{PlainBoard, IsPosition, unit_on};
+ghost use Rattle.board.specs.Board.{PlainBoard, IsPosition, board_of, unit_on};
 ghost use Rattle.rules.specs.Squares.{unit_at};
 ghost use Rattle.rules.specs.Moves.{IsPseudoLegal, placed, after};
 ghost use Rattle.cells.specs.Mailbox.{cell_of, place_in, IsCell};
 ghost use Rattle.cells.specs.CellSets.{Has};
-ghost use Rattle.moves.specs.Sets.{IsOf, Holds, Shows, HasMoved, AreMoved};
+ghost use Rattle.moves.specs.Sets.{IsOf, Holds, Shows, HasMoved, AreMoved, HasAdded, AreAdded, HasNone};
 
-use board::{Kind, Position, Side, Unit};
+use board::{Game, Kind, Position, Side, Unit};
 use cells::{cell_of, with_cell};
 use rules::Square;
 
@@ -65,6 +65,14 @@ fn cells_of(position: &Position, class: Class) -> u64
     set
 }
 
+/// The cells of the class once the unit stands in the cell too.
+fn added_cells(set: u64, class: Class, cell: u8, unit: Unit) -> u64
+    requires { cell < 64 }
+    ensures { (i : ℕ) → Has result i ↔ HasAdded set class cell unit i }
+{
+    with_cell(set, cell, is_of(class, unit))
+}
+
 /// The cells of the class after a unit has moved from one cell to another, where it is `placed`.
 fn moved_cells(set: u64, class: Class, from: u8, to: u8, placed: Unit) -> u64
     requires from { from < 63 }
@@ -88,6 +96,52 @@ impl Sets {
             slanted: cells_of(position, Class::Slanted),
             knights: cells_of(position, Class::Horsed),
             pawns: cells_of(position, Class::Foot),
+        }
+    }
+
+    /// The sets of these units, by square number.
+    pub(crate) fn of_units(game: Game, mover: Side, units: &[Option<Unit>; 36]) -> Sets
+        ensures { Shows (board_of game mover units.now) result }
+    {
+        let _ = mover;
+        let mut sets = Sets::none();
+        for number in 0..game.squares() {
+            if let Some(unit) = units[number as usize] {
+                let cell = cell_of(Square::of_number(game, number));
+                sets = sets.with(cell, unit);
+            }
+        }
+        sets
+    }
+
+    /// The sets of no units.
+    fn none() -> Sets
+        ensures { HasNone result }
+    {
+        Sets {
+            white: 0,
+            black: 0,
+            kings: 0,
+            straight: 0,
+            slanted: 0,
+            knights: 0,
+            pawns: 0,
+        }
+    }
+
+    /// The sets once the unit stands in the cell too.
+    fn with(&self, cell: u8, unit: Unit) -> Sets
+        requires { cell < 64 }
+        ensures { AreAdded self.now result cell unit }
+    {
+        Sets {
+            white: added_cells(self.white, Class::White, cell, unit),
+            black: added_cells(self.black, Class::Black, cell, unit),
+            kings: added_cells(self.kings, Class::Crowned, cell, unit),
+            straight: added_cells(self.straight, Class::Straight, cell, unit),
+            slanted: added_cells(self.slanted, Class::Slanted, cell, unit),
+            knights: added_cells(self.knights, Class::Horsed, cell, unit),
+            pawns: added_cells(self.pawns, Class::Foot, cell, unit),
         }
     }
 

@@ -1,6 +1,7 @@
-use Rattle.std.proofs.Common.{◌-◌, Bool, All, length, sym, ◌∙◌, subst, arith, refl, ◌↔◌, IsTrue}
+use Rattle.std.proofs.Common.{◌-◌, ◌<◌, ◌≡◌, List, Bool, All, length, sym, ◌∙◌, subst, arith, refl, ◌↔◌, IsTrue}
 use Rattle.std.proofs.lemmas.Bool.Decides.{Decides-eqb}
 use Rattle.std.proofs.lemmas.List.{take_all}
+use Rattle.rules.specs.Squares.{Ply}
 use Rattle.rules.specs.Moves.{IsLawful}
 use Rattle.decision.specs.Questions.{IsForced}
 use Rattle.decision.specs.Orders.{ListsAll}
@@ -11,40 +12,49 @@ use Rattle.decision.proofs.Below.{none_listed, some_listed, all_listed, not_empt
 use Rattle.decision.proofs.Turns.{passed_turned, cut_turned}
 use Rattle.decision.proofs.searching.+searching.Goals as goal
 
-pub search-returns-then-is_empty-clause-answer : goal.search-returns-then-is_empty-clause-answer
-search-returns-then-is_empty-clause-answer g t c =
+pub search-returns-then-count-eq0-clause-answer : goal.search-returns-then-count-eq0-clause-answer
+search-returns-then-count-eq0-clause-answer g t c =
     now_for c.args.q.now c.args.n c.answer_now.result
-    (none_listed c.args.q.now.position c.in_order.new.moves.items c.in_order.ensures ((Decides-eqb (length c.in_order.new.moves.items) 0).0 (sym c.is_empty.ensures ∙ c.if-is_empty.true)))
+    (none_listed c.args.q.now.position c.order.new.self.rooms.moves.items c.order.ensures (omega (arith, c.if-count-eq0.true, c.len-count.ensures.value)))
     c.answer_now.ensures
 
-pub search-returns-then-is_empty-clause-goes_on : goal.search-returns-then-is_empty-clause-goes_on
-search-returns-then-is_empty-clause-goes_on g t c = record { caller = goes_none _; stop = c.is_set.ensures.stays }
+pub search_few-search_listed-requires : goal.search_few-search_listed-requires
+search_few-search_listed-requires g t c κs within =
+    let same : c.as_slice-2.result.now ≡ c.args.scout.now.memory.rooms.moves.items = c.as_slice-2.ensures.value ∙ c.copied-moves.ensures ∙ c.as_slice.ensures.value in
+    (omega (arith, c.decreases), (within.0, (within.1, (c.requires.plies, (subst (ListsAll c.args.q.now.position) (sym same) c.requires.lists, subst (λ (l : List Ply). 0 < length l) (sym same) c.requires.some)))))
 
-pub search-is_cut-requires-clause-lawful : goal.search-is_cut-requires-clause-lawful
-search-is_cut-requires-clause-lawful g t c = subst (All (IsLawful c.args.q.now.position)) (sym c.as_slice.ensures.value) (all_listed c.args.q.now.position c.in_order.new.moves.items c.in_order.ensures)
+pub search_many-search_listed-requires : goal.search_many-search_listed-requires
+search_many-search_listed-requires g t c κs within =
+    let same : c.as_slice-2.result.now ≡ c.args.scout.now.memory.rooms.moves.items = c.as_slice-2.ensures.value ∙ c.copied-moves.ensures ∙ c.as_slice.ensures.value in
+    (omega (arith, c.decreases), (within.0, (within.1, (c.requires.plies, (subst (ListsAll c.args.q.now.position) (sym same) c.requires.lists, subst (λ (l : List Ply). 0 < length l) (sym same) c.requires.some)))))
 
-pub search-returns-then-is_cut-clause-answer : goal.search-returns-then-is_cut-clause-answer
-search-returns-then-is_cut-clause-answer g t c =
+pub search_listed-is_cut-requires-clause-lawful : goal.search_listed-is_cut-requires-clause-lawful
+search_listed-is_cut-requires-clause-lawful g t c = all_listed c.args.q.now.position c.args.moves.now c.requires.lists
+
+pub search_listed-returns-then-is_cut-clause-answer : goal.search_listed-returns-then-is_cut-clause-answer
+search_listed-returns-then-is_cut-clause-answer g t c =
     let w = c.is_cut.ensures.cut c.if-is_cut.true in
-    let own = c.is_own_turn.ensures in
-    subst (λ (own : Bool). IsTrue own ↔ IsForced c.args.q.now c.args.n) (sym own)
-    (ended_answer c.args.q.now c.args.n (is_own c.args.q.now) refl (omega (arith, c.if-n-le-LEAF.false)) w.0 w.1 w.2 w.3)
+    let some = c.requires.plies.0 in
+    subst (λ (own : Bool). IsTrue own ↔ IsForced c.args.q.now c.args.n) (sym c.is_own_turn.ensures)
+    (ended_answer c.args.q.now c.args.n (is_own c.args.q.now) refl (omega (arith, some)) w.0 w.1 w.2 w.3)
 
-pub search-try_below-requires : goal.search-try_below-requires
-search-try_below-requires g t c κs within =
-    (omega (arith, c.decreases), (within.0, (within.1, ((omega (arith, c.if-n-le-LEAF.false), c.requires), subst (All (IsLawful c.args.q.now.position)) (sym c.as_slice-2.ensures.value) (all_listed c.args.q.now.position c.in_order.new.moves.items c.in_order.ensures)))))
+pub search_listed-try_below-requires : goal.search_listed-try_below-requires
+search_listed-try_below-requires g t c κs within =
+    let some = c.requires.plies.0 in
+    (omega (arith, c.decreases), (within.0, (within.1, ((omega (arith, some), c.requires.plies.1), all_listed c.args.q.now.position c.args.moves.now c.requires.lists))))
 
-pub search-returns-clause-goes_on : goal.search-returns-clause-goes_on
-search-returns-clause-goes_on g t c = record {
+pub search_listed-returns-clause-goes_on : goal.search_listed-returns-clause-goes_on
+search_listed-returns-clause-goes_on g t c = record {
   caller = goes_more _ _ _ c.is_cut.ensures.goes_on c.try_below.ensures.goes_on.caller;
-  stop = g.met.S.Stop.stays_on _ _ _ c.is_set.ensures.stays c.try_below.ensures.goes_on.stop;
+  stop = c.try_below.ensures.goes_on.stop;
 }
 
-pub search-returns-clause-answer : goal.search-returns-clause-answer
-search-returns-clause-answer g t c =
-    tells_answer c.args.q.now c.args.n _ c.try_below.result (omega (arith, c.if-n-le-LEAF.false))
-    (some_listed c.args.q.now.position c.in_order.new.moves.items c.in_order.ensures (not_empty (length c.in_order.new.moves.items) c.if-is_empty.ensures))
-    c.as_slice-2.result.now (subst (ListsAll c.args.q.now.position) (sym c.as_slice-2.ensures.value) c.in_order.ensures) c.try_below.ensures.tells
+pub search_listed-returns-clause-answer : goal.search_listed-returns-clause-answer
+search_listed-returns-clause-answer g t c =
+    let some = c.requires.plies.0 in
+    tells_answer c.args.q.now c.args.n _ c.try_below.result (omega (arith, some))
+    (some_listed c.args.q.now.position c.args.moves.now c.requires.lists c.requires.some)
+    c.args.moves.now c.requires.lists c.try_below.ensures.tells
 
 pub search_in_rounds-returns-in_err-yes-clause-goes_on : goal.search_in_rounds-returns-in_err-yes-clause-goes_on
 search_in_rounds-returns-in_err-yes-clause-goes_on g t c = record {

@@ -5,16 +5,25 @@ use Rattle.decision.specs.Below.{IsPassed}
 use Rattle.decision.proofs.searching.+searching.Given as goal
 
 abbrev pub decreases-visit : goal.decreases-visit
-decreases-visit g l = 4 * l.n + 3
+decreases-visit g l = 6 * l.n + 5
 
 abbrev pub decreases-search_in_rounds : goal.decreases-search_in_rounds
-decreases-search_in_rounds g l = 4 * l.n + 2
+decreases-search_in_rounds g l = 6 * l.n + 4
 
 abbrev pub decreases-search : goal.decreases-search
-decreases-search g l = 4 * l.n + 1
+decreases-search g l = 6 * l.n + 3
+
+abbrev pub decreases-search_few : goal.decreases-search_few
+decreases-search_few g l = 6 * l.n + 2
+
+abbrev pub decreases-search_many : goal.decreases-search_many
+decreases-search_many g l = 6 * l.n + 2
+
+abbrev pub decreases-search_listed : goal.decreases-search_listed
+decreases-search_listed g l = 6 * l.n + 1
 
 abbrev pub decreases-try_below : goal.decreases-try_below
-decreases-try_below g l = 4 * l.n
+decreases-try_below g l = 6 * l.n
 
 -- the moves so far ended nothing
 abbrev pub invariant-try_below-loop-m : goal.invariant-try_below-loop-m

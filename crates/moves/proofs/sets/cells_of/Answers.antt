@@ -18,7 +18,7 @@ loop-number-preserved c =
           let number : square_number b.game s ≡ n = ap (λ g. square_number g s) (sym c.game-game.ensures.value) ∙ w.of_number.ensures.number in
           let added : (i : ℕ) → Has w.with_cell-set.result i ↔ (Has c.loop-number.set i ⊎ (IsTrue w.is_of.result × (cell_of s ≡ i))) = subst (λ k. (i : ℕ) → Has w.with_cell-set.result i ↔ (Has c.loop-number.set i ⊎ (IsTrue w.is_of.result × (k ≡ i)))) w.cell_of-cell.ensures.value w.with_cell-set.ensures in
           subst (λ x. HeldBelow b c.args.class x (n + 1)) (sym w.set-is)
-          (HeldBelow-unit b c.args.class c.loop-number.set w.with_cell-set.result n s w.in-Some.unit w.is_of.result on number (sym c.unit.ensures ∙ w.in-Some.is) w.is_of.ensures added c.loop-number.invariant)
+          (HeldBelow-unit b c.args.class c.loop-number.set w.with_cell-set.result n s w.in-Some.unit (IsTrue w.is_of.result) on number (sym c.unit.ensures ∙ w.in-Some.is) w.is_of.ensures added c.loop-number.invariant)
       | in_default w ↦
           subst (λ x. HeldBelow b c.args.class x (n + 1)) (sym w.set-is)
           (HeldBelow-none b c.args.class c.loop-number.set n (sym c.unit.ensures ∙ w.in_default.is) c.loop-number.invariant)

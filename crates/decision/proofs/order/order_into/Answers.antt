@@ -1,0 +1,23 @@
+use Rattle.std.proofs.Common.{List, All, length, ◌≡◌, sym, subst, ◌∙◌, ap}
+use Rattle.std.specs.List.{refill}
+use Rattle.std.specs.List.Sorted.{IsPermutation}
+use Rattle.std.proofs.lemmas.List.Sorted.{IsPermutation-map}
+use Rattle.rules.specs.Moves.{IsLawful}
+use Rattle.decision.specs.declared.order.Costed.{Costed}
+use Rattle.decision.specs.Orders.{ListsAll, moves_of}
+use Rattle.decision.proofs.Below.{all_listed, lists_permuted, refilled}
+use Rattle.decision.proofs.order.order_into.Goals as goal
+
+pub cost_all-requires-clause-lawful : goal.cost_all-requires-clause-lawful
+cost_all-requires-clause-lawful c =
+    subst (All (IsLawful c.args.q.now.position)) (sym c.as_slice.ensures.value) (all_listed c.args.q.now.position c.list_lawful.new.moves.items c.list_lawful.ensures.exact)
+
+pub returns : goal.returns
+returns c =
+    let before = c.cost_all.new.costed.items in
+    let after = c.sort_unstable_by_key.new.self in
+    let same : refill (length before) before after ≡ after = refilled before after (c.sort_unstable_by_key.ensures.len ∙ ap length c.as_mut_slice.ensures.value) in
+    let changed : IsPermutation before after = subst (λ (l : List Costed). IsPermutation l after) c.as_mut_slice.ensures.value c.sort_unstable_by_key.ensures.permutation in
+    let listed : ListsAll c.args.q.now.position (moves_of before) = subst (ListsAll c.args.q.now.position) (sym (c.cost_all.ensures ∙ c.as_slice.ensures.value)) c.list_lawful.ensures.exact in
+    subst (ListsAll c.args.q.now.position) (sym (c.put_moves.ensures ∙ ap moves_of (c.as_slice-2.ensures.value ∙ same)))
+    (lists_permuted c.args.q.now.position (moves_of before) (moves_of after) (IsPermutation-map (λ (x : Costed). x.m) before after changed) listed)
