@@ -6,6 +6,7 @@ mod calling;
 mod one_thread;
 mod playing;
 mod room;
+mod text;
 mod verdict;
 
 pub use answering::{Terms, no_memory};

@@ -5,8 +5,8 @@ ghost use Rattle.replies.specs.Verdict.{IsVerdict};
 ghost use Rattle.calls.specs.Certificates.{AnswersVerify};
 
 use crate::answering::{goal_of, put_reply};
+use crate::text::Text;
 use command_line::Subject;
-use devices::Counted;
 use moves::Goal;
 use refusals::Refusal;
 use replies::{Trouble, verified};
@@ -22,11 +22,11 @@ fn verify_reply<A: Allocator + Copy>(
     ensures { Gives vec_items (IsVerdict (record { fen = fen.entry; goal = goal }) text.now) result }
 {
     let subject = Subject { fen, goal };
-    let mut reader = Counted::new(text);
+    let mut reader = Text { rest: text };
     match verified(alloc, &subject, &mut reader) {
         Ok(reply) => Ok(reply),
         Err(Trouble::Refused(refusal)) => Err(refusal),
-        // a text in memory is read without a failure
+        // no read of a text fails
         Err(Trouble::ReadFailed) => Err(Refusal::NoMemory),
     }
 }
