@@ -1,6 +1,6 @@
 /* Forced mates in minichess, for programs in other languages: the calls of libminimate.a, which `tools/build_c` builds.
 
-   The first five calls answer a position with the very bytes that the program `minimate` writes for the same line, refusals among
+   The first six calls answer a position with the very bytes that the program `minimate` writes for the same line, refusals among
    them: a line or lines of text, each ended by a line feed, with no zero byte at the end. They go into room that the caller lends, and the result is their
    number. Where the room is too small the result is SIZE_MAX and no byte of the room is written: call again with more room.
 
@@ -8,9 +8,8 @@
 
    The calls are proved for callers that keep what follows. Nothing checks that a caller does.
 
-   - `fen`, `tree`, `move` and `room` aren't null, also where their length is 0. Bytes need no alignment.
-   - The `fen_length` bytes at `fen`, the `tree_length` bytes at `tree` and the `move_length` bytes at `move` can be read, and nothing
-     writes them during the call.
+   - `fen`, `tree`, `certificate`, `move` and `room` aren't null, also where their length is 0. Bytes need no alignment.
+   - The `fen_length` bytes at `fen` can be read, and so with `tree`, `certificate` and `move`, and nothing writes them during the call.
    - The `room_length` bytes at `room` can be written and hold values: clear them once. During the call nothing else reads or writes
      them, and they overlap no text. So no two calls share a room at one time.
    - A length is at most PTRDIFF_MAX.
@@ -21,10 +20,10 @@
    - The calling thread has 1 MiB of stack left.
 
    What a caller owes isn't looked at: a null pointer, a length that is too great, or a room that another call has, may do anything. Each
-   text is looked at whole: one that isn't UTF-8, or has a zero byte, is refused like any other that is no position, tree or move.
+   text is looked at whole: one that isn't UTF-8, or has a zero byte, is refused like any other that is no position, tree, move or certificate.
 
    A call starts no thread and takes no lock, and calls share nothing but what a solver and its stop do: any number of threads may each be
-   in a call. Of the first seven calls those that search can't be stopped.
+   in a call. Of the first eight calls those that search can't be stopped.
 
    - A `struct minimate_solver` and a `struct minimate_stop` are all zeros before they are opened, and later what the last call left: they may
      be moved and go to another thread, but not be copied and used twice. Each is in one call at a time, and a lock, a thread's start or
@@ -67,6 +66,10 @@ size_t minimate_tree(const uint8_t *fen, size_t fen_length, bool stale, uint32_t
 /* `minimate check`: in how many plies the tree wins, if it does. One line feed at its end is left out. */
 size_t minimate_check(const uint8_t *fen, size_t fen_length, bool stale, const uint8_t *tree, size_t tree_length, uint8_t *room,
                       size_t room_length);
+
+/* `minimate verify`: the answer that the certificate proves, or at which of its lines it proves none. `stale` is the goal that it is of. */
+size_t minimate_verify(const uint8_t *fen, size_t fen_length, bool stale, const uint8_t *certificate, size_t certificate_length,
+                       uint8_t *room, size_t room_length);
 
 /* `minimate moves`: the lawful moves, each on a line. */
 size_t minimate_moves(const uint8_t *fen, size_t fen_length, uint8_t *room, size_t room_length);

@@ -1,8 +1,9 @@
 /* Makes one call of the library, and writes the reply.
 
-       check_calls solve|keys|tree|check|moves|after|fault STALE LIMIT SLOTS ROOM FEN
+       check_calls solve|keys|tree|check|verify|moves|after|fault STALE LIMIT SLOTS ROOM FEN
 
-   The tree of `check`, or the move of `after`, is what stands on the input. The room of ROOM bytes lies between bytes that no call may touch. The status is 0 where a
+   The tree of `check`, the certificate of `verify` or the move of `after` is what stands on the input. The room of ROOM bytes lies between
+   bytes that no call may touch. The status is 0 where a
    reply came, 3 where the room was too small, and 4 where a byte was written that must not be. */
 #include <stdio.h>
 #include <stdlib.h>
@@ -29,8 +30,13 @@ static size_t call(const char *word, bool stale, uint32_t limit, uint32_t slots,
     if (!tree)
         exit(5);
     size_t read = fread(tree, 1, MOST_TREE, stdin);
-    bool plays = strcmp(word, "after") == 0;
-    size_t result = plays ? minimate_after(text, count, tree, read, room, length) : minimate_check(text, count, stale, tree, read, room, length);
+    size_t result;
+    if (strcmp(word, "after") == 0)
+        result = minimate_after(text, count, tree, read, room, length);
+    else if (strcmp(word, "verify") == 0)
+        result = minimate_verify(text, count, stale, tree, read, room, length);
+    else
+        result = minimate_check(text, count, stale, tree, read, room, length);
     free(tree);
     return result;
 }

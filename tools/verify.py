@@ -222,8 +222,12 @@ class Source:
         return items[word]
 
     def end(self):
+        """No line may follow: one that does is read like any other."""
+        text = self.stream.readline(MOST_BYTES + 1)
         self.number += 1
-        self.need(not self.stream.readline(1))
+        if len(text) > MOST_BYTES and not text.endswith(b"\n"):
+            raise check_tree.Refused("TooLong")
+        self.need(not text)
 
 
 def read_answer(source, goal):
@@ -414,6 +418,8 @@ CASES = [
     (KINGS, "a" * MOST_BYTES + "\n", "mate", "refused: Answer"),
     (KINGS, "none within 3\n" + "a" * (MOST_BYTES + 1), "mate", "refused: TooLong"),
     (KINGS, "none within 3\n" + "a" * MOST_BYTES + "\n", "mate", "refused: Claim at line 2"),
+    (KINGS, "none within 3\naaa\n" + "a" * (MOST_BYTES + 1), "mate", "refused: TooLong"),
+    (KINGS, "none within 3\naaa\n" + "a" * MOST_BYTES, "mate", "refused: Claim at line 3"),
     (KINGS[:-2], "none within 3\naaa\n", "mate", "refused: Fields"),
     ("KK4/6/6/6/6/5k w", "", "mate", "refused: Kings"),
 ]

@@ -108,6 +108,10 @@ export class Library {
     return this.#reply("check", (lay) => [...lay.text(fen), Number(stale), ...lay.text(tree)]);
   }
 
+  verify(fen, stale, certificate) {
+    return this.#reply("verify", (lay) => [...lay.text(fen), Number(stale), ...lay.text(certificate)]);
+  }
+
   /** `solve`, `keys` or `tree`. */
   search(name, fen, stale, limit, slots) {
     return this.#reply(name, (lay) => [...lay.text(fen), lay.terms(stale, limit, slots)]);

@@ -8,6 +8,7 @@ const FILES = [
   "answers.js",
   "arrows.js",
   "board.js",
+  "certificates.js",
   "diagram.js",
   "drag.js",
   "index.html",

@@ -2,6 +2,7 @@
 import { addressOf, readAddress } from "./address.js";
 import { Answers } from "./answers.js";
 import { Board } from "./board.js";
+import { Certificates } from "./certificates.js";
 import { Library, compiled, moduleName } from "./library.js";
 import { lawfulPart, played, playedThrough, positionOf } from "./line.js";
 import { lineWritten, moveWritten } from "./notation.js";
@@ -19,7 +20,7 @@ import { goalSaid, movesSaid } from "./words.js";
 const $ = (id) => document.getElementById(id);
 
 const view = { state: { fen: "", goal: "mate", limit: "5", moves: [], at: 0 }, picked: null, isFlipped: false, trayWidth: 0, byPointer: false };
-const parts = { rules: null, board: null, search: null, answers: null, steps: null };
+const parts = { rules: null, board: null, search: null, answers: null, steps: null, certificates: null };
 
 const isSetting = () => document.querySelector('input[name="mode"]:checked').value === "set";
 const here = () => positionOf(parts.rules, view.state);
@@ -71,6 +72,7 @@ function show() {
   showBoard();
   showLine();
   parts.answers.meet(view.state);
+  parts.certificates.meet({ fen: here() });
 }
 
 function setValue(name, value) {
@@ -429,6 +431,7 @@ async function start() {
   parts.answers = new Answers(parts.rules, { played: playPath, key: askKey, onward, met: meetMove });
   parts.board = new Board($("board"), { pressed, dropped, emptied: (square) => isSetting() && setSquares([[square, null]]) });
   parts.steps = new Steps({ restored, opened: takeAddress });
+  parts.certificates = new Certificates(code, () => ({ fen: here(), goal: view.state.goal }));
   listProblems();
   listen();
   listenToShares({ state: () => view.state, here, isFlipped: () => view.isFlipped, answers: parts.answers, rules: parts.rules, say });

@@ -19,12 +19,17 @@ onmessage = ({ data }) => {
   try {
     if (data.code) return begin(data.code);
     const begun = performance.now();
-    const found = data.wants === "key" ? { tree: keyTree(data) } : searched(data);
+    const found = done(data);
     postMessage({ ...found, milliseconds: performance.now() - begun });
   } catch (error) {
     postMessage({ failed: String(error.message ?? error) });
   }
 };
+
+function done(data) {
+  if (data.wants === "verify") return { proved: library.verify(data.fen, data.isStale, data.certificate) };
+  return data.wants === "key" ? { tree: keyTree(data) } : searched(data);
+}
 
 function begin(code) {
   library = new Library(code);

@@ -13,6 +13,7 @@ A search runs in a thread of its own, so that Ctrl-C ends it at once.
 
 from ._calls import library_path
 from .answers import Answer, Key
+from .certificates import verify
 from .moves import Move
 from .positions import BLACK, WHITE, Game, Position
 from .refusals import NoMemory, Refused
@@ -42,4 +43,5 @@ __all__ = [
     "library_path",
     "read_tree",
     "tree_text",
+    "verify",
 ]

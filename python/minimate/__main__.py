@@ -42,11 +42,11 @@ def reader() -> argparse.ArgumentParser:
     words = argparse.ArgumentParser(prog="python -m minimate", description=__doc__, allow_abbrev=False)
     words.formatter_class = argparse.RawDescriptionHelpFormatter
     words.add_argument("--version", action="version", version=f"minimate {minimate.__version__}")
-    words.add_argument("command", choices=list(COMMANDS), help="what is asked; `check` reads a tree on its input")
+    words.add_argument("command", choices=list(COMMANDS), help="what is asked; `check` reads a tree on its input, `verify` a certificate")
     words.add_argument("fen", metavar="FEN", help="the position, as one word")
     words.add_argument("--limit", metavar="N", type=number, action=Once, help="of a search: the most plies, 1 to 63")
     words.add_argument("--slots", metavar="S", type=number, action=Once, help="of a search: slots of the table, 1 to 1048576")
-    words.add_argument("--goal", choices=["mate", "stale"], action=Once, help="of a search or a check: stale is mate or stalemate")
+    words.add_argument("--goal", choices=["mate", "stale"], action=Once, help="of a search, a check or a certificate: stale is mate or stalemate")
     words.add_argument("--progress", nargs=0, action=Once, help="of solve and tree: say on standard error what holds nothing so far")
     words.set_defaults(given=[])
     return words
@@ -56,7 +56,7 @@ def read_words(words: List[str]) -> argparse.Namespace:
     """What the words ask. Those that are no command end the process with status 2."""
     parser = reader()
     asked = parser.parse_args(words)
-    takes = {"check": ["--goal"], "keys": ["--limit", "--slots", "--goal"]}.get(asked.command, [])
+    takes = {"check": ["--goal"], "verify": ["--goal"], "keys": ["--limit", "--slots", "--goal"]}.get(asked.command, [])
     if asked.command in ("solve", "tree"):
         takes = ["--limit", "--slots", "--goal", "--progress"]
     for option in asked.given:
@@ -97,15 +97,22 @@ def checked(asked: argparse.Namespace, position: Position) -> str:
     return "no" if plies is None else f"yes {plies}"
 
 
-def read_input() -> bytes:
+def verified(asked: argparse.Namespace, position: Position) -> str:
+    """What `verify` writes of the certificate on standard input."""
+    return str(minimate.verify(position, read_input(None), asked.goal or "mate"))
+
+
+def read_input(most: Optional[int] = MOST_BYTES) -> bytes:
     """Standard input to its end, or until it has too many bytes."""
-    data = b""
-    while len(data) <= MOST_BYTES:
+    parts: List[bytes] = []
+    count = 0
+    while most is None or count <= most:
         more = os.read(0, MOST_BYTES)
         if not more:
             break
-        data += more
-    return data
+        parts.append(more)
+        count += len(more)
+    return b"".join(parts)
 
 
 def write_output(data: bytes) -> None:
@@ -126,6 +133,7 @@ COMMANDS: Dict[str, Callable[[argparse.Namespace, Position], str]] = {
     "keys": searched,
     "tree": searched,
     "check": checked,
+    "verify": verified,
     "moves": listed,
     "show": shown,
 }

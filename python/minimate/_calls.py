@@ -1,4 +1,4 @@
-"""The shared library: where it is found, and its seven calls, each from texts to a reply. include/minimate.h says what a caller owes."""
+"""The shared library: where it is found, and its eight calls, each from texts to a reply. include/minimate.h says what a caller owes."""
 
 import ctypes
 import ctypes.util
@@ -24,6 +24,7 @@ PARAMETERS: Dict[str, List[Any]] = {
     "keys": SEARCH,
     "tree": SEARCH,
     "check": [*TEXT, ctypes.c_bool, *TEXT],
+    "verify": [*TEXT, ctypes.c_bool, *TEXT],
     "moves": TEXT,
     "after": [*TEXT, *TEXT],
     "fault": TEXT,

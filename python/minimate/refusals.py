@@ -9,6 +9,8 @@ SENTENCES = {
     "Slots": "--slots is 1 to 1048576",
     "TooLong": "a tree has at most 1048576 bytes, its line feed counted, and a line of a certificate 8192",
     "Deep": "more than 32 moves of the attacker are nested: no tree of 63 plies needs so many",
+    "Answer": "the first line is no answer: write it as `solve` prints it for this goal, as mate 3 c4c5",
+    "Claim": "this line isn't there, is no claim's, or says what isn't so of this position and goal",
     "Move": "no lawful move has this name: a move is two squares and what a pawn becomes, as c4c5q",
     "NoMemory": "memory is wanting: fewer --slots or --workers take less",
 }
@@ -16,19 +18,20 @@ NO_TREE = "the input begins with no move: where `tree` wrote no tree, there is n
 BROKEN_TREE = (
     "after its first {} bytes the input is no tree: a tree is a move with # or =, or with replies, as c4c5{{a6a5:b1a1#}}"
 )
-REFUSED = re.compile(r"refused: (\w+)(?: at offset (\d+))?\n(?:error: (.*)\n)?", re.S)
+REFUSED = re.compile(r"refused: (\w+)(?: at (offset|line) (\d+))?\n(?:error: (.*)\n)?", re.S)
 
 
 class Refused(ValueError):
     """What was given is refused, as the program refuses it.
 
     `name` is the program's name of the fault, as ``Shape`` or ``Limit``; `sentence`, which is the exception's text too, what it says on
-    standard error; `offset`, of a tree's text alone, how many of its first bytes begin some tree.
+    standard error; `offset`, of a tree's text alone, how many of its first bytes begin some tree; `line`, of a certificate alone, which
+    of its lines is refused.
     """
 
-    def __init__(self, name: str, sentence: str, offset: Optional[int] = None) -> None:
-        super().__init__(name, sentence, offset)
-        self.name, self.sentence, self.offset = name, sentence, offset
+    def __init__(self, name: str, sentence: str, offset: Optional[int] = None, line: Optional[int] = None) -> None:
+        super().__init__(name, sentence, offset, line)
+        self.name, self.sentence, self.offset, self.line = name, sentence, offset, line
 
     def __str__(self) -> str:
         return self.sentence
@@ -36,7 +39,8 @@ class Refused(ValueError):
     @property
     def reply(self) -> str:
         """What the program writes on standard output."""
-        return f"refused: {self.name}" + ("" if self.offset is None else f" at offset {self.offset}")
+        at = "" if self.offset is None else f" at offset {self.offset}"
+        return f"refused: {self.name}" + (at if self.line is None else f" at line {self.line}")
 
 
 class NoMemory(MemoryError):
@@ -63,9 +67,11 @@ def answered(reply: bytes) -> str:
     found = REFUSED.fullmatch(text)
     if found is None:
         return text
-    name, offset, sentence = found.groups()
+    name, of, count, sentence = found.groups()
     if name == "NoMemory":
         raise NoMemory
     if sentence is not None:
         raise Refused(name, sentence)
-    raise named(name, None if offset is None else int(offset))
+    if of == "line":
+        raise Refused(name, SENTENCES[name], line=int(count))
+    raise named(name, None if count is None else int(count))

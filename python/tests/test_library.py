@@ -10,11 +10,12 @@ import unittest
 from unittest import mock
 
 import minimate
-from minimate import Answer, Game, Key, Move, Position, Refused, Solver, _calls, living
+from minimate import Answer, Game, Key, Move, Position, Refused, Solver, _calls, living, verify
 
 TOP = os.path.dirname(os.path.dirname(os.path.dirname(os.path.abspath(__file__))))
 ROOK, PAWN, PROMOTES = "k5/6/2K3/6/6/1R4 w", "k4/2P2/1K3/5/5 w", "k5/2P3/6/6/6/5K w"
 TREE = ("c4c5", (("a6a5", ("b1a1", "#")),))
+CERTIFICATE = b"mate 3 c4c5\np.\naaaaaaaa-aaaaaa\n\n"
 # Searches of the tests go no farther than so many plies.
 MOST = 5
 
@@ -141,18 +142,29 @@ class Refusals(unittest.TestCase):
         if name in ("Limit", "Slots"):
             value = int(given.split()[1])
             return lambda: Solver(slots=value if name == "Slots" else 64).solve(ROOK, value if name == "Limit" else 3)
+        if name in ("Answer", "Claim at line"):
+            return lambda: verify(ROOK, given.split("`")[-1] + "\n")
         if name.startswith("Grammar"):
             return lambda: Solver().check(ROOK, given)
         return lambda: Position(given)
 
     def test_sentences(self):
-        # The package has no workers, and no certificates.
-        rows = [row for row in told_refusals() if row[0] not in ("Workers", "Answer", "Claim at line")]
+        # The package has no workers.
+        rows = [row for row in told_refusals() if row[0] != "Workers"]
         self.assertGreater(len(rows), 18)
         for name, given, sentence in rows:
             with self.subTest(name=name, given=given), self.assertRaises(Refused) as caught:
                 self.refused(name, given)()
             self.assertEqual((caught.exception.name, str(caught.exception)), (name.split(" ")[0], sentence))
+
+    def test_certificates(self):
+        self.assertEqual(verify(ROOK, CERTIFICATE), Answer("mate", 3, Move("c4c5")))
+        self.assertEqual(verify(Position(ROOK), "none within 2\n\n"), Answer("none", 2, None))
+        self.assertEqual(verify(ROOK, "goal 1 b1b5\ni\n\n", "stale"), Answer("goal", 1, Move("b1b5")))
+        for text, reply, line in ((CERTIFICATE[:-1], "refused: Claim at line 4", 4), (b"\xff\n", "refused: Answer", None), ("a" * 8193, "refused: TooLong", None)):
+            with self.assertRaises(Refused) as caught:
+                verify(ROOK, text)
+            self.assertEqual((caught.exception.reply, caught.exception.line), (reply, line))
 
     def test_trees(self):
         deep = ("a1a2", "#")
@@ -188,6 +200,8 @@ class Program(unittest.TestCase):
             (["tree", "--limit", "1", ROOK], b"", b"none within 1\n"),
             (["check", ROOK], b"c4c5{a6a5:b1a1#}\n", b"yes 3\n"),
             (["check", ROOK], b"b1b5=", b"no\n"),
+            (["verify", ROOK], CERTIFICATE, b"mate 3 c4c5\n"),
+            (["verify", "--goal", "stale", ROOK], b"goal 1 b1b5\ni\n\n", b"goal 1 b1b5\n"),
             (["moves", "k5/1R4/2K3/6/6/6 b"], b"", b""),
             (["show", PAWN], b"", drawn),
         ):
@@ -201,6 +215,7 @@ class Program(unittest.TestCase):
         self.assertEqual(self.run_words("moves", "k5")[:2], (1, b"refused: Fields\n"))
         self.assertEqual(self.run_words("solve", "--limit", "64", ROOK)[:2], (1, b"refused: Limit\n"))
         self.assertEqual(self.run_words("check", ROOK, given=b"c4c5")[:2], (1, b"refused: Grammar at offset 4\n"))
+        self.assertEqual(self.run_words("verify", ROOK, given=CERTIFICATE[:-1])[:2], (1, b"refused: Claim at line 4\n"))
         self.assertEqual(self.run_words("solve", ROOK)[:2], (2, b""))
 
 

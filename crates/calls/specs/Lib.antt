@@ -2,5 +2,6 @@
 pub mod Room
 pub mod Playing
 pub mod Calls
+pub mod Certificates
 -- inside
 pub mod Putting

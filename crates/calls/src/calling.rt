@@ -1,4 +1,4 @@
-//! The seven calls. Each puts its reply into the room, or why there is none, and answers the length of what it puts.
+//! The seven calls that solve, check and play. Each puts its reply into the room, or why there is none, and answers the length of what it puts.
 ghost use Rattle.command_line.specs.declared.line.Action.TheVariants.{Solve, Keys, Tree};
 ghost use Rattle.calls.specs.Calls.{AnswersAfter, AnswersCheck, AnswersFault, AnswersMoves, AnswersSearch};
 

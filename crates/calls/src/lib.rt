@@ -6,6 +6,9 @@ mod calling;
 mod one_thread;
 mod playing;
 mod room;
+mod text;
+mod verdict;
 
 pub use answering::{Terms, no_memory};
 pub use calling::{after, check, fault, keys, moves, solve, tree};
+pub use verdict::verify;

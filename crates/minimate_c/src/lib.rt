@@ -7,6 +7,7 @@ ghost use Rattle.slots.specs.Promise.{IsSize};
 ghost use Rattle.handles.specs.Asked.{Asks, IsOpened};
 ghost use Rattle.handles.specs.Stopping.{Sets, Looks};
 ghost use Rattle.handles.specs.Written.{KeysTold, TreeTold, Writes};
+ghost use Rattle.calls.specs.Certificates.{AnswersVerify};
 ghost use Rattle.calls.specs.Calls.{AnswersAfter, AnswersCheck, AnswersFault, AnswersMoves, AnswersSearch, terms_of};
 
 #[cfg(test)]
@@ -53,6 +54,20 @@ pub extern "C" fn minimate_check(
     ensures { AnswersCheck fen.entry stale tree.now room.old room.new result }
 {
     calls::check(alloc, fen, stale, tree, room)
+}
+
+/// What `minimate verify` writes of the position and this input, which is a certificate.
+#[unsafe(no_mangle)]
+pub extern "C" fn minimate_verify(
+    alloc: Global,
+    fen: &[u8],
+    stale: bool,
+    certificate: &[u8],
+    room: &mut [u8],
+) -> usize
+    ensures { AnswersVerify fen.entry stale certificate.now room.old room.new result }
+{
+    calls::verify(alloc, fen, stale, certificate, room)
 }
 
 /// What `minimate solve` writes of the position, found by the caller's own thread alone.

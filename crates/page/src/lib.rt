@@ -1,7 +1,8 @@
-//! The part of minimate that a browser loads: the seven calls over memory that the page lends, each from text into room that it lends too.
+//! The part of minimate that a browser loads: the eight calls over memory that the page lends, each from text into room that it lends too.
 #![tactic(auto)]
 
 ghost use Rattle.command_line.specs.declared.line.Action.TheVariants.{Solve, Keys, Tree};
+ghost use Rattle.calls.specs.Certificates.{AnswersVerify};
 ghost use Rattle.calls.specs.Calls.{AnswersAfter, AnswersCheck, AnswersFault, AnswersMoves, AnswersSearch};
 
 mod arena;
@@ -58,6 +59,23 @@ pub extern "C" fn page_check(
 {
     match arena_over(memory) {
         Some(arena) => calls::check(&arena, fen, stale, tree, room),
+        None => no_memory(room),
+    }
+}
+
+/// What `minimate verify` writes of the position and this input, which is a certificate.
+#[unsafe(no_mangle)]
+pub extern "C" fn page_verify(
+    memory: Memory,
+    fen: &[u8],
+    stale: bool,
+    certificate: &[u8],
+    room: &mut [u8],
+) -> usize
+    ensures { AnswersVerify fen.entry stale certificate.now room.old room.new result }
+{
+    match arena_over(memory) {
+        Some(arena) => calls::verify(&arena, fen, stale, certificate, room),
         None => no_memory(room),
     }
 }
