@@ -1,4 +1,4 @@
-//! The texts of the program's help: the short ones of `-h`, and the long ones of `--help`.
+//! The texts of the program's help: the short ones of `-h`, the long ones of `--help`, and the example with which a command's begin.
 
 pub const PROGRAM: &str = "Finds forced mates in two small chess games, and proves them";
 
@@ -46,56 +46,43 @@ Exit status:
 
 pub const SOLVE: &str = "Find the fewest plies to mate and the first move";
 
-pub const SOLVE_NOTES: &str = "\
-Example:
-  minimate solve --limit 3 'k5/6/2K3/6/6/1R4 w'";
+pub const SOLVE_EXAMPLE: &str = "Example: minimate solve --limit 3 'k5/6/2K3/6/6/1R4 w'";
 
 pub const SOLVE_MORE: &str = "\
 The side to move attacks. The output is `mate 3 c4c5`, the fewest plies within
 which it forces mate and the least first move that keeps them, or
 `none within 3`. With `--goal stale` it is `goal 1 b1b5`.
 
-Examples:
-  minimate solve --limit 3 'k5/6/2K3/6/6/1R4 w'
+More examples:
+  minimate solve --mate 2 'k5/6/2K3/6/6/1R4 w'
   minimate solve --limit 1 --goal stale 'k5/6/2K3/6/6/1R4 w'
   minimate solve --limit 9 --slots 1048573 '2qK1/3B1/1k1NQ/3b1/r1Q2 w'";
 
 pub const KEYS: &str = "List the first moves that force mate";
 
-pub const KEYS_NOTES: &str = "\
-Example:
-  minimate keys --limit 3 'k5/6/2K3/6/6/1R4 w'";
+pub const KEYS_EXAMPLE: &str = "Example: minimate keys --limit 3 'k5/6/2K3/6/6/1R4 w'";
 
 pub const KEYS_MORE: &str = "\
 Each first move that forces mate within the limit has a line of its own, with
 the fewest plies that it takes, as `c4c5 3`, in the order of `minimate moves`;
 where there is none, `none within 3`. So a problem has one key where one line
-alone has the least number.
-
-Example:
-  minimate keys --limit 3 'k5/6/2K3/6/6/1R4 w'";
+alone has the least number.";
 
 pub const TREE: &str = "Write the tree of moves that forces mate";
 
-pub const TREE_NOTES: &str = "\
-Example:
-  minimate tree --limit 3 'k5/6/2K3/6/6/1R4 w'";
+pub const TREE_EXAMPLE: &str = "Example: minimate tree --limit 3 'k5/6/2K3/6/6/1R4 w'";
 
 pub const TREE_MORE: &str = "\
 The output is the tree that shows the answer of `solve`, on one line, or
 `none within 3`: a move of the attacker, then # for mate, = for stalemate, or in
 braces each lawful reply in order, a colon and the tree that meets it. At each
 turn the attacker's move is the least of those that force the goal in the fewest
-plies. `minimate check` checks it.
-
-Example:
-  minimate tree --limit 3 'k5/6/2K3/6/6/1R4 w'";
+plies. `minimate check` checks it.";
 
 pub const CHECK: &str = "Check a tree of moves that is read from the input";
 
-pub const CHECK_NOTES: &str = "\
-Example:
-  echo 'c4c5{a6a5:b1a1#}' | minimate check 'k5/6/2K3/6/6/1R4 w'";
+pub const CHECK_EXAMPLE: &str =
+    "Example: echo 'c4c5{a6a5:b1a1#}' | minimate check 'k5/6/2K3/6/6/1R4 w'";
 
 pub const CHECK_MORE: &str = "\
 The input is one tree, perhaps with a line feed after it, of at most 1048576
@@ -103,30 +90,21 @@ bytes in all: a move of the attacker, then # for mate, = for stalemate, or in
 braces each lawful reply in order, a colon and the tree that meets it. The
 output is `yes 3`, the plies within which the tree forces the goal, or `no`.
 What is no tree is refused with the offset at which it goes wrong, and so is a
-tree in which more than 32 moves of the attacker are nested.
-
-Example:
-  echo 'c4c5{a6a5:b1a1#}' | minimate check 'k5/6/2K3/6/6/1R4 w'";
+tree in which more than 32 moves of the attacker are nested.";
 
 pub const CERTIFY: &str = "Write a certificate of the answer";
 
-pub const CERTIFY_NOTES: &str = "\
-Example:
-  minimate certify --limit 3 'k5/6/2K3/6/6/1R4 w' > certificate";
+pub const CERTIFY_EXAMPLE: &str =
+    "Example: minimate certify --limit 3 'k5/6/2K3/6/6/1R4 w' > certificate";
 
 pub const CERTIFY_MORE: &str = "\
 The first line is the answer of `solve`. The lines of claims after it prove it:
 that the mate is forced, that none is shorter and no lesser first move as good,
-or that there is none. `minimate verify` and tools/verify.py check it.
-
-Example:
-  minimate certify --limit 3 'k5/6/2K3/6/6/1R4 w' > certificate";
+or that there is none. `minimate verify` and tools/verify.py check it.";
 
 pub const VERIFY: &str = "Check a certificate of an answer that is read from the input";
 
-pub const VERIFY_NOTES: &str = "\
-Example:
-  minimate verify 'k5/6/2K3/6/6/1R4 w' < certificate";
+pub const VERIFY_EXAMPLE: &str = "Example: minimate verify 'k5/6/2K3/6/6/1R4 w' < certificate";
 
 pub const VERIFY_MORE: &str = "\
 The input is a certificate: an answer as `solve` prints it, and then lines of
@@ -135,68 +113,44 @@ and no lesser first move as good, or that there is none. Where the lines hold,
 the output is that answer. What they don't prove is refused: `Answer` where the
 first line is no answer, and `Claim at line 3` where a line isn't there, is no
 claim's or says what isn't so. No search is made but of three plies, and no
-table. A line has at most 8192 bytes, and the input at most 268435456.
-
-Example:
-  minimate verify 'k5/6/2K3/6/6/1R4 w' < certificate";
+table. A line has at most 8192 bytes, and the input at most 268435456.";
 
 pub const MOVES: &str = "List the lawful moves";
 
-pub const MOVES_NOTES: &str = "\
-Example:
-  minimate moves 'rnqknr/pppppp/6/6/PPPPPP/RNQKNR w'";
+pub const MOVES_EXAMPLE: &str = "Example: minimate moves 'rnqknr/pppppp/6/6/PPPPPP/RNQKNR w'";
 
 pub const MOVES_MORE: &str = "\
 Each move has a line of its own: the square it leaves, the square it comes to,
 and for a promotion q, r, b or n, as `c5c6q`. They are ordered by the first
 square, the second, and the promotion in that order; squares go by ranks, a1, b1
-and so on.
-
-Example:
-  minimate moves 'rnqknr/pppppp/6/6/PPPPPP/RNQKNR w'";
+and so on.";
 
 pub const SHOW: &str = "Draw the board";
 
-pub const SHOW_NOTES: &str = "\
-Example:
-  minimate show 'k5/6/1K4/6/6/5R w'";
+pub const SHOW_EXAMPLE: &str = "Example: minimate show 'k5/6/1K4/6/6/5R w'";
 
 pub const SHOW_MORE: &str = "\
 The board is drawn with its ranks and files, a letter for each unit, a point for
-each empty square, and the side to move.
-
-Example:
-  minimate show 'k5/6/1K4/6/6/5R w'";
+each empty square, and the side to move.";
 
 pub const AFTER: &str = "Write the position after a move";
 
-pub const AFTER_NOTES: &str = "\
-Example:
-  minimate after 'k5/6/2K3/6/6/1R4 w' c4c5";
+pub const AFTER_EXAMPLE: &str = "Example: minimate after 'k5/6/2K3/6/6/1R4 w' c4c5";
 
 pub const AFTER_MORE: &str = "\
 The output is the position after the move, in the notation of FEN. The move is
 named as `minimate moves` names it; what is no lawful move's name is refused as
-`Move`.
-
-Example:
-  minimate after 'k5/6/2K3/6/6/1R4 w' c4c5
-  k5/6/2K3/6/6/1R4 b";
+`Move`.";
 
 pub const BATCH: &str = "Solve each position that is read from the input";
 
-pub const BATCH_NOTES: &str = "\
-Example:
-  minimate batch --limit 5 --slots 1048573 < positions";
+pub const BATCH_EXAMPLE: &str = "Example: minimate batch --limit 5 --slots 1048573 < positions";
 
 pub const BATCH_MORE: &str = "\
 The input has a position on each line. Each is answered on a line of its own, as
 by `solve`, or refused, and the next is read; all share one table. An empty line
 and one that begins with # are passed on as they are. A line has at most 256
-bytes.
-
-Example:
-  minimate batch --limit 5 --slots 1048573 < positions";
+bytes.";
 
 pub const ECHO: &str = "Write the position and a tab before each answer";
 

@@ -147,19 +147,19 @@ fn progress<'a>(alloc: Global) -> Arg<'a>
         .long_help(help::PROGRESS_MORE)
 }
 
-/// A command without its arguments: what it does, and what its short and its long help say below.
+/// A command without its arguments: what it does, an example, and what its long help says below.
 fn named<'a>(
     alloc: Global,
     name: &'a str,
     about: &'a str,
-    notes: &'a str,
+    example: &'a str,
     more: &'a str,
 ) -> Command<'a>
     ensures { IsLocal (new_app name.entry.now) result }
 {
     Command::new(alloc, name)
         .about(about)
-        .after_help(notes)
+        .before_help(example)
         .after_long_help(more)
 }
 
@@ -191,12 +191,12 @@ fn search_command<'a>(
     alloc: Global,
     name: &'a str,
     about: &'a str,
-    notes: &'a str,
+    example: &'a str,
     more: &'a str,
 ) -> Result<Command<'a>, AllocError>
     ensures { IfOk result (IsLocal (search_app name.entry.now)) }
 {
-    let Ok(limited) = with_limits(alloc, named(alloc, name, about, notes, more)) else {
+    let Ok(limited) = with_limits(alloc, named(alloc, name, about, example, more)) else {
         return Err(AllocError);
     };
     limited.arg(fen(alloc))
@@ -209,7 +209,7 @@ fn solve_command<'a>(alloc: Global) -> Result<Command<'a>, AllocError>
         alloc,
         "solve",
         help::SOLVE,
-        help::SOLVE_NOTES,
+        help::SOLVE_EXAMPLE,
         help::SOLVE_MORE,
     )
 }
@@ -217,13 +217,25 @@ fn solve_command<'a>(alloc: Global) -> Result<Command<'a>, AllocError>
 fn keys_command<'a>(alloc: Global) -> Result<Command<'a>, AllocError>
     ensures { IfOk result (IsLocal keys_app) }
 {
-    search_command(alloc, "keys", help::KEYS, help::KEYS_NOTES, help::KEYS_MORE)
+    search_command(
+        alloc,
+        "keys",
+        help::KEYS,
+        help::KEYS_EXAMPLE,
+        help::KEYS_MORE,
+    )
 }
 
 fn tree_command<'a>(alloc: Global) -> Result<Command<'a>, AllocError>
     ensures { IfOk result (IsLocal tree_app) }
 {
-    search_command(alloc, "tree", help::TREE, help::TREE_NOTES, help::TREE_MORE)
+    search_command(
+        alloc,
+        "tree",
+        help::TREE,
+        help::TREE_EXAMPLE,
+        help::TREE_MORE,
+    )
 }
 
 fn batch_command<'a>(alloc: Global) -> Result<Command<'a>, AllocError>
@@ -233,7 +245,7 @@ fn batch_command<'a>(alloc: Global) -> Result<Command<'a>, AllocError>
         alloc,
         "batch",
         help::BATCH,
-        help::BATCH_NOTES,
+        help::BATCH_EXAMPLE,
         help::BATCH_MORE,
     );
     let Ok(limited) = with_limits(alloc, bare) else {
@@ -252,7 +264,7 @@ fn moves_command<'a>(alloc: Global) -> Result<Command<'a>, AllocError>
         alloc,
         "moves",
         help::MOVES,
-        help::MOVES_NOTES,
+        help::MOVES_EXAMPLE,
         help::MOVES_MORE,
     )
     .arg(fen(alloc))
@@ -261,7 +273,14 @@ fn moves_command<'a>(alloc: Global) -> Result<Command<'a>, AllocError>
 fn show_command<'a>(alloc: Global) -> Result<Command<'a>, AllocError>
     ensures { IfOk result (IsLocal show_app) }
 {
-    named(alloc, "show", help::SHOW, help::SHOW_NOTES, help::SHOW_MORE).arg(fen(alloc))
+    named(
+        alloc,
+        "show",
+        help::SHOW,
+        help::SHOW_EXAMPLE,
+        help::SHOW_MORE,
+    )
+    .arg(fen(alloc))
 }
 
 fn after_command<'a>(alloc: Global) -> Result<Command<'a>, AllocError>
@@ -271,7 +290,7 @@ fn after_command<'a>(alloc: Global) -> Result<Command<'a>, AllocError>
         alloc,
         "after",
         help::AFTER,
-        help::AFTER_NOTES,
+        help::AFTER_EXAMPLE,
         help::AFTER_MORE,
     );
     let Ok(placed) = bare.arg(fen(alloc)) else {
@@ -285,12 +304,12 @@ fn checking_command<'a>(
     alloc: Global,
     name: &'a str,
     about: &'a str,
-    notes: &'a str,
+    example: &'a str,
     more: &'a str,
 ) -> Result<Command<'a>, AllocError>
     ensures { IfOk result (IsLocal (checking_app name.entry.now)) }
 {
-    let Ok(aiming) = named(alloc, name, about, notes, more).arg(goal(alloc)) else {
+    let Ok(aiming) = named(alloc, name, about, example, more).arg(goal(alloc)) else {
         return Err(AllocError);
     };
     aiming.arg(fen(alloc))
@@ -303,7 +322,7 @@ fn check_command<'a>(alloc: Global) -> Result<Command<'a>, AllocError>
         alloc,
         "check",
         help::CHECK,
-        help::CHECK_NOTES,
+        help::CHECK_EXAMPLE,
         help::CHECK_MORE,
     )
 }
@@ -315,7 +334,7 @@ fn verify_command<'a>(alloc: Global) -> Result<Command<'a>, AllocError>
         alloc,
         "verify",
         help::VERIFY,
-        help::VERIFY_NOTES,
+        help::VERIFY_EXAMPLE,
         help::VERIFY_MORE,
     )
 }
@@ -327,7 +346,7 @@ fn certify_command<'a>(alloc: Global) -> Result<Command<'a>, AllocError>
         alloc,
         "certify",
         help::CERTIFY,
-        help::CERTIFY_NOTES,
+        help::CERTIFY_EXAMPLE,
         help::CERTIFY_MORE,
     )
 }
@@ -356,15 +375,12 @@ fn added<'a>(
 fn command<'a>(alloc: Global) -> Result<Command<'a>, AllocError>
     ensures { IfOk result (IsLocal program) }
 {
-    let bare = named(
-        alloc,
-        "minimate",
-        help::PROGRAM,
-        help::PROGRAM_NOTES,
-        help::PROGRAM_MORE,
-    )
-    .version("0.1.0")
-    .subcommand_required(true);
+    let bare = Command::new(alloc, "minimate")
+        .about(help::PROGRAM)
+        .after_help(help::PROGRAM_NOTES)
+        .after_long_help(help::PROGRAM_MORE)
+        .version("0.1.0")
+        .subcommand_required(true);
     let solving = added(Ok(bare), solve_command(alloc));
     let finding = added(solving, keys_command(alloc));
     let searching = added(finding, tree_command(alloc));

@@ -22,7 +22,7 @@ use Rattle.refusals.specs.Reply.{answered, refused}
 use Rattle.refusals.specs.Refusal.{refusal_of_fen}
 use Rattle.refusals.specs.declared.refusal.Refusal.{Refusal}
 use Rattle.refusals.specs.declared.refusal.Refusal.TheVariants.{TooLong}
-use Rattle.console.specs.Batch.{AnswersLines, EndsBatch, IsLineReply, HasReplyText, IsReplyText, RunsBatch, is_remark, joined, lines_of, onto, said_in}
+use Rattle.console.specs.Batch.{AnswersLines, EndsBatch, IsLineReply, HasReplyText, RunsBatch, is_remark, joined, lines_of, onto, said_in}
 use Rattle.console.specs.Desk.{Fails, GivesNext, GivesSaid, IsFirstOf, RepliesTo, SameSolver, Step, TakesLines, TakesStep}
 use Rattle.devices.specs.Lines.{HasNoFeed, IsFed, IsLastOf, IsReadAs, TakesLine, left_of}
 use Rattle.console.specs.Run.{Ending, Finishes, Refuses, Run, no_memory}

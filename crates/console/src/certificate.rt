@@ -7,7 +7,7 @@ ghost use Rattle.slots.specs.Promise.{IsSeatOf};
 ghost use Rattle.console.specs.Claims.{EndsClaims, EndsWriting, line_text, writing_of};
 ghost use Rattle.console.specs.Desk.{IsSolver};
 
-use crate::batch::{Desk, Solver, Stop, position_answer};
+use crate::batch::{Batch, Desk, Solver, Stop, position_answer};
 use crate::beside::Host;
 use board::Position;
 use certifying::Certificate;
@@ -54,7 +54,12 @@ fn begin_at<R: Threads + Wait + Eprint + Clock + Sync + AllocGlobal>(
     ensures { Gives line_text (ShowsAnswer goal position.now limits) result }
 {
     let alloc = host.rt.alloc();
-    let mut desk = match Desk::open(alloc, goal, limits) {
+    let batch = Batch {
+        goal,
+        limits,
+        echo: false,
+    };
+    let mut desk = match Desk::open(alloc, batch) {
         Ok(desk) => desk,
         Err(fault) => return Err(refusal_of(fault)),
     };

@@ -20,6 +20,20 @@ minimate,batch,--limit,1|k5 w;k5/6/1K4/6/6/5R w;k5/6/1K4/6/6/5R w\r|refused: Sha
     );
 }
 
+// A remark and a line that is too long have no position.
+#[test]
+fn writes_positions_beside_their_answers(rt: HostRuntime) {
+    expect_runs(
+        &rt,
+        0,
+        "minimate,batch,--echo,--limit,3|k5/6/2K3/6/6/1R4 w;k5/6/1K4/6/6/5R w\r;|k5/6/2K3/6/6/1R4 w\tmate 3 c4c5;k5/6/1K4/6/6/5R w\tmate 1 f1f6;
+minimate,batch,--limit,1,--echo|# one;;k5 w;x|# one;;k5 w\trefused: Shape;x\trefused: Fields;",
+    );
+    let words = ["minimate", "batch", "--limit", "1", "--echo"];
+    let input = long_line(&rt, 257, b'x', b"\n#");
+    expect_with(&rt, &words, input.as_slice(), 0, "refused: TooLong\n#\n");
+}
+
 /// So many of a byte, and the rest behind them.
 fn long_line<R: Abort + AllocGlobal>(rt: &R, count: usize, byte: u8, rest: &[u8]) -> Vec<u8> {
     let mut bytes = vec![in rt.alloc(); byte; count].expect(rt, "memory");

@@ -459,12 +459,40 @@ fn explains_moves(rt: HostRuntime) {
 #[test]
 fn tells_of_a_side_without_moves(rt: HostRuntime) {
     let mated = tell(&rt, "minimate,solve,--limit,3", "k4R/6/1K4/6/6/6 b");
-    expect(&rt, &mated, 0, "none within 3\n", "Black is mated already\n");
+    expect(
+        &rt,
+        &mated,
+        0,
+        "none within 3\n",
+        "Black is mated already\n",
+    );
     let stalemated = tell(&rt, "minimate,keys,--mate,1", "k5/2Q3/6/6/6/5K b");
-    expect(&rt, &stalemated, 0, "none within 1\n", "Black is stalemated already\n");
+    expect(
+        &rt,
+        &stalemated,
+        0,
+        "none within 1\n",
+        "Black is stalemated already\n",
+    );
     let tree = tell(&rt, "minimate,tree,--limit,2", "K4r/6/1k4/6/6/6 w");
     expect(&rt, &tree, 0, "none within 2\n", "White is mated already\n");
-    expect(&rt, &tell(&rt, "minimate,moves", "k4R/6/1K4/6/6/6 b"), 0, "", "");
-    let refused = tell(&rt, "minimate,solve,--limit,3,--workers,0", "k4R/6/1K4/6/6/6 b");
-    expect(&rt, &refused, 1, "refused: Workers\n", "error: --workers is 1 to 16\n");
+    expect(
+        &rt,
+        &tell(&rt, "minimate,moves", "k4R/6/1K4/6/6/6 b"),
+        0,
+        "",
+        "",
+    );
+    let refused = tell(
+        &rt,
+        "minimate,solve,--limit,3,--workers,0",
+        "k4R/6/1K4/6/6/6 b",
+    );
+    expect(
+        &rt,
+        &refused,
+        1,
+        "refused: Workers\n",
+        "error: --workers is 1 to 16\n",
+    );
 }

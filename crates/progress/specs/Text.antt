@@ -34,9 +34,17 @@ sign_text sign = decimal sign.seconds ++ (codes " s, " ++ (line_text sign.line +
 abbrev pub clear : List ℕ
 clear = 27 ∷ 91 ∷ 75 ∷ []
 
--- a text drawn over what the line holds: a carriage return, the text, and the rest is cleared
+-- what begins a line anew, of which a terminal shows no more than its width
+abbrev pub begin : List ℕ
+begin = 13 ∷ 27 ∷ codes "[?7l"
+
+-- what clears the rest of the line, and lets later lines be wrapped again
+abbrev pub end : List ℕ
+end = 27 ∷ 91 ∷ 75 ∷ 27 ∷ codes "[?7h"
+
+-- a text drawn over what the line holds, cut off at the terminal's width
 abbrev pub drawn_text : List ℕ → List ℕ
-drawn_text text = 13 ∷ (text ++ clear)
+drawn_text text = begin ++ (text ++ end)
 
 -- what a round that ended with nothing leaves behind, on a line of its own
 abbrev pub left_text : Option ℕ → ℕ → List ℕ

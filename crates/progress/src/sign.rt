@@ -75,12 +75,12 @@ fn sign_text(alloc: Global, sign: &Sign) -> Result<String, AllocError>
     format!(in alloc; "{seconds} s, {line}{none}round {round}: {work}")
 }
 
-/// The sign, drawn over what stands on the line.
+/// The sign, drawn over what stands on the line, and cut off at the terminal's width.
 pub fn drawn(alloc: Global, sign: &Sign) -> Result<String, AllocError>
     ensures { IfOk result (λ text. string_bytes text ≡ drawn_text (sign_text sign.now)) }
 {
     let text = sign_text(alloc, sign)?;
-    format!(in alloc; "\r{text}\u{1b}[K")
+    format!(in alloc; "\r\u{1b}[?7l{text}\u{1b}[K\u{1b}[?7h")
 }
 
 /// What a round that ended with nothing leaves behind.

@@ -183,9 +183,12 @@ impl Gate for Watch {
 }
 
 /// Leaves a line behind for each round that has ended with nothing since so many plies, and answers the plies
-/// of the last one. A failed write plays no part.
+/// of the last one. Of a batch's search none is left. A failed write plays no part.
 fn leave_rounds<R: Eprint>(rt: &R, watch: &Watch, told: u8) -> u8 {
     let none = byte_of(&watch.none);
+    if watch.line.is_some() {
+        return none;
+    }
     for before in told..none {
         // rounds have odd numbers of plies
         if before % 2 == 0 {

@@ -65,12 +65,40 @@ fn reads_each_command(rt: HostRuntime) {
 fn reads_a_batch(rt: HostRuntime) {
     let words = ["minimate", "batch", "--goal", "stale", "--limit", "5"];
     match read_order(rt.alloc(), &words) {
-        Ok(Order::Batch(goal, limits)) => {
+        Ok(Order::Batch(goal, limits, manner)) => {
             assert!(rt; goal == Goal::MateOrStale);
             assert_eq!(rt; limits.limit, 5);
             assert_eq!(rt; limits.slots, 64);
+            assert!(rt; !manner.echo && manner.lines.is_none());
         }
         _ => panic!(rt; "no batch"),
+    }
+    let told = [
+        "minimate", "batch", "--echo", "--mate", "3", "--lines", "1500",
+    ];
+    match read_order(rt.alloc(), &told) {
+        Ok(Order::Batch(_, limits, manner)) => {
+            assert_eq!(rt; limits.limit, 5);
+            assert!(rt; manner.echo);
+            assert_eq!(rt; manner.lines, Some(1500));
+        }
+        _ => panic!(rt; "no batch"),
+    }
+    expect_none(&rt, &["minimate", "solve", "--echo", "--limit", "5", FEN]);
+    expect_none(
+        &rt,
+        &["minimate", "batch", "--limit", "5", "--lines", "many"],
+    );
+}
+
+#[test]
+fn reads_a_move(rt: HostRuntime) {
+    match read_order(rt.alloc(), &["minimate", "after", FEN, "f1f6"]) {
+        Ok(Order::After(played)) => {
+            assert_eq!(rt; played.fen, FEN.as_bytes());
+            assert_eq!(rt; played.name, b"f1f6".as_slice());
+        }
+        _ => panic!(rt; "no move"),
     }
 }
 

@@ -26,7 +26,7 @@ fn draws_over_the_line(rt: HostRuntime) {
     let text = drawn(rt.alloc(), &sign).expect(&rt, "memory");
     assert_eq!(rt;
         text.as_str(),
-        "\r12 s, none within 9, round 11: move 14 of 31, c4d5\u{1b}[K"
+        "\r\u{1b}[?7l12 s, none within 9, round 11: move 14 of 31, c4d5\u{1b}[K\u{1b}[?7h"
     );
 }
 
@@ -42,7 +42,10 @@ fn names_the_line_and_the_move_that_wins(rt: HostRuntime) {
         },
     };
     let text = drawn(rt.alloc(), &sign).expect(&rt, "memory");
-    assert_eq!(rt; text.as_str(), "\r12 s, line 7, round 1: c4d5 wins\u{1b}[K");
+    assert_eq!(rt;
+        text.as_str(),
+        "\r\u{1b}[?7l12 s, line 7, round 1: c4d5 wins\u{1b}[K\u{1b}[?7h"
+    );
 }
 
 #[test]

@@ -7,10 +7,12 @@ use Rattle.command_line.proofs.reading.command.Goals as goal
 
 pub returns : goal.returns
 returns c =
-    let versioned = ap app_of_fields c.version.ensures ∙ ap (on_top (λ (s : Shape). record s { has_version = true })) c.named.ensures.is_app in
+    let told = ap app_of_fields c.after_long_help.ensures ∙ ap app_of_fields c.after_help.ensures ∙ ap app_of_fields c.about.ensures ∙ c.new.ensures.app in
+    let versioned = ap app_of_fields c.version.ensures ∙ ap (on_top (λ (s : Shape). record s { has_version = true })) told in
     let bare : IsLocal bare_app c.subcommand_required-bare.result = record {
       is_app = ap app_of_fields c.subcommand_required-bare.ensures ∙ ap (on_top (λ (s : Shape). record s { subcommand_required = true })) versioned;
-      local = ap (λ f. f.has_globals) c.subcommand_required-bare.ensures ∙ ap (λ f. f.has_globals) c.version.ensures ∙ c.named.ensures.local;
+      local = ap (λ f. f.has_globals) c.subcommand_required-bare.ensures ∙ ap (λ f. f.has_globals) c.version.ensures ∙ ap (λ f. f.has_globals) c.after_long_help.ensures
+          ∙ ap (λ f. f.has_globals) c.after_help.ensures ∙ ap (λ f. f.has_globals) c.about.ensures ∙ c.new.ensures.local;
     } in
     let solving = c.added-solving.ensures _ _ bare c.solve_command.ensures in
     let finding = c.added-finding.ensures _ _ solving c.keys_command.ensures in

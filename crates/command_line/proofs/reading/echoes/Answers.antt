@@ -20,5 +20,8 @@ pub returns-in-true : goal.returns-in-true
 returns-in-true c = (λ yes. sym (first_value-rows (found_of c.args.values.now) (codes "echo")) ∙ sym c.in-Some.ensures ∙ ap Some c.in-true.is, λ is. refl)
 
 pub returns-in_default : goal.returns-in_default
-returns-in_default c = (λ no. absurd (false≢true no), λ is. absurd (
-    c.in_default.not-true (one_word _ _ _ (sym (first_value-rows (found_of c.args.values.now) (codes "echo")) ∙ sym c.in-Some.ensures) is)))
+returns-in_default c = (
+  λ no. absurd (false≢true no),
+  λ is. absurd (
+      c.in_default.not-true (one_word _ _ _ (sym (first_value-rows (found_of c.args.values.now) (codes "echo")) ∙ sym c.in-Some.ensures) is)),
+)

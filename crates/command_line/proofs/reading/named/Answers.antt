@@ -4,7 +4,7 @@ use Rattle.command_line.proofs.reading.named.Goals as goal
 
 pub returns : goal.returns
 returns c = record {
-  is_app = ap app_of_fields c.after_long_help.ensures ∙ ap app_of_fields c.after_help.ensures ∙ ap app_of_fields c.about.ensures ∙ c.new.ensures.app;
-  local = ap (λ f. f.has_globals) c.after_long_help.ensures ∙ ap (λ f. f.has_globals) c.after_help.ensures ∙ ap (λ f. f.has_globals) c.about.ensures
+  is_app = ap app_of_fields c.after_long_help.ensures ∙ ap app_of_fields c.before_help.ensures ∙ ap app_of_fields c.about.ensures ∙ c.new.ensures.app;
+  local = ap (λ f. f.has_globals) c.after_long_help.ensures ∙ ap (λ f. f.has_globals) c.before_help.ensures ∙ ap (λ f. f.has_globals) c.about.ensures
       ∙ c.new.ensures.local;
 }
