@@ -1,14 +1,13 @@
 use Rattle.std.proofs.Common.{◌-◌, ◌<◌, ◌≡◌, List, Bool, All, length, sym, ◌∙◌, subst, arith, refl, ◌↔◌, IsTrue}
-use Rattle.std.proofs.lemmas.Bool.Decides.{Decides-eqb}
 use Rattle.std.proofs.lemmas.List.{take_all}
 use Rattle.rules.specs.Squares.{Ply}
 use Rattle.rules.specs.Moves.{IsLawful}
 use Rattle.decision.specs.Questions.{IsForced}
 use Rattle.decision.specs.Orders.{ListsAll}
 use Rattle.decision.specs.Below.{is_own, IsPassed}
-use Rattle.decision.proofs.Callers.{goes_none, goes_more}
+use Rattle.decision.proofs.Callers.{goes_more}
 use Rattle.decision.proofs.Replies.{known_is_right, forced_later}
-use Rattle.decision.proofs.Below.{none_listed, some_listed, all_listed, not_empty, ended_answer, now_for, tells_answer, goes_by, ends_by, beq_same, beq_apart, not_self}
+use Rattle.decision.proofs.Below.{none_listed, some_listed, all_listed, ended_answer, now_for, tells_answer, goes_by, ends_by, beq_same, beq_apart, not_self}
 use Rattle.decision.proofs.Turns.{passed_turned, cut_turned}
 use Rattle.decision.proofs.searching.+searching.Goals as goal
 

@@ -1,4 +1,4 @@
-use Rattle.std.proofs.Common.{◌≡◌, ◌+◌, ap, sym, subst, ◌∙◌, arith}
+use Rattle.std.proofs.Common.{◌≡◌, ◌+◌, sym, subst, arith}
 use Rattle.board.specs.Games.{squares_of}
 use Rattle.board.specs.Board.{board_of}
 use Rattle.moves.specs.declared.sets.Sets.{Sets}
