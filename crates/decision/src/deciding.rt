@@ -5,15 +5,15 @@ ghost use Rattle.rules.specs.Moves.{IsLawful};
 ghost use Rattle.rules.specs.Forces.{Forces};
 ghost use Rattle.slots.specs.Promise.{slots_of, number, IsSeatOf};
 ghost use Rattle.decision.specs.Calls.{added, Continues, KnowsHistory};
-ghost use Rattle.decision.specs.Callers.{adds, Searches};
+ghost use Rattle.decision.specs.Callers.{adds, GoesOn, Searches};
 ghost use Rattle.decision.specs.Questions.{question, IsForced};
 ghost use Rattle.decision.specs.Decisions.{Decides, AsksBelow, IsDecided};
 
-use crate::asking::{ask, first_slot, settled};
+use crate::asking::{ask, decided, first_slot, look_far, settled};
 use crate::caller::Caller;
 use crate::decision::Decision;
 use crate::first::try_moves;
-use crate::leaf::{answer_now, leaf};
+use crate::leaf::{answer_now, short_leaf};
 use crate::memory::Memory;
 use crate::order::in_order;
 use crate::question::Question;
@@ -128,6 +128,37 @@ pub fn decide_on<A: Allocator>(
     decision
 }
 
+/// The answer alone, by a search with a memory of its own.
+// It stands apart, since a new memory is cleared, and mostly the table knows the answer.
+#[inline(never)]
+fn search_alone<A: Allocator>(caller: &mut Caller<'_, A>, q: &Question, n: u8) -> bool
+    requires { n ≤ 63 }
+    ensures goes_on { GoesOn caller.old caller.new }
+    ensures answer { IsTrue result ↔ IsForced q.now n }
+{
+    let mut scout = Scout {
+        stop: Never,
+        memory: Memory::new(),
+    };
+    let Some(yes) = visit(caller, &mut scout, q, n) else {
+        unreachable!()
+    };
+    yes
+}
+
+/// The answer alone, as the far slots have it, or else by a search.
+fn ask_alone<A: Allocator>(caller: &mut Caller<'_, A>, q: &Question, n: u8) -> bool
+    requires { n ≤ 63 }
+    ensures goes_on { GoesOn caller.old caller.new }
+    ensures answer { IsTrue result ↔ IsForced q.now n }
+{
+    let known = look_far(caller, q, n);
+    match decided(known, n) {
+        Some(yes) => yes,
+        None => search_alone(caller, q, n),
+    }
+}
+
 /// Up to so many plies the answer alone is found sooner than the table is asked.
 const UNASKED: u8 = 2;
 
@@ -154,7 +185,7 @@ pub fn is_forced_until<S: Stop, A: Allocator>(
     visit(&mut caller, scout, &q, n)
 }
 
-/// `is_forced_until`, where nothing stops it.
+/// `is_forced_until`, where nothing stops it. Where the table knows the answer, no memory is made for a search.
 pub fn is_forced<A: Allocator>(
     slots: &Slots<MateLore, A>,
     seat: &mut Seat,
@@ -166,14 +197,12 @@ pub fn is_forced<A: Allocator>(
     ensures continues { Continues slots.now seat.old seat.new }
     ensures answer { IsTrue result ↔ IsForced q.now n }
 {
-    let mut scout = Scout {
-        stop: Never,
-        memory: Memory::new(),
-    };
-    let Some(yes) = is_forced_until(slots, seat, &mut scout, q, n) else {
-        unreachable!()
-    };
-    yes
+    if n <= UNASKED {
+        return short_leaf(q, n);
+    }
+    let mut caller = Caller { slots, seat };
+    let q = q.copied().turned();
+    ask_alone(&mut caller, &q, n)
 }
 
 /// Whether the attacker forces the goal from the position within n plies, whatever the table holds and whatever its other callers

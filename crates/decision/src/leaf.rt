@@ -148,3 +148,23 @@ pub(crate) fn leaf(memory: &mut Memory, q: &Question, n: u8) -> bool
     }
     loses_in_two(&mut memory.learned, &mut memory.rooms.replies, q)
 }
+
+/// The answer for at most two plies, with no room for longer lists.
+pub(crate) fn short_leaf(q: &Question, n: u8) -> bool
+    requires { n ≤ 2 }
+    ensures { IsTrue result ↔ IsForced q.now n }
+{
+    let own = q.is_own_turn();
+    let mut learned = Learned::new();
+    if own {
+        if n == 0 {
+            return answer_now(q);
+        }
+        return wins_at_once(&mut learned, q);
+    }
+    if n < 2 {
+        return answer_now(q);
+    }
+    let mut replies = ArrayVec::new();
+    loses_in_two(&mut learned, &mut replies, q)
+}

@@ -47,18 +47,19 @@ impl Memory {
     pub fn new() -> Memory
         ensures { IsBlank result }
     {
-        let learned = Learned {
-            won: [0; 1296],
-            latest: None,
-            earlier: None,
-            expanded: 0,
-        };
-        let rooms = Rooms {
-            costed: ArrayVec::new(),
-            moves: ArrayVec::new(),
-            replies: ArrayVec::new(),
-        };
-        Memory { learned, rooms }
+        Memory {
+            learned: Learned {
+                won: [0; 1296],
+                latest: None,
+                earlier: None,
+                expanded: 0,
+            },
+            rooms: Rooms {
+                costed: ArrayVec::new(),
+                moves: ArrayVec::new(),
+                replies: ArrayVec::new(),
+            },
+        }
     }
 
     /// Puts the lawful moves into the room for them, those of least cost first.
@@ -71,6 +72,16 @@ impl Memory {
 }
 
 impl Learned {
+    /// Nothing was learned.
+    pub(crate) fn new() -> Learned {
+        Learned {
+            won: [0; 1296],
+            latest: None,
+            earlier: None,
+            expanded: 0,
+        }
+    }
+
     /// One position more had its moves made.
     pub(crate) fn count(&mut self) {
         self.expanded = self.expanded.saturating_add(1);
