@@ -1,4 +1,4 @@
-// The calls of one slot.
+//! The calls of one slot.
 ghost use Rattle.std.specs.Prelude.{◌≡◌, ◌≢◌, ℕ, List, [], true};
 ghost use Rattle.crossbeam_utils.specs.Seq.{cell_view, IsSamePass};
 ghost use Rattle.slots.specs.declared.calls.Act.TheVariants.{Asked, Offered};

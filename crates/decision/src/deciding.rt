@@ -13,7 +13,7 @@ use crate::asking::{ask, decided, first_slot, look_far, settled};
 use crate::caller::Caller;
 use crate::decision::Decision;
 use crate::first::try_moves;
-use crate::leaf::{answer_now, short_leaf};
+use crate::leaf::{answer_now, leaf, short_leaf};
 use crate::memory::Memory;
 use crate::order::in_order;
 use crate::question::Question;

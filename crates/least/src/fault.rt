@@ -1,4 +1,4 @@
-// Why no job board was made.
+//! Why no job board was made.
 use thiserror::Error;
 
 /// Why no job board was made.

@@ -1,4 +1,4 @@
-// The word, how it is made with its seats, lowered, asked and given up.
+//! The word, how it is made with its seats, lowered, asked and given up.
 ghost use Rattle.std.specs.Prelude.{◌≡◌, ℕ, ◌+◌, ◌<◌, ◌≤◌, All, IfOk, IsErrOf, IsTrue, ◌↔◌, vec_len};
 ghost use Rattle.least.specs.Promise.{least_known, steps, IsBoardSize, IsJobSeatOf, IsNewJobSeatOf, JobWins, IsBest, GivenUp};
 

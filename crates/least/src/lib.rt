@@ -1,4 +1,4 @@
-// The least job known to win in one round of a search: a word that threads share, without locks.
+//! The least job known to win in one round of a search: a word that threads share, without locks.
 #![tactic(auto)]
 
 mod fault;

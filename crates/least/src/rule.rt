@@ -1,4 +1,4 @@
-// The rule that every step keeps, and what each of the two kinds of step tells.
+//! The rule that every step keeps, and what each of the two kinds of step tells.
 ghost use Rattle.least.specs.Rule.{BoardHolds, view, read, lowered};
 
 use crate::views::{JobView, Terms};

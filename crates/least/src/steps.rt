@@ -1,4 +1,4 @@
-// One function for each kind of atomic step.
+//! One function for each kind of atomic step.
 ghost use Rattle.std.specs.Prelude.{◌≡◌, ◌+◌, ◌≤◌, min};
 ghost use Rattle.least.specs.Promise.{least_known, steps, IsJobSeatOf, JobWins, IsBest};
 

@@ -1,4 +1,4 @@
-// What a job board is made for, and what its seats know.
+//! What a job board is made for, and what its seats know.
 use std::snapshot::Snapshot;
 
 /// What is fixed when a job board is made.

@@ -1,4 +1,4 @@
-// Which jobs of a round win.
+//! Which jobs of a round win.
 ghost use Rattle.std.specs.Prelude.{ℕ};
 
 /// A set of jobs, those that win. It has no call: contracts alone see its value as that set.

@@ -1,4 +1,4 @@
-// What callers ask of a slot, and what they are answered.
+//! What callers ask of a slot, and what they are answered.
 
 /// The answer to a probe.
 #[derive(Debug, Clone, Copy, PartialEq, Eq)]

@@ -1,4 +1,4 @@
-// Why no table was made.
+//! Why no table was made.
 use thiserror::Error;
 
 /// Why no table was made.

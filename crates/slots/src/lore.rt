@@ -1,4 +1,4 @@
-// Which three words may stand in a slot.
+//! Which three words may stand in a slot.
 ghost use Rattle.std.specs.Prelude.{◌≡◌, ℕ, Bool, false, List, [], ◌∷◌};
 ghost use Rattle.slots.specs.Steps.{IsWhole};
 

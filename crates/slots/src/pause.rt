@@ -1,4 +1,4 @@
-// What a call does between its atomic steps.
+//! What a call does between its atomic steps.
 
 /// What a call does between its atomic steps. A test's pause may use another seat of the same table.
 pub trait Pause {

@@ -1,4 +1,4 @@
-// Asking a slot for an entry.
+//! Asking a slot for an entry.
 ghost use Rattle.std.specs.Prelude.{◌≡◌, ◌+◌, ◌<◌, ◌≤◌};
 ghost use Rattle.slots.specs.declared.calls.Act.TheVariants.{Asked};
 ghost use Rattle.slots.specs.Steps.{IsProbeReply, HitFits};

@@ -1,4 +1,4 @@
-// The rule that every step keeps.
+//! The rule that every step keeps.
 use crate::lore::Lore;
 use crate::views::View;
 use atomic_table::TableRule;

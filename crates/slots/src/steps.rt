@@ -1,4 +1,4 @@
-// One function for each kind of atomic step, and the reads and writes of three words.
+//! One function for each kind of atomic step, and the reads and writes of three words.
 ghost use Rattle.std.specs.Prelude.{◌≡◌, ℕ, ◌+◌, ◌^◌, ◌<◌, ◌≤◌, ◌%◌, [], ◌∷◌, length, true, List};
 ghost use Rattle.slots.specs.declared.calls.Act.TheVariants.{Asked, Offered};
 ghost use Rattle.slots.specs.declared.views.Half.TheVariants.{Reading, Writing};

@@ -1,4 +1,4 @@
-// Offering an entry to a slot.
+//! Offering an entry to a slot.
 ghost use Rattle.std.specs.Prelude.{◌≡◌, ℕ, ◌+◌, ◌*◌, ◌/◌, ◌^◌, ◌<◌, ◌≤◌, ◌%◌, List};
 ghost use Rattle.slots.specs.declared.calls.Act.TheVariants.{Offered};
 ghost use Rattle.slots.specs.declared.views.Half.TheVariants.{Reading};

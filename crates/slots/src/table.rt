@@ -1,4 +1,4 @@
-// The table of slots: how it is made, told of, and given up.
+//! The table of slots: how it is made, told of, and given up.
 ghost use Rattle.std.specs.Prelude.{◌≡◌, ℕ, ◌+◌, ◌*◌, ◌^◌, ◌<◌, ◌≤◌, List, All, IfOk, IsErrOf, ◌↔◌, vec_len};
 ghost use Rattle.slots.specs.declared.calls.Call.{Call};
 ghost use Rattle.atomic_table.specs.Seated.{TableId};

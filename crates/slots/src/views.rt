@@ -1,4 +1,4 @@
-// What a seat knows. No value of these types is made.
+//! What a seat knows. No value of these types is made.
 use crate::calls::Call;
 use std::collections::LinkedList;
 

@@ -1,4 +1,4 @@
-// Entries with a key and two bounds.
+//! Entries with a key and two bounds.
 ghost use Rattle.std.specs.Prelude.{◌≡◌};
 ghost use Rattle.table_tests.specs.Bounded.{same_key, greater_end};
 

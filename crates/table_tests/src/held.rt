@@ -1,4 +1,4 @@
-// A caller who is held after each of its atomic steps, while another one probes and stores.
+//! A caller who is held after each of its atomic steps, while another one probes and stores.
 ghost use Rattle.std.specs.Prelude.{◌≡◌, ◌≢◌, ◌<◌, slice_index};
 ghost use Rattle.slots.specs.Promise.{slots_of, IsSeatOf};
 

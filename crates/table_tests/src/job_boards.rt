@@ -1,4 +1,4 @@
-// The sizes that a job board takes, and two callers of one: that a seat learns of a job which another lowered is in no clause.
+//! The sizes that a job board takes, and two callers of one: that a seat learns of a job which another lowered is in no clause.
 ghost use Rattle.std.specs.Prelude.{◌≡◌, ◌⊎◌, ℕ, ◌<◌};
 ghost use Rattle.least.specs.Promise.{IsJobSeatOf, JobWins};
 

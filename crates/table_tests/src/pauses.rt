@@ -1,4 +1,4 @@
-// How often a pause is called.
+//! How often a pause is called.
 ghost use Rattle.std.specs.Prelude.{◌<◌};
 ghost use Rattle.slots.specs.Promise.{slots_of, IsSeatOf};
 

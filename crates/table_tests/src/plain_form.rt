@@ -1,4 +1,4 @@
-// The plain form by itself, and beside the lock-free one.
+//! The plain form by itself, and beside the lock-free one.
 ghost use Rattle.std.specs.Prelude.{◌≡◌, ◌<◌, slice_index, All, IfSome};
 ghost use Rattle.slots.specs.Promise.{slots_of, IsSeatOf};
 

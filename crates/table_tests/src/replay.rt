@@ -1,4 +1,4 @@
-// The slot of one thread, as the tests know it.
+//! The slot of one thread, as the tests know it.
 use crate::bounded::Bounded;
 use slots::{Act, Lore, Probe, Store};
 

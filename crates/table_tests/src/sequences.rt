@@ -1,4 +1,4 @@
-// Calls of callers who take turns.
+//! Calls of callers who take turns.
 ghost use Rattle.std.specs.Prelude.{◌≡◌, ◌<◌, ◌++◌, [], ◌∷◌};
 ghost use Rattle.slots.specs.declared.calls.Act.TheVariants.{Offered};
 ghost use Rattle.slots.specs.Machine.{call};

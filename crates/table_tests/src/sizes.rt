@@ -1,4 +1,4 @@
-// How many slots and callers a table takes, and what it is when it is given up.
+//! How many slots and callers a table takes, and what it is when it is given up.
 ghost use Rattle.std.specs.Prelude.{◌<◌};
 ghost use Rattle.slots.specs.Promise.{slots_of, IsSeatOf};
 

@@ -1,4 +1,4 @@
-// Four threads over two slots.
+//! Four threads over two slots.
 ghost use Rattle.std.specs.Prelude.{◌+◌, ◌*◌, ◌<◌, ◌≤◌, ◌^◌, All, IfSome};
 ghost use Rattle.slots.specs.Promise.{slots_of, IsSeatOf};
 

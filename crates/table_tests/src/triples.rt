@@ -1,4 +1,4 @@
-// Entries x, x + 1 and x + 2.
+//! Entries x, x + 1 and x + 2.
 use slots::Lore;
 
 // The words x, x + 1 and x + 2, for x from 1 to the greatest u32. The key is x modulo 4, and the greater x stays.
