@@ -127,7 +127,7 @@ pub fn position_answer<R: Threads + Wait + Eprint + Clock + Sync + AllocGlobal>(
     let alloc = host.rt.alloc();
     let wanted = solver.goal;
     let limit = search_of(solver.limits).limit;
-    let Some(watch) = host.watch(position, Course::Rounds) else {
+    let Some(watch) = host.watch(position, Course::Rounds, solver.limits.slots) else {
         let task = Task {
             position,
             goal: wanted,

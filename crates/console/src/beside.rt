@@ -15,7 +15,7 @@ use decision::Answer;
 use devices::{Failed, Source};
 use entry::MateLore;
 use moves::read_sound;
-use progress::{Course, Watch, show};
+use progress::{Course, Setting, Watch, show};
 use replies::{Told, Trouble, reply, reply_told, search_of};
 use rounds::{SolveFault, Task, solve_over};
 use slots::{Seat, Slots};
@@ -36,7 +36,7 @@ pub struct Host<'a, R> {
 
 impl<R: Clock + AllocGlobal> Host<'_, R> {
     /// A watch over a search at a position that begins now, if it is to be shown.
-    pub fn watch(&self, position: &Position, course: Course) -> Option<Watch> {
+    pub fn watch(&self, position: &Position, course: Course, slots: u32) -> Option<Watch> {
         if !self.shows {
             return None;
         }
@@ -45,7 +45,8 @@ impl<R: Clock + AllocGlobal> Host<'_, R> {
             0 => None,
             number => Some(number),
         };
-        Watch::new(self.rt.alloc(), start, line, position, course).ok()
+        let setting = Setting { line, slots };
+        Watch::new(self.rt.alloc(), start, setting, position, course).ok()
     }
 }
 
@@ -71,13 +72,13 @@ fn last_round(limits: Limits) -> u8
     limit - (1 - limit % 2).min(limit)
 }
 
-/// How the action searches, if it does.
-fn course_of(action: Action) -> Option<Course>
+/// How the action searches, if it does, and the slots of its table.
+fn course_of(action: Action) -> Option<(Course, u32)>
     ensures { IfSome result (λ _. (known : Option (List ℕ)) → input_of action known ≡ Some []) }
 {
     match action {
-        Action::Solve(..) | Action::Tree(..) => Some(Course::Rounds),
-        Action::Keys(_, limits) => Some(Course::Keys(last_round(limits))),
+        Action::Solve(_, limits) | Action::Tree(_, limits) => Some((Course::Rounds, limits.slots)),
+        Action::Keys(_, limits) => Some((Course::Keys(last_round(limits)), limits.slots)),
         _ => None,
     }
 }
@@ -86,9 +87,9 @@ fn course_of(action: Action) -> Option<Course>
 fn watch_of<R: Clock + AllocGlobal>(host: &Host<'_, R>, line: &Line<'_>) -> Option<Watch>
     ensures { IfSome result (λ _. (known : Option (List ℕ)) → input_of line.now.action known ≡ Some []) }
 {
-    let course = course_of(line.action)?;
+    let (course, slots) = course_of(line.action)?;
     let position = read_sound(line.fen).ok()?;
-    host.watch(&position, course)
+    host.watch(&position, course, slots)
 }
 
 /// The reply to a line that reads no input, told to the watch.

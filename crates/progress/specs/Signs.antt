@@ -1,5 +1,5 @@
 -- What the sign of life tells of a search.
-use Rattle.std.specs.Prelude.{◌≡◌, ◌+◌, ◌%◌, ◌<◌, ◌≤◌, ◌==◌, ℕ, Option, None, Some, length, slice_get, if◌then◌else◌}
+use Rattle.std.specs.Prelude.{◌≡◌, ◌↔◌, ◌+◌, ◌%◌, ◌<◌, ◌≤◌, ◌==◌, ℕ, Option, None, Some, length, slice_get, IsTrue, if◌then◌else◌}
 use Rattle.board.specs.Board.{PlainBoard}
 use Rattle.rules.specs.Order.{ListsLawful}
 use Rattle.rules.specs.Squares.{Ply}
@@ -8,11 +8,12 @@ use Rattle.progress.specs.declared.sign.Work.{Work}
 use Rattle.progress.specs.declared.sign.Work.TheVariants.{Open, Wins}
 use Rattle.progress.specs.declared.watch.Course.{Course}
 use Rattle.progress.specs.declared.watch.Course.TheVariants.{Rounds, Keys}
+use Rattle.progress.specs.declared.watch.Setting.{Setting}
 use Rattle.progress.specs.declared.watch.Watch.{Watch}
 
 -- the watch is over the search at a position: its jobs are the lawful moves, in order
-pub record Watches (watch : Watch) (number : Option ℕ) (b : PlainBoard) (way : Course) : Type 0 where
-  pub line : watch.line ≡ number
+pub record Watches (watch : Watch) (place : Setting) (b : PlainBoard) (way : Course) : Type 0 where
+  pub setting : watch.setting ≡ place
   pub course : watch.course ≡ way
   pub moves : ListsLawful b watch.moves.items
 
@@ -40,7 +41,9 @@ work_of watch job known first = if known == 255 then Wins first else Open (job +
 -- the sign of the job, of which this is known, where rounds of so many plies have ended with nothing
 pub record IsSignOf (watch : Watch) (time job known none : ℕ) (sign : Sign) : Type 0 where
   pub seconds : sign.seconds ≡ time
-  pub line : sign.line ≡ watch.line
+  pub line : sign.line ≡ watch.setting.line
+  -- a greater table is advised after ten seconds with one of under 100,000 slots
+  pub advice : IsTrue sign.advises ↔ ((10 ≤ time) × (watch.setting.slots < 100000))
   pub nothing : sign.none ≡ told_of none
   pub round : IsRoundOf watch.course none known sign.round
   pub work : (first : Ply) × (slice_get watch.moves.items job ≡ Some first) × (sign.work ≡ work_of watch job known first)

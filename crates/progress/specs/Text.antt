@@ -1,5 +1,5 @@
 -- The text of a sign of life.
-use Rattle.std.specs.Prelude.{ℕ, List, [], ◌∷◌, ◌++◌, Option, None, Some, suc, zero, codes}
+use Rattle.std.specs.Prelude.{ℕ, Bool, true, false, List, [], ◌∷◌, ◌++◌, Option, None, Some, codes}
 use Rattle.std.specs.Fmt.{decimal}
 use Rattle.rules.specs.MoveText.{move_text}
 use Rattle.progress.specs.declared.sign.Sign.{Sign}
@@ -25,10 +25,15 @@ abbrev pub work_text : Work → List ℕ
 work_text (Open number jobs first) = codes "move " ++ (decimal number ++ (codes " of " ++ (decimal jobs ++ (codes ", " ++ move_text first))))
 work_text (Wins first) = move_text first ++ codes " wins"
 
+-- that a greater table may serve, where that is advised
+abbrev pub advice_text : Bool → List ℕ
+advice_text true = codes "; --slots 1048573 may be faster"
+advice_text false = []
+
 -- the whole sign, as `12 s, none within 9, round 11: move 14 of 31, c4c5`
 abbrev pub sign_text : Sign → List ℕ
 sign_text sign = decimal sign.seconds ++ (codes " s, " ++ (line_text sign.line ++ (held_text sign.none
-    ++ (codes "round " ++ (decimal sign.round ++ (codes ": " ++ work_text sign.work))))))
+    ++ (codes "round " ++ (decimal sign.round ++ (codes ": " ++ (work_text sign.work ++ advice_text sign.advises)))))))
 
 -- the code that clears a line from the cursor to its end
 abbrev pub clear : List ℕ

@@ -1,6 +1,6 @@
 //! The text of a sign of life, and how it is drawn over the line before it.
 ghost use Rattle.std.specs.Prelude.{◌≡◌, IfOk, string_bytes};
-ghost use Rattle.progress.specs.Text.{drawn_text, held_text, left_text, line_text, sign_text, work_text};
+ghost use Rattle.progress.specs.Text.{advice_text, drawn_text, held_text, left_text, line_text, sign_text, work_text};
 
 use moves::Move;
 use std::alloc::{AllocError, Global};
@@ -29,6 +29,8 @@ pub struct Sign {
     pub none: Option<u8>,
     pub round: u8,
     pub work: Work,
+    /// Whether a greater table is advised.
+    pub advises: bool,
 }
 
 /// What clears the line that was drawn last.
@@ -65,6 +67,16 @@ fn work_text(alloc: Global, work: Work) -> Result<String, AllocError>
     }
 }
 
+fn advice_text(advises: bool) -> &'static str
+    ensures { result.now ≡ advice_text advises }
+{
+    if advises {
+        "; --slots 1048573 may be faster"
+    } else {
+        ""
+    }
+}
+
 fn sign_text(alloc: Global, sign: &Sign) -> Result<String, AllocError>
     ensures { IfOk result (λ text. string_bytes text ≡ sign_text sign.now) }
 {
@@ -72,7 +84,8 @@ fn sign_text(alloc: Global, sign: &Sign) -> Result<String, AllocError>
     let line = line_text(alloc, sign.line)?;
     let none = held_text(alloc, sign.none)?;
     let work = work_text(alloc, sign.work)?;
-    format!(in alloc; "{seconds} s, {line}{none}round {round}: {work}")
+    let advice = advice_text(sign.advises);
+    format!(in alloc; "{seconds} s, {line}{none}round {round}: {work}{advice}")
 }
 
 /// The sign, drawn over what stands on the line, and cut off at the terminal's width.

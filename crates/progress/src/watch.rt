@@ -1,5 +1,5 @@
 //! What is known of a search while it lasts, and the thread that shows it on standard error.
-ghost use Rattle.std.specs.Prelude.{◌≡◌, ℕ, IfOk, IfSome, length, string_bytes};
+ghost use Rattle.std.specs.Prelude.{◌≡◌, ◌↔◌, ◌<◌, ◌≤◌, ℕ, IfOk, IfSome, IsTrue, string_bytes};
 ghost use Rattle.progress.specs.Text.{drawn_text, sign_text};
 ghost use Rattle.progress.specs.declared.sign.Sign.{Sign};
 ghost use Rattle.progress.specs.Signs.{IsRoundAfter, IsSignOf, Watches};
@@ -29,12 +29,21 @@ pub enum Course {
     Keys(u8),
 }
 
+/// Where a search stands: in a batch, and over which table.
+#[derive(Clone, Copy)]
+pub struct Setting {
+    /// The number of the line, in a batch.
+    pub line: Option<u64>,
+    /// The slots of the table.
+    pub slots: u32,
+}
+
 /// Where a search is, for all to read. No answer rests on it.
 #[derive(Drop)]
 pub struct Watch {
     alloc: Global,
     start: Instant,
-    line: Option<u64>,
+    setting: Setting,
     course: Course,
     moves: Vec<Move>,
     /// Of each job the plies within which it is known not to win, or that it wins.
@@ -60,16 +69,23 @@ fn next_round(plies: u8) -> u8
     }
 }
 
+/// Whether a greater table is advised after so many seconds with so many slots.
+fn is_advised(seconds: u64, slots: u32) -> bool
+    ensures { IsTrue result ↔ ((10 ≤ seconds) × (slots < 100000)) }
+{
+    10 <= seconds && slots < 100_000
+}
+
 impl Watch {
     /// A watch over a search that has not begun.
     pub fn new(
         alloc: Global,
         start: Instant,
-        line: Option<u64>,
+        setting: Setting,
         position: &Position,
         course: Course,
     ) -> Result<Watch, AllocError>
-        ensures { IfOk result (λ watch. Watches watch line position.now course) }
+        ensures { IfOk result (λ watch. Watches watch setting position.now course) }
     {
         let mut moves = Vec::new(alloc);
         moves.extend_from_slice(lawful(position).as_slice())?;
@@ -80,7 +96,7 @@ impl Watch {
         Ok(Watch {
             alloc,
             start,
-            line,
+            setting,
             course,
             moves,
             known,
@@ -135,10 +151,11 @@ impl Watch {
         };
         let sign = Sign {
             seconds,
-            line: self.line,
+            line: self.setting.line,
             none: if none == 0 { None } else { Some(none) },
             round,
             work,
+            advises: is_advised(seconds, self.setting.slots),
         };
         drawn(self.alloc, &sign).ok()
     }
@@ -186,13 +203,13 @@ impl Gate for Watch {
 /// of the last one. Of a batch's search none is left. A failed write plays no part.
 fn leave_rounds<R: Eprint>(rt: &R, watch: &Watch, told: u8) -> u8 {
     let none = byte_of(&watch.none);
-    if watch.line.is_some() {
+    if watch.setting.line.is_some() {
         return none;
     }
     for before in told..none {
         // rounds have odd numbers of plies
         if before % 2 == 0 {
-            if let Ok(text) = left_behind(watch.alloc, watch.line, before + 1) {
+            if let Ok(text) = left_behind(watch.alloc, None, before + 1) {
                 let _ = eprint!(rt; "{text}");
             }
         }

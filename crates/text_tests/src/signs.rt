@@ -22,6 +22,7 @@ fn draws_over_the_line(rt: HostRuntime) {
             jobs: 31,
             first: last_move(&rt),
         },
+        advises: false,
     };
     let text = drawn(rt.alloc(), &sign).expect(&rt, "memory");
     assert_eq!(rt;
@@ -40,11 +41,12 @@ fn names_the_line_and_the_move_that_wins(rt: HostRuntime) {
         work: Work::Wins {
             first: last_move(&rt),
         },
+        advises: true,
     };
     let text = drawn(rt.alloc(), &sign).expect(&rt, "memory");
     assert_eq!(rt;
         text.as_str(),
-        "\r\u{1b}[?7l12 s, line 7, round 1: c4d5 wins\u{1b}[K\u{1b}[?7h"
+        "\r\u{1b}[?7l12 s, line 7, round 1: c4d5 wins; --slots 1048573 may be faster\u{1b}[K\u{1b}[?7h"
     );
 }
 
