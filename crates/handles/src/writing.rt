@@ -15,8 +15,7 @@ use board::Position;
 use decision::Answer;
 use moves::{Goal, read_sound};
 use replies::{keys_text, none_line, tree_line};
-use searcher::Key;
-use searcher::Halt;
+use searcher::{Halt, Key};
 use solver::Solver;
 use std::alloc::Global;
 

@@ -2,8 +2,7 @@
 use board::{Position, read_fen};
 use decision::Answer;
 use moves::{Goal, Move, Square};
-use searcher::Key;
-use searcher::Halt;
+use searcher::{Halt, Key};
 use solver::{Solver, StopSource};
 use std::alloc::Global;
 use std::process::Abort;
@@ -68,8 +67,9 @@ fn is_stopped_until_it_may_go_on(rt: HostRuntime) {
     let none = read(&rt, NONE_MATES);
     source.stop();
     assert!(rt; solver.solve(&none, Goal::Mate, 9) == None);
+    // a stop is heard where four plies are left, so first in the round of five
     let place = source.place();
-    assert_eq!(rt; place.none_within, 6);
+    assert_eq!(rt; place.none_within, 4);
     let keys = solver.keys(rt.alloc(), &none, Goal::Mate, 9);
     assert!(rt; matches!(&keys, Err(Halt::Stopped)));
     source.go_on();
