@@ -56,12 +56,7 @@ fn refuses_what_shows_nothing(rt: HostRuntime) {
         let answer = verify(rt.alloc(), &kings, Goal::Mate, text.as_bytes());
         assert!(rt; answer == Err(Fault::Claim(2)), "{text}");
     }
-    let more = verify(
-        rt.alloc(),
-        &kings,
-        Goal::Mate,
-        b"none within 3\naaa\naaa\n",
-    );
+    let more = verify(rt.alloc(), &kings, Goal::Mate, b"none within 3\naaa\naaa\n");
     assert!(rt; more == Err(Fault::Claim(3)));
     let mate = board(&rt, "k5/6/1K4/6/6/5R w");
     let within_one = verify(rt.alloc(), &mate, Goal::Mate, b"none within 1\n\n");

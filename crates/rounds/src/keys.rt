@@ -116,7 +116,12 @@ pub fn keys_over<T: Gate, R: Threads + Wait + Sync>(
     ensures go_on { SeatsGoOn T.keeps slots.now seats.old.items seats.new.items }
 {
     look_at(task.limit, seats.len())?;
-    let Task { position, goal, limit, gate } = *task;
+    let Task {
+        position,
+        goal,
+        limit,
+        gate,
+    } = *task;
     let root = Root::of(position, goal);
     let search = Search { root, slots, gate };
     prepare(rt, &search, limit, seats);

@@ -34,18 +34,18 @@ impl<T: Gate> Decider for Gated<'_, T> {
     }
 
     ghost goes_at_once = { λ a. record {
-        table = refl;
-        seat = refl;
-        calls = λ seat. searched (continues_none a.slots.now a.seat.now seat);
-        still = λ seat. seat;
+      table = refl;
+      seat = refl;
+      calls = λ seat. searched (continues_none a.slots.now a.seat.now seat);
+      still = λ seat. seat;
     } };
 
     ghost goes_on = { λ a b c p q. record {
-        table = q.table ∙ p.table;
-        seat = q.seat ∙ p.seat;
-        calls = λ seat. onward (p.calls seat)
-            (subst (λ t. GoesOn T.keeps t b.seat.now c.seat.now) p.table (q.calls (p.still seat)));
-        still = λ seat. q.still (p.still seat);
+      table = q.table ∙ p.table;
+      seat = q.seat ∙ p.seat;
+      calls = λ seat. onward (p.calls seat)
+          (subst (λ t. GoesOn T.keeps t b.seat.now c.seat.now) p.table (q.calls (p.still seat)));
+      still = λ seat. q.still (p.still seat);
     } };
 }
 

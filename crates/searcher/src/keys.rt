@@ -19,12 +19,7 @@ pub struct Key {
 
 /// The fewest plies, up to the limit, within which the job wins, if it does: rounds of 1, 3, 5 and so on. `None` where the decider was
 /// told to stop.
-pub fn plies_of<D: Decider>(
-    decider: &mut D,
-    root: &Root,
-    job: u16,
-    limit: u8,
-) -> Option<Option<u8>>
+pub fn plies_of<D: Decider>(decider: &mut D, root: &Root, job: u16, limit: u8) -> Option<Option<u8>>
     requires job { IsJobOf root.now job }
     requires limit { limit ≤ 63 }
     ensures goes { D.goes decider.old decider.new }

@@ -39,20 +39,20 @@ impl<S: Stop, A: Allocator> Decider for Searcher<'_, S, A> {
     }
 
     ghost goes_at_once = { λ a. record {
-        table = refl;
-        seat = refl;
-        scout = refl;
-        calls = continues_none a.slots.now a.seat.now;
-        stop = S.stays_at_once a.scout.now.stop;
+      table = refl;
+      seat = refl;
+      scout = refl;
+      calls = continues_none a.slots.now a.seat.now;
+      stop = S.stays_at_once a.scout.now.stop;
     } };
 
     ghost goes_on = { λ a b c p q. record {
-        table = q.table ∙ p.table;
-        seat = q.seat ∙ p.seat;
-        scout = q.scout ∙ p.scout;
-        calls = λ seat. continues_more a.slots.now a.seat.now b.seat.now c.seat.now (p.calls seat)
-            (subst (λ t. Continues t b.seat.now c.seat.now) p.table
-            (q.calls (subst (λ t. IsSeatOf t b.seat.now) (sym p.table) (p.calls seat).seat)));
-        stop = S.stays_on a.scout.now.stop b.scout.now.stop c.scout.now.stop p.stop q.stop;
+      table = q.table ∙ p.table;
+      seat = q.seat ∙ p.seat;
+      scout = q.scout ∙ p.scout;
+      calls = λ seat. continues_more a.slots.now a.seat.now b.seat.now c.seat.now (p.calls seat)
+          (subst (λ t. Continues t b.seat.now c.seat.now) p.table
+          (q.calls (subst (λ t. IsSeatOf t b.seat.now) (sym p.table) (p.calls seat).seat)));
+      stop = S.stays_on a.scout.now.stop b.scout.now.stop c.scout.now.stop p.stop q.stop;
     } };
 }

@@ -28,10 +28,10 @@ loop-round-preserved g c =
     let r = c.args.root.now in
     let answer = subst (λ (q : Question). IsTrue c.in_ok-forces.field-0 ↔ IsForced q (2 * c.loop-round.round + 1)) c.question-q.ensures c.in_ok-forces.ensures.answer in
     record {
-  goes = g.met.D.Decider.goes_on _ _ _ c.loop-round.invariant.goes c.forces.ensures.goes;
-  nothing = next_round r.goal r.board c.loop-round.round c.loop-round.invariant.nothing
-      (λ m w. false≢true (sym c.if-branch.false ∙ answer.1 (forced_by r.goal r.board (2 * c.loop-round.round + 1) m (omega arith) w)));
-}
+      goes = g.met.D.Decider.goes_on _ _ _ c.loop-round.invariant.goes c.forces.ensures.goes;
+      nothing = next_round r.goal r.board c.loop-round.round c.loop-round.invariant.nothing
+          (λ m w. false≢true (sym c.if-branch.false ∙ answer.1 (forced_by r.goal r.board (2 * c.loop-round.round + 1) m (omega arith) w)));
+    }
 
 pub unreachable-requires : goal.unreachable-requires
 unreachable-requires g c = let past = c.loop-round-test.false in c.loop-round.invariant.nothing c.args.limit (omega (arith, past)) c.requires.forced
