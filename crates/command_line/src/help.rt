@@ -113,7 +113,7 @@ and no lesser first move as good, or that there is none. Where the lines hold,
 the output is that answer. What they don't prove is refused: `Answer` where the
 first line is no answer, and `Claim at line 3` where a line isn't there, is no
 claim's or says what isn't so. No search is made but of three plies, and no
-table. A line has at most 8192 bytes, and the input at most 268435456.";
+table. A line has at most 8192 bytes.";
 
 pub const MOVES: &str = "List the lawful moves";
 
