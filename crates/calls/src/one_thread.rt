@@ -1,5 +1,5 @@
 //! The replies that one thread gives, from the text of a position: those of the program, for whoever can start no thread.
-ghost use Rattle.std.specs.Prelude.{◌≡◌, ◌≤◌, [], All, IfErr, IfOk, Ok, Err, vec_items};
+ghost use Rattle.std.specs.Prelude.{◌≡◌, ◌≤◌, [], All, IfErr, IfOk, None, Ok, Err, vec_items};
 ghost use Rattle.slots.specs.Promise.{IsSeatOf};
 ghost use Rattle.decision.specs.Answer.{IsFewest};
 ghost use Rattle.trees.specs.Best.{IsBest};
@@ -7,7 +7,8 @@ ghost use Rattle.wintree.specs.Plan.{Plan};
 ghost use Rattle.wintree.specs.Text.{text as tree_words};
 ghost use Rattle.command_line.specs.declared.line.Action.TheVariants.{Solve, Keys, Moves, Tree, Check};
 ghost use Rattle.replies.specs.Outcome.{Gives, FindsKeys, Solves};
-ghost use Rattle.replies.specs.Output.{IsOutput, ShowsAnswer, ShowsKeys, ShowsPlanFound, ShowsMoves, ShowsCheck};
+ghost use Rattle.rounds.specs.Limits.{IsRefusal};
+ghost use Rattle.replies.specs.Output.{fault_of, IsOutput, ShowsAnswer, ShowsKeys, ShowsPlanFound, ShowsMoves, ShowsCheck};
 ghost use Rattle.refusals.specs.Reply.{answered, line_of};
 
 use board::Position;
@@ -27,6 +28,26 @@ use slots::{Seat, Slots};
 use std::alloc::Allocator;
 use trees::{Wanted, build_tree};
 
+/// The limit in plies, a table and a seat there, for the caller's own thread.
+fn lent_alone<A: Allocator + Copy>(
+    alloc: A,
+    limits: Limits,
+) -> Result<(u8, Slots<MateLore, A>, Seat), SolveFault>
+    ensures limit { IfOk result (λ lent. lent.0 ≡ limits.limit) }
+    ensures accepted { IfOk result (λ _. fault_of limits ≡ None) }
+    ensures seat { IfOk result (λ lent. IsSeatOf lent.1 lent.2) }
+    ensures fault { IfErr result (IsRefusal limits.limit limits.workers limits.slots) }
+{
+    let Search {
+        limit,
+        workers,
+        slots,
+    } = search_of(limits);
+    let (table, mut seats) = make_table_in(alloc, limit, workers, slots)?;
+    let seat = seats.take_last();
+    Ok((limit, table, seat))
+}
+
 /// The answer within the limits, with the table that it was found over and a seat there.
 fn searched_alone<A: Allocator + Copy>(
     alloc: A,
@@ -38,13 +59,7 @@ fn searched_alone<A: Allocator + Copy>(
     ensures seat { IfOk result (λ found. IsSeatOf found.1 found.2) }
     ensures fault { IfErr result (λ fault. Solves goal position.now limits (Err fault)) }
 {
-    let Search {
-        limit,
-        workers,
-        slots,
-    } = search_of(limits);
-    let (table, mut seats) = make_table_in(alloc, limit, workers, slots)?;
-    let mut seat = seats.take_last();
+    let (limit, table, mut seat) = lent_alone(alloc, limits)?;
     let answer = solve_alone(&table, &mut seat, &Root::of(position, goal), limit);
     Ok((answer, table, seat))
 }
@@ -58,15 +73,12 @@ fn keys_found_alone<A: Allocator + Copy>(
 ) -> Result<Vec<Key, A>, SolveFault>
     ensures { FindsKeys goal position.now limits result }
 {
-    let Search {
-        limit,
-        workers,
-        slots,
-    } = search_of(limits);
-    let (table, mut seats) = make_table_in(alloc, limit, workers, slots)?;
-    let mut seat = seats.take_last();
+    let (limit, table, mut seat) = lent_alone(alloc, limits)?;
     let root = Root::of(position, goal);
-    keys_alone(alloc, &table, &mut seat, &root, limit).map_err(|_| SolveFault::NoMemory)
+    let Ok(keys) = keys_alone(alloc, &table, &mut seat, &root, limit) else {
+        return Err(SolveFault::NoMemory);
+    };
+    Ok(keys)
 }
 
 fn keys_shown<A: Allocator + Copy>(
