@@ -5,7 +5,7 @@ from typing import Optional
 
 # The sentences of refusals that rest on no position's text. The library has those that do.
 SENTENCES = {
-    "Limit": "--limit is 1 to 63 plies: a mate in M moves is --limit 2M-1",
+    "Limit": "--limit is 1 to 63 plies: a mate in M moves is --limit 2M-1, or --mate M, 1 to 32",
     "Slots": "--slots is 1 to 1048576",
     "TooLong": "a tree has at most 1048576 bytes, its line feed counted, and a line of a certificate 8192",
     "Deep": "more than 32 moves of the attacker are nested: no tree of 63 plies needs so many",

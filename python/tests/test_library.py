@@ -36,9 +36,8 @@ def bench_lines():
 
 def told_refusals():
     """The rows of the table of refusals: the name, what was given, in which bytes stand as \\xff, and the sentence."""
-    with open(os.path.join(TOP, "docs", "PROGRAM.md"), encoding="utf-8") as page:
-        text = page.read().partition("### What standard error says of a refusal")[2]
-    rows = re.findall(r"^\| `([\w ]+)` \| `(.+?)` \| (.+) \|$", text, flags=re.M)
+    with open(os.path.join(TOP, "tools", "sentences.tsv"), encoding="utf-8") as table:
+        rows = re.findall(r"^([\w ]+)\t`(.+)`\t(.+)$", table.read(), flags=re.M)
     return [(name, given.encode().decode("unicode_escape").encode("latin-1").decode(), sentence) for name, given, sentence in rows]
 
 
