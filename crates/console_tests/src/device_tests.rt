@@ -10,6 +10,8 @@ const FEN: &str = "k5/6/2K3/6/6/1R4 w";
 
 const TREE: &[u8] = b"c4c5{a6a5:b1a1#}\n";
 
+const CERTIFICATE: &[u8] = b"mate 3 c4c5\np.\naaaaaaaa-aaaaaa\n\n";
+
 /// The kinds of failures: the first is one that other readers and writers try again.
 const KINDS: [io::ErrorKind; 3] = [
     io::ErrorKind::Interrupted,
@@ -72,6 +74,26 @@ fn reads_nothing_after_a_failed_read(rt: HostRuntime) {
         for fails_at in [1, 2, 5] {
             let mut reader = Counted::new(Stumbling {
                 bytes: TREE,
+                calls: 0,
+                fails_at,
+                kind,
+            });
+            let mut writer = Counted::new(Vec::new(rt.alloc()));
+            let status = run_quietly(&rt, words.as_slice(), &mut reader, &mut writer);
+            assert_eq!(rt; status, 4);
+            assert_eq!(rt; reader.device.calls, fails_at);
+            assert_eq!(rt; writer.device.as_slice(), b"".as_slice());
+        }
+    }
+}
+
+#[test]
+fn reads_no_certificate_on_after_a_failed_read(rt: HostRuntime) {
+    let words = ["minimate", "verify", FEN];
+    for kind in KINDS {
+        for fails_at in [1, 4, 8] {
+            let mut reader = Counted::new(Stumbling {
+                bytes: CERTIFICATE,
                 calls: 0,
                 fails_at,
                 kind,
