@@ -34,6 +34,7 @@ SPOKEN = [
     ("#svg", "button", "Diagram as SVG"),
     ("#png", "button", "Diagram as PNG"),
     ("#print", "button", "Print"),
+    ("#verify", "button", "Verify a certificate"),
     ("#told", "region", "Answer"),
     ("#keylist", "group", "Keys: a press shows the tree"),
     ("#tree .fold", "button", "1 reply"),

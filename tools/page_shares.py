@@ -1,6 +1,7 @@
 """Parts of tools/check_page: what goes out of the page, and the page without a network, from a file and on paper."""
 
 import base64
+import json
 import os
 import re
 import struct
@@ -16,6 +17,20 @@ from page_drive import DONE, ONE_PAWN, TEXT, THIRD, VALUE, address, top
 SHOW_TREE = checking.loaded("show_tree")
 ONE_FILE = checking.loaded("one_file", os.path.join(top(), "one_file.py"))
 SVG = "{http://www.w3.org/2000/svg}"
+
+
+# What a paste hands over.
+PASTE = """(() => { const held = new DataTransfer(); held.setData("text/plain", {});
+document.body.dispatchEvent(new ClipboardEvent("paste", { clipboardData: held, bubbles: true, cancelable: true })); })()"""
+
+
+def verified(drive):
+    """A certificate that is pasted is checked, and one that is cut off is refused."""
+    whole = "mate 3 c4c5\np.\naaaaaaaa-aaaaaa\n\n"
+    for text, told in ((whole, "Certificate: mate 3 c4c5, checked in your browser"), (whole[:-1], "Certificate refused: Claim at line 4")):
+        drive.go(THIRD)
+        drive.tab.value(PASTE.replace("{}", json.dumps(text)))
+        drive.comes("what the certificate proves", lambda told=told: drive.said("proved")[: len(told)], told)
 
 
 def linked(drive):
