@@ -8,6 +8,7 @@ ghost use Rattle.wintree.specs.Text.{text as tree_words};
 ghost use Rattle.command_line.specs.declared.line.Action.TheVariants.{Solve, Keys, Moves, Tree, Check};
 ghost use Rattle.replies.specs.Outcome.{Gives, FindsKeys, Solves};
 ghost use Rattle.rounds.specs.Limits.{IsRefusal};
+ghost use Rattle.searcher.specs.Problems.{IsProblemOf};
 ghost use Rattle.replies.specs.Output.{fault_of, IsOutput, ShowsAnswer, ShowsKeys, ShowsPlanFound, ShowsMoves, ShowsCheck};
 ghost use Rattle.refusals.specs.Reply.{answered, line_of};
 
@@ -23,17 +24,19 @@ use replies::{
     tree_line, verdict_text,
 };
 use rounds::{SolveFault, make_table_in};
-use searcher::{Key, Root, keys_alone, solve_alone};
+use searcher::{Key, Problem, keys_alone, solve_alone};
 use slots::{Seat, Slots};
 use std::alloc::Allocator;
 use trees::{Wanted, build_tree};
 
-/// The limit in plies, a table and a seat there, for the caller's own thread.
+/// What is solved, a table and a seat there, for the caller's own thread.
 fn lent_alone<A: Allocator + Copy>(
     alloc: A,
+    position: &Position,
+    goal: Goal,
     limits: Limits,
-) -> Result<(u8, Slots<MateLore, A>, Seat), SolveFault>
-    ensures limit { IfOk result (λ lent. lent.0 ≡ limits.limit) }
+) -> Result<(Problem, Slots<MateLore, A>, Seat), SolveFault>
+    ensures problem { IfOk result (λ lent. IsProblemOf position.now goal limits.limit lent.0) }
     ensures accepted { IfOk result (λ _. fault_of limits ≡ None) }
     ensures seat { IfOk result (λ lent. IsSeatOf lent.1 lent.2) }
     ensures fault { IfErr result (IsRefusal limits.limit limits.workers limits.slots) }
@@ -44,8 +47,11 @@ fn lent_alone<A: Allocator + Copy>(
         slots,
     } = search_of(limits);
     let (table, mut seats) = make_table_in(alloc, limit, workers, slots)?;
+    let Some(problem) = Problem::of(position, goal, limit) else {
+        unreachable!()
+    };
     let seat = seats.take_last();
-    Ok((limit, table, seat))
+    Ok((problem, table, seat))
 }
 
 /// The answer within the limits, with the table that it was found over and a seat there.
@@ -59,8 +65,8 @@ fn searched_alone<A: Allocator + Copy>(
     ensures seat { IfOk result (λ found. IsSeatOf found.1 found.2) }
     ensures fault { IfErr result (λ fault. Solves goal position.now limits (Err fault)) }
 {
-    let (limit, table, mut seat) = lent_alone(alloc, limits)?;
-    let answer = solve_alone(&table, &mut seat, &Root::of(position, goal), limit);
+    let (problem, table, mut seat) = lent_alone(alloc, position, goal, limits)?;
+    let answer = solve_alone(&table, &mut seat, &problem);
     Ok((answer, table, seat))
 }
 
@@ -73,9 +79,8 @@ fn keys_found_alone<A: Allocator + Copy>(
 ) -> Result<Vec<Key, A>, SolveFault>
     ensures { FindsKeys goal position.now limits result }
 {
-    let (limit, table, mut seat) = lent_alone(alloc, limits)?;
-    let root = Root::of(position, goal);
-    let Ok(keys) = keys_alone(alloc, &table, &mut seat, &root, limit) else {
+    let (problem, table, mut seat) = lent_alone(alloc, position, goal, limits)?;
+    let Ok(keys) = keys_alone(alloc, &table, &mut seat, &problem) else {
         return Err(SolveFault::NoMemory);
     };
     Ok(keys)

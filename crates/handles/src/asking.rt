@@ -4,6 +4,7 @@ ghost use Rattle.board.specs.declared.game.Kind.{Kind as AKind};
 ghost use Rattle.rules.specs.Squares.{Ply};
 ghost use Rattle.slots.specs.Promise.{IsSize};
 ghost use Rattle.searcher.specs.Roots.{IsLimit};
+ghost use Rattle.searcher.specs.Problems.{IsProblemOf};
 ghost use Rattle.std.specs.Arc.{arc_value};
 ghost use Rattle.solver.specs.Stopping.{IsStopped, Hears};
 ghost use Rattle.handles.specs.Asked.{goal_of, letter_of, first_of, Tells, Replies, Asks, IsOpened};
@@ -11,9 +12,10 @@ ghost use Rattle.handles.specs.Stopping.{AsksFor, Sets, Looks};
 
 use crate::found::{First, Found};
 use crate::handle::{SolverHandle, StopHandle};
-use board::Kind;
+use board::{Kind, Position};
 use decision::Answer;
 use moves::{Goal, Move, read_sound};
+use searcher::Problem;
 use slots::MakeFault;
 use solver::{Place, Solver, StopSource};
 use std::alloc::Global;
@@ -43,14 +45,14 @@ pub(crate) fn goal_of(stale: bool) -> Goal
     if stale { Goal::MateOrStale } else { Goal::Mate }
 }
 
-/// The plies of a limit that is searched.
-pub(crate) fn plies_of(limit: u32) -> Option<u8>
-    ensures { MatchOption result (IsLimit limit → ⊥) (λ plies. (plies ≡ limit) × IsLimit limit) }
+/// The problem of a position, where the limit is one that is searched.
+pub(crate) fn problem_of(position: &Position, goal: Goal, limit: u32) -> Option<Problem>
+    ensures { MatchOption result (IsLimit limit → ⊥) (IsProblemOf position.now goal limit) }
 {
-    if limit < 1 || 63 < limit {
+    let Ok(limit) = u8::try_from(limit) else {
         return None;
-    }
-    Some(limit as u8)
+    };
+    Problem::of(position, goal, limit)
 }
 
 fn letter_of(promotion: Option<Kind>) -> u8
@@ -101,10 +103,10 @@ fn replied(solver: &mut Solver, fen: &[u8], goal: Goal, limit: u32, found: &mut 
     let Ok(position) = read_sound(fen) else {
         return REFUSED;
     };
-    let Some(plies) = plies_of(limit) else {
+    let Some(problem) = problem_of(&position, goal, limit) else {
         return LIMIT;
     };
-    match solver.solve(&position, goal, plies) {
+    match solver.solve(&problem) {
         Some(answer) => told(answer, found),
         None => STOPPED,
     }

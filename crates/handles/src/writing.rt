@@ -8,14 +8,13 @@ ghost use Rattle.handles.specs.Written.{KeysTold, TreeTold, IsTold, IsWhy, Write
 ghost use Rattle.handles.specs.Putting.{PutsTold, number_of, keys_number};
 
 use crate::asking::{
-    FORCED, LIMIT, NO_MEMORY, NO_SOLVER, NONE_WITHIN, REFUSED, STOPPED, goal_of, plies_of,
+    FORCED, LIMIT, NO_MEMORY, NO_SOLVER, NONE_WITHIN, REFUSED, STOPPED, goal_of, problem_of,
 };
 use crate::handle::SolverHandle;
-use board::Position;
 use decision::Answer;
-use moves::{Goal, read_sound};
+use moves::read_sound;
 use replies::{keys_text, none_line, tree_line};
-use searcher::{Halt, Key};
+use searcher::{Halt, Key, Problem};
 use solver::Solver;
 use std::alloc::Global;
 
@@ -70,21 +69,15 @@ fn keys_told(alloc: Global, limit: u8, keys: &[Key]) -> Result<Told, Halt>
     })
 }
 
-/// The keys of a position.
-fn keys_at(
-    alloc: Global,
-    solver: &mut Solver,
-    position: &Position,
-    goal: Goal,
-    limit: u8,
-) -> Result<Told, Halt>
-    requires { limit ≤ 63 }
+/// The keys of a problem.
+fn keys_at(alloc: Global, solver: &mut Solver, problem: &Problem) -> Result<Told, Halt>
     ensures hears { Hears solver.old solver.new }
-    ensures told { IfOk result (λ told. KeysTold goal position.now limit told.number told.text.items) }
+    ensures told { IfOk result (λ told. KeysTold problem.now.goal problem.now.position problem.now.limit
+        told.number told.text.items) }
     ensures halt { IfErr result (λ halt. halt ≡ stopped → IsStopped solver.new) }
 {
-    let keys = solver.keys(alloc, position, goal, limit)?;
-    keys_told(alloc, limit, keys.as_slice())
+    let keys = solver.keys(alloc, problem)?;
+    keys_told(alloc, problem.limit, keys.as_slice())
 }
 
 /// That nothing is forced.
@@ -102,21 +95,15 @@ fn none_told(alloc: Global, limit: u8) -> Result<Told, Halt>
 }
 
 /// The best tree, on a line, or that there is none.
-fn tree_at(
-    alloc: Global,
-    solver: &mut Solver,
-    position: &Position,
-    goal: Goal,
-    limit: u8,
-) -> Result<Told, Halt>
-    requires { limit ≤ 63 }
+fn tree_at(alloc: Global, solver: &mut Solver, problem: &Problem) -> Result<Told, Halt>
     ensures hears { Hears solver.old solver.new }
-    ensures told { IfOk result (λ told. TreeTold goal position.now limit told.number told.text.items) }
+    ensures told { IfOk result (λ told. TreeTold problem.now.goal problem.now.position problem.now.limit
+        told.number told.text.items) }
     ensures halt { IfErr result (λ halt. halt ≡ stopped → IsStopped solver.new) }
 {
-    match solver.solve(position, goal, limit) {
+    match solver.solve(problem) {
         Some(Answer::Mate { plies, .. }) => {
-            let tree = solver.tree(alloc, position, goal, plies)?;
+            let tree = solver.tree(alloc, &problem.position, problem.goal, plies)?;
             let text = tree_line(alloc, &tree)?;
             Ok(Told {
                 number: FORCED,
@@ -137,10 +124,10 @@ fn keys_found(alloc: Global, solver: &mut Solver, asked: &Asked<'_>) -> Result<T
     let Ok(position) = read_sound(asked.fen) else {
         return Err(REFUSED);
     };
-    let Some(limit) = plies_of(asked.limit) else {
+    let Some(problem) = problem_of(&position, goal_of(asked.stale), asked.limit) else {
         return Err(LIMIT);
     };
-    match keys_at(alloc, solver, &position, goal_of(asked.stale), limit) {
+    match keys_at(alloc, solver, &problem) {
         Ok(told) => Ok(told),
         Err(halt) => Err(number_of(halt)),
     }
@@ -155,10 +142,10 @@ fn tree_found(alloc: Global, solver: &mut Solver, asked: &Asked<'_>) -> Result<T
     let Ok(position) = read_sound(asked.fen) else {
         return Err(REFUSED);
     };
-    let Some(limit) = plies_of(asked.limit) else {
+    let Some(problem) = problem_of(&position, goal_of(asked.stale), asked.limit) else {
         return Err(LIMIT);
     };
-    match tree_at(alloc, solver, &position, goal_of(asked.stale), limit) {
+    match tree_at(alloc, solver, &problem) {
         Ok(told) => Ok(told),
         Err(halt) => Err(number_of(halt)),
     }

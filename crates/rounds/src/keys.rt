@@ -9,10 +9,10 @@ ghost use Rattle.rounds.specs.Going.{GoesOn, SeatsGoOn};
 
 use crate::bench::Search;
 use crate::gated::Gated;
-use crate::solving::look_at;
+use crate::solving::problem_of;
 use crate::task::{Gate, SolveFault, Task};
 use entry::MateLore;
-use searcher::{Decider, Halt, Key, Root, keys_of, plies_of};
+use searcher::{Decider, Halt, Key, Problem, Root, keys_of, plies_of};
 use slots::{Seat, Slots};
 use std::alloc::Global;
 use std::sync::Wait;
@@ -80,22 +80,20 @@ fn prepare<T: Gate, R: Threads + Wait + Sync>(
 fn own_keys<T: Gate>(
     alloc: Global,
     search: &Search<'_, T>,
-    limit: u8,
+    problem: &Problem,
     seat: &mut Seat,
 ) -> Result<Vec<Key>, Halt>
     requires seat { IsSeatOf search.now.slots.now seat.old }
-    requires root { IsRoot search.now.root }
-    requires limit { IsLimit limit }
     ensures seat { IsSeatOf search.now.slots.now seat.new }
     ensures goes_on { GoesOn T.keeps search.now.slots.now seat.old seat.new }
-    ensures lists { IfOk result (λ keys. ListsKeys search.now.root.goal search.now.root.board limit keys.items) }
+    ensures lists { IfOk result (λ keys. ListsKeys problem.now.goal problem.now.position problem.now.limit keys.items) }
 {
     let mut gated = Gated {
         slots: search.slots,
         seat,
         gate: search.gate,
     };
-    keys_of(alloc, &mut gated, &search.root, limit)
+    keys_of(alloc, &mut gated, problem)
 }
 
 /// Each first move that forces the goal within the limit, in order, with the fewest plies that it takes:
@@ -115,18 +113,15 @@ pub fn keys_over<T: Gate, R: Threads + Wait + Sync>(
     ensures seats { AreSeats slots.now (length seats.old.items) seats.new.items }
     ensures go_on { SeatsGoOn T.keeps slots.now seats.old.items seats.new.items }
 {
-    look_at(task.limit, seats.len())?;
-    let Task {
-        position,
-        goal,
-        limit,
-        gate,
-    } = *task;
-    let root = Root::of(position, goal);
-    let search = Search { root, slots, gate };
-    prepare(rt, &search, limit, seats);
+    let problem = problem_of(task, seats.len())?;
+    let search = Search {
+        root: Root::of(&problem.position, problem.goal),
+        slots,
+        gate: task.gate,
+    };
+    prepare(rt, &search, problem.limit, seats);
     let mut own = seats.take_last();
-    let keys = own_keys(alloc, &search, limit, &mut own);
+    let keys = own_keys(alloc, &search, &problem, &mut own);
     seats.push_reserved(own);
     keys.map_err(|_| SolveFault::NoMemory)
 }

@@ -2,6 +2,7 @@
 ghost use Rattle.std.specs.Prelude.{◌≡◌, ◌+◌, All, IfOk, IfErr, None, Some, length};
 ghost use Rattle.slots.specs.Promise.{slots_of, IsSeatOf, AllNew};
 ghost use Rattle.decision.specs.Answer.{IsAnswer};
+ghost use Rattle.searcher.specs.Problems.{IsProblemOf};
 ghost use Rattle.searcher.specs.Roots.{IsRoot, IsLimit};
 ghost use Rattle.rounds.specs.Limits.{limits_fault, IsRefusal, task_fault, IsTaskRefusal};
 ghost use Rattle.rounds.specs.Seats.{AreSeats, AreCallers};
@@ -14,7 +15,7 @@ use board::Position;
 use decision::{Answer, MOST_LIMIT};
 use entry::MateLore;
 use moves::Goal;
-use searcher::Root;
+use searcher::{Problem, Root};
 use slots::{MOST_SLOTS, Seat, Slots};
 use std::alloc::{AllocError, Allocator, Global};
 use std::marker::Brand;
@@ -54,18 +55,19 @@ fn limits_of(plies: u8, workers: u8, slots: usize) -> Result<Limits, SolveFault>
     })
 }
 
-/// The limit, and that there is a seat for each of 1 to 17 threads, or the first of them that isn't so.
-pub(crate) fn look_at(limit: u8, threads: usize) -> Result<(), SolveFault>
-    ensures accepted { IfOk result (λ _. task_fault limit threads ≡ None) }
-    ensures refused { IfErr result (λ fault. task_fault limit threads ≡ Some fault) }
+/// The problem of a task, for 1 to 17 threads, or the first fault of its limit and their number.
+pub(crate) fn problem_of<T: Gate>(task: &Task<'_, T>, threads: usize) -> Result<Problem, SolveFault>
+    ensures problem { IfOk result (IsProblemOf task.now.position.now task.now.goal task.now.limit) }
+    ensures accepted { IfOk result (λ _. task_fault task.now.limit threads ≡ None) }
+    ensures refused { IfErr result (λ fault. task_fault task.now.limit threads ≡ Some fault) }
 {
-    if limit < 1 || MOST_LIMIT < limit {
+    let Some(problem) = Problem::of(task.position, task.goal, task.limit) else {
         return Err(SolveFault::Limit);
-    }
+    };
     if threads < 1 || usize::from(MOST_WORKERS) + 1 < threads {
         return Err(SolveFault::Workers);
     }
-    Ok(())
+    Ok(problem)
 }
 
 /// A table of so many slots, with a seat for each worker and one for the caller's own thread: what a solve
@@ -153,13 +155,17 @@ pub fn solve_over<T: Gate, R: Threads + Wait + Sync>(
     ensures seats { AreSeats slots.now (length seats.old.items) seats.new.items }
     ensures go_on { SeatsGoOn T.keeps slots.now seats.old.items seats.new.items }
 {
-    look_at(task.limit, seats.len())?;
+    let Problem {
+        position,
+        goal,
+        limit,
+    } = problem_of(task, seats.len())?;
     let search = Search {
-        root: Root::of(task.position, task.goal),
+        root: Root::of(&position, goal),
         slots,
         gate: task.gate,
     };
-    let Ok(answer) = play_rounds(rt, alloc, &search, task.limit, seats) else {
+    let Ok(answer) = play_rounds(rt, alloc, &search, limit, seats) else {
         return Err(SolveFault::NoMemory);
     };
     Ok(answer)

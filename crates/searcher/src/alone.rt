@@ -1,14 +1,13 @@
 //! Solves and keys by the caller's own thread over a table, with no lock, where nothing stops it.
-ghost use Rattle.std.specs.Prelude.{◌≤◌, IfOk};
+ghost use Rattle.std.specs.Prelude.{IfOk};
 ghost use Rattle.slots.specs.Promise.{IsSeatOf};
 ghost use Rattle.decision.specs.Answer.{IsAnswer};
 ghost use Rattle.decision.specs.Calls.{Continues};
 ghost use Rattle.searcher.specs.Keys.{ListsKeys};
-ghost use Rattle.searcher.specs.Roots.{IsRoot};
 
 use crate::halt::Halt;
 use crate::keys::{Key, keys_of};
-use crate::root::Root;
+use crate::problem::Problem;
 use crate::searcher::Searcher;
 use crate::solving::solve_by;
 use decision::{Answer, Memory, Never, Scout};
@@ -20,14 +19,11 @@ use std::alloc::{AllocError, Allocator};
 pub fn solve_alone<A: Allocator>(
     slots: &Slots<MateLore, A>,
     seat: &mut Seat,
-    root: &Root,
-    limit: u8,
+    problem: &Problem,
 ) -> Answer
     requires seat { IsSeatOf slots.now seat.old }
-    requires root { IsRoot root.now }
-    requires limit { limit ≤ 63 }
     ensures continues { Continues slots.now seat.old seat.new }
-    ensures answer { IsAnswer root.now.goal root.now.board limit result }
+    ensures answer { IsAnswer problem.now.goal problem.now.position problem.now.limit result }
 {
     let mut scout = Scout {
         stop: Never,
@@ -38,7 +34,7 @@ pub fn solve_alone<A: Allocator>(
         seat,
         scout: &mut scout,
     };
-    let Some(answer) = solve_by(&mut searcher, root, limit) else {
+    let Some(answer) = solve_by(&mut searcher, problem) else {
         unreachable!()
     };
     answer
@@ -49,14 +45,11 @@ pub fn keys_alone<A: Allocator, B: Allocator>(
     alloc: B,
     slots: &Slots<MateLore, A>,
     seat: &mut Seat,
-    root: &Root,
-    limit: u8,
+    problem: &Problem,
 ) -> Result<Vec<Key, B>, AllocError>
     requires seat { IsSeatOf slots.now seat.old }
-    requires root { IsRoot root.now }
-    requires limit { limit ≤ 63 }
     ensures continues { Continues slots.now seat.old seat.new }
-    ensures keys { IfOk result (λ keys. ListsKeys root.now.goal root.now.board limit keys.items) }
+    ensures keys { IfOk result (λ keys. ListsKeys problem.now.goal problem.now.position problem.now.limit keys.items) }
 {
     let mut scout = Scout {
         stop: Never,
@@ -67,7 +60,7 @@ pub fn keys_alone<A: Allocator, B: Allocator>(
         seat,
         scout: &mut scout,
     };
-    match keys_of(alloc, &mut searcher, root, limit) {
+    match keys_of(alloc, &mut searcher, problem) {
         Ok(keys) => Ok(keys),
         Err(Halt::NoMemory) => Err(AllocError),
         Err(Halt::Stopped) => unreachable!(),

@@ -10,7 +10,7 @@ use crate::solver::Solver;
 use board::Position;
 use decision::Answer;
 use moves::Goal;
-use searcher::{Halt, Key, Root, Searcher, keys_of, solve_by};
+use searcher::{Halt, Key, Problem, Searcher, keys_of, solve_by};
 use std::alloc::Global;
 use trees::tree_by;
 use wintree::Tree;
@@ -18,31 +18,25 @@ use wintree::Tree;
 impl Solver {
     /// The fewest plies in which the side to move forces the goal, with the least first move, or that there are none up to the limit;
     /// or `None` where it was told to stop.
-    pub fn solve(&mut self, position: &Position, goal: Goal, limit: u8) -> Option<Answer>
-        requires { limit ≤ 63 }
+    pub fn solve(&mut self, problem: &Problem) -> Option<Answer>
         ensures hears { Hears self.old self.new }
-        ensures answer { MatchOption result (IsStopped self.new) (IsAnswer goal position.now limit) }
+        ensures answer { MatchOption result (IsStopped self.new)
+            (IsAnswer problem.now.goal problem.now.position problem.now.limit) }
     {
         let mut searcher = Searcher {
             slots: &self.slots,
             seat: &mut self.seat,
             scout: &mut self.scout,
         };
-        solve_by(&mut searcher, &Root::of(position, goal), limit)
+        solve_by(&mut searcher, problem)
     }
 
     /// Each first move that forces the goal within the limit, in order, with the fewest plies that it takes; or that it was told to stop,
     /// or that memory is wanting.
-    pub fn keys(
-        &mut self,
-        alloc: Global,
-        position: &Position,
-        goal: Goal,
-        limit: u8,
-    ) -> Result<Vec<Key>, Halt>
-        requires { limit ≤ 63 }
+    pub fn keys(&mut self, alloc: Global, problem: &Problem) -> Result<Vec<Key>, Halt>
         ensures hears { Hears self.old self.new }
-        ensures keys { IfOk result (λ keys. ListsKeys goal position.now limit keys.items) }
+        ensures keys { IfOk result
+            (λ keys. ListsKeys problem.now.goal problem.now.position problem.now.limit keys.items) }
         ensures halt { IfErr result (λ halt. halt ≡ Stopped → IsStopped self.new) }
     {
         let mut searcher = Searcher {
@@ -50,7 +44,7 @@ impl Solver {
             seat: &mut self.seat,
             scout: &mut self.scout,
         };
-        keys_of(alloc, &mut searcher, &Root::of(position, goal), limit)
+        keys_of(alloc, &mut searcher, problem)
     }
 
     /// The tree of a position whose fewest plies to the goal these are: at each turn of the attacker it takes the fewest plies, and then

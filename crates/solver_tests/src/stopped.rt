@@ -2,7 +2,7 @@
 use board::{Position, read_fen};
 use decision::Answer;
 use moves::{Goal, Move, Square};
-use searcher::{Halt, Key};
+use searcher::{Halt, Key, Problem};
 use solver::{Solver, StopSource};
 use std::alloc::Global;
 use std::process::Abort;
@@ -17,6 +17,14 @@ fn read<R: Abort>(rt: &R, text: &[u8]) -> Position {
         panic!(rt; "no position")
     };
     position
+}
+
+/// Whether the side to move mates within so many plies.
+fn problem<R: Abort>(rt: &R, position: &Position, limit: u8) -> Problem {
+    let Some(problem) = Problem::of(position, Goal::Mate, limit) else {
+        panic!(rt; "no problem")
+    };
+    problem
 }
 
 fn made<R: Abort>(rt: &R, alloc: Global) -> (Solver, StopSource) {
@@ -40,18 +48,18 @@ fn answers_again_and_again(rt: HostRuntime) {
         plies: 3,
         first: KEY,
     });
-    assert!(rt; solver.solve(&third, Goal::Mate, 3) == mate);
-    assert!(rt; solver.solve(&third, Goal::Mate, 1) == Some(Answer::NoneWithin(1)));
-    assert!(rt; solver.solve(&third, Goal::Mate, 5) == mate);
+    assert!(rt; solver.solve(&problem(&rt, &third, 3)) == mate);
+    assert!(rt; solver.solve(&problem(&rt, &third, 1)) == Some(Answer::NoneWithin(1)));
+    assert!(rt; solver.solve(&problem(&rt, &third, 5)) == mate);
     let none = read(&rt, NONE_MATES);
-    assert!(rt; solver.solve(&none, Goal::Mate, 9) == Some(Answer::NoneWithin(9)));
+    assert!(rt; solver.solve(&problem(&rt, &none, 9)) == Some(Answer::NoneWithin(9)));
 }
 
 #[test]
 fn finds_keys_and_builds_a_tree(rt: HostRuntime) {
     let (mut solver, _source) = made(&rt, rt.alloc());
     let third = read(&rt, ROOK_MATES_IN_THREE);
-    let Ok(keys) = solver.keys(rt.alloc(), &third, Goal::Mate, 3) else {
+    let Ok(keys) = solver.keys(rt.alloc(), &problem(&rt, &third, 3)) else {
         panic!(rt; "no keys")
     };
     let expected = [Key {
@@ -66,12 +74,12 @@ fn is_stopped_until_it_may_go_on(rt: HostRuntime) {
     let (mut solver, mut source) = made(&rt, rt.alloc());
     let none = read(&rt, NONE_MATES);
     source.stop();
-    assert!(rt; solver.solve(&none, Goal::Mate, 9) == None);
+    assert!(rt; solver.solve(&problem(&rt, &none, 9)) == None);
     // a stop is heard where four plies are left, so first in the round of five
     let place = source.place();
     assert_eq!(rt; place.none_within, 4);
-    let keys = solver.keys(rt.alloc(), &none, Goal::Mate, 9);
+    let keys = solver.keys(rt.alloc(), &problem(&rt, &none, 9));
     assert!(rt; matches!(&keys, Err(Halt::Stopped)));
     source.go_on();
-    assert!(rt; solver.solve(&none, Goal::Mate, 9) == Some(Answer::NoneWithin(9)));
+    assert!(rt; solver.solve(&problem(&rt, &none, 9)) == Some(Answer::NoneWithin(9)));
 }
