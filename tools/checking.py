@@ -83,7 +83,9 @@ def need(tool):
 
 
 def find_program(path):
-    """The launcher builds, if need be; then what it would start is run, so that it needn't look at the sources each time."""
+    """The launcher builds, if need be; then what it would start is run, so that it needn't look at the sources each time. It is started as
+    the launcher starts a search: with a table in large pages."""
+    os.environ.setdefault("GLIBC_TUNABLES", "glibc.malloc.hugetlb=1")
     if path:
         return executable(path)
     if subprocess.run([os.path.join(TOP, "minimate"), "moves", "k5/6/6/6/6/5K w"], stdout=subprocess.DEVNULL, check=False).returncode:
