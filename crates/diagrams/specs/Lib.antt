@@ -1,5 +1,5 @@
 -- to be believed
 pub mod Places
+pub mod Drawing
 pub mod Shapes
 pub mod Pictures
-pub mod Symbols

@@ -1,12 +1,15 @@
-//! Diagrams of positions: as text with symbols of chess, and as pictures that stand alone.
+//! Diagrams of positions: as text, and as pictures that stand alone.
 #![tactic(auto)]
 
 mod diagram;
+mod drawing;
+mod look;
+mod place;
 mod shapes;
 mod square;
 mod svg;
-mod symbols;
 
 pub use diagram::Diagram;
+pub use drawing::board_drawn;
+pub use look::Look;
 pub use svg::svg_of;
-pub use symbols::symbols_of;

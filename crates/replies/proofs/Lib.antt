@@ -1,4 +1,3 @@
 pub mod ReplyLemmas
 mod VerdictLemmas
-mod DrawingLemmas
 mod PlayingLemmas

@@ -1,5 +1,4 @@
 -- to be believed
-pub mod Drawing
 pub mod Output
 pub mod Verdict
 pub mod Playing

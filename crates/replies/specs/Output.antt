@@ -27,7 +27,9 @@ use Rattle.wintree.specs.Offset.{IsFaultOf}
 use Rattle.wintree.specs.Plan.{Plan, depth}
 use Rattle.wintree.specs.Text.{TreeText, text as plan_text}
 use Rattle.wintree.specs.Wins.{Wins, height}
-use Rattle.replies.specs.Drawing.{board_drawn}
+use Rattle.board.specs.declared.game.Side.TheVariants.{White}
+use Rattle.diagrams.specs.Drawing.{board_drawn}
+use Rattle.diagrams.specs.declared.look.Look.TheVariants.{Letters}
 use Rattle.devices.specs.Input.{without_line_feed}
 use Rattle.refusals.specs.Refusal.{refusal_of_fen, refusal_of_tree}
 use Rattle.refusals.specs.Reply.{Reply, answered, refused, line_of}
@@ -137,7 +139,7 @@ abbrev pub Shows : PlainBoard → Action → List ℕ → Reply → Type 0
 Shows b (Solve goal limits) input reply = ShowsAnswer goal b limits reply
 Shows b (Keys goal limits) input reply = ShowsKeys goal b limits reply
 Shows b Moves input reply = ShowsMoves b reply
-Shows b Show input reply = reply ≡ answered (board_drawn b)
+Shows b Show input reply = reply ≡ answered (board_drawn Letters White b)
 Shows b (Tree goal limits) input reply = ShowsPlanFound goal b limits reply
 Shows b (Check goal) input reply = ShowsCheck goal b input reply
 

@@ -2,7 +2,6 @@
 #![tactic(auto)]
 
 mod certified;
-mod drawing;
 mod played;
 mod replying;
 mod trouble;

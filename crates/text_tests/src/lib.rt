@@ -2,6 +2,8 @@
 #![tactic(auto)]
 
 #[cfg(test)]
+mod diagrams;
+#[cfg(test)]
 mod entries;
 #[cfg(test)]
 mod entries_kept;

@@ -5,7 +5,7 @@ use Rattle.rounds.proofs.Lists.{All-snoc, All-popped}
 use Rattle.rounds.proofs.Going.{seats_none, seats_last, seats_more}
 use Rattle.rounds.proofs.keys.keys_over.Goals as goal
 
-pub returns-in_err-problem-clause-go_on : goal.returns-in_err-look_at-clause-go_on
+pub returns-in_err-problem-clause-go_on : goal.returns-in_err-problem-clause-go_on
 returns-in_err-problem-clause-go_on g c = seats_none g.T.Gate.keeps c.args.slots.now c.args.seats.now.items c.requires
 
 pub own_keys-keys-requires-clause-seat : goal.own_keys-keys-requires-clause-seat

@@ -1,0 +1,8 @@
+-- The files so far are drawn.
+use Rattle.std.proofs.Common.{◌≡◌, ◌++◌, string_bytes}
+use Rattle.std.specs.List.{flat_map, range_with_len}
+use Rattle.diagrams.specs.Drawing.{file_drawn}
+use Rattle.diagrams.proofs.drawing.draw_files.Given as goal
+
+abbrev pub invariant-loop-column : goal.invariant-loop-column
+invariant-loop-column l = string_bytes l.text ≡ string_bytes l.initial.text ++ flat_map (file_drawn l.game l.below) (range_with_len 0 l.column)

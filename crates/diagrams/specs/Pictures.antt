@@ -1,0 +1,133 @@
+-- A diagram as a picture in Scalable Vector Graphics, made of shapes alone, on white paper.
+use Rattle.std.specs.Prelude.{ℕ, ◌+◌, ◌*◌, ◌%◌, ◌==◌, List, [], ◌++◌, Option, None, Some, IfSome, codes, if◌then◌else◌}
+use Rattle.std.specs.List.{flat_map, range_with_len}
+use Rattle.std.specs.Fmt.{decimal}
+use Rattle.board.specs.declared.game.Side.{Side}
+use Rattle.board.specs.declared.game.Side.TheVariants.{White, Black}
+use Rattle.board.specs.declared.game.Unit.{Unit as Man}
+use Rattle.board.specs.Games.{width_of}
+use Rattle.rules.specs.Squares.{Place, Ply, IsOnBoard, unit_at}
+use Rattle.diagrams.specs.Drawing.{mover_drawn}
+use Rattle.diagrams.specs.Places.{column_of, row_of, place_in}
+use Rattle.diagrams.specs.Shapes.{outline, detail, file_sign, rank_sign}
+use Rattle.diagrams.specs.declared.diagram.Diagram.{Diagram}
+
+-- how many squares the board has in a row
+abbrev pub width : Diagram → ℕ
+width d = width_of d.position.now.game
+
+-- how far a column is from the left, and a row from above: each is 100 wide, behind an edge of 44 and below one of 4
+abbrev pub left_of : ℕ → ℕ
+left_of column = 44 + 100 * column
+
+abbrev pub top_of : ℕ → ℕ
+top_of row = 4 + 100 * row
+
+-- a1 is dark, and so is each second square from there
+abbrev pub ground : Place → ℕ → ℕ → List ℕ
+ground s row column =
+    if (s.file + s.rank) % 2 == 0
+    then codes "<path d=\"M" ++ (decimal (left_of column) ++ (codes " " ++ (decimal (top_of row) ++ codes "h100v100h-100z\" fill=\"#c9cfbf\"/>\n")))
+    else []
+
+-- the colours of a side's units
+abbrev pub colours : Side → List ℕ
+colours White = codes "fill=\"#fff\" stroke=\"#23251f\""
+colours Black = codes "fill=\"#2b2d29\" stroke=\"#0c0d0b\""
+
+-- the colour inside them
+abbrev pub inner_colour : Side → List ℕ
+inner_colour White = codes "#23251f"
+inner_colour Black = codes "#d9d9cd"
+
+-- a group of shapes in these colours, so many from the left and from above
+abbrev pub group : ℕ → ℕ → List ℕ → List ℕ
+group x y coloured = codes "<g transform=\"translate(" ++ (decimal x ++ (codes " " ++ (decimal y ++ (codes ")\" " ++ (coloured
+    ++ codes " stroke-width=\"3.2\" stroke-linejoin=\"round\" stroke-linecap=\"round\">")))))
+
+-- an outline with what it stands on, and what is drawn inside, in its colour
+abbrev pub unit_shape : List ℕ → List ℕ → List ℕ → List ℕ
+unit_shape outlined drawn_inside colour =
+    codes "<path d=\"" ++ (outlined ++ (codes "M22 88h56v-7q0-5-6-6H28q-6 1-6 6z\"/><path d=\"" ++ (drawn_inside
+    ++ (codes "\" fill=\"none\" stroke=\"" ++ (colour ++ codes "\"/></g>\n")))))
+
+-- a unit on a square
+abbrev pub unit_picture : Man → ℕ → ℕ → List ℕ
+unit_picture u row column =
+    group (left_of column) (top_of row) (colours u.side) ++ unit_shape (outline u.kind) (detail u.kind) (inner_colour u.side)
+
+-- the picture of what is there, if something is
+abbrev pub picture_of : {A : Type 0} → (A → List ℕ) → Option A → List ℕ
+picture_of drawn None = []
+picture_of drawn (Some x) = drawn x
+
+-- the square in a row and a column
+abbrev pub square_picture : Diagram → ℕ → ℕ → List ℕ
+square_picture d row column =
+    let s = place_in d.position.now.game d.below row column in
+    ground s row column ++ picture_of (λ u. unit_picture u row column) (unit_at d.position.now s)
+
+-- a row of squares
+abbrev pub row_picture : Diagram → ℕ → List ℕ
+row_picture d row = flat_map (square_picture d row) (range_with_len 0 (width d))
+
+-- a sign, its corner so many from the left and from above
+abbrev pub sign_picture : ℕ → ℕ → List ℕ → List ℕ
+sign_picture x y sign =
+    codes "<path transform=\"translate(" ++ (decimal x ++ (codes " " ++ (decimal y ++ (codes ")\" d=\"" ++ (sign
+    ++ codes "\" fill=\"none\" stroke=\"#23251f\" stroke-width=\"3\" stroke-linecap=\"round\"/>\n")))))
+
+-- the sign of the rank in a row, at the left
+abbrev pub rank_picture : Diagram → ℕ → List ℕ
+rank_picture d row = sign_picture 6 (39 + 100 * row) (rank_sign (row_of d.position.now.game d.below row))
+
+-- the sign of the file in a column, below the board
+abbrev pub file_picture : Diagram → ℕ → List ℕ
+file_picture d column = sign_picture (79 + 100 * column) (9 + 100 * width d) (file_sign (column_of d.position.now.game d.below column))
+
+-- the signs of the n-th row and the n-th column
+abbrev pub signs_picture : Diagram → ℕ → List ℕ
+signs_picture d n = rank_picture d n ++ file_picture d n
+
+-- how far the middle of a square is from the left, and from above
+abbrev pub middle_x : Diagram → Place → ℕ
+middle_x d s = 94 + 100 * column_of d.position.now.game d.below s.file
+
+abbrev pub middle_y : Diagram → Place → ℕ
+middle_y d s = 54 + 100 * row_of d.position.now.game d.below s.rank
+
+-- the arrow, if there is one, goes from square to square of the board
+abbrev pub AreOnBoard : Diagram → Type 0
+AreOnBoard d = IfSome d.arrow (λ m. IsOnBoard d.position.now.game m.from × IsOnBoard d.position.now.game m.to)
+
+-- an arrow from a point to another
+abbrev pub arrow : ℕ → ℕ → ℕ → ℕ → List ℕ
+arrow x y to_x to_y =
+    codes "<marker id=\"head\" viewBox=\"0 0 10 10\" refX=\"7\" refY=\"5\" markerWidth=\"4\" markerHeight=\"4\" orient=\"auto\"><path d=\"M0 0L10 5 0 10z\" fill=\"#b3261e\"/></marker>\n<path d=\"M"
+    ++ (decimal x ++ (codes " " ++ (decimal y ++ (codes "L" ++ (decimal to_x ++ (codes " " ++ (decimal to_y
+    ++ codes "\" fill=\"none\" stroke=\"#b3261e\" stroke-width=\"9\" marker-end=\"url(#head)\"/>\n")))))))
+
+-- the arrow of a move
+abbrev pub arrow_picture : Diagram → Ply → List ℕ
+arrow_picture d m = arrow (middle_x d m.from) (middle_y d m.from) (middle_x d m.to) (middle_y d m.to)
+
+-- the head of the file: how wide and high it is
+abbrev pub head : ℕ → List ℕ
+head side =
+    codes "<?xml version=\"1.0\" encoding=\"UTF-8\"?>\n<svg xmlns=\"http://www.w3.org/2000/svg\" width=\"" ++ (decimal side ++ (codes "\" height=\"" ++ (decimal side
+    ++ (codes "\" viewBox=\"0 0 " ++ (decimal side ++ (codes " " ++ (decimal side ++ codes "\" role=\"img\">\n")))))))
+
+-- who moves, for who hears a picture, and the paper
+abbrev pub paper : ℕ → List ℕ → List ℕ
+paper side mover =
+    codes "<title>" ++ (mover ++ (codes "</title>\n<path d=\"M0 0h" ++ (decimal side ++ (codes "v" ++ (decimal side ++ codes "H0z\" fill=\"#fff\"/>\n")))))
+
+-- the line around a board of this width and height
+abbrev pub frame : ℕ → List ℕ
+frame side = codes "<path d=\"M44 4h" ++ (decimal side ++ (codes "v" ++ (decimal side ++ codes "H44z\" fill=\"none\" stroke=\"#23251f\" stroke-width=\"3\"/>\n")))
+
+-- the squares row by row, the frame, the signs of ranks and files, and the arrow
+abbrev pub picture : Diagram → List ℕ
+picture d =
+    head (48 + 100 * width d) ++ (paper (48 + 100 * width d) (mover_drawn d.position.now.mover) ++ (flat_map (row_picture d) (range_with_len 0 (width d)) ++ (frame (100 * width d)
+    ++ (flat_map (signs_picture d) (range_with_len 0 (width d)) ++ (picture_of (arrow_picture d) d.arrow ++ codes "</svg>\n")))))

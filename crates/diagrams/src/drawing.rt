@@ -1,0 +1,127 @@
+//! A diagram as text.
+ghost use Rattle.std.specs.Prelude.{◌≡◌, ◌++◌, ◌<◌, IfOk, OnOk, string_bytes};
+ghost use Rattle.std.specs.List.{flat_map, range_with_len};
+ghost use Rattle.board.specs.Games.{width_of};
+ghost use Rattle.diagrams.specs.declared.look.Look.TheVariants.{Symbols};
+ghost use Rattle.diagrams.specs.Drawing.{unit_drawn, sign_on, square_drawn, row_drawn, file_drawn, mover_drawn, board_drawn};
+
+use crate::look::Look;
+use crate::place::{column_of, row_of};
+use board::{Game, Kind, Position, Side, Unit};
+use std::alloc::{AllocError, Global};
+use std::fmt::Write;
+
+fn symbol(unit: Unit) -> &'static str
+    ensures { result.now ≡ unit_drawn Symbols unit }
+{
+    match (unit.side, unit.kind) {
+        (Side::White, Kind::King) => "\u{2654}",
+        (Side::White, Kind::Queen) => "\u{2655}",
+        (Side::White, Kind::Rook) => "\u{2656}",
+        (Side::White, Kind::Bishop) => "\u{2657}",
+        (Side::White, Kind::Knight) => "\u{2658}",
+        (Side::White, Kind::Pawn) => "\u{2659}",
+        (Side::Black, Kind::King) => "\u{265A}",
+        (Side::Black, Kind::Queen) => "\u{265B}",
+        (Side::Black, Kind::Rook) => "\u{265C}",
+        (Side::Black, Kind::Bishop) => "\u{265D}",
+        (Side::Black, Kind::Knight) => "\u{265E}",
+        (Side::Black, Kind::Pawn) => "\u{265F}",
+    }
+}
+
+/// Draws what stands on a square, or a point.
+fn draw_unit(text: &mut String, look: Look, unit: Option<Unit>) -> Result<(), AllocError>
+    ensures { OnOk result (string_bytes text.new ≡ string_bytes text.old ++ sign_on look unit) }
+{
+    let Some(unit) = unit else {
+        return text.push_str(".");
+    };
+    match look {
+        Look::Letters => text.push(unit.letter() as char),
+        Look::Symbols => text.push_str(symbol(unit)),
+    }
+}
+
+/// What is drawn: a board as one side sees it.
+#[derive(Drop)]
+struct View<'a> {
+    position: &'a Position,
+    below: Side,
+    look: Look,
+}
+
+/// Draws a row: its rank's number, and its squares.
+fn draw_row(text: &mut String, view: &View<'_>, row: u8) -> Result<(), AllocError>
+    requires { row < width_of view.now.position.now.game }
+    ensures { OnOk result (string_bytes text.new
+        ≡ string_bytes text.old ++ row_drawn view.now.look view.now.below view.now.position.now row) }
+{
+    let game = view.position.game();
+    let rank = row_of(game, view.below, row);
+    write!(text, " {} ", rank + 1)?;
+    for column in 0..game.width() {
+        let file = column_of(game, view.below, column);
+        text.push(' ')?;
+        draw_unit(
+            text,
+            view.look,
+            view.position.unit(file + game.width() * rank),
+        )?;
+    }
+    text.push('\n')
+}
+
+fn draw_rows(text: &mut String, view: &View<'_>) -> Result<(), AllocError>
+    ensures { OnOk result (string_bytes text.new ≡ string_bytes text.old
+        ++ flat_map (row_drawn view.now.look view.now.below view.now.position.now) (range_with_len 0 (width_of view.now.position.now.game))) }
+{
+    for row in 0..view.position.game().width() {
+        draw_row(text, view, row)?;
+    }
+    Ok(())
+}
+
+fn draw_files(text: &mut String, game: Game, below: Side) -> Result<(), AllocError>
+    ensures { OnOk result (string_bytes text.new
+        ≡ string_bytes text.old ++ flat_map (file_drawn game below) (range_with_len 0 (width_of game))) }
+{
+    for column in 0..game.width() {
+        text.push(' ')?;
+        text.push((b'a' + column_of(game, below, column)) as char)?;
+    }
+    Ok(())
+}
+
+pub(crate) fn mover_drawn(side: Side) -> &'static str
+    ensures { result.now ≡ mover_drawn side }
+{
+    match side {
+        Side::White => "White to move",
+        Side::Black => "Black to move",
+    }
+}
+
+/// Draws the board as the side below sees it, with its ranks, its files and who moves.
+pub fn board_drawn(
+    alloc: Global,
+    position: &Position,
+    below: Side,
+    look: Look,
+) -> Result<String, AllocError>
+    ensures { IfOk result (λ text. string_bytes text ≡ board_drawn look below position.now) }
+{
+    let mut text = String::new(alloc);
+    let view = View {
+        position,
+        below,
+        look,
+    };
+    draw_rows(&mut text, &view)?;
+    text.push_str("   ")?;
+    draw_files(&mut text, position.game(), below)?;
+    text.push_str("      ")?;
+    text.push_str(mover_drawn(position.mover()))?;
+    text.push('\n')?;
+    Ok(text)
+}

@@ -1,0 +1,166 @@
+//! A diagram as a picture in Scalable Vector Graphics.
+ghost use Rattle.std.specs.Prelude.{◌≡◌, ℕ, ◌++◌, ◌<◌, List, IfOk, OnOk, string_bytes};
+ghost use Rattle.std.specs.List.{flat_map, range_with_len};
+ghost use Rattle.board.specs.Games.{width_of};
+ghost use Rattle.rules.specs.Squares.{IsOnBoard};
+ghost use Rattle.diagrams.specs.Pictures.{width, row_picture, sign_picture, rank_picture, file_picture, signs_picture, middle_x, middle_y, AreOnBoard, arrow, arrow_picture, picture_of, head, paper, frame, picture};
+
+use crate::diagram::Diagram;
+use crate::drawing::mover_drawn;
+use crate::place::{column_of, row_of};
+use crate::shapes::{file_sign, rank_sign};
+use crate::square::draw_square;
+use moves::{Move, Square};
+use std::alloc::{AllocError, Global};
+use std::fmt::Write;
+
+fn draw_row(text: &mut String, diagram: &Diagram<'_>, row: u8) -> Result<(), AllocError>
+    requires { row < width diagram.now }
+    ensures { OnOk result (string_bytes text.new ≡ string_bytes text.old ++ row_picture diagram.now row) }
+{
+    for column in 0..diagram.position.game().width() {
+        draw_square(text, diagram, row, column)?;
+    }
+    Ok(())
+}
+
+fn draw_rows(text: &mut String, diagram: &Diagram<'_>) -> Result<(), AllocError>
+    ensures { OnOk result (string_bytes text.new
+        ≡ string_bytes text.old ++ flat_map (row_picture diagram.now) (range_with_len 0 (width diagram.now))) }
+{
+    for row in 0..diagram.position.game().width() {
+        draw_row(text, diagram, row)?;
+    }
+    Ok(())
+}
+
+fn draw_sign(text: &mut String, x: u16, y: u16, sign: &str) -> Result<(), AllocError>
+    ensures { OnOk result (string_bytes text.new ≡ string_bytes text.old ++ sign_picture x y sign.now) }
+{
+    write!(
+        text,
+        "<path transform=\"translate({x} {y})\" d=\"{sign}\" fill=\"none\" stroke=\"#23251f\" stroke-width=\"3\" stroke-linecap=\"round\"/>\n"
+    )
+}
+
+/// Draws the sign of the rank in a row.
+fn draw_rank(text: &mut String, diagram: &Diagram<'_>, row: u8) -> Result<(), AllocError>
+    requires { row < width diagram.now }
+    ensures { OnOk result (string_bytes text.new ≡ string_bytes text.old ++ rank_picture diagram.now row) }
+{
+    let sign = rank_sign(row_of(diagram.position.game(), diagram.below, row));
+    draw_sign(text, 6, 39 + 100 * u16::from(row), sign)
+}
+
+/// Draws the sign of the file in a column.
+fn draw_file(text: &mut String, diagram: &Diagram<'_>, column: u8) -> Result<(), AllocError>
+    requires { column < width diagram.now }
+    ensures { OnOk result (string_bytes text.new ≡ string_bytes text.old ++ file_picture diagram.now column) }
+{
+    let game = diagram.position.game();
+    let sign = file_sign(column_of(game, diagram.below, column));
+    let below = 9 + 100 * u16::from(game.width());
+    draw_sign(text, 79 + 100 * u16::from(column), below, sign)
+}
+
+fn draw_signs(text: &mut String, diagram: &Diagram<'_>) -> Result<(), AllocError>
+    ensures { OnOk result (string_bytes text.new
+        ≡ string_bytes text.old ++ flat_map (signs_picture diagram.now) (range_with_len 0 (width diagram.now))) }
+{
+    for n in 0..diagram.position.game().width() {
+        draw_rank(text, diagram, n)?;
+        draw_file(text, diagram, n)?;
+    }
+    Ok(())
+}
+
+/// How far the middle of a square is from the left.
+fn middle_x(diagram: &Diagram<'_>, square: Square) -> u16
+    requires { IsOnBoard diagram.now.position.now.game square }
+    ensures { result ≡ middle_x diagram.now square }
+{
+    94 + 100 * u16::from(column_of(diagram.position.game(), diagram.below, square.file))
+}
+
+/// How far it is from above.
+fn middle_y(diagram: &Diagram<'_>, square: Square) -> u16
+    requires { IsOnBoard diagram.now.position.now.game square }
+    ensures { result ≡ middle_y diagram.now square }
+{
+    54 + 100 * u16::from(row_of(diagram.position.game(), diagram.below, square.rank))
+}
+
+fn draw_arrow(text: &mut String, x: u16, y: u16, to_x: u16, to_y: u16) -> Result<(), AllocError>
+    ensures { OnOk result (string_bytes text.new ≡ string_bytes text.old ++ arrow x y to_x to_y) }
+{
+    write!(
+        text,
+        "<marker id=\"head\" viewBox=\"0 0 10 10\" refX=\"7\" refY=\"5\" markerWidth=\"4\" markerHeight=\"4\" orient=\"auto\"><path d=\"M0 0L10 5 0 10z\" fill=\"#b3261e\"/></marker>\n<path d=\"M{x} {y}L{to_x} {to_y}\" fill=\"none\" stroke=\"#b3261e\" stroke-width=\"9\" marker-end=\"url(#head)\"/>\n"
+    )
+}
+
+fn draw_move(text: &mut String, diagram: &Diagram<'_>, m: Move) -> Result<(), AllocError>
+    requires from { IsOnBoard diagram.now.position.now.game m.from }
+    requires to { IsOnBoard diagram.now.position.now.game m.to }
+    ensures { OnOk result (string_bytes text.new ≡ string_bytes text.old ++ arrow_picture diagram.now m) }
+{
+    let (x, y) = (middle_x(diagram, m.from), middle_y(diagram, m.from));
+    let (to_x, to_y) = (middle_x(diagram, m.to), middle_y(diagram, m.to));
+    draw_arrow(text, x, y, to_x, to_y)
+}
+
+fn draw_arrow_of(text: &mut String, diagram: &Diagram<'_>) -> Result<(), AllocError>
+    requires { AreOnBoard diagram.now }
+    ensures { OnOk result (string_bytes text.new
+        ≡ string_bytes text.old ++ picture_of (arrow_picture diagram.now) diagram.now.arrow) }
+{
+    if let Some(m) = diagram.arrow {
+        draw_move(text, diagram, m)?;
+    }
+    Ok(())
+}
+
+fn draw_head(text: &mut String, side: u16) -> Result<(), AllocError>
+    ensures { OnOk result (string_bytes text.new ≡ string_bytes text.old ++ head side) }
+{
+    write!(
+        text,
+        "<?xml version=\"1.0\" encoding=\"UTF-8\"?>\n<svg xmlns=\"http://www.w3.org/2000/svg\" width=\"{side}\" height=\"{side}\" viewBox=\"0 0 {side} {side}\" role=\"img\">\n"
+    )
+}
+
+fn draw_paper(text: &mut String, side: u16, mover: &str) -> Result<(), AllocError>
+    ensures { OnOk result (string_bytes text.new ≡ string_bytes text.old ++ paper side mover.now) }
+{
+    write!(
+        text,
+        "<title>{mover}</title>\n<path d=\"M0 0h{side}v{side}H0z\" fill=\"#fff\"/>\n"
+    )
+}
+
+fn draw_frame(text: &mut String, side: u16) -> Result<(), AllocError>
+    ensures { OnOk result (string_bytes text.new ≡ string_bytes text.old ++ frame side) }
+{
+    write!(
+        text,
+        "<path d=\"M44 4h{side}v{side}H44z\" fill=\"none\" stroke=\"#23251f\" stroke-width=\"3\"/>\n"
+    )
+}
+
+/// The diagram as the text of a file that stands alone, of shapes and no fonts.
+pub fn svg_of(alloc: Global, diagram: &Diagram<'_>) -> Result<String, AllocError>
+    requires { AreOnBoard diagram.now }
+    ensures { IfOk result (λ text. string_bytes text ≡ picture diagram.now) }
+{
+    let mut text = String::new(alloc);
+    let position = diagram.position;
+    let side = 100 * u16::from(position.game().width());
+    draw_head(&mut text, 48 + side)?;
+    draw_paper(&mut text, 48 + side, mover_drawn(position.mover()))?;
+    draw_rows(&mut text, diagram)?;
+    draw_frame(&mut text, side)?;
+    draw_signs(&mut text, diagram)?;
+    draw_arrow_of(&mut text, diagram)?;
+    text.push_str("</svg>\n")?;
+    Ok(text)
+}
