@@ -79,6 +79,41 @@ braces each lawful reply in order, a colon and the tree that meets it. At each
 turn the attacker's move is the least of those that force the goal in the fewest
 plies. `minimate check` checks it.";
 
+pub const SOLUTION: &str = "Write the solution of a problem";
+
+pub const SOLUTION_EXAMPLE: &str = "Example: minimate solution --limit 3 'k5/6/2K3/6/6/1R4 w'";
+
+pub const SOLUTION_MORE: &str = "\
+The output is what a composer publishes, or `none within 3`: each key, with an
+exclamation mark, then what it threatens or `zugzwang`, and below it each reply
+of the defender with the best line behind it and its duals. More keys than one
+are cooks.
+
+More examples:
+  minimate solution --mate 2 --set --tries 'k5/6/2K3/6/6/1R4 w'
+  minimate solution --mate 2 --figurines 'k5/6/2K3/6/6/1R4 w'";
+
+pub const SET: &str = "Tell the set play too";
+
+pub const SET_MORE: &str = "\
+Tells the set play too: what follows if the defender were to move.";
+
+pub const TRIES: &str = "Tell the tries too";
+
+pub const TRIES_MORE: &str = "\
+Tells the tries too: first moves that miss the mate by one reply, with
+the reply that refutes each.";
+
+pub const FIGURINES: &str = "Name units by figurines";
+
+pub const FIGURINES_MORE: &str = "\
+Names units by figurines in place of the letters K Q R B N.";
+
+pub const JSON: &str = "Write the solution as JSON";
+
+pub const JSON_MORE: &str = "\
+Writes the solution as one JSON object.";
+
 pub const CHECK: &str = "Check a tree of moves that is read from the input";
 
 pub const CHECK_EXAMPLE: &str =

@@ -14,6 +14,21 @@ pub enum Order<'a> {
     Certify(Subject<'a>, Limits),
     /// The position after a move.
     After(Played<'a>),
+    /// The keys of a problem and what follows them.
+    Solution(Subject<'a>, Limits, Telling),
+}
+
+/// What a solution tells beside its keys, and how it is written.
+#[derive(Clone, Copy, PartialEq, Eq)]
+pub struct Telling {
+    /// Whether it tells what follows if the defender were to move.
+    pub set_play: bool,
+    /// Whether it tells the first moves that a single reply refutes.
+    pub tries: bool,
+    /// Whether units are named by figurines.
+    pub figurines: bool,
+    /// Whether it is written as JSON.
+    pub json: bool,
 }
 
 /// How the replies of a batch are written, and what is known of its input.

@@ -10,12 +10,12 @@ ghost use Rattle.command_line.specs.declared.line.Subject.{Subject as TheSubject
 ghost use Rattle.command_line.specs.declared.line.Played.{Played as ThePlayed};
 ghost use Rattle.command_line.specs.declared.line.Action.{Action as TheAction};
 ghost use Rattle.clap.specs.Words.{App, FailsBy, Row, fault_of, first_of, found_of, kind_of, new_app, rows_of, subcommand_of, subcommand_rows_of, with_subcommand};
-ghost use Rattle.command_line.specs.Words.{HasGoal, HasLimit, HasLimits, HasLine, HasManner, HasNumber, HasOrder, HasPlayed, HasSubject, MeansAction, MeansFound, MeansOrder, MeansNoOrder, progress_word};
+ghost use Rattle.command_line.specs.Words.{HasGoal, HasLimit, HasLimits, HasLine, HasManner, HasNumber, HasOrder, HasPlayed, HasSubject, HasTelling, IsGiven, MeansAction, MeansFound, MeansOrder, MeansNoOrder, progress_word};
 ghost use Rattle.command_line.specs.Making.{IsLocal, IsLocalArg, NamesNoSearch, option_rule};
-ghost use Rattle.command_line.specs.Program.{after_app, fen_rule, move_rule, goal_rule, number_rule, limit_rule, mate_rule, workers_rule, slots_rule, progress_rule, echo_rule, lines_rule, limits_app, search_app, checking_app, solve_app, keys_app, tree_app, check_app, verify_app, certify_app, moves_app, show_app, batch_app, program};
+ghost use Rattle.command_line.specs.Program.{after_app, fen_rule, move_rule, goal_rule, number_rule, limit_rule, mate_rule, workers_rule, slots_rule, flag_rule, progress_rule, echo_rule, lines_rule, limits_app, search_app, checking_app, solve_app, keys_app, tree_app, check_app, verify_app, certify_app, solution_app, moves_app, show_app, batch_app, program};
 
 use crate::help;
-use crate::line::{Action, Limits, Line, Manner, Order, Played, Subject};
+use crate::line::{Action, Limits, Line, Manner, Order, Played, Subject, Telling};
 use clap::error::ErrorKind;
 use clap::{Arg, ArgAction, ArgMatches, Command, Error, value_parser};
 use moves::Goal;
@@ -53,14 +53,21 @@ fn fen<'a>(alloc: Global) -> Arg<'a>
         .long_help(help::FEN_MORE)
 }
 
+/// An option that takes no value, and what its short and its long help say.
+fn flag<'a>(alloc: Global, name: &'a str, help: &'a str, more: &'a str) -> Arg<'a>
+    ensures { IsLocalArg (flag_rule name.entry.now) result }
+{
+    Arg::new(alloc, name)
+        .long(name)
+        .action(ArgAction::SetTrue)
+        .help(help)
+        .long_help(more)
+}
+
 fn echo<'a>(alloc: Global) -> Arg<'a>
     ensures { IsLocalArg echo_rule result }
 {
-    Arg::new(alloc, "echo")
-        .long("echo")
-        .action(ArgAction::SetTrue)
-        .help(help::ECHO)
-        .long_help(help::ECHO_MORE)
+    flag(alloc, "echo", help::ECHO, help::ECHO_MORE)
 }
 
 fn lines<'a>(alloc: Global) -> Arg<'a>
@@ -140,11 +147,7 @@ fn slots<'a>(alloc: Global) -> Arg<'a>
 fn progress<'a>(alloc: Global) -> Arg<'a>
     ensures { IsLocalArg progress_rule result }
 {
-    Arg::new(alloc, "progress")
-        .long("progress")
-        .action(ArgAction::SetTrue)
-        .help(help::PROGRESS)
-        .long_help(help::PROGRESS_MORE)
+    flag(alloc, "progress", help::PROGRESS, help::PROGRESS_MORE)
 }
 
 /// A command without its arguments: what it does, an example, and what its long help says below.
@@ -351,6 +354,31 @@ fn certify_command<'a>(alloc: Global) -> Result<Command<'a>, AllocError>
     )
 }
 
+fn solution_command<'a>(alloc: Global) -> Result<Command<'a>, AllocError>
+    ensures { IfOk result (IsLocal solution_app) }
+{
+    let Ok(searching) = search_command(
+        alloc,
+        "solution",
+        help::SOLUTION,
+        help::SOLUTION_EXAMPLE,
+        help::SOLUTION_MORE,
+    ) else {
+        return Err(AllocError);
+    };
+    let Ok(setting) = searching.arg(flag(alloc, "set", help::SET, help::SET_MORE)) else {
+        return Err(AllocError);
+    };
+    let Ok(trying) = setting.arg(flag(alloc, "tries", help::TRIES, help::TRIES_MORE)) else {
+        return Err(AllocError);
+    };
+    let figurines = flag(alloc, "figurines", help::FIGURINES, help::FIGURINES_MORE);
+    let Ok(drawing) = trying.arg(figurines) else {
+        return Err(AllocError);
+    };
+    drawing.arg(flag(alloc, "json", help::JSON, help::JSON_MORE))
+}
+
 /// Adds a command to another, if both could be made.
 fn added<'a>(
     command: Result<Command<'a>, AllocError>,
@@ -384,7 +412,8 @@ fn command<'a>(alloc: Global) -> Result<Command<'a>, AllocError>
     let solving = added(Ok(bare), solve_command(alloc));
     let finding = added(solving, keys_command(alloc));
     let searching = added(finding, tree_command(alloc));
-    let checking = added(searching, check_command(alloc));
+    let telling = added(searching, solution_command(alloc));
+    let checking = added(telling, check_command(alloc));
     let verifying = added(checking, verify_command(alloc));
     let certifying = added(verifying, certify_command(alloc));
     let moving = added(certifying, moves_command(alloc));
@@ -513,11 +542,11 @@ fn subject_of<'a>(values: &ArgMatches<'a>) -> Option<Subject<'a>>
     Some(Subject { fen, goal })
 }
 
-/// Whether `--echo` was given.
-fn echoes(values: &ArgMatches<'_>) -> bool
-    ensures { IsTrue result ↔ (first_of (codes "echo") (rows_of (found_of values.now)) ≡ Some (codes "true")) }
+/// Whether an option that takes no value was given.
+fn is_given(values: &ArgMatches<'_>, id: &str) -> bool
+    ensures { IsTrue result ↔ IsGiven id.now (rows_of (found_of values.now)) }
 {
-    match values.get_str("echo") {
+    match values.get_str(id) {
         None => false,
         Some(word) => match word {
             "true" => true,
@@ -530,8 +559,19 @@ fn manner_of(values: &ArgMatches<'_>) -> Manner
     ensures { HasManner (rows_of (found_of values.now)) result }
 {
     Manner {
-        echo: echoes(values),
+        echo: is_given(values, "echo"),
         lines: number_of(values, "lines"),
+    }
+}
+
+fn telling_of(values: &ArgMatches<'_>) -> Telling
+    ensures { HasTelling (rows_of (found_of values.now)) result }
+{
+    Telling {
+        set_play: is_given(values, "set"),
+        tries: is_given(values, "tries"),
+        figurines: is_given(values, "figurines"),
+        json: is_given(values, "json"),
     }
 }
 
@@ -553,6 +593,11 @@ fn order_at<'a>(name: &str, values: &ArgMatches<'a>) -> Option<Order<'a>>
         "verify" => Some(Order::Verify(subject_of(values)?)),
         "certify" => Some(Order::Certify(subject_of(values)?, limits(values)?)),
         "after" => Some(Order::After(played_of(values)?)),
+        "solution" => Some(Order::Solution(
+            subject_of(values)?,
+            limits(values)?,
+            telling_of(values),
+        )),
         _ => Some(Order::One(line_of(name, values)?)),
     }
 }
