@@ -61,7 +61,11 @@ limits_app app =
 abbrev pub search_app : Text → App
 search_app name = with_rule (limits_app (new_app name)) fen_rule
 
--- `solve`, `keys`, `tree` and `certify` search at a position
+-- the first move of a tree
+abbrev pub first_rule : Rule
+first_rule = record (new_rule (codes "first")) { long = Some (codes "first"); value_names = 1 }
+
+-- `solve`, `keys`, `tree` and `certify` search at a position; `tree` may be given a first move
 abbrev pub solve_app : App
 solve_app = search_app (codes "solve")
 
@@ -69,7 +73,7 @@ abbrev pub keys_app : App
 keys_app = search_app (codes "keys")
 
 abbrev pub tree_app : App
-tree_app = search_app (codes "tree")
+tree_app = with_rule (search_app (codes "tree")) first_rule
 
 abbrev pub certify_app : App
 certify_app = search_app (codes "certify")
@@ -111,9 +115,10 @@ echo_rule = flag_rule (codes "echo")
 abbrev pub lines_rule : Rule
 lines_rule = number_rule (codes "lines")
 
--- `batch [--echo] [--lines L]`, and the options of a search
+-- `batch [--echo] [--keys] [--json] [--lines L]`, and the options of a search
 abbrev pub batch_app : App
-batch_app = with_rule (with_rule (limits_app (new_app (codes "batch"))) echo_rule) lines_rule
+batch_app =
+    with_rule (with_rule (with_rule (with_rule (limits_app (new_app (codes "batch"))) echo_rule) (flag_rule (codes "keys"))) (flag_rule (codes "json"))) lines_rule
 
 -- the program without its commands
 abbrev pub bare_app : App

@@ -77,7 +77,17 @@ The output is the tree that shows the answer of `solve`, on one line, or
 `none within 3`: a move of the attacker, then # for mate, = for stalemate, or in
 braces each lawful reply in order, a colon and the tree that meets it. At each
 turn the attacker's move is the least of those that force the goal in the fewest
-plies. `minimate check` checks it.";
+plies. `minimate check` checks it.
+
+More examples:
+  minimate tree --limit 3 --first f1f2 'k5/6/1K4/6/6/5R w'";
+
+pub const FIRST: &str = "The first move of the tree, as c4c5";
+
+pub const FIRST_MORE: &str = "\
+The first move of the tree, as `minimate keys` names one: the tree is
+that of this move in its fewest plies, or `none within 3` where it
+forces nothing within the limit.";
 
 pub const SOLUTION: &str = "Write the solution of a problem";
 
@@ -185,7 +195,25 @@ pub const BATCH_MORE: &str = "\
 The input has a position on each line. Each is answered on a line of its own, as
 by `solve`, or refused, and the next is read; all share one table. An empty line
 and one that begins with # are passed on as they are. A line has at most 256
-bytes.";
+bytes.
+
+Behind its position a line may have its own limit, in moves: a line
+`k5/6/2K3/6/6/1R4 w ; dm 2` is searched within three plies, whatever the limit,
+and behind its answer stands `ok` where that is a mate in two moves and no
+fewer, and else `differs`.";
+
+pub const KEY_LISTS: &str = "Write the keys of each position on a line";
+
+pub const KEY_LISTS_MORE: &str = "\
+Writes the keys of each position, as `minimate keys` finds them, on one
+line, parted by commas: `c1c5 5,d3c5 5`, or `none within 5`.";
+
+pub const OBJECTS: &str = "Write each reply as a JSON object";
+
+pub const OBJECTS_MORE: &str = "\
+Writes each reply as a JSON object on a line of its own, with position,
+goal, limit, answer, plies and first, or keys; or with position,
+refused and a sentence. Empty lines and remarks are left out.";
 
 pub const ECHO: &str = "Write the position and a tab before each answer";
 

@@ -14,6 +14,8 @@ pub enum Order<'a> {
     Certify(Subject<'a>, Limits),
     /// The position after a move.
     After(Played<'a>),
+    /// The tree of a first move that is given.
+    TreeAfter(Played<'a>, Goal, Limits),
     /// The keys of a problem and what follows them.
     Solution(Subject<'a>, Limits, Telling),
 }
@@ -36,6 +38,10 @@ pub struct Telling {
 pub struct Manner {
     /// Whether the position stands before each answer.
     pub echo: bool,
+    /// Whether the keys of each position are written in place of its answer.
+    pub keys: bool,
+    /// Whether each reply is written as JSON.
+    pub json: bool,
     /// How many lines the input has, which standard error is told; 0 where they aren't known.
     pub lines: Option<u32>,
 }

@@ -12,7 +12,7 @@ ghost use Rattle.command_line.specs.declared.line.Action.{Action as TheAction};
 ghost use Rattle.clap.specs.Words.{App, FailsBy, Row, fault_of, first_of, found_of, kind_of, new_app, rows_of, subcommand_of, subcommand_rows_of, with_subcommand};
 ghost use Rattle.command_line.specs.Words.{HasGoal, HasLimit, HasLimits, HasLine, HasManner, HasNumber, HasOrder, HasPlayed, HasSubject, HasTelling, IsGiven, MeansAction, MeansFound, MeansOrder, MeansNoOrder, progress_word};
 ghost use Rattle.command_line.specs.Making.{IsLocal, IsLocalArg, NamesNoSearch, option_rule};
-ghost use Rattle.command_line.specs.Program.{after_app, fen_rule, move_rule, goal_rule, number_rule, limit_rule, mate_rule, workers_rule, slots_rule, flag_rule, progress_rule, echo_rule, lines_rule, limits_app, search_app, checking_app, solve_app, keys_app, tree_app, check_app, verify_app, certify_app, solution_app, moves_app, show_app, batch_app, program};
+ghost use Rattle.command_line.specs.Program.{after_app, fen_rule, move_rule, goal_rule, number_rule, limit_rule, mate_rule, workers_rule, slots_rule, first_rule, flag_rule, progress_rule, echo_rule, lines_rule, limits_app, search_app, checking_app, solve_app, keys_app, tree_app, check_app, verify_app, certify_app, solution_app, moves_app, show_app, batch_app, program};
 
 use crate::help;
 use crate::line::{Action, Limits, Line, Manner, Order, Played, Subject, Telling};
@@ -118,6 +118,12 @@ fn goal<'a>(alloc: Global) -> Arg<'a>
     ensures { IsLocalArg goal_rule result }
 {
     option(alloc, "goal", "GOAL", help::GOAL, help::GOAL_MORE).default_value("mate")
+}
+
+fn first<'a>(alloc: Global) -> Arg<'a>
+    ensures { IsLocalArg first_rule result }
+{
+    option(alloc, "first", "MOVE", help::FIRST, help::FIRST_MORE)
 }
 
 fn limit<'a>(alloc: Global) -> Arg<'a>
@@ -232,13 +238,16 @@ fn keys_command<'a>(alloc: Global) -> Result<Command<'a>, AllocError>
 fn tree_command<'a>(alloc: Global) -> Result<Command<'a>, AllocError>
     ensures { IfOk result (IsLocal tree_app) }
 {
-    search_command(
+    let Ok(searching) = search_command(
         alloc,
         "tree",
         help::TREE,
         help::TREE_EXAMPLE,
         help::TREE_MORE,
-    )
+    ) else {
+        return Err(AllocError);
+    };
+    searching.arg(first(alloc))
 }
 
 fn batch_command<'a>(alloc: Global) -> Result<Command<'a>, AllocError>
@@ -257,7 +266,13 @@ fn batch_command<'a>(alloc: Global) -> Result<Command<'a>, AllocError>
     let Ok(echoing) = limited.arg(echo(alloc)) else {
         return Err(AllocError);
     };
-    echoing.arg(lines(alloc))
+    let Ok(finding) = echoing.arg(flag(alloc, "keys", help::KEY_LISTS, help::KEY_LISTS_MORE)) else {
+        return Err(AllocError);
+    };
+    let Ok(telling) = finding.arg(flag(alloc, "json", help::OBJECTS, help::OBJECTS_MORE)) else {
+        return Err(AllocError);
+    };
+    telling.arg(lines(alloc))
 }
 
 fn moves_command<'a>(alloc: Global) -> Result<Command<'a>, AllocError>
@@ -485,13 +500,24 @@ fn goal_of(matches: &ArgMatches<'_>) -> Option<Goal>
 fn search_of(name: &str, goal: Goal, limits: Limits) -> Option<Action>
     ensures some { IfSome result (λ action. (rows : List Row) → HasGoal rows goal → HasLimits rows limits
         → MeansAction name.now rows action) }
-    ensures none { IfNone result (NamesNoSearch name.now) }
+    ensures none { IfNone result (name.now ≢ codes "tree" → NamesNoSearch name.now) }
 {
     match name {
         "solve" => Some(Action::Solve(goal, limits)),
         "keys" => Some(Action::Keys(goal, limits)),
-        "tree" => Some(Action::Tree(goal, limits)),
         _ => None,
+    }
+}
+
+/// The tree of the answer, where no first move is given.
+fn tree_of(values: &ArgMatches<'_>) -> Option<Action>
+    ensures some { IfSome result (MeansAction (codes "tree") (rows_of (found_of values.now))) }
+    ensures none { IfNone result
+        ((action : TheAction) → MeansAction (codes "tree") (rows_of (found_of values.now)) action → ⊥) }
+{
+    match values.get_str("first") {
+        None => Some(Action::Tree(goal_of(values)?, limits(values)?)),
+        Some(_) => None,
     }
 }
 
@@ -504,6 +530,7 @@ fn action_of(name: &str, values: &ArgMatches<'_>) -> Option<Action>
         "moves" => Some(Action::Moves),
         "show" => Some(Action::Show),
         "check" => Some(Action::Check(goal_of(values)?)),
+        "tree" => tree_of(values),
         _ => search_of(name, goal_of(values)?, limits(values)?),
     }
 }
@@ -560,6 +587,8 @@ fn manner_of(values: &ArgMatches<'_>) -> Manner
 {
     Manner {
         echo: is_given(values, "echo"),
+        keys: is_given(values, "keys"),
+        json: is_given(values, "json"),
         lines: number_of(values, "lines"),
     }
 }
@@ -584,6 +613,23 @@ fn played_of<'a>(values: &ArgMatches<'a>) -> Option<Played<'a>>
     Some(Played { fen, name })
 }
 
+/// The tree of the answer, or of the first move that is given.
+fn tree_order<'a>(values: &ArgMatches<'a>) -> Option<Order<'a>>
+    ensures some { IfSome result (MeansFound (codes "tree") (rows_of (found_of values.now))) }
+    ensures none { IfNone result
+        ((order : TheOrder) → MeansFound (codes "tree") (rows_of (found_of values.now)) order → ⊥) }
+{
+    match values.get_str("first") {
+        None => Some(Order::One(line_of("tree", values)?)),
+        Some(first) => {
+            let fen = fen_of(values)?;
+            let name = first.as_bytes();
+            let played = Played { fen, name };
+            Some(Order::TreeAfter(played, goal_of(values)?, limits(values)?))
+        }
+    }
+}
+
 fn order_at<'a>(name: &str, values: &ArgMatches<'a>) -> Option<Order<'a>>
     ensures some { IfSome result (MeansFound name.now (rows_of (found_of values.now))) }
     ensures none { IfNone result ((order : TheOrder) → MeansFound name.now (rows_of (found_of values.now)) order → ⊥) }
@@ -598,6 +644,7 @@ fn order_at<'a>(name: &str, values: &ArgMatches<'a>) -> Option<Order<'a>>
             limits(values)?,
             telling_of(values),
         )),
+        "tree" => tree_order(values),
         _ => Some(Order::One(line_of(name, values)?)),
     }
 }

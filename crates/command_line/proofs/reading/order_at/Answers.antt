@@ -33,3 +33,9 @@ returns-in_err-subject_of-in-solution-clause-none c = rw c.from_residual-in_err-
 pub returns-in_err-limits-in-solution-clause-none : goal.returns-in_err-limits-in-solution-clause-none
 returns-in_err-limits-in-solution-clause-none c = rw c.from_residual-in_err-limits-in-solution.ensures (λ order means.
     no_solution c.args.name.now (rows_of (found_of c.args.values.now)) order c.in-solution.is (λ subject limits has within. c.in_err-limits-in-solution.ensures.none limits within) means)
+
+pub returns-in-tree-clause-some : goal.returns-in-tree-clause-some
+returns-in-tree-clause-some c = rw c.in-tree.is c.tree_order.ensures.some
+
+pub returns-in-tree-clause-none : goal.returns-in-tree-clause-none
+returns-in-tree-clause-none c = rw c.in-tree.is c.tree_order.ensures.none
