@@ -1,0 +1,4 @@
+pub mod Lists
+pub mod Forcing
+pub mod Variations
+pub mod Tries
