@@ -1,5 +1,6 @@
 -- The one reply that refutes a move, and the moves that one reply alone refutes.
-use Rattle.std.proofs.Common.{◌≡◌, ℕ, ◌+◌, ◌-◌, ◌<◌, ◌≤◌, ◌⊎◌, inl, inr, refl, sym, ap, subst, ◌∙◌, arith, List, [], ◌∷◌, ◌++◌, length, take, get_or, All, map, Contains, Option, Some, None, MatchOption}
+use Rattle.std.proofs.Common.{◌≡◌, ℕ, ◌+◌, ◌-◌, ◌<◌, ◌≤◌, ◌⊎◌, inl, inr, refl, sym, ap, subst, ◌∙◌, arith, List, [], ◌∷◌, ◌++◌, length, take, get_or, All, map, Contains, Option, Some, None, is_some, true, false, MatchOption}
+use Rattle.std.proofs.lemmas.Bool.{false≢true}
 use Rattle.std.proofs.lemmas.List.{map-append, take_all}
 use Rattle.std.proofs.lemmas.List.Elements.{All-push, All-nil}
 use Rattle.std.proofs.lemmas.Grind.{common_steps, elements}
@@ -57,8 +58,8 @@ module _ (goal : Goal) (q : PlainBoard) (n : ℕ) where
         ],
       )
 
-      pub refute_first : (found : Option Ply) → found ≡ None → (IsMet goal q n r → ⊥) → RefutesOnce goal q n (take i xs) found → RefutesOnce goal q n (take (i + 1) xs) (Some r)
-      refute_first (Some t) none not so_far = cc
+      pub refute_first : (found : Option Ply) → is_some found ≡ false → (IsMet goal q n r → ⊥) → RefutesOnce goal q n (take i xs) found → RefutesOnce goal q n (take (i + 1) xs) (Some r)
+      refute_first (Some t) none not so_far = absurd (false≢true (sym none))
       refute_first None none not so_far = (
         among_here xs i r within is,
         not_met r ((lists.exact r).0 (i, within, sym is)) not,
@@ -69,8 +70,8 @@ module _ (goal : Goal) (q : PlainBoard) (n : ℕ) where
       )
 
       -- a second one
-      pub refute_second : (found : Option Ply) → (found ≡ None → ⊥) → (IsMet goal q n r → ⊥) → RefutesOnce goal q n (take i xs) found → (s : Ply) → RefutesAlone goal q n s → ⊥
-      refute_second None some not so_far s alone = some refl
+      pub refute_second : (found : Option Ply) → is_some found ≡ true → (IsMet goal q n r → ⊥) → RefutesOnce goal q n (take i xs) found → (s : Ply) → RefutesAlone goal q n s → ⊥
+      refute_second None some not so_far s alone = false≢true some
       refute_second (Some t) some not so_far s alone =
           let here = alone.only r (not_met r ((lists.exact r).0 (i, within, sym is)) not) in
           let there = alone.only t so_far.1 in
@@ -82,16 +83,13 @@ module _ (goal : Goal) (q : PlainBoard) (n : ℕ) where
               let small : c.0 < i = grind (arith, common_steps, elements, within, c.1) in
               subst (λ z. IsPlyBefore q.game z r) at (subst (IsPlyBefore q.game (get_or xs c.0 r)) (sym is) (lists.ordered c.0 i r small within))
 
+    listed : (i : ℕ) → length xs ≤ i → (s : Ply) → Refutes goal q n s → Contains (take i xs) s
+    listed i all s refutes = subst (λ ys. Contains ys s) (sym (take_all i xs all)) ((lists.exact s).1 (refutes.0, refutes.1))
+
     -- after all replies
     pub refute_all : (i : ℕ) → length xs ≤ i → (found : Option Ply) → RefutesOnce goal q n (take i xs) found → MatchOption found ((r : Ply) → RefutesAlone goal q n r → ⊥) (RefutesAlone goal q n)
     refute_all i all None so_far = λ r alone. so_far r (listed i all r alone.refutes) alone.refutes
-      where
-        listed : (i : ℕ) → length xs ≤ i → (s : Ply) → Refutes goal q n s → Contains (take i xs) s
-        listed i all s refutes = subst (λ ys. Contains ys s) (sym (take_all i xs all)) ((lists.exact s).1 (refutes.0, refutes.1))
     refute_all i all (Some t) so_far = record { refutes = so_far.1; only = λ s refutes. so_far.2 s (listed i all s refutes) refutes }
-      where
-        listed : (i : ℕ) → length xs ≤ i → (s : Ply) → Refutes goal q n s → Contains (take i xs) s
-        listed i all s refutes = subst (λ ys. Contains ys s) (sym (take_all i xs all)) ((lists.exact s).1 (refutes.0, refutes.1))
 
 -- ---- the moves
 
