@@ -1,5 +1,5 @@
 -- What is left to the replies after a move, and which of them last longest.
-use Rattle.std.proofs.Common.{◌≡◌, ℕ, zero, suc, ◌+◌, ◌-◌, ◌*◌, ◌<◌, ◌≤◌, ◌⊎◌, inl, inr, refl, sym, ◌∙◌, subst, arith, true, false, Bool, IsTrue, ◌↔◌, ap, List, [], ◌∷◌, ◌++◌, append_assoc}
+use Rattle.std.proofs.Common.{◌≡◌, ℕ, zero, suc, ◌+◌, ◌-◌, ◌*◌, ◌<◌, ◌≤◌, ◌⊎◌, inl, inr, refl, sym, ◌∙◌, subst, arith, false, Bool, IsTrue, ◌↔◌, ap, List, [], ◌∷◌, ◌++◌, append_assoc}
 use Rattle.board.specs.declared.game.Side.{Side}
 use Rattle.board.specs.Games.{is_same_side}
 use Rattle.board.specs.Board.{PlainBoard}
@@ -10,7 +10,9 @@ use Rattle.rules.specs.Moves.{IsMove, IsLawful}
 use Rattle.rules.specs.Forces.{IsReached, Forces}
 use Rattle.rules.proofs.Keeps.{one_after}
 use Rattle.rules.proofs.Forcing.{on_other, to_other, turn-own, turn-other, same_side-self, twice, twice-double, Forces-even}
-use Rattle.decision.specs.Answer.{Wins, IsFewest, ForcesNothing}
+use Rattle.decision.specs.Answer.{Wins, IsFewest, ForcesNothing, IsAnswer}
+use Rattle.decision.specs.declared.answer.Answer.{Answer}
+use Rattle.decision.specs.declared.answer.Answer.TheVariants.{Mate as mates, NoneWithin}
 use Rattle.decision.proofs.Winning.{forced_by, nothing_at_once, same_mover}
 use Rattle.trees.proofs.Forcing.{forced_within, reached_now}
 use Rattle.solutions.specs.Lines.{IsMet, Lasts}
@@ -101,10 +103,13 @@ module _ (goal : Goal) (b : PlainBoard) (m : Ply) (q : PlainBoard) (move : IsMov
   meets_wins k some met = (
     q,
     move,
-    subst (Forces goal b.mover q) up (to_other _ _ _ other (inr (some, λ r p reply.
-    let w = met r (p, reply) in
-    let f = subst (λ (x : PlainBoard). Forces goal x.mover x k) (one_after q r w.0 p w.1 reply) w.2 in
-    subst (λ (s : Side). Forces goal s p k) (sym (attacker r p reply)) f))),
+    subst (Forces goal b.mover q) up (to_other _ _ _ other (inr (
+      some,
+      λ r p reply.
+          let w = met r (p, reply) in
+          let f = subst (λ (x : PlainBoard). Forces goal x.mover x k) (one_after q r w.0 p w.1 reply) w.2 in
+          subst (λ (s : Side). Forces goal s p k) (sym (attacker r p reply)) f,
+    ))),
   )
     where
       up : suc k ≡ k + 2 - 1
@@ -154,3 +159,12 @@ lasting_here goal q r p n move lasts = subst (λ (x : PlainBoard). IsFewest goal
 -- two moves and the rest
 pub two_more : (xs ys zs all : List Ply) (m r : Ply) (rest : List Ply) → ys ≡ xs ++ m ∷ [] → zs ≡ ys ++ r ∷ [] → all ≡ zs ++ rest → all ≡ xs ++ m ∷ r ∷ rest
 two_more xs ys zs all m r rest first second then = then ∙ ap (λ l. l ++ rest) (second ∙ ap (λ l. l ++ r ∷ []) first) ∙ append_assoc (xs ++ m ∷ []) (r ∷ []) rest ∙ append_assoc xs (m ∷ []) (r ∷ rest)
+
+-- ---- an answer
+
+module _ (goal : Goal) (b : PlainBoard) (limit : ℕ) (answer : Answer) where
+  pub mate_found : (n : ℕ) (m : Ply) → answer ≡ mates n m → IsAnswer goal b limit answer → (n ≤ limit) × IsFewest goal b n
+  mate_found n m is found = let w = subst (IsAnswer goal b limit) is found in (w.0, w.1)
+
+  pub nothing_found : (within : ℕ) → answer ≡ NoneWithin within → IsAnswer goal b limit answer → ForcesNothing goal b limit
+  nothing_found within is found = (subst (IsAnswer goal b limit) is found).1

@@ -2,3 +2,4 @@ pub mod Lists
 pub mod Forcing
 pub mod Variations
 pub mod Tries
+pub mod Plays

@@ -1,5 +1,5 @@
 -- The moves of a list of which something holds, move by move.
-use Rattle.std.proofs.Common.{◌≡◌, ℕ, suc, ◌+◌, ◌<◌, ◌≤◌, ◌⊎◌, inl, inr, refl, sym, ap, subst, ◌∙◌, arith, rules, List, [], ◌∷◌, ◌++◌, length, length-take, take, get_or, get_or-take, AllPairs, All, Contains, ◌↔◌, Option, Some, None, slice_get}
+use Rattle.std.proofs.Common.{◌≡◌, ℕ, suc, ◌+◌, ◌<◌, ◌≤◌, ◌⊎◌, inl, inr, sym, ap, subst, ◌∙◌, arith, rules, List, [], ◌∷◌, ◌++◌, length, length-take, take, get_or, get_or-take, AllPairs, All, Contains, Some, slice_get}
 use Rattle.std.proofs.lemmas.Grind.{common_steps, elements}
 use Rattle.std.proofs.lemmas.List.{take_all}
 use Rattle.std.proofs.lemmas.List.Elements.{All-push, All-get_or, All-contains, Contains-push, Contains-append_left, Contains-append_cases}
@@ -9,7 +9,7 @@ use Rattle.board.specs.Board.{PlainBoard}
 use Rattle.rules.specs.Squares.{Ply}
 use Rattle.rules.specs.Moves.{IsLawful}
 use Rattle.rules.specs.Order.{IsPlyBefore, ListsLawful}
-use Rattle.moves.proofs.Picking.{InOrder, Picks, keep, skip}
+use Rattle.moves.proofs.Picking.{Picks, keep, skip}
 use Rattle.decision.specs.Answer.{Wins}
 use Rattle.searcher.specs.declared.root.Root.{Root}
 use Rattle.searcher.specs.Roots.{WinsIn}

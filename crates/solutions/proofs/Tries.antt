@@ -1,5 +1,5 @@
 -- The one reply that refutes a move, and the moves that one reply alone refutes.
-use Rattle.std.proofs.Common.{◌≡◌, ℕ, ◌+◌, ◌-◌, ◌<◌, ◌≤◌, ◌⊎◌, inl, inr, refl, sym, ap, subst, ◌∙◌, arith, List, [], ◌∷◌, ◌++◌, length, take, get_or, All, map, Contains, Option, Some, None, is_some, true, false, MatchOption}
+use Rattle.std.proofs.Common.{◌≡◌, ℕ, ◌+◌, ◌-◌, ◌<◌, ◌≤◌, inl, inr, sym, subst, ◌∙◌, arith, List, [], ◌∷◌, ◌++◌, length, take, get_or, All, map, Contains, Option, Some, None, is_some, true, false, MatchOption}
 use Rattle.std.proofs.lemmas.Bool.{false≢true}
 use Rattle.std.proofs.lemmas.List.{map-append, take_all}
 use Rattle.std.proofs.lemmas.List.Elements.{All-push, All-nil}
@@ -13,7 +13,7 @@ use Rattle.rules.specs.Order.{IsPlyBefore, ListsLawful}
 use Rattle.rules.proofs.Keeps.{one_after}
 use Rattle.decision.specs.Answer.{Wins}
 use Rattle.solutions.specs.declared.first_try.Try.{Try}
-use Rattle.solutions.specs.Lines.{ListsMoves, IsMet}
+use Rattle.solutions.specs.Lines.{IsMet}
 use Rattle.solutions.specs.Solutions.{Refutes, RefutesAlone, IsTry, ListsTries}
 use Rattle.solutions.proofs.Lists.{PicksMoves, pick_none, pick_one, pick_skip, pick_all, among_before, among_here, among_cases}
 use Rattle.solutions.proofs.Forcing.{met_here, key_meets}

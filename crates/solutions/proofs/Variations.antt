@@ -1,5 +1,5 @@
 -- Variations, reply by reply.
-use Rattle.std.proofs.Common.{◌≡◌, ℕ, ◌+◌, ◌<◌, ◌≤◌, refl, sym, ap, subst, ◌∙◌, arith, List, [], ◌∷◌, ◌++◌, length, take, get_or, All}
+use Rattle.std.proofs.Common.{◌≡◌, ℕ, ◌+◌, ◌<◌, ◌≤◌, sym, ap, subst, ◌∙◌, arith, List, [], ◌∷◌, ◌++◌, length, take, get_or, All}
 use Rattle.std.proofs.lemmas.List.{map-append}
 use Rattle.std.proofs.lemmas.List.Elements.{All-push, All-nil}
 use Rattle.board.specs.Board.{PlainBoard}
@@ -10,7 +10,7 @@ use Rattle.rules.specs.Order.{ListsLawful}
 use Rattle.decision.specs.Answer.{ForcesNothing}
 use Rattle.trees.proofs.Forcing.{forced_within}
 use Rattle.solutions.specs.declared.variation.Variation.{Variation}
-use Rattle.solutions.specs.Lines.{ListsMoves, IsMet}
+use Rattle.solutions.specs.Lines.{IsMet}
 use Rattle.solutions.specs.Solutions.{Tells, IsVariation, replies_of, ListsVariations}
 use Rattle.solutions.proofs.Lists.{PicksMoves, pick_none, pick_one, pick_skip, pick_all}
 use Rattle.solutions.proofs.Forcing.{met_here}

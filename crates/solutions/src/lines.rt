@@ -15,12 +15,7 @@ use searcher::{Decider, Halt};
 use std::alloc::Allocator;
 
 /// The least of the replies that resist longest, where so many plies meet each, and fewer don't; or `None` where the decider was told to stop.
-fn longest_reply<D: Decider>(
-    decider: &mut D,
-    board: &Board,
-    goal: Goal,
-    plies: u8,
-) -> Option<Move>
+fn longest_reply<D: Decider>(decider: &mut D, board: &Board, goal: Goal, plies: u8) -> Option<Move>
     requires plies { IsLimit plies }
     requires odd { (k : ℕ) × (plies ≡ 2 * k + 1) }
     requires met { (r : Ply) → IsLawful board.now r → IsMet goal board.now plies r }

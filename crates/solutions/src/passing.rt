@@ -12,11 +12,8 @@ pub(crate) fn passed(board: &Board) -> Option<Board>
         (λ next. (next ≡ passed board.now) × IsSound (passed board.now)) }
 {
     let position = board.position();
-    let Some(next) = Position::of(
-        position.game(),
-        position.mover().other(),
-        &position.units(),
-    ) else {
+    let Some(next) = Position::of(position.game(), position.mover().other(), &position.units())
+    else {
         unreachable!()
     };
     if sound(&next) {

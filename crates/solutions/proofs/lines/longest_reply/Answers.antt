@@ -1,4 +1,4 @@
-use Rattle.std.proofs.Common.{sym, subst, ◌∙◌, ◌-◌, ◌↔◌, ℕ, IsTrue, All, take, arith}
+use Rattle.std.proofs.Common.{sym, subst, ◌∙◌, ◌-◌, ◌↔◌, ℕ, IsTrue}
 use Rattle.std.proofs.lemmas.Bool.{false≢true}
 use Rattle.rules.specs.Order.{ListsLawful}
 use Rattle.searcher.proofs.Jobs.{lawful_job}

@@ -1,4 +1,4 @@
-use Rattle.std.proofs.Common.{ℕ, Option, sym, subst, MatchOption}
+use Rattle.std.proofs.Common.{ℕ, sym, subst, MatchOption}
 use Rattle.rules.specs.Squares.{Ply}
 use Rattle.rules.specs.Order.{ListsLawful}
 use Rattle.searcher.proofs.Jobs.{lawful_job}

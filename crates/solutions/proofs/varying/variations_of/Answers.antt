@@ -1,4 +1,4 @@
-use Rattle.std.proofs.Common.{sym, subst, ◌∙◌}
+use Rattle.std.proofs.Common.{sym, subst}
 use Rattle.board.specs.Board.{PlainBoard}
 use Rattle.rules.specs.declared.goal.Goal.{Goal}
 use Rattle.rules.specs.Order.{ListsLawful}
@@ -7,7 +7,7 @@ use Rattle.searcher.proofs.Halts.{err_halts}
 use Rattle.decision.specs.Answer.{ForcesNothing}
 use Rattle.decision.proofs.Options.{none_at, some_at}
 use Rattle.solutions.specs.Solutions.{Tells}
-use Rattle.solutions.proofs.Variations.{vary_none, vary_one, vary_skip, vary_all}
+use Rattle.solutions.proofs.Variations.{vary_one, vary_skip, vary_all}
 use Rattle.solutions.proofs.varying.variations_of.Goals as goal
 use Rattle.solutions.proofs.varying.variations_of.Goals.{in-Some+in_ok-push, in_default}
 
