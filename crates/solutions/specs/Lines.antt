@@ -1,4 +1,4 @@
--- Continuations, and the best line of a position in which the attacker is to move.
+-- Continuations, replies that are met, and the best line of a position in which the attacker is to move.
 use Rattle.std.specs.Prelude.{◌≡◌, ℕ, ◌-◌, ◌⊎◌, ◌↔◌, List, [], ◌∷◌, AllPairs, Contains}
 use Rattle.board.specs.declared.game.Game.{Game}
 use Rattle.board.specs.Board.{PlainBoard}
@@ -6,7 +6,7 @@ use Rattle.rules.specs.declared.goal.Goal.{Goal}
 use Rattle.rules.specs.Squares.{Ply}
 use Rattle.rules.specs.Moves.{IsMove}
 use Rattle.rules.specs.Order.{IsPlyBefore}
-use Rattle.rules.specs.Forces.{IsReached}
+use Rattle.rules.specs.Forces.{IsReached, Forces}
 use Rattle.decision.specs.Answer.{Wins, IsFewest, IsLeastWin}
 
 -- the list has exactly the moves of which this holds, in order, so each once
@@ -17,6 +17,10 @@ pub record ListsMoves (game : Game) (P : Ply → Type 0) (moves : List Ply) : Ty
 -- where n plies are the fewest, all continuations: the moves that force the goal in n plies
 abbrev pub ListsContinuations : Goal → PlainBoard → ℕ → List Ply → Type 0
 ListsContinuations goal b n moves = ListsMoves b.game (Wins goal b n) moves
+
+-- behind the reply the attacker forces the goal within n plies
+abbrev pub IsMet : Goal → PlainBoard → ℕ → Ply → Type 0
+IsMet goal q n r = (p : PlainBoard) × IsMove q r p × Forces goal p.mover p n
 
 -- behind the reply n plies are needed
 abbrev pub Lasts : Goal → PlainBoard → ℕ → Ply → Type 0

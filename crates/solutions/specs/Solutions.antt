@@ -16,7 +16,7 @@ use Rattle.solutions.specs.declared.variation.Variation.{Variation}
 use Rattle.solutions.specs.declared.key_play.KeyPlay.{KeyPlay}
 use Rattle.solutions.specs.declared.first_try.Try.{Try}
 use Rattle.solutions.specs.declared.solution.Solution.{Solution}
-use Rattle.solutions.specs.Lines.{ListsMoves, ListsContinuations, IsBestLine}
+use Rattle.solutions.specs.Lines.{ListsMoves, ListsContinuations, IsMet, IsBestLine}
 
 -- the same board with the other side to move
 abbrev pub passed : PlainBoard → PlainBoard
@@ -31,21 +31,19 @@ AreThreats goal q n Zugzwang = (IsReached goal q → ⊥) × IsSound (passed q) 
 AreThreats goal q n (Moves k moves) =
     (IsReached goal q → ⊥) × IsSound (passed q) × (k ≤ n) × IsFewest goal (passed q) k × ListsContinuations goal (passed q) k moves.items
 
--- the variation of a reply at q: the fewest plies behind it, all continuations there, and the best line
-pub record IsVariation {A : Type 0} (goal : Goal) (q : PlainBoard) (v : Variation A) : Type 0 where
-  pub after : PlainBoard
-  pub move : IsMove q v.reply after
-  pub plies : IsFewest goal after v.plies
-  pub moves : ListsContinuations goal after v.plies v.moves.items
-  pub line : IsBestLine goal after v.plies v.line.items
+-- the variation says of a position the fewest plies, all continuations and the best line
+pub record Tells {A : Type 0} (goal : Goal) (p : PlainBoard) (v : Variation A) : Type 0 where
+  pub plies : IsFewest goal p v.plies
+  pub moves : ListsContinuations goal p v.plies v.moves.items
+  pub line : IsBestLine goal p v.plies v.line.items
+
+-- the variation says so of the position behind its reply
+abbrev pub IsVariation : {A : Type 0} → Goal → PlainBoard → Variation A → Type 0
+IsVariation goal q v = (p : PlainBoard) × IsMove q v.reply p × Tells goal p v
 
 -- the replies of variations
 abbrev pub replies_of : {A : Type 0} → List (Variation A) → List Ply
 replies_of variations = map (λ v. v.reply) variations
-
--- behind the reply the attacker forces the goal within n plies
-abbrev pub IsMet : Goal → PlainBoard → ℕ → Ply → Type 0
-IsMet goal q n r = (p : PlainBoard) × IsMove q r p × Forces goal p.mover p n
 
 -- the variations of exactly the replies that are met within n plies, in order
 pub record ListsVariations {A : Type 0} (goal : Goal) (q : PlainBoard) (n : ℕ) (variations : List (Variation A)) : Type 0 where
