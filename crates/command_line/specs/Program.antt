@@ -44,9 +44,13 @@ goal_rule = record (new_rule (codes "goal")) {
   defaults = codes "mate" ∷ [];
 }
 
+-- `--name`, which takes no value
+abbrev pub flag_rule : Text → Rule
+flag_rule name = record (new_rule name) { long = Some name; action = Some SetTrue }
+
 -- `--progress`, which takes no value
 abbrev pub progress_rule : Rule
-progress_rule = record (new_rule (codes "progress")) { long = Some (codes "progress"); action = Some SetTrue }
+progress_rule = flag_rule (codes "progress")
 
 -- with the options of a search: `(--limit N | --mate M) [--workers K] [--slots S] [--goal GOAL] [--progress]`
 abbrev pub limits_app : App → App
@@ -57,7 +61,11 @@ limits_app app =
 abbrev pub search_app : Text → App
 search_app name = with_rule (limits_app (new_app name)) fen_rule
 
--- `solve`, `keys`, `tree` and `certify` search at a position
+-- the first move of a tree
+abbrev pub first_rule : Rule
+first_rule = record (new_rule (codes "first")) { long = Some (codes "first"); value_names = 1 }
+
+-- `solve`, `keys`, `tree` and `certify` search at a position; `tree` may be given a first move
 abbrev pub solve_app : App
 solve_app = search_app (codes "solve")
 
@@ -65,10 +73,15 @@ abbrev pub keys_app : App
 keys_app = search_app (codes "keys")
 
 abbrev pub tree_app : App
-tree_app = search_app (codes "tree")
+tree_app = with_rule (search_app (codes "tree")) first_rule
 
 abbrev pub certify_app : App
 certify_app = search_app (codes "certify")
+
+-- `solution [--set] [--tries] [--figurines] [--json] FEN`, and the options of a search
+abbrev pub solution_app : App
+solution_app = with_rule (with_rule (with_rule (with_rule (search_app (codes "solution"))
+    (flag_rule (codes "set"))) (flag_rule (codes "tries"))) (flag_rule (codes "figurines"))) (flag_rule (codes "json"))
 
 -- a command of this name with a goal, and a position
 abbrev pub checking_app : Text → App
@@ -96,15 +109,16 @@ after_app = with_rule (with_rule (new_app (codes "after")) fen_rule) move_rule
 
 -- `--echo`, which takes no value
 abbrev pub echo_rule : Rule
-echo_rule = record (new_rule (codes "echo")) { long = Some (codes "echo"); action = Some SetTrue }
+echo_rule = flag_rule (codes "echo")
 
 -- the lines of the input
 abbrev pub lines_rule : Rule
 lines_rule = number_rule (codes "lines")
 
--- `batch [--echo] [--lines L]`, and the options of a search
+-- `batch [--echo] [--keys] [--json] [--lines L]`, and the options of a search
 abbrev pub batch_app : App
-batch_app = with_rule (with_rule (limits_app (new_app (codes "batch"))) echo_rule) lines_rule
+batch_app =
+    with_rule (with_rule (with_rule (with_rule (limits_app (new_app (codes "batch"))) echo_rule) (flag_rule (codes "keys"))) (flag_rule (codes "json"))) lines_rule
 
 -- the program without its commands
 abbrev pub bare_app : App
@@ -114,5 +128,5 @@ bare_app = let new = new_app (codes "minimate") in
 -- the program, whose first word is one of its commands
 abbrev pub program : App
 program =
-    with_subcommand (with_subcommand (with_subcommand (with_subcommand (with_subcommand (with_subcommand (with_subcommand (with_subcommand (with_subcommand (with_subcommand bare_app
-    solve_app.top) keys_app.top) tree_app.top) check_app.top) verify_app.top) certify_app.top) moves_app.top) show_app.top) after_app.top) batch_app.top
+    with_subcommand (with_subcommand (with_subcommand (with_subcommand (with_subcommand (with_subcommand (with_subcommand (with_subcommand (with_subcommand (with_subcommand (with_subcommand bare_app
+    solve_app.top) keys_app.top) tree_app.top) solution_app.top) check_app.top) verify_app.top) certify_app.top) moves_app.top) show_app.top) after_app.top) batch_app.top

@@ -10,10 +10,11 @@ use Rattle.command_line.specs.declared.line.Limits.{Limits}
 use Rattle.command_line.specs.declared.line.Subject.{Subject}
 use Rattle.command_line.specs.declared.line.Played.{Played}
 use Rattle.command_line.specs.declared.line.Manner.{Manner}
+use Rattle.command_line.specs.declared.line.Telling.{Telling}
 use Rattle.command_line.specs.declared.line.Action.{Action}
 use Rattle.command_line.specs.declared.line.Action.TheVariants.{Solve, Keys, Tree, Check, Moves, Show}
 use Rattle.command_line.specs.declared.line.Order.{Order}
-use Rattle.command_line.specs.declared.line.Order.TheVariants.{One, Batch, Verify, Certify, After}
+use Rattle.command_line.specs.declared.line.Order.TheVariants.{One, Batch, Verify, Certify, After, TreeAfter, Solution}
 
 -- the text is the number: decimal digits, perhaps after a plus, below 2^32
 abbrev pub IsNumber : Text → ℕ → Type 0
@@ -52,7 +53,7 @@ HasGoal rows goal = first_of (codes "goal") rows ≡ Some (goal_word goal)
 abbrev pub MeansAction : Text → List Row → Action → Type 0
 MeansAction name rows (Solve goal limits) = (name ≡ codes "solve") × HasGoal rows goal × HasLimits rows limits
 MeansAction name rows (Keys goal limits) = (name ≡ codes "keys") × HasGoal rows goal × HasLimits rows limits
-MeansAction name rows (Tree goal limits) = (name ≡ codes "tree") × HasGoal rows goal × HasLimits rows limits
+MeansAction name rows (Tree goal limits) = (name ≡ codes "tree") × HasGoal rows goal × HasLimits rows limits × (first_of (codes "first") rows ≡ None)
 MeansAction name rows (Check goal) = (name ≡ codes "check") × HasGoal rows goal
 MeansAction name rows Moves = name ≡ codes "moves"
 MeansAction name rows Show = name ≡ codes "show"
@@ -61,10 +62,23 @@ MeansAction name rows Show = name ≡ codes "show"
 abbrev pub HasLine : Text → List Row → Line → Type 0
 HasLine name rows line = (first_of (codes "FEN") rows ≡ Some line.fen.now) × MeansAction name rows line.action
 
--- what was found for the manner of a batch: whether the positions are written too, and a number of lines, where one is given
+-- the option of that name, which takes no value, was given
+abbrev pub IsGiven : Text → List Row → Type 0
+IsGiven id rows = first_of id rows ≡ Some (codes "true")
+
+-- what was found for the manner of a batch: whether the positions are written too, whether keys are, and as JSON, and a number of lines, where one is given
 pub record HasManner (rows : List Row) (manner : Manner) : Type 0 where
-  pub echo : IsTrue manner.echo ↔ (first_of (codes "echo") rows ≡ Some (codes "true"))
+  pub echo : IsTrue manner.echo ↔ IsGiven (codes "echo") rows
+  pub keys : IsTrue manner.keys ↔ IsGiven (codes "keys") rows
+  pub json : IsTrue manner.json ↔ IsGiven (codes "json") rows
   pub lines : MatchOption manner.lines ((n : ℕ) → HasNumber (codes "lines") rows n → ⊥) (HasNumber (codes "lines") rows)
+
+-- what was found of what a solution tells
+pub record HasTelling (rows : List Row) (telling : Telling) : Type 0 where
+  pub set_play : IsTrue telling.set_play ↔ IsGiven (codes "set") rows
+  pub tries : IsTrue telling.tries ↔ IsGiven (codes "tries") rows
+  pub figurines : IsTrue telling.figurines ↔ IsGiven (codes "figurines") rows
+  pub json : IsTrue telling.json ↔ IsGiven (codes "json") rows
 
 -- what was found for the position and for the goal
 abbrev pub HasSubject : List Row → Subject → Type 0
@@ -74,6 +88,10 @@ HasSubject rows subject = (first_of (codes "FEN") rows ≡ Some subject.fen.now)
 abbrev pub HasPlayed : List Row → Played → Type 0
 HasPlayed rows played = (first_of (codes "FEN") rows ≡ Some played.fen.now) × (first_of (codes "MOVE") rows ≡ Some played.name.now)
 
+-- what was found for the position and for the first move of its tree
+abbrev pub HasFirst : List Row → Played → Type 0
+HasFirst rows played = (first_of (codes "FEN") rows ≡ Some played.fen.now) × (first_of (codes "first") rows ≡ Some played.name.now)
+
 -- the command of that name with what was found for it
 abbrev pub MeansFound : Text → List Row → Order → Type 0
 MeansFound name rows (One line) = HasLine name rows line
@@ -81,6 +99,9 @@ MeansFound name rows (Batch goal limits manner) = (name ≡ codes "batch") × Ha
 MeansFound name rows (Verify subject) = (name ≡ codes "verify") × HasSubject rows subject
 MeansFound name rows (Certify subject limits) = (name ≡ codes "certify") × HasSubject rows subject × HasLimits rows limits
 MeansFound name rows (After played) = (name ≡ codes "after") × HasPlayed rows played
+MeansFound name rows (TreeAfter played goal limits) = (name ≡ codes "tree") × HasFirst rows played × HasGoal rows goal × HasLimits rows limits
+MeansFound name rows (Solution subject limits telling) =
+    (name ≡ codes "solution") × HasSubject rows subject × HasLimits rows limits × HasTelling rows telling
 
 -- a command was found, and it is the order
 abbrev pub HasOrder : Option (Text × List Row) → Order → Type 0

@@ -77,7 +77,52 @@ The output is the tree that shows the answer of `solve`, on one line, or
 `none within 3`: a move of the attacker, then # for mate, = for stalemate, or in
 braces each lawful reply in order, a colon and the tree that meets it. At each
 turn the attacker's move is the least of those that force the goal in the fewest
-plies. `minimate check` checks it.";
+plies. `minimate check` checks it.
+
+More examples:
+  minimate tree --limit 3 --first f1f2 'k5/6/1K4/6/6/5R w'";
+
+pub const FIRST: &str = "The first move of the tree, as c4c5";
+
+pub const FIRST_MORE: &str = "\
+The first move of the tree, as `minimate keys` names one: the tree is
+that of this move in its fewest plies, or `none within 3` where it
+forces nothing within the limit.";
+
+pub const SOLUTION: &str = "Write the solution of a problem";
+
+pub const SOLUTION_EXAMPLE: &str = "Example: minimate solution --limit 3 'k5/6/2K3/6/6/1R4 w'";
+
+pub const SOLUTION_MORE: &str = "\
+The output is what a composer publishes, or `none within 3`: each key, with an
+exclamation mark, then what it threatens or `zugzwang`, and below it each reply
+of the defender with the best line behind it and its duals. More keys than one
+are cooks.
+
+More examples:
+  minimate solution --mate 2 --set --tries 'k5/6/2K3/6/6/1R4 w'
+  minimate solution --mate 2 --figurines 'k5/6/2K3/6/6/1R4 w'";
+
+pub const SET: &str = "Tell the set play too";
+
+pub const SET_MORE: &str = "\
+Tells the set play too: what follows if the defender were to move.";
+
+pub const TRIES: &str = "Tell the tries too";
+
+pub const TRIES_MORE: &str = "\
+Tells the tries too: first moves that miss the mate by one reply, with
+the reply that refutes each.";
+
+pub const FIGURINES: &str = "Name units by figurines";
+
+pub const FIGURINES_MORE: &str = "\
+Names units by figurines in place of the letters K Q R B N.";
+
+pub const JSON: &str = "Write the solution as JSON";
+
+pub const JSON_MORE: &str = "\
+Writes the solution as one JSON object.";
 
 pub const CHECK: &str = "Check a tree of moves that is read from the input";
 
@@ -150,7 +195,25 @@ pub const BATCH_MORE: &str = "\
 The input has a position on each line. Each is answered on a line of its own, as
 by `solve`, or refused, and the next is read; all share one table. An empty line
 and one that begins with # are passed on as they are. A line has at most 256
-bytes.";
+bytes.
+
+Behind its position a line may have its own limit, in moves: a line
+`k5/6/2K3/6/6/1R4 w ; dm 2` is searched within three plies, whatever the limit,
+and behind its answer stands `ok` where that is a mate in two moves and no
+fewer, and else `differs`.";
+
+pub const KEY_LISTS: &str = "Write the keys of each position on a line";
+
+pub const KEY_LISTS_MORE: &str = "\
+Writes the keys of each position, as `minimate keys` finds them, on one
+line, parted by commas: `c1c5 5,d3c5 5`, or `none within 5`.";
+
+pub const OBJECTS: &str = "Write each reply as a JSON object";
+
+pub const OBJECTS_MORE: &str = "\
+Writes each reply as a JSON object on a line of its own, with position,
+goal, limit, answer, plies and first, or keys; or with position,
+refused and a sentence. Empty lines and remarks are left out.";
 
 pub const ECHO: &str = "Write the position and a tab before each answer";
 

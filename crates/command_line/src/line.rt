@@ -14,6 +14,23 @@ pub enum Order<'a> {
     Certify(Subject<'a>, Limits),
     /// The position after a move.
     After(Played<'a>),
+    /// The tree of a first move that is given.
+    TreeAfter(Played<'a>, Goal, Limits),
+    /// The keys of a problem and what follows them.
+    Solution(Subject<'a>, Limits, Telling),
+}
+
+/// What a solution tells beside its keys, and how it is written.
+#[derive(Clone, Copy, PartialEq, Eq)]
+pub struct Telling {
+    /// Whether it tells what follows if the defender were to move.
+    pub set_play: bool,
+    /// Whether it tells the first moves that a single reply refutes.
+    pub tries: bool,
+    /// Whether units are named by figurines.
+    pub figurines: bool,
+    /// Whether it is written as JSON.
+    pub json: bool,
 }
 
 /// How the replies of a batch are written, and what is known of its input.
@@ -21,6 +38,10 @@ pub enum Order<'a> {
 pub struct Manner {
     /// Whether the position stands before each answer.
     pub echo: bool,
+    /// Whether the keys of each position are written in place of its answer.
+    pub keys: bool,
+    /// Whether each reply is written as JSON.
+    pub json: bool,
     /// How many lines the input has, which standard error is told; 0 where they aren't known.
     pub lines: Option<u32>,
 }

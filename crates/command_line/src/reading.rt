@@ -10,12 +10,12 @@ ghost use Rattle.command_line.specs.declared.line.Subject.{Subject as TheSubject
 ghost use Rattle.command_line.specs.declared.line.Played.{Played as ThePlayed};
 ghost use Rattle.command_line.specs.declared.line.Action.{Action as TheAction};
 ghost use Rattle.clap.specs.Words.{App, FailsBy, Row, fault_of, first_of, found_of, kind_of, new_app, rows_of, subcommand_of, subcommand_rows_of, with_subcommand};
-ghost use Rattle.command_line.specs.Words.{HasGoal, HasLimit, HasLimits, HasLine, HasManner, HasNumber, HasOrder, HasPlayed, HasSubject, MeansAction, MeansFound, MeansOrder, MeansNoOrder, progress_word};
+ghost use Rattle.command_line.specs.Words.{HasGoal, HasLimit, HasLimits, HasLine, HasManner, HasNumber, HasOrder, HasPlayed, HasSubject, HasTelling, IsGiven, MeansAction, MeansFound, MeansOrder, MeansNoOrder, progress_word};
 ghost use Rattle.command_line.specs.Making.{IsLocal, IsLocalArg, NamesNoSearch, option_rule};
-ghost use Rattle.command_line.specs.Program.{after_app, fen_rule, move_rule, goal_rule, number_rule, limit_rule, mate_rule, workers_rule, slots_rule, progress_rule, echo_rule, lines_rule, limits_app, search_app, checking_app, solve_app, keys_app, tree_app, check_app, verify_app, certify_app, moves_app, show_app, batch_app, program};
+ghost use Rattle.command_line.specs.Program.{after_app, fen_rule, move_rule, goal_rule, number_rule, limit_rule, mate_rule, workers_rule, slots_rule, first_rule, flag_rule, progress_rule, echo_rule, lines_rule, limits_app, search_app, checking_app, solve_app, keys_app, tree_app, check_app, verify_app, certify_app, solution_app, moves_app, show_app, batch_app, program};
 
 use crate::help;
-use crate::line::{Action, Limits, Line, Manner, Order, Played, Subject};
+use crate::line::{Action, Limits, Line, Manner, Order, Played, Subject, Telling};
 use clap::error::ErrorKind;
 use clap::{Arg, ArgAction, ArgMatches, Command, Error, value_parser};
 use moves::Goal;
@@ -53,14 +53,21 @@ fn fen<'a>(alloc: Global) -> Arg<'a>
         .long_help(help::FEN_MORE)
 }
 
+/// An option that takes no value, and what its short and its long help say.
+fn flag<'a>(alloc: Global, name: &'a str, help: &'a str, more: &'a str) -> Arg<'a>
+    ensures { IsLocalArg (flag_rule name.entry.now) result }
+{
+    Arg::new(alloc, name)
+        .long(name)
+        .action(ArgAction::SetTrue)
+        .help(help)
+        .long_help(more)
+}
+
 fn echo<'a>(alloc: Global) -> Arg<'a>
     ensures { IsLocalArg echo_rule result }
 {
-    Arg::new(alloc, "echo")
-        .long("echo")
-        .action(ArgAction::SetTrue)
-        .help(help::ECHO)
-        .long_help(help::ECHO_MORE)
+    flag(alloc, "echo", help::ECHO, help::ECHO_MORE)
 }
 
 fn lines<'a>(alloc: Global) -> Arg<'a>
@@ -113,6 +120,12 @@ fn goal<'a>(alloc: Global) -> Arg<'a>
     option(alloc, "goal", "GOAL", help::GOAL, help::GOAL_MORE).default_value("mate")
 }
 
+fn first<'a>(alloc: Global) -> Arg<'a>
+    ensures { IsLocalArg first_rule result }
+{
+    option(alloc, "first", "MOVE", help::FIRST, help::FIRST_MORE)
+}
+
 fn limit<'a>(alloc: Global) -> Arg<'a>
     ensures { IsLocalArg limit_rule result }
 {
@@ -140,11 +153,7 @@ fn slots<'a>(alloc: Global) -> Arg<'a>
 fn progress<'a>(alloc: Global) -> Arg<'a>
     ensures { IsLocalArg progress_rule result }
 {
-    Arg::new(alloc, "progress")
-        .long("progress")
-        .action(ArgAction::SetTrue)
-        .help(help::PROGRESS)
-        .long_help(help::PROGRESS_MORE)
+    flag(alloc, "progress", help::PROGRESS, help::PROGRESS_MORE)
 }
 
 /// A command without its arguments: what it does, an example, and what its long help says below.
@@ -229,13 +238,16 @@ fn keys_command<'a>(alloc: Global) -> Result<Command<'a>, AllocError>
 fn tree_command<'a>(alloc: Global) -> Result<Command<'a>, AllocError>
     ensures { IfOk result (IsLocal tree_app) }
 {
-    search_command(
+    let Ok(searching) = search_command(
         alloc,
         "tree",
         help::TREE,
         help::TREE_EXAMPLE,
         help::TREE_MORE,
-    )
+    ) else {
+        return Err(AllocError);
+    };
+    searching.arg(first(alloc))
 }
 
 fn batch_command<'a>(alloc: Global) -> Result<Command<'a>, AllocError>
@@ -254,7 +266,13 @@ fn batch_command<'a>(alloc: Global) -> Result<Command<'a>, AllocError>
     let Ok(echoing) = limited.arg(echo(alloc)) else {
         return Err(AllocError);
     };
-    echoing.arg(lines(alloc))
+    let Ok(finding) = echoing.arg(flag(alloc, "keys", help::KEY_LISTS, help::KEY_LISTS_MORE)) else {
+        return Err(AllocError);
+    };
+    let Ok(telling) = finding.arg(flag(alloc, "json", help::OBJECTS, help::OBJECTS_MORE)) else {
+        return Err(AllocError);
+    };
+    telling.arg(lines(alloc))
 }
 
 fn moves_command<'a>(alloc: Global) -> Result<Command<'a>, AllocError>
@@ -351,6 +369,31 @@ fn certify_command<'a>(alloc: Global) -> Result<Command<'a>, AllocError>
     )
 }
 
+fn solution_command<'a>(alloc: Global) -> Result<Command<'a>, AllocError>
+    ensures { IfOk result (IsLocal solution_app) }
+{
+    let Ok(searching) = search_command(
+        alloc,
+        "solution",
+        help::SOLUTION,
+        help::SOLUTION_EXAMPLE,
+        help::SOLUTION_MORE,
+    ) else {
+        return Err(AllocError);
+    };
+    let Ok(setting) = searching.arg(flag(alloc, "set", help::SET, help::SET_MORE)) else {
+        return Err(AllocError);
+    };
+    let Ok(trying) = setting.arg(flag(alloc, "tries", help::TRIES, help::TRIES_MORE)) else {
+        return Err(AllocError);
+    };
+    let figurines = flag(alloc, "figurines", help::FIGURINES, help::FIGURINES_MORE);
+    let Ok(drawing) = trying.arg(figurines) else {
+        return Err(AllocError);
+    };
+    drawing.arg(flag(alloc, "json", help::JSON, help::JSON_MORE))
+}
+
 /// Adds a command to another, if both could be made.
 fn added<'a>(
     command: Result<Command<'a>, AllocError>,
@@ -384,7 +427,8 @@ fn command<'a>(alloc: Global) -> Result<Command<'a>, AllocError>
     let solving = added(Ok(bare), solve_command(alloc));
     let finding = added(solving, keys_command(alloc));
     let searching = added(finding, tree_command(alloc));
-    let checking = added(searching, check_command(alloc));
+    let telling = added(searching, solution_command(alloc));
+    let checking = added(telling, check_command(alloc));
     let verifying = added(checking, verify_command(alloc));
     let certifying = added(verifying, certify_command(alloc));
     let moving = added(certifying, moves_command(alloc));
@@ -456,13 +500,24 @@ fn goal_of(matches: &ArgMatches<'_>) -> Option<Goal>
 fn search_of(name: &str, goal: Goal, limits: Limits) -> Option<Action>
     ensures some { IfSome result (λ action. (rows : List Row) → HasGoal rows goal → HasLimits rows limits
         → MeansAction name.now rows action) }
-    ensures none { IfNone result (NamesNoSearch name.now) }
+    ensures none { IfNone result (name.now ≢ codes "tree" → NamesNoSearch name.now) }
 {
     match name {
         "solve" => Some(Action::Solve(goal, limits)),
         "keys" => Some(Action::Keys(goal, limits)),
-        "tree" => Some(Action::Tree(goal, limits)),
         _ => None,
+    }
+}
+
+/// The tree of the answer, where no first move is given.
+fn tree_of(values: &ArgMatches<'_>) -> Option<Action>
+    ensures some { IfSome result (MeansAction (codes "tree") (rows_of (found_of values.now))) }
+    ensures none { IfNone result
+        ((action : TheAction) → MeansAction (codes "tree") (rows_of (found_of values.now)) action → ⊥) }
+{
+    match values.get_str("first") {
+        None => Some(Action::Tree(goal_of(values)?, limits(values)?)),
+        Some(_) => None,
     }
 }
 
@@ -475,6 +530,7 @@ fn action_of(name: &str, values: &ArgMatches<'_>) -> Option<Action>
         "moves" => Some(Action::Moves),
         "show" => Some(Action::Show),
         "check" => Some(Action::Check(goal_of(values)?)),
+        "tree" => tree_of(values),
         _ => search_of(name, goal_of(values)?, limits(values)?),
     }
 }
@@ -513,11 +569,11 @@ fn subject_of<'a>(values: &ArgMatches<'a>) -> Option<Subject<'a>>
     Some(Subject { fen, goal })
 }
 
-/// Whether `--echo` was given.
-fn echoes(values: &ArgMatches<'_>) -> bool
-    ensures { IsTrue result ↔ (first_of (codes "echo") (rows_of (found_of values.now)) ≡ Some (codes "true")) }
+/// Whether an option that takes no value was given.
+fn is_given(values: &ArgMatches<'_>, id: &str) -> bool
+    ensures { IsTrue result ↔ IsGiven id.now (rows_of (found_of values.now)) }
 {
-    match values.get_str("echo") {
+    match values.get_str(id) {
         None => false,
         Some(word) => match word {
             "true" => true,
@@ -530,8 +586,21 @@ fn manner_of(values: &ArgMatches<'_>) -> Manner
     ensures { HasManner (rows_of (found_of values.now)) result }
 {
     Manner {
-        echo: echoes(values),
+        echo: is_given(values, "echo"),
+        keys: is_given(values, "keys"),
+        json: is_given(values, "json"),
         lines: number_of(values, "lines"),
+    }
+}
+
+fn telling_of(values: &ArgMatches<'_>) -> Telling
+    ensures { HasTelling (rows_of (found_of values.now)) result }
+{
+    Telling {
+        set_play: is_given(values, "set"),
+        tries: is_given(values, "tries"),
+        figurines: is_given(values, "figurines"),
+        json: is_given(values, "json"),
     }
 }
 
@@ -544,6 +613,23 @@ fn played_of<'a>(values: &ArgMatches<'a>) -> Option<Played<'a>>
     Some(Played { fen, name })
 }
 
+/// The tree of the answer, or of the first move that is given.
+fn tree_order<'a>(values: &ArgMatches<'a>) -> Option<Order<'a>>
+    ensures some { IfSome result (MeansFound (codes "tree") (rows_of (found_of values.now))) }
+    ensures none { IfNone result
+        ((order : TheOrder) → MeansFound (codes "tree") (rows_of (found_of values.now)) order → ⊥) }
+{
+    match values.get_str("first") {
+        None => Some(Order::One(line_of("tree", values)?)),
+        Some(first) => {
+            let fen = fen_of(values)?;
+            let name = first.as_bytes();
+            let played = Played { fen, name };
+            Some(Order::TreeAfter(played, goal_of(values)?, limits(values)?))
+        }
+    }
+}
+
 fn order_at<'a>(name: &str, values: &ArgMatches<'a>) -> Option<Order<'a>>
     ensures some { IfSome result (MeansFound name.now (rows_of (found_of values.now))) }
     ensures none { IfNone result ((order : TheOrder) → MeansFound name.now (rows_of (found_of values.now)) order → ⊥) }
@@ -553,6 +639,12 @@ fn order_at<'a>(name: &str, values: &ArgMatches<'a>) -> Option<Order<'a>>
         "verify" => Some(Order::Verify(subject_of(values)?)),
         "certify" => Some(Order::Certify(subject_of(values)?, limits(values)?)),
         "after" => Some(Order::After(played_of(values)?)),
+        "solution" => Some(Order::Solution(
+            subject_of(values)?,
+            limits(values)?,
+            telling_of(values),
+        )),
+        "tree" => tree_order(values),
         _ => Some(Order::One(line_of(name, values)?)),
     }
 }

@@ -1,6 +1,6 @@
 -- A batch, line by line.
 use Rattle.std.proofs.Common.{◌≡◌, ◌≢◌, ◌∙◌, ◌+◌, ◌-◌, ◌<◌, ◌⊎◌, ℕ, Bool, true, false, List, [], ◌∷◌, ◌++◌, Option, None, Some, Result, Ok, Err, IfSome, IsErr, IsErrAnd, Vec, vec_items, length, take, drop, ap, inl, inr, refl, sym, subst, append_assoc, append-nil, length-append, ne_eqb, not, arith, All, MatchBool}
-use Rattle.std.proofs.lemmas.Bool.{le-ltb, lt-ltb}
+use Rattle.std.proofs.lemmas.Bool.{false≢true, le-ltb, lt-ltb}
 use Rattle.std.proofs.lemmas.List.{flat_map_more}
 use Rattle.std.proofs.lemmas.List.Elements.{AllZip-push, All-head, All-nil, All-push, All-tail}
 use Rattle.std.proofs.lemmas.Option.{IfSome_then}
@@ -10,20 +10,25 @@ use Rattle.std.specs.List.{AllZip}
 use Rattle.std.specs.declared.alloc.Global.{Global}
 use Rattle.board.specs.Board.{PlainBoard}
 use Rattle.board.specs.declared.fault.FenFault.{FenFault}
-use Rattle.command_line.specs.declared.line.Limits.{Limits}
-use Rattle.rules.specs.Reading.{IsSoundFault}
 use Rattle.rules.specs.declared.goal.Goal.{Goal}
+use Rattle.decision.specs.declared.answer.Answer.{Answer as TheAnswer}
+use Rattle.decision.specs.Answer.{IsAnswer}
+use Rattle.console.specs.declared.asked.Found.TheVariants.{Answer, Keys}
+use Rattle.console.specs.Asking.{IsAnswerFound, IsFound, limit_of}
+use Rattle.console.specs.Forms.{IsFoundText, IsRefusalText}
+use Rattle.console.specs.declared.asked.Asked.{Asked}
+use Rattle.console.specs.declared.asked.Batch.{Batch}
+use Rattle.console.specs.declared.asked.Found.{Found}
+use Rattle.rules.specs.Reading.{IsSoundFault}
 use Rattle.replies.proofs.ReplyLemmas.{of_any, of_input_then}
 use Rattle.devices.specs.Device.{AppendsBeginning}
 use Rattle.devices.specs.Input.{OfInput, without_line_feed}
-use Rattle.replies.specs.Outcome.{Gives}
-use Rattle.replies.specs.Output.{IsSoundText, ShowsAnswer, fault_of, refusal_of_solve}
-use Rattle.refusals.specs.Reply.{answered, refused}
+use Rattle.replies.specs.Output.{IsSoundText, fault_of, refusal_of_solve}
 use Rattle.refusals.specs.Refusal.{refusal_of_fen}
 use Rattle.refusals.specs.declared.refusal.Refusal.{Refusal}
 use Rattle.refusals.specs.declared.refusal.Refusal.TheVariants.{TooLong}
-use Rattle.console.specs.Batch.{AnswersLines, EndsBatch, IsLineReply, HasReplyText, RunsBatch, is_remark, joined, lines_of, onto, said_in}
-use Rattle.console.specs.Desk.{Fails, GivesNext, GivesSaid, IsFirstOf, RepliesTo, SameSolver, Step, TakesLines, TakesStep}
+use Rattle.console.specs.Batch.{AnswersLines, EndsBatch, HasReplyText, IsAskedReply, IsFoundReply, IsLineReply, RunsBatch, joined, lines_of, onto, said_in}
+use Rattle.console.specs.Desk.{Fails, GivesAsked, GivesFound, GivesNext, IsFirstOf, IsRefusedFor, RepliesTo, SameSolver, Step, TakesLines, TakesStep, asked_limits}
 use Rattle.devices.specs.Lines.{HasNoFeed, IsFed, IsLastOf, IsReadAs, TakesLine, left_of}
 use Rattle.console.specs.Run.{Ending, Finishes, Refuses, Run, no_memory}
 use Rattle.rounds.specs.declared.task.SolveFault.{SolveFault}
@@ -39,17 +44,30 @@ use Rattle.devices.specs.declared.lines.Unread.{Unread}
 -- ---- what a line says
 
 -- a text of a fault is refused
-pub said_fault : (goal : Goal) (limits : Limits) (said : List ℕ) (r : Result (Vec ℕ Global) Refusal) (fault : FenFault) → is_remark said ≡ false
-    → IsSoundFault said fault → IsErr r × IsErrAnd r (λ why. why ≡ refusal_of_fen fault) → GivesSaid goal limits said r
-said_fault goal limits said (Ok text) fault remark is err = absurd err.1
-said_fault goal limits said (Err why) fault remark is err = inr (rw remark (refused why, inr (fault, is, ap refused err.1), refl))
+pub asked_fault : (batch : Batch) (asked : Asked) (r : Result (Vec ℕ Global) Refusal) (fault : FenFault) → IsSoundFault asked.fen.now fault
+    → IsErr r × IsErrAnd r (λ why. why ≡ refusal_of_fen fault) → GivesAsked batch asked r
+asked_fault batch asked (Ok text) fault is err = absurd err.1
+asked_fault batch asked (Err why) fault is err = inr (inr (fault, is, err.1))
 
--- a position is answered
-pub said_gives : (goal : Goal) (limits : Limits) (said : List ℕ) (b : PlainBoard) (r : Result (Vec ℕ Global) Refusal) → is_remark said ≡ false
-    → IsSoundText said b → Gives vec_items (ShowsAnswer goal b limits) r → GivesSaid goal limits said r
-said_gives goal limits said b (Ok text) remark sound gives = rw remark (answered (vec_items text), inl (b, sound, gives), refl)
-said_gives goal limits said b (Err why) remark sound (inl none) = inl none
-said_gives goal limits said b (Err why) remark sound (inr shows) = inr (rw remark (refused why, inl (b, sound, shows), refl))
+-- what is given at the sound position is given
+pub asked_gives : (batch : Batch) (asked : Asked) (b : PlainBoard) (r : Result (Vec ℕ Global) Refusal) → IsSoundText asked.fen.now b → GivesFound batch asked b r
+    → GivesAsked batch asked r
+asked_gives batch asked b (Ok text) sound gives = inl (b, sound, gives)
+asked_gives batch asked b (Err why) sound (inl none) = inl none
+asked_gives batch asked b (Err why) sound (inr refused) = inr (inl (b, sound, refused))
+
+-- what is found within the limits is a reply
+pub found_reply : (batch : Batch) (asked : Asked) (b : PlainBoard) (found : Found) (text : List ℕ) → fault_of (asked_limits batch asked) ≡ None
+    → IsFound batch.manner.keys batch.goal b (limit_of batch.limits.limit asked.moves) found → IsFoundText batch asked found text → IsFoundReply batch asked b text
+found_reply batch asked b found text none is written = rw none (found, is, written)
+
+-- the text of a refusal is a reply
+pub refusal_reply : (batch : Batch) (asked : Asked) (why : Refusal) (text : List ℕ) → IsRefusedFor batch asked why
+    → IsRefusalText batch.manner.json (Some asked.fen.now) why text → IsAskedReply batch asked text
+refusal_reply batch asked why text (inl (b, sound, (fault, is, same))) written =
+    inl (b, sound, rw is (subst (λ w. IsRefusalText batch.manner.json (Some asked.fen.now) w text) same written))
+refusal_reply batch asked why text (inr (fault, is, same)) written =
+    inr (fault, is, subst (λ w. IsRefusalText batch.manner.json (Some asked.fen.now) w text) same written)
 
 -- ---- lines
 
@@ -102,8 +120,7 @@ kept_first s left written = ([], [], All-nil IsFed, tt, Consumes-nil left, Appen
 
 -- a reply for the same question
 same_reply : (s s' : Solver) (line text : List ℕ) → SameSolver s s' → RepliesTo s' line text → RepliesTo s line text
-same_reply s s' line text same reply = subst (λ g. IsLineReply g s.limits s.echo line text) same.0
-    (subst (λ l. IsLineReply s'.goal l s.echo line text) same.1 (subst (λ e. IsLineReply s'.goal s'.limits e line text) same.2 reply))
+same_reply s s' line text same reply = subst (λ b. IsLineReply b line text) same reply
 
 same_replies : (s s' : Solver) (lines texts : List (List ℕ)) → SameSolver s s' → AllZip (RepliesTo s') lines texts → AllZip (RepliesTo s) lines texts
 same_replies s s' [] [] same zip = tt
@@ -129,7 +146,7 @@ nothing_more written mid after text grown none = subst (Appends written after) (
 
 -- the lines that are answered, where others may be left
 front_answered : (s : Solver) (status : ℕ) (left now : Option (List ℕ)) (front texts : List (List ℕ)) → (status ≡ 0 → ⊥) → All IsFed front
-    → AllZip (RepliesTo s) front texts → Consumes left now (joined front) → OfInput left (AnswersLines s.goal s.limits s.echo status texts)
+    → AllZip (RepliesTo s) front texts → Consumes left now (joined front) → OfInput left (AnswersLines s.batch status texts)
 front_answered s status None now front texts other fed zip gone =
     (joined front, tt, (front, [], ap lines_of (sym (append-nil (joined front))) ∙ fed_front front [] fed, zip, λ e. absurd (other e)))
 front_answered s status (Some xs) None front texts other fed zip gone = absurd gone
@@ -139,7 +156,7 @@ front_answered s status (Some xs) (Some ys) front texts other fed zip gone =
 -- the same with one line more
 one_answered : (s : Solver) (status : ℕ) (left now : Option (List ℕ)) (front texts : List (List ℕ)) (line text : List ℕ) → (status ≡ 0 → ⊥) → All IsFed front
     → AllZip (RepliesTo s) front texts → Consumes left now (joined front) → IsFirstOf now line → RepliesTo s line text
-    → OfInput left (AnswersLines s.goal s.limits s.echo status (texts ++ text ∷ []))
+    → OfInput left (AnswersLines s.batch status (texts ++ text ∷ []))
 one_answered s status None now front texts line text other fed zip gone (one, first) reply = (
   joined front ++ line,
   tt,
@@ -231,15 +248,15 @@ lines_stop s s' left step written reads writes WriteFailed same r w (front, text
 -- ---- one line
 
 -- a line that is too long is refused
-pub too_long_reply : (s : Solver) (text line : List ℕ) → (0 < length line) × (256 < length (without_line_feed line)) → text ≡ (refused TooLong).text
+pub too_long_reply : (s : Solver) (text line : List ℕ) → (0 < length line) × (256 < length (without_line_feed line)) → IsRefusalText s.batch.manner.json None TooLong text
     → (0 < length line) × RepliesTo s line text
 too_long_reply s text line next is = (next.0, rw (lt-ltb 256 (length (without_line_feed line)) next.1) is)
 
 -- any other is answered by what it says
-pub line_reply : (s : Solver) (held : Vec ℕ Global) (text line : List ℕ) → IsReadAs line (Line held) → HasReplyText s.goal s.limits s.echo (said_in held.items) text
+pub line_reply : (s : Solver) (held : Vec ℕ Global) (text line : List ℕ) → IsReadAs line (Line held) → HasReplyText s.batch (said_in held.items) text
     → (0 < length line) × RepliesTo s line text
 line_reply s held text line next reply =
-    (next.0, rw (le-ltb 256 (length (without_line_feed line)) next.2) (subst (λ l. HasReplyText s.goal s.limits s.echo (said_in l) text) next.1 reply))
+    (next.0, rw (le-ltb 256 (length (without_line_feed line)) next.2) (subst (λ l. HasReplyText s.batch (said_in l) text) next.1 reply))
 
 -- how a line was taken
 abbrev IsTaken : Option (List ℕ) → Option (List ℕ) → Bool → List ℕ → Type 0
@@ -317,25 +334,22 @@ finishes_after a b c old mid new status asked text more written same (inr ((take
     inr ((text ++ taken, rest, ap (λ l. text ++ l) cut ∙ sym (append_assoc text taken rest), Appends-trans a b c text taken written grown), omega (arith, same, one), four)
 
 -- the limits are searched, and lines were answered
-pub batch_ran : (s : Solver) (goal : Goal) (limits : Limits) (echo : Bool) (run : Run) (left : Option (List ℕ)) (texts : List (List ℕ)) → fault_of s.limits ≡ None
-    → s.goal ≡ goal → s.limits ≡ limits → s.echo ≡ echo → left ≡ run.input → OfInput left (AnswersLines s.goal s.limits s.echo run.ending.status texts)
-    → EndsBatch run (joined texts) → RunsBatch goal limits echo run
-batch_ran s goal limits echo run left texts searched same_goal same_limits same_echo same answers ends =
-    let none : fault_of limits ≡ None = subst (λ l. fault_of l ≡ None) same_limits searched in
+pub batch_ran : (s : Solver) (batch : Batch) (run : Run) (left : Option (List ℕ)) (texts : List (List ℕ)) → fault_of s.batch.limits ≡ None
+    → s.batch ≡ batch → left ≡ run.input → OfInput left (AnswersLines s.batch run.ending.status texts) → EndsBatch run (joined texts) → RunsBatch batch run
+batch_ran s batch run left texts searched same_batch same answers ends =
+    let none : fault_of batch.limits ≡ None = subst (λ b. fault_of b.limits ≡ None) same_batch searched in
     rw none (
       texts,
-      subst (λ o. OfInput o (AnswersLines goal limits echo run.ending.status texts)) same
-          (subst (λ l. OfInput left (AnswersLines goal l echo run.ending.status texts)) same_limits
-          (subst (λ g. OfInput left (AnswersLines g s.limits echo run.ending.status texts)) same_goal
-          (subst (λ e. OfInput left (AnswersLines s.goal s.limits e run.ending.status texts)) same_echo answers))),
+      subst (λ o. OfInput o (AnswersLines batch run.ending.status texts)) same
+          (subst (λ b. OfInput left (AnswersLines b run.ending.status texts)) same_batch answers),
       ends,
     )
 
 -- the limits are refused, or memory is wanting before anything is read
-pub batch_refused : (goal : Goal) (limits : Limits) (echo : Bool) (run : Run) (fault : SolveFault) → run.failed_reads ≡ 0
-    → (fault_of limits ≡ Some fault) ⊎ ((fault_of limits ≡ None) × (fault ≡ solve.NoMemory)) → Refuses run.ending (refusal_of_solve fault) → RunsBatch goal limits echo run
-batch_refused goal limits echo run fault unread (inl is) refuses = rw is (unread, refuses)
-batch_refused goal limits echo run fault unread (inr (none, memory)) refuses =
+pub batch_refused : (batch : Batch) (run : Run) (fault : SolveFault) → run.failed_reads ≡ 0
+    → (fault_of batch.limits ≡ Some fault) ⊎ ((fault_of batch.limits ≡ None) × (fault ≡ solve.NoMemory)) → Refuses run.ending (refusal_of_solve fault) → RunsBatch batch run
+batch_refused batch run fault unread (inl is) refuses = rw is (unread, refuses)
+batch_refused batch run fault unread (inr (none, memory)) refuses =
     let wrote : Finishes run.ending no_memory 3 = elim (subst (λ f. Refuses run.ending (refusal_of_solve f)) memory refuses) [ inl a ↦ a | inr b ↦ b ] in
     rw none ([], of_any run.input _ (λ input. ([], lines_of input, refl, tt, λ e. elim wrote [ inl w ↦ absurd (omega (arith, w.2, e)) | inr w ↦ absurd (omega (arith, w.2, e)) ])), inr (inr (unread, wrote)))
 
@@ -345,7 +359,21 @@ gave_up ending text (inl whole) none = absurd (omega (arith, whole.2, none))
 gave_up ending text (inr cut) none = absurd (omega (arith, cut.2, none))
 
 -- where lines may be left, the status plays no part
-pub answers_with : (goal : Goal) (limits : Limits) (echo : Bool) (m status : ℕ) (left : Option (List ℕ)) (texts : List (List ℕ)) → (status ≡ 0 → ⊥)
-    → OfInput left (AnswersLines goal limits echo m texts) → OfInput left (AnswersLines goal limits echo status texts)
-answers_with goal limits echo m status left texts other answers = of_input_then left _ _ answers (λ xs a.
+pub answers_with : (batch : Batch) (m status : ℕ) (left : Option (List ℕ)) (texts : List (List ℕ)) → (status ≡ 0 → ⊥)
+    → OfInput left (AnswersLines batch m texts) → OfInput left (AnswersLines batch status texts)
+answers_with batch m status left texts other answers = of_input_then left _ _ answers (λ xs a.
     let (front, rest, split, zip, end) = a in (front, rest, split, zip, λ e. absurd (other e)))
+
+-- ---- an answer
+
+-- what is found where no keys are asked for is an answer
+pub found_answer : (keys : Bool) (goal : Goal) (b : PlainBoard) (limit : ℕ) (found : Found) → keys ≡ false → IsFound keys goal b limit found → IsAnswerFound found
+found_answer true goal b limit found answers is = absurd (false≢true (sym answers))
+found_answer false goal b limit (Answer answer) answers is = tt
+found_answer false goal b limit (Keys keys) answers is = absurd is
+
+-- and it is the answer
+pub answer_found : (keys : Bool) (goal : Goal) (b : PlainBoard) (limit : ℕ) (found : Found) (answer : TheAnswer) → keys ≡ false → IsFound keys goal b limit found
+    → found ≡ Answer answer → IsAnswer goal b limit answer
+answer_found true goal b limit found answer answers is same = absurd (false≢true (sym answers))
+answer_found false goal b limit found answer answers is same = subst (IsFound false goal b limit) same is

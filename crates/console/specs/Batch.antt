@@ -1,5 +1,5 @@
 -- A batch: what is written for the lines of an input.
-use Rattle.std.specs.Prelude.{◌≡◌, ◌⊎◌, ◌-◌, ◌==◌, ◌&&◌, ℕ, Bool, true, not, List, [], ◌∷◌, ◌++◌, length, take, slice_index, nat_lt, if◌then◌else◌, MatchBool, MatchOption}
+use Rattle.std.specs.Prelude.{◌≡◌, ◌⊎◌, ◌-◌, ◌==◌, ◌&&◌, ◌||◌, ℕ, Bool, None, Some, true, not, List, [], ◌∷◌, ◌++◌, length, take, slice_index, nat_lt, if◌then◌else◌, MatchBool, MatchOption}
 use Rattle.std.specs.List.{AllZip, flat_map}
 use Rattle.board.specs.Board.{PlainBoard}
 use Rattle.board.specs.declared.fault.FenFault.{FenFault}
@@ -11,6 +11,11 @@ use Rattle.replies.specs.Output.{IsSoundText, ShowsAnswer, fault_of, refusal_of_
 use Rattle.refusals.specs.Reply.{Reply, line_of, refused}
 use Rattle.refusals.specs.Refusal.{refusal_of_fen}
 use Rattle.refusals.specs.declared.refusal.Refusal.TheVariants.{TooLong}
+use Rattle.console.specs.Asking.{IsAsked, IsFound, limit_of, with_plies}
+use Rattle.console.specs.Forms.{IsFoundText, IsRefusalText}
+use Rattle.console.specs.declared.asked.Asked.{Asked}
+use Rattle.console.specs.declared.asked.Batch.{Batch}
+use Rattle.console.specs.declared.asked.Found.{Found}
 use Rattle.console.specs.Run.{Run, Writes, Finishes, Refuses, no_memory}
 
 -- ---- lines
@@ -46,23 +51,41 @@ ShowsPosition goal limits text reply =
     ((b : PlainBoard) × IsSoundText text b × ShowsAnswer goal b limits reply)
     ⊎ ((fault : FenFault) × IsSoundFault text fault × (reply ≡ refused (refusal_of_fen fault)))
 
--- what is written for what a line says: a remark as it is, or the reply to its position
-abbrev pub IsReplyText : Goal → Limits → List ℕ → List ℕ → Type 0
-IsReplyText goal limits said text =
-    MatchBool (is_remark said) (text ≡ line_of said) ((reply : Reply) × ShowsPosition goal limits said reply × (text ≡ reply.text))
+-- what is written for a position: what was found of it, or the refusal of the limit
+abbrev pub IsFoundReply : Batch → Asked → PlainBoard → List ℕ → Type 0
+IsFoundReply batch asked b text =
+    let limits = with_plies batch.limits (limit_of batch.limits.limit asked.moves) in
+    MatchOption (fault_of limits)
+    ((found : Found) × IsFound batch.manner.keys batch.goal b limits.limit found × IsFoundText batch asked found text)
+    (λ fault. IsRefusalText batch.manner.json (Some asked.fen.now) (refusal_of_solve fault) text)
 
--- a text with the position before it, and a tab; a remark as it is
-abbrev pub with_position : Bool → List ℕ → List ℕ → List ℕ
-with_position echo said text = if echo && not (is_remark said) then said ++ (9 ∷ text) else text
+-- the same at the sound position of the text, or the refusal of the text's fault
+abbrev pub IsAskedReply : Batch → Asked → List ℕ → Type 0
+IsAskedReply batch asked text =
+    ((b : PlainBoard) × IsSoundText asked.fen.now b × IsFoundReply batch asked b text)
+    ⊎ ((fault : FenFault) × IsSoundFault asked.fen.now fault × IsRefusalText batch.manner.json (Some asked.fen.now) (refusal_of_fen fault) text)
+
+-- what is written for a remark: the line as it is, and nothing among JSON
+abbrev pub remark_text : Batch → List ℕ → List ℕ
+remark_text batch said = if batch.manner.json then [] else line_of said
+
+-- what is written for what a line says: for a remark, or for what it asks
+abbrev pub IsReplyText : Batch → List ℕ → List ℕ → Type 0
+IsReplyText batch said text =
+    MatchBool (is_remark said) (text ≡ remark_text batch said) ((asked : Asked) × IsAsked said asked × IsAskedReply batch asked text)
+
+-- a text with the position before it, and a tab, where that is asked for; a remark and JSON as they are
+abbrev pub with_position : Batch → List ℕ → List ℕ → List ℕ
+with_position batch said text = if batch.manner.echo && not (batch.manner.json || is_remark said) then said ++ (9 ∷ text) else text
 
 -- what is written for what a line says, in the manner that was asked for
-abbrev pub HasReplyText : Goal → Limits → Bool → List ℕ → List ℕ → Type 0
-HasReplyText goal limits echo said text = (plain : List ℕ) × IsReplyText goal limits said plain × (text ≡ with_position echo said plain)
+abbrev pub HasReplyText : Batch → List ℕ → List ℕ → Type 0
+HasReplyText batch said text = (plain : List ℕ) × IsReplyText batch said plain × (text ≡ with_position batch said plain)
 
 -- what is written for a line; one of more than 256 bytes, its feed not counted, is too long
-abbrev pub IsLineReply : Goal → Limits → Bool → List ℕ → List ℕ → Type 0
-IsLineReply goal limits echo line text =
-    MatchBool (nat_lt 256 (length (without_line_feed line))) (text ≡ (refused TooLong).text) (HasReplyText goal limits echo (said_in line) text)
+abbrev pub IsLineReply : Batch → List ℕ → List ℕ → Type 0
+IsLineReply batch line text =
+    MatchBool (nat_lt 256 (length (without_line_feed line))) (IsRefusalText batch.manner.json None TooLong text) (HasReplyText batch (said_in line) text)
 
 -- the texts, all in one
 abbrev pub joined : List (List ℕ) → List ℕ
@@ -71,9 +94,9 @@ joined texts = flat_map (λ text. text) texts
 -- ---- a run
 
 -- the texts are the replies to the first lines of the input, one each, and to all of them where the status is 0
-abbrev pub AnswersLines : Goal → Limits → Bool → ℕ → List (List ℕ) → List ℕ → Type 0
-AnswersLines goal limits echo status texts input =
-    (front : List (List ℕ)) × (rest : List (List ℕ)) × (lines_of input ≡ front ++ rest) × AllZip (IsLineReply goal limits echo) front texts
+abbrev pub AnswersLines : Batch → ℕ → List (List ℕ) → List ℕ → Type 0
+AnswersLines batch status texts input =
+    (front : List (List ℕ)) × (rest : List (List ℕ)) × (lines_of input ≡ front ++ rest) × AllZip (IsLineReply batch) front texts
     × (status ≡ 0 → rest ≡ [])
 
 -- a read failed, after all of the text was written
@@ -86,7 +109,7 @@ EndsBatch run text =
     ((run.failed_reads ≡ 0) × Finishes run.ending text 0) ⊎ EndsUnread run text ⊎ ((run.failed_reads ≡ 0) × Finishes run.ending (text ++ no_memory) 3)
 
 -- the run is one of the batch: the limits are refused, or its lines are answered as far as it came
-abbrev pub RunsBatch : Goal → Limits → Bool → Run → Type 0
-RunsBatch goal limits echo run = MatchOption (fault_of limits)
-    ((texts : List (List ℕ)) × OfInput run.input (AnswersLines goal limits echo run.ending.status texts) × EndsBatch run (joined texts))
+abbrev pub RunsBatch : Batch → Run → Type 0
+RunsBatch batch run = MatchOption (fault_of batch.limits)
+    ((texts : List (List ℕ)) × OfInput run.input (AnswersLines batch run.ending.status texts) × EndsBatch run (joined texts))
     (λ fault. (run.failed_reads ≡ 0) × Refuses run.ending (refusal_of_solve fault))

@@ -10,15 +10,21 @@ use Rattle.rounds.specs.declared.task.SolveFault.{SolveFault}
 use Rattle.rounds.specs.declared.task.SolveFault.TheVariants as solve
 use Rattle.devices.specs.Device.{AppendsBeginning}
 use Rattle.devices.specs.Input.{OfInput}
-use Rattle.replies.specs.Output.{fault_of}
-use Rattle.refusals.specs.Reply.{refused}
+use Rattle.board.specs.Board.{PlainBoard}
+use Rattle.board.specs.declared.fault.FenFault.{FenFault}
+use Rattle.rules.specs.Reading.{IsSoundFault}
+use Rattle.replies.specs.Output.{IsSoundText, fault_of, refusal_of_solve}
+use Rattle.refusals.specs.Refusal.{refusal_of_fen}
 use Rattle.refusals.specs.declared.refusal.Refusal.{Refusal}
 use Rattle.refusals.specs.declared.refusal.Refusal.TheVariants as refusal
 use Rattle.devices.specs.declared.transfer.InputFault.{InputFault}
 use Rattle.devices.specs.declared.transfer.InputFault.TheVariants as input
-use Rattle.console.specs.Batch.{AnswersLines, IsLineReply, IsReplyText, joined, lines_of}
+use Rattle.console.specs.Asking.{IsFound, limit_of, with_plies}
+use Rattle.console.specs.Batch.{AnswersLines, IsAskedReply, IsFoundReply, IsLineReply, joined, lines_of}
 use Rattle.devices.specs.Lines.{IsFed, IsLastOf, IsReadAs, IsUnread, left_of}
-use Rattle.console.specs.declared.batch.Batch.{Batch}
+use Rattle.console.specs.declared.asked.Asked.{Asked}
+use Rattle.console.specs.declared.asked.Batch.{Batch}
+use Rattle.console.specs.declared.asked.Found.{Found}
 use Rattle.console.specs.declared.batch.Desk.{Desk}
 use Rattle.console.specs.declared.batch.Solver.{Solver}
 use Rattle.console.specs.declared.batch.Stop.{Stop}
@@ -29,11 +35,11 @@ use Rattle.devices.specs.declared.lines.Next.{Next}
 
 -- its limits are searched, and each of its threads has a seat of its table
 abbrev pub IsSolver : Solver → Type 0
-IsSolver s = (fault_of s.limits ≡ None) × AreSeats s.slots (s.limits.workers + 1) s.seats.items
+IsSolver s = (fault_of s.batch.limits ≡ None) × AreSeats s.slots (s.batch.limits.workers + 1) s.seats.items
 
 -- the same is asked
 abbrev pub SameSolver : Solver → Solver → Type 0
-SameSolver a b = (b.goal ≡ a.goal) × (b.limits ≡ a.limits) × (b.echo ≡ a.echo)
+SameSolver a b = b.batch ≡ a.batch
 
 abbrev pub IsDesk : Desk → Type 0
 IsDesk desk = IsSolver desk.solver × IsUnread desk.unread
@@ -41,13 +47,34 @@ IsDesk desk = IsSolver desk.solver × IsUnread desk.unread
 -- a desk at which nothing was read, or the first fault of the limits, or want of memory
 abbrev pub OpensDesk : Batch → Result Desk SolveFault → Type 0
 OpensDesk batch (Ok desk) =
-    IsDesk desk × (desk.solver.goal ≡ batch.goal) × (desk.solver.limits ≡ batch.limits) × (desk.solver.echo ≡ batch.echo) × (desk.unread.from ≡ 0) × (desk.unread.to ≡ 0)
+    IsDesk desk × (desk.solver.batch ≡ batch) × (desk.unread.from ≡ 0) × (desk.unread.to ≡ 0)
 OpensDesk batch (Err fault) = (fault_of batch.limits ≡ Some fault) ⊎ ((fault_of batch.limits ≡ None) × (fault ≡ solve.NoMemory))
 
--- a text is a reply to what a line says, and a refusal is one or is want of memory
-abbrev pub GivesSaid : Goal → Limits → List ℕ → Result (Vec ℕ Global) Refusal → Type 0
-GivesSaid goal limits said (Ok text) = IsReplyText goal limits said (vec_items text)
-GivesSaid goal limits said (Err why) = (why ≡ refusal.NoMemory) ⊎ IsReplyText goal limits said (refused why).text
+-- what is asked of a position within the limits, for values of any size: it is found, or this is the first fault of the values, or memory is wanting
+abbrev pub Finds : Bool → Goal → PlainBoard → Limits → Result Found SolveFault → Type 0
+Finds keys goal b limits (Ok found) = (fault_of limits ≡ None) × IsFound keys goal b limits.limit found
+Finds keys goal b limits (Err fault) = (fault_of limits ≡ Some fault) ⊎ ((fault_of limits ≡ None) × (fault ≡ solve.NoMemory))
+
+-- the limits within which a line is searched
+abbrev pub asked_limits : Batch → Asked → Limits
+asked_limits batch asked = with_plies batch.limits (limit_of batch.limits.limit asked.moves)
+
+-- a text is a reply at a position, and a refusal is that of the limits or is want of memory
+abbrev pub GivesFound : Batch → Asked → PlainBoard → Result (Vec ℕ Global) Refusal → Type 0
+GivesFound batch asked b (Ok text) = IsFoundReply batch asked b (vec_items text)
+GivesFound batch asked b (Err why) =
+    (why ≡ refusal.NoMemory) ⊎ ((fault : SolveFault) × (fault_of (asked_limits batch asked) ≡ Some fault) × (why ≡ refusal_of_solve fault))
+
+-- what is asked is refused for this: the limits at a sound position, or the text's fault
+abbrev pub IsRefusedFor : Batch → Asked → Refusal → Type 0
+IsRefusedFor batch asked why =
+    ((b : PlainBoard) × IsSoundText asked.fen.now b × ((fault : SolveFault) × (fault_of (asked_limits batch asked) ≡ Some fault) × (why ≡ refusal_of_solve fault)))
+    ⊎ ((fault : FenFault) × IsSoundFault asked.fen.now fault × (why ≡ refusal_of_fen fault))
+
+-- a text is a reply to what is asked, and a refusal is one or is want of memory
+abbrev pub GivesAsked : Batch → Asked → Result (Vec ℕ Global) Refusal → Type 0
+GivesAsked batch asked (Ok text) = IsAskedReply batch asked (vec_items text)
+GivesAsked batch asked (Err why) = (why ≡ refusal.NoMemory) ⊎ IsRefusedFor batch asked why
 
 -- ---- steps
 
@@ -80,7 +107,7 @@ Fails step reads writes = (step.failed_reads_after ≡ step.failed_reads + reads
 
 -- the text is the reply to a line
 abbrev pub RepliesTo : Solver → List ℕ → List ℕ → Type 0
-RepliesTo s line text = IsLineReply s.goal s.limits s.echo line text
+RepliesTo s line text = IsLineReply s.batch line text
 
 -- the text is the reply to what comes next of the input; none comes at its end
 abbrev pub GivesNext : Solver → Next → Option (Vec ℕ Global) → Type 0
@@ -122,7 +149,7 @@ WritesUntil step (Some NoMemory) text = Appends step.written step.written_after 
 -- lines are taken and answered
 abbrev pub TakesLines : Solver → Step → Option Stop → Type 0
 TakesLines s step stop =
-    (texts : List (List ℕ)) × OfInput step.left (AnswersLines s.goal s.limits s.echo (stop_status stop) texts) × WritesUntil step stop (joined texts)
+    (texts : List (List ℕ)) × OfInput step.left (AnswersLines s.batch (stop_status stop) texts) × WritesUntil step stop (joined texts)
 
 -- what stops a batch at each fault of the input
 abbrev pub stop_of : InputFault → Stop

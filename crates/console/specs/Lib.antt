@@ -1,5 +1,7 @@
 -- to be believed
 pub mod Run
+pub mod Asking
+pub mod Forms
 pub mod Batch
 pub mod Verifying
 pub mod Certifying

@@ -6,7 +6,7 @@ use Rattle.command_line.specs.Words.{MeansOrder, MeansNoOrder}
 use Rattle.command_line.specs.declared.line.Limits.{Limits}
 use Rattle.command_line.specs.declared.line.Manner.{Manner}
 use Rattle.command_line.specs.declared.line.Order.{Order}
-use Rattle.command_line.specs.declared.line.Order.TheVariants.{One, Batch, Verify, Certify, After}
+use Rattle.command_line.specs.declared.line.Order.TheVariants.{One, Batch, Verify, Certify, After, TreeAfter, Solution}
 use Rattle.board.specs.Board.{PlainBoard}
 use Rattle.rules.specs.Moves.{IsLawful}
 use Rattle.rules.specs.Squares.{Ply}
@@ -23,10 +23,12 @@ use Rattle.console.specs.Run.{Run, Writes, GivesUp, RunsLine, failures_of}
 -- the run is one of the order
 abbrev pub RunsOrder : Order → Run → Type 0
 RunsOrder (One line) run = RunsLine line run
-RunsOrder (Batch goal limits manner) run = RunsBatch goal limits manner.echo run
+RunsOrder (Batch goal limits manner) run = RunsBatch (record { goal = goal; limits = limits; manner = manner }) run
 RunsOrder (Verify subject) run = RunsVerify subject run
 RunsOrder (Certify subject limits) run = RunsCertify subject limits run
 RunsOrder (After played) run = RunsAfter played run
+RunsOrder (TreeAfter played goal limits) run = RunsAfter played run
+RunsOrder (Solution subject limits telling) run = RunsCertify subject limits run
 
 -- the order reads the input: a batch does, but where its limits are refused, and a check where its position is sound
 abbrev pub MayReadOf : Order → Type 0
@@ -35,6 +37,8 @@ MayReadOf (Batch goal limits manner) = fault_of limits ≡ None
 MayReadOf (Verify subject) = MayReadAbout subject
 MayReadOf (Certify subject limits) = ⊥
 MayReadOf (After played) = ⊥
+MayReadOf (TreeAfter played goal limits) = ⊥
+MayReadOf (Solution subject limits telling) = ⊥
 
 -- the words mean no order: status 2, nothing is written, and nothing fails
 abbrev pub RefusesWords : List Text → Run → Type 0

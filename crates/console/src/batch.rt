@@ -1,24 +1,28 @@
 //! A batch: a solve of each position of the input, over one table.
-ghost use Rattle.std.specs.Prelude.{◌≡◌, ◌<◌, IfOk, vec_items};
-ghost use Rattle.replies.specs.Outcome.{Gives, Solves};
-ghost use Rattle.replies.specs.Output.{ShowsAnswer};
-ghost use Rattle.refusals.specs.Reply.{refused};
-ghost use Rattle.console.specs.Batch.{HasReplyText, IsReplyText, said_in, with_position};
-ghost use Rattle.console.specs.Desk.{GivesNext, GivesSaid, IsDesk, IsSolver, OpensDesk, SameSolver, TakesLines, TakesStep, step_of, stop_of};
+ghost use Rattle.std.specs.Prelude.{◌≡◌, ◌<◌, IfOk, false, option_map};
+ghost use Rattle.replies.specs.Outcome.{Solves};
+ghost use Rattle.console.specs.Asking.{IsAnswerFound, with_plies};
+ghost use Rattle.console.specs.declared.asked.Found.TheVariants.{Answer as TheAnswer};
+ghost use Rattle.console.specs.Batch.{HasReplyText, IsAskedReply, IsReplyText, remark_text, said_in, with_position};
+ghost use Rattle.console.specs.Forms.{IsRefusalText};
+ghost use Rattle.console.specs.Desk.{Finds, GivesAsked, GivesFound, GivesNext, IsDesk, IsSolver, OpensDesk, SameSolver, TakesLines, TakesStep, step_of, stop_of};
 ghost use Rattle.console.specs.declared.batch.Stop.TheVariants.{NoMemory, WriteFailed};
 
-use crate::beside::{Host, solve_beside};
+use crate::asked::{Asked, Batch, Found};
+use crate::asking::{asked_in, limit_of};
+use crate::beside::{Host, find_beside, find_over};
+use crate::forms::found_text;
+use crate::json::refused_object;
 use crate::said::{is_remark, said_in};
 use board::Position;
 use command_line::Limits;
 use decision::Answer;
 use devices::{Failed, InputFault, Next, Sink, Source, Taken, Unread, write_all};
 use entry::MateLore;
-use moves::{Goal, read_sound};
-use progress::Course;
-use refusals::{Refusal, Refused, advise, refused_text};
-use replies::{answer_text, refusal_of, search_of};
-use rounds::{NoGate, SolveFault, Task, make_table, solve_over};
+use moves::read_sound;
+use refusals::{Refusal, Refused, advise, refused_text, write_sentence};
+use replies::{refusal_of, search_of};
+use rounds::{NoGate, SolveFault, Task, make_table};
 use slots::{Seat, Slots};
 use std::alloc::{AllocError, Global};
 use std::io::Write;
@@ -28,21 +32,10 @@ use std::sync::atomic::Ordering;
 use std::thread::Threads;
 use std::time::Clock;
 
-/// What a batch is asked of each position.
-#[derive(Clone, Copy)]
-pub struct Batch {
-    pub goal: Goal,
-    pub limits: Limits,
-    /// Whether the position stands before each answer.
-    pub echo: bool,
-}
-
 /// What solves the positions of a batch: one table for all of them.
 #[derive(Drop)]
 pub struct Solver {
-    pub goal: Goal,
-    pub limits: Limits,
-    pub echo: bool,
+    pub batch: Batch,
     pub slots: Slots<MateLore>,
     pub seats: Vec<Seat>,
 }
@@ -96,14 +89,11 @@ impl Desk {
     pub fn open(alloc: Global, batch: Batch) -> Result<Desk, SolveFault>
         ensures { OpensDesk batch result }
     {
-        let Batch { goal, limits, echo } = batch;
-        let search = search_of(limits);
+        let search = search_of(batch.limits);
         let (slots, seats) = make_table(alloc, search.limit, search.workers, search.slots)?;
         Ok(Desk {
             solver: Solver {
-                goal,
-                limits,
-                echo,
+                batch,
                 slots,
                 seats,
             },
@@ -113,98 +103,150 @@ impl Desk {
     }
 }
 
-/// The answer at a position, by the table of the batch.
+/// What is asked of a position within so many plies, by the table of the batch.
+fn find_at<R: Threads + Wait + Eprint + Clock + Sync + AllocGlobal>(
+    host: &Host<'_, R>,
+    solver: &mut Solver,
+    limit: u32,
+    position: &Position,
+) -> Result<Found, SolveFault>
+    requires { IsSolver solver.old }
+    ensures solver { IsSolver solver.new }
+    ensures same { SameSolver solver.old solver.new }
+    ensures finds { Finds solver.old.batch.manner.keys solver.old.batch.goal position.now
+        (with_plies solver.old.batch.limits limit) result }
+{
+    let Batch {
+        goal,
+        limits,
+        manner,
+    } = solver.batch;
+    let limits = Limits {
+        limit,
+        workers: limits.workers,
+        slots: limits.slots,
+    };
+    let limit = search_of(limits).limit;
+    let Some(watch) = host.watch_of(position, manner.keys, limits) else {
+        let task = Task {
+            position,
+            goal,
+            limit,
+            gate: &NoGate,
+        };
+        return find_over(host.rt, manner.keys, &task, &solver.slots, &mut solver.seats);
+    };
+    let task = Task {
+        position,
+        goal,
+        limit,
+        gate: &watch,
+    };
+    let seats = mem::replace(&mut solver.seats, Vec::new(host.rt.alloc()));
+    let (found, seats) = find_beside(host.rt, manner.keys, &task, &solver.slots, seats);
+    solver.seats = seats;
+    found
+}
+
+/// What was found, where that is an answer.
+fn answer_of(found: &Found) -> Answer
+    requires { IsAnswerFound found.now }
+    ensures { found.now ≡ TheAnswer result }
+{
+    match found {
+        Found::Answer(answer) => *answer,
+        Found::Keys(_) => unreachable!(),
+    }
+}
+
+/// The answer at a position, by the table of a batch that asks for answers.
 pub fn position_answer<R: Threads + Wait + Eprint + Clock + Sync + AllocGlobal>(
     host: &Host<'_, R>,
     solver: &mut Solver,
     position: &Position,
 ) -> Result<Answer, SolveFault>
-    requires { IsSolver solver.old }
+    requires solver { IsSolver solver.old }
+    requires answers { solver.old.batch.manner.keys ≡ false }
     ensures solver { IsSolver solver.new }
     ensures same { SameSolver solver.old solver.new }
-    ensures solves { Solves solver.old.goal position.now solver.old.limits result }
+    ensures solves { Solves solver.old.batch.goal position.now solver.old.batch.limits result }
 {
-    let alloc = host.rt.alloc();
-    let wanted = solver.goal;
-    let limit = search_of(solver.limits).limit;
-    let Some(watch) = host.watch(position, Course::Rounds, solver.limits.slots) else {
-        let task = Task {
-            position,
-            goal: wanted,
-            limit,
-            gate: &NoGate,
-        };
-        return solve_over(host.rt, alloc, &task, &solver.slots, &mut solver.seats);
-    };
-    let task = Task {
-        position,
-        goal: wanted,
-        limit,
-        gate: &watch,
-    };
-    let seats = mem::replace(&mut solver.seats, Vec::new(alloc));
-    let (answer, seats) = solve_beside(host.rt, &task, &solver.slots, seats);
-    solver.seats = seats;
-    answer
+    let limit = solver.batch.limits.limit;
+    match find_at(host, solver, limit, position) {
+        Ok(found) => Ok(answer_of(&found)),
+        Err(fault) => Err(fault),
+    }
 }
 
-/// The answer at a position.
+/// What is written for what is found at a position, or why nothing is.
 fn position_text<R: Threads + Wait + Eprint + Clock + Sync + AllocGlobal>(
     host: &Host<'_, R>,
     solver: &mut Solver,
+    asked: &Asked<'_>,
     position: &Position,
 ) -> Result<Vec<u8>, Refusal>
     requires { IsSolver solver.old }
     ensures solver { IsSolver solver.new }
     ensures same { SameSolver solver.old solver.new }
-    ensures gives { Gives vec_items (ShowsAnswer solver.old.goal position.now solver.old.limits) result }
+    ensures gives { GivesFound solver.old.batch asked.now position.now result }
 {
-    let alloc = host.rt.alloc();
-    let goal = solver.goal;
-    match position_answer(host, solver, position) {
-        Ok(answer) => Ok(answer_text(alloc, goal, answer)?.into_bytes()),
+    let limit = limit_of(solver.batch.limits.limit, asked.moves);
+    match find_at(host, solver, limit, position) {
+        Ok(found) => Ok(found_text(host.rt.alloc(), &solver.batch, asked, &found)?),
         Err(fault) => Err(refusal_of(fault)),
     }
 }
 
-/// What is written for what a line says, or why it is refused.
-fn said_text<R: Threads + Wait + Eprint + Clock + Sync + AllocGlobal>(
+/// What is written for what a line asks, or why it is refused.
+fn answered_text<R: Threads + Wait + Eprint + Clock + Sync + AllocGlobal>(
     host: &Host<'_, R>,
     solver: &mut Solver,
-    said: &[u8],
+    asked: &Asked<'_>,
 ) -> Result<Vec<u8>, Refusal>
     requires { IsSolver solver.old }
     ensures solver { IsSolver solver.new }
     ensures same { SameSolver solver.old solver.new }
-    ensures gives { GivesSaid solver.old.goal solver.old.limits said.now result }
+    ensures gives { GivesAsked solver.old.batch asked.now result }
 {
-    if is_remark(said) {
-        let mut text = Vec::new(host.rt.alloc());
-        text.extend_from_slice(said)?;
-        text.extend_from_slice(b"\n")?;
-        return Ok(text);
-    }
-    let position = read_sound(said)?;
-    position_text(host, solver, &position)
+    let position = read_sound(asked.fen)?;
+    position_text(host, solver, asked, &position)
+}
+
+/// Tells why a line is refused, in one sentence.
+fn sentence_of(alloc: Global, why: &Refused<'_>) -> Vec<u8> {
+    let mut sentence = Vec::new(alloc);
+    let _ = write_sentence(&mut sentence, why);
+    sentence
 }
 
 /// The line that says why a line of the input is refused, which standard error is told too.
 fn refusal_line<E: Write>(
     alloc: Global,
+    json: bool,
     errors: &mut E,
+    fen: Option<&[u8]>,
     why: &Refused<'_>,
 ) -> Result<Vec<u8>, AllocError>
-    ensures { IfOk result (λ text. text.items ≡ (refused why.now.refusal).text) }
+    ensures { IfOk result (λ text. IsRefusalText json (option_map (λ f. f.now) fen.entry) why.now.refusal text.items) }
 {
     let _ = advise(errors, why);
+    if json {
+        let sentence = sentence_of(alloc, why);
+        return Ok(refused_object(alloc, fen, why.refusal, sentence.as_slice())?.into_bytes());
+    }
     Ok(refused_text(alloc, why.refusal)?.into_bytes())
 }
 
 /// The text, with the position before it, if that is asked for.
-fn echoed(alloc: Global, echo: bool, said: &[u8], plain: Vec<u8>) -> Result<Vec<u8>, AllocError>
-    ensures { IfOk result (λ text. text.items ≡ with_position echo said.now plain.items) }
+fn echoed(
+    alloc: Global,
+    batch: &Batch,
+    said: &[u8],
+    plain: Vec<u8>,
+) -> Result<Vec<u8>, AllocError>
+    ensures { IfOk result (λ text. text.items ≡ with_position batch.now said.now plain.items) }
 {
-    if !echo || is_remark(said) {
+    if !batch.manner.echo || batch.manner.json || is_remark(said) {
         return Ok(plain);
     }
     let mut text = Vec::new(alloc);
@@ -225,35 +267,73 @@ fn line_text<R: Threads + Wait + Eprint + Clock + Sync + AllocGlobal, E: Write>(
     requires { IsSolver solver.old }
     ensures solver { IsSolver solver.new }
     ensures same { SameSolver solver.old solver.new }
-    ensures text { IfOk result (λ text. HasReplyText solver.old.goal solver.old.limits solver.old.echo (said_in line.now) text.items) }
+    ensures text { IfOk result (λ text. HasReplyText solver.old.batch (said_in line.now) text.items) }
 {
-    let echo = solver.echo;
-    let plain = plain_text(host, solver, line, number, errors)?;
-    echoed(host.rt.alloc(), echo, said_in(line), plain)
+    let batch = solver.batch;
+    let said = said_in(line);
+    let plain = plain_text(host, solver, said, number, errors)?;
+    echoed(host.rt.alloc(), &batch, said, plain)
 }
 
-/// What is written for a line, without its position.
+/// What is written for a remark.
+fn remark_text(alloc: Global, batch: &Batch, said: &[u8]) -> Result<Vec<u8>, AllocError>
+    ensures { IfOk result (λ text. text.items ≡ remark_text batch.now said.now) }
+{
+    let mut text = Vec::new(alloc);
+    if !batch.manner.json {
+        text.extend_from_slice(said)?;
+        text.push(b'\n')?;
+    }
+    Ok(text)
+}
+
+/// What is written for what a line says, without its position.
 fn plain_text<R: Threads + Wait + Eprint + Clock + Sync + AllocGlobal, E: Write>(
     host: &Host<'_, R>,
     solver: &mut Solver,
-    line: &[u8],
+    said: &[u8],
     number: u64,
     errors: &mut E,
 ) -> Result<Vec<u8>, AllocError>
     requires { IsSolver solver.old }
     ensures solver { IsSolver solver.new }
     ensures same { SameSolver solver.old solver.new }
-    ensures text { IfOk result (λ text. IsReplyText solver.old.goal solver.old.limits (said_in line.now) text.items) }
+    ensures text { IfOk result (λ text. IsReplyText solver.old.batch said.now text.items) }
 {
-    let fen = said_in(line);
-    let line = Some(number);
-    match said_text(host, solver, fen) {
+    let alloc = host.rt.alloc();
+    if is_remark(said) {
+        return remark_text(alloc, &solver.batch, said);
+    }
+    let asked = asked_in(alloc, said)?;
+    asked_text(host, solver, &asked, number, errors)
+}
+
+/// What is written for what a line asks.
+fn asked_text<R: Threads + Wait + Eprint + Clock + Sync + AllocGlobal, E: Write>(
+    host: &Host<'_, R>,
+    solver: &mut Solver,
+    asked: &Asked<'_>,
+    number: u64,
+    errors: &mut E,
+) -> Result<Vec<u8>, AllocError>
+    requires { IsSolver solver.old }
+    ensures solver { IsSolver solver.new }
+    ensures same { SameSolver solver.old solver.new }
+    ensures text { IfOk result (λ text. IsAskedReply solver.old.batch asked.now text.items) }
+{
+    let json = solver.batch.manner.json;
+    match answered_text(host, solver, asked) {
         Ok(text) => Ok(text),
         Err(refusal) => {
             if refusal.status() == 3 {
                 return Err(AllocError);
             }
-            refusal_line(host.rt.alloc(), errors, &Refused { refusal, fen, line })
+            let why = Refused {
+                refusal,
+                fen: asked.fen,
+                line: Some(number),
+            };
+            refusal_line(host.rt.alloc(), json, errors, Some(asked.fen), &why)
         }
     }
 }
@@ -279,7 +359,8 @@ fn next_text<R: Threads + Wait + Eprint + Clock + Sync + AllocGlobal, E: Write>(
                 fen: b"",
                 line: Some(number),
             };
-            Ok(Some(refusal_line(host.rt.alloc(), errors, &refused)?))
+            let json = solver.batch.manner.json;
+            Ok(Some(refusal_line(host.rt.alloc(), json, errors, None, &refused)?))
         }
         Next::Line(line) => Ok(Some(line_text(host, solver, line.as_slice(), number, errors)?)),
     }

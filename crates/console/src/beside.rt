@@ -1,23 +1,23 @@
 //! Replies with a sign of life beside them.
 ghost use Rattle.std.specs.Prelude.{◌≡◌, ◌⊎◌, ◌+◌, ◌<◌, ℕ, All, List, [], IfErr, IfOk, IfSome, None, Option, Some, length, vec_items};
 ghost use Rattle.slots.specs.Promise.{IsSeatOf};
-ghost use Rattle.decision.specs.Answer.{IsAnswer};
+ghost use Rattle.console.specs.Asking.{IsFound};
 ghost use Rattle.rounds.specs.Limits.{task_fault, IsTaskRefusal};
 ghost use Rattle.rounds.specs.Seats.{AreSeats};
 ghost use Rattle.replies.specs.Outcome.{GivesReply, reads_failed};
 ghost use Rattle.replies.specs.Output.{input_of, MayRead};
 ghost use Rattle.progress.specs.Signs.{IsLastRound};
 
+use crate::asked::Found;
 use crate::tally::Tally;
 use board::Position;
 use command_line::{Action, Limits, Line};
-use decision::Answer;
 use devices::{Failed, Source};
 use entry::MateLore;
 use moves::read_sound;
 use progress::{Course, Setting, Watch, show};
 use replies::{Told, Trouble, reply, reply_told, search_of};
-use rounds::{SolveFault, Task, solve_over};
+use rounds::{Gate, SolveFault, Task, keys_over, solve_over};
 use slots::{Seat, Slots};
 use std::sync::Wait;
 use std::sync::atomic::{AtomicU64, Ordering};
@@ -47,6 +47,16 @@ impl<R: Clock + AllocGlobal> Host<'_, R> {
         };
         let setting = Setting { line, slots };
         Watch::new(self.rt.alloc(), start, setting, position, course).ok()
+    }
+
+    /// The same for an answer, or for keys.
+    pub fn watch_of(&self, position: &Position, keys: bool, limits: Limits) -> Option<Watch> {
+        let course = if keys {
+            Course::Keys(last_round(limits))
+        } else {
+            Course::Rounds
+        };
+        self.watch(position, course, limits.slots)
     }
 }
 
@@ -149,33 +159,57 @@ pub fn reply_shown<R: Threads + Wait + Eprint + Clock + Sync + AllocGlobal, S: S
     }
 }
 
-/// A solve over a table, told to its gate. The seats come back.
-fn solve_watched<R: Threads + Wait + Sync + AllocGlobal>(
+/// The answer of a task, or its keys, searched over a table.
+pub fn find_over<R: Threads + Wait + Sync + AllocGlobal, T: Gate>(
     rt: &R,
+    keys: bool,
+    task: &Task<'_, T>,
+    slots: &Slots<MateLore>,
+    seats: &mut Vec<Seat>,
+) -> Result<Found, SolveFault>
+    requires { All (IsSeatOf slots.now) seats.old.items }
+    ensures found { IfOk result (IsFound keys task.now.goal task.now.position.now task.now.limit) }
+    ensures accepted { IfOk result (λ _. task_fault task.now.limit (length seats.old.items) ≡ None) }
+    ensures refused { IfErr result (IsTaskRefusal task.now.limit (length seats.old.items)) }
+    ensures seats { AreSeats slots.now (length seats.old.items) seats.new.items }
+{
+    let alloc = rt.alloc();
+    if keys {
+        Ok(Found::Keys(keys_over(rt, alloc, task, slots, seats)?))
+    } else {
+        Ok(Found::Answer(solve_over(rt, alloc, task, slots, seats)?))
+    }
+}
+
+/// The same, told to its gate. The seats come back.
+fn find_watched<R: Threads + Wait + Sync + AllocGlobal>(
+    rt: &R,
+    keys: bool,
     task: &Task<'_, Watch>,
     slots: &Slots<MateLore>,
     mut seats: Vec<Seat>,
-) -> (Result<Answer, SolveFault>, Vec<Seat>)
+) -> (Result<Found, SolveFault>, Vec<Seat>)
     requires { All (IsSeatOf slots.now) seats.items }
-    ensures answer { IfOk result.0 (IsAnswer task.now.goal task.now.position.now task.now.limit) }
+    ensures found { IfOk result.0 (IsFound keys task.now.goal task.now.position.now task.now.limit) }
     ensures accepted { IfOk result.0 (λ _. task_fault task.now.limit (length seats.items) ≡ None) }
     ensures refused { IfErr result.0 (IsTaskRefusal task.now.limit (length seats.items)) }
     ensures seats { AreSeats slots.now (length seats.items) result.1.items }
 {
-    let answer = solve_over(rt, rt.alloc(), task, slots, &mut seats);
+    let found = find_over(rt, keys, task, slots, &mut seats);
     task.gate.finish();
-    (answer, seats)
+    (found, seats)
 }
 
-/// The answer of a task, and its seats, with a thread beside it that shows the search.
-pub fn solve_beside<R: Threads + Wait + Eprint + Clock + Sync + AllocGlobal>(
+/// What a task finds, and its seats, with a thread beside it that shows the search.
+pub fn find_beside<R: Threads + Wait + Eprint + Clock + Sync + AllocGlobal>(
     rt: &R,
+    keys: bool,
     task: &Task<'_, Watch>,
     slots: &Slots<MateLore>,
     seats: Vec<Seat>,
-) -> (Result<Answer, SolveFault>, Vec<Seat>)
+) -> (Result<Found, SolveFault>, Vec<Seat>)
     requires { All (IsSeatOf slots.now) seats.items }
-    ensures answer { IfOk result.0 (IsAnswer task.now.goal task.now.position.now task.now.limit) }
+    ensures found { IfOk result.0 (IsFound keys task.now.goal task.now.position.now task.now.limit) }
     ensures accepted { IfOk result.0 (λ _. task_fault task.now.limit (length seats.items) ≡ None) }
     ensures refused { IfErr result.0 (IsTaskRefusal task.now.limit (length seats.items)) }
     ensures seats { AreSeats slots.now (length seats.items) result.1.items }
@@ -186,12 +220,12 @@ pub fn solve_beside<R: Threads + Wait + Eprint + Clock + Sync + AllocGlobal>(
         limit,
         gate,
     } = *task;
-    let (_, answered) = join(
+    let (_, found) = join(
         rt,
         || show(rt, gate),
-        move || -> (Result<Answer, SolveFault>, Vec<Seat>)
+        move || -> (Result<Found, SolveFault>, Vec<Seat>)
             requires { All (IsSeatOf slots.now) seats.items }
-            ensures { IfOk result.0 (IsAnswer goal position.entry.now limit)
+            ensures { IfOk result.0 (IsFound keys goal position.entry.now limit)
                 × IfOk result.0 (λ _. task_fault limit (length seats.items) ≡ None)
                 × IfErr result.0 (IsTaskRefusal limit (length seats.items))
                 × AreSeats slots.entry.now (length seats.items) result.1.items }
@@ -202,8 +236,8 @@ pub fn solve_beside<R: Threads + Wait + Eprint + Clock + Sync + AllocGlobal>(
                 limit,
                 gate,
             };
-            solve_watched(rt, &task, slots, seats)
+            find_watched(rt, keys, &task, slots, seats)
         },
     );
-    answered
+    found
 }

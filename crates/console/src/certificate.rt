@@ -7,11 +7,12 @@ ghost use Rattle.slots.specs.Promise.{IsSeatOf};
 ghost use Rattle.console.specs.Claims.{EndsClaims, EndsWriting, line_text, writing_of};
 ghost use Rattle.console.specs.Desk.{IsSolver};
 
-use crate::batch::{Batch, Desk, Solver, Stop, position_answer};
+use crate::asked::Batch;
+use crate::batch::{Desk, Solver, Stop, position_answer};
 use crate::beside::Host;
 use board::Position;
 use certifying::Certificate;
-use command_line::{Limits, Subject};
+use command_line::{Limits, Manner, Subject};
 use decision::Question;
 use devices::{Sink, write_all};
 use entry::MateLore;
@@ -57,7 +58,12 @@ fn begin_at<R: Threads + Wait + Eprint + Clock + Sync + AllocGlobal>(
     let batch = Batch {
         goal,
         limits,
-        echo: false,
+        manner: Manner {
+            echo: false,
+            keys: false,
+            json: false,
+            lines: None,
+        },
     };
     let mut desk = match Desk::open(alloc, batch) {
         Ok(desk) => desk,

@@ -1,10 +1,14 @@
 //! The program over any words and streams: what it reads and writes, and with what status it ends.
 #![tactic(auto)]
 
+mod asked;
+mod asking;
 mod batch;
 mod beside;
 mod certificate;
 mod ending;
+mod forms;
+mod json;
 mod program;
 mod running;
 mod said;

@@ -8,7 +8,8 @@ ghost use Rattle.console.specs.Certifying.{WritesCertificate};
 ghost use Rattle.console.specs.Playing.{WritesAfter};
 ghost use Rattle.console.specs.Run.{ending_of, run_of, MayTell, Refuses, RunsLine};
 
-use crate::batch::{Batch, Desk, Stop, answer_lines};
+use crate::asked::Batch;
+use crate::batch::{Desk, Stop, answer_lines};
 use crate::beside::{Host, reply_shown};
 use crate::certificate::{begin, write_claims};
 use crate::ending::{
@@ -149,7 +150,7 @@ pub fn run_batch<
     requires reads { S.failures reader.old < u64.MAX }
     requires writes { K.failures writer.old < u64.MAX }
     ensures unread { (fault_of batch.limits ≡ None) ⊎ (reader.new ≡ reader.old) }
-    ensures runs { RunsBatch batch.goal batch.limits batch.echo (run_of S.remaining S.failures reader.old reader.new
+    ensures runs { RunsBatch batch (run_of S.remaining S.failures reader.old reader.new
         (ending_of K.contents K.failures writer.old writer.new result)) }
 {
     match Desk::open(host.rt.alloc(), batch) {
@@ -307,7 +308,7 @@ pub fn run<
                 Batch {
                     goal,
                     limits,
-                    echo: manner.echo,
+                    manner,
                 },
                 reader,
                 writer,
@@ -319,6 +320,10 @@ pub fn run<
             run_certify(&host_of(rt, words), &subject, limits, writer, errors)
         }
         Ok(Order::After(played)) => run_after(rt, &played, writer, errors),
+        Ok(Order::TreeAfter(played, _, _)) => run_after(rt, &played, writer, errors),
+        Ok(Order::Solution(subject, limits, _)) => {
+            run_certify(&host_of(rt, words), &subject, limits, writer, errors)
+        }
         Err(LineFault::Words) => REFUSED_WORDS,
         Err(LineFault::NoMemory) => give_up_for_memory(writer),
     }

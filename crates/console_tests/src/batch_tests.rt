@@ -1,6 +1,9 @@
 //! Batches: each line of the input has its reply.
 use crate::whole_runs::{expect_runs, expect_with};
 use std::process::Abort;
+use std::sync::Wait;
+use std::thread::Threads;
+use std::time::Clock;
 
 #[test]
 fn answers_a_batch(rt: HostRuntime) {
@@ -32,6 +35,104 @@ minimate,batch,--limit,1,--echo|# one;;k5 w;x|# one;;k5 w\trefused: Shape;x\tref
     let words = ["minimate", "batch", "--limit", "1", "--echo"];
     let input = long_line(&rt, 257, b'x', b"\n#");
     expect_with(&rt, &words, input.as_slice(), 0, "refused: TooLong\n#\n");
+}
+
+// `c1c5 5,d3c5 5` is the bench's cook; the others are those of `keys`.
+#[test]
+fn writes_keys_of_a_batch(rt: HostRuntime) {
+    expect_runs(
+        &rt,
+        0,
+        "minimate,batch,--keys,--limit,1|k4/2P2/1K3/5/5 w;k5/6/2K3/6/6/1R4 w;# both;|c4c5q 1,c4c5r 1;none within 1;# both;
+minimate,batch,--keys,--echo,--limit,3|k5/6/2K3/6/6/1R4 w;k5 w;|k5/6/2K3/6/6/1R4 w\tc4c5 3;k5 w\trefused: Shape;
+minimate,batch,--keys,--goal,stale,--limit,1|k5/6/2K3/6/6/1R4 w|b1b5 1;",
+    );
+}
+
+/// Expects what a batch of these words writes for an input.
+fn expect_batch<R: Threads + Wait + Abort + AllocGlobal + Eprint + Clock + Sync>(
+    rt: &R,
+    words: &[&str],
+    input: &str,
+    output: &str,
+) {
+    expect_with(rt, words, input.as_bytes(), 0, output);
+}
+
+// A mate in two moves is one in three plies.
+#[test]
+fn reads_moves_behind_a_position(rt: HostRuntime) {
+    let plain = ["minimate", "batch", "--limit", "1"];
+    for (input, output) in [
+        ("k5/6/2K3/6/6/1R4 w ; dm 2", "mate 3 c4c5 ok\n"),
+        ("k5/6/2K3/6/6/1R4 w ; dm 1", "none within 1 differs\n"),
+        ("k5/6/1K4/6/6/5R w ; dm 3\r\n", "mate 1 f1f6 differs\n"),
+        ("k5/6/1K4/6/6/5R w ; dm 32", "mate 1 f1f6 differs\n"),
+        ("k5/6/1K4/6/6/5R w ; dm 1", "mate 1 f1f6 ok\n"),
+        ("k5/6/1K4/6/6/5R w ; dm 0", "refused: Limit\n"),
+        ("k5/6/1K4/6/6/5R w ; dm 33", "refused: Limit\n"),
+        ("k5 w ; dm 33", "refused: Shape\n"),
+        ("k5/6/1K4/6/6/5R w; dm 1", "refused: Fields\n"),
+        ("k5/6/1K4/6/6/5R w ; dm 01", "refused: Fields\n"),
+        ("k5/6/1K4/6/6/5R w ; dm 1;", "refused: Fields\n"),
+        ("k5/6/1K4/6/6/5R w ; bm 1", "refused: Fields\n"),
+    ] {
+        expect_batch(&rt, &plain, input, output);
+    }
+    let keys = ["minimate", "batch", "--limit", "1", "--keys"];
+    let first = "k4/2P2/1K3/5/5 w ; dm 1\nk5/6/2K3/6/6/1R4 w ; dm 1\nk5/6/2K3/6/6/1R4 w ; dm 2\n";
+    let found = "c4c5q 1,c4c5r 1 ok\nnone within 1 differs\nc4c5 3 ok\n";
+    expect_batch(&rt, &keys, first, found);
+    let echo = ["minimate", "batch", "--echo", "--limit", "1"];
+    let told = "k5/6/2K3/6/6/1R4 w ; dm 2\tmate 3 c4c5 ok\n";
+    expect_batch(&rt, &echo, "k5/6/2K3/6/6/1R4 w ; dm 2", told);
+}
+
+// Of the bytes that are no UTF-8 each sequence is shown as U+FFFD.
+#[test]
+fn writes_objects(rt: HostRuntime) {
+    let words = ["minimate", "batch", "--json", "--echo", "--limit", "3"];
+    for (input, output) in [
+        (
+            "k5/6/2K3/6/6/1R4 w\n# no\n\nk5/6/6/6/6/5K w\n",
+            "{\"position\":\"k5/6/2K3/6/6/1R4 w\",\"goal\":\"mate\",\"limit\":3,\"answer\":\"mate\",\"plies\":3,\"first\":\"c4c5\"}
+{\"position\":\"k5/6/6/6/6/5K w\",\"goal\":\"mate\",\"limit\":3,\"answer\":\"none\",\"plies\":null,\"first\":null}
+",
+        ),
+        (
+            "k5/6/1K4/6/6/5R w ; dm 2",
+            "{\"position\":\"k5/6/1K4/6/6/5R w\",\"goal\":\"mate\",\"limit\":3,\"answer\":\"mate\",\"plies\":1,\"first\":\"f1f6\",\"ok\":false}
+",
+        ),
+        (
+            "k5/6/1K4/6/6/5R \"w",
+            "{\"position\":\"k5/6/1K4/6/6/5R \\\"w\",\"refused\":\"Side\",\"sentence\":\"the side to move is w or b: here is '\\\\\\\"w'\"}
+",
+        ),
+        (
+            "k5/6/1\u{e9}4/6/6/5R w",
+            "{\"position\":\"k5/6/1\u{e9}4/6/6/5R w\",\"refused\":\"Shape\",\"sentence\":\"character 7 is not ASCII: write a letter, a digit, / or a space for '\\\\xc3\\\\xa9'\"}
+",
+        ),
+    ] {
+        expect_batch(&rt, &words, input, output);
+    }
+    let keys = [
+        "minimate", "batch", "--json", "--keys", "--goal", "stale", "--limit", "1",
+    ];
+    let found = "{\"position\":\"k5/6/2K3/6/6/1R4 w\",\"goal\":\"stale\",\"limit\":1,\"keys\":[{\"first\":\"b1b5\",\"plies\":1}]}
+";
+    expect_batch(&rt, &keys, "k5/6/2K3/6/6/1R4 w", found);
+    let both = "{\"position\":\"k4/2P2/1K3/5/5 w\",\"goal\":\"mate\",\"limit\":1,\"keys\":[{\"first\":\"c4c5q\",\"plies\":1},{\"first\":\"c4c5r\",\"plies\":1}],\"ok\":true}
+";
+    let mates = ["minimate", "batch", "--json", "--keys", "--limit", "3"];
+    expect_batch(&rt, &mates, "k4/2P2/1K3/5/5 w ; dm 1", both);
+    let long = long_line(&rt, 257, b'x', b"\n#");
+    let told = "{\"position\":null,\"refused\":\"TooLong\",\"sentence\":\"a line has at most 256 bytes\"}\n";
+    expect_with(&rt, &words, long.as_slice(), 0, told);
+    let broken = b"\xff w".as_slice();
+    let shown = "{\"position\":\"\u{fffd} w\",\"refused\":\"Shape\",\"sentence\":\"character 1 is not ASCII: write a letter, a digit, / or a space for '\\\\xff'\"}\n";
+    expect_with(&rt, &words, broken, 0, shown);
 }
 
 /// So many of a byte, and the rest behind them.

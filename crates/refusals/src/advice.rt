@@ -26,8 +26,8 @@ pub fn advise<E: Write>(errors: &mut E, refused: &Refused<'_>) -> io::Result<()>
     errors.write_all(b"\n")
 }
 
-/// What is wrong, and what to write instead.
-fn write_sentence<E: Write>(errors: &mut E, refused: &Refused<'_>) -> io::Result<()> {
+/// What is wrong, and what to write instead, without the line's number and its end.
+pub fn write_sentence<E: Write>(errors: &mut E, refused: &Refused<'_>) -> io::Result<()> {
     match refused.refusal {
         Refusal::Fields | Refusal::Shape | Refusal::Letter | Refusal::Side => {
             advise_text(errors, refused)

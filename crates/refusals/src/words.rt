@@ -26,7 +26,7 @@ fn is_command(word: &str) -> bool {
 
 /// Whether it searches at a position of the line.
 fn searches(command: &str) -> bool {
-    matches!(command, "solve" | "keys" | "tree" | "certify")
+    matches!(command, "solve" | "keys" | "tree" | "solution" | "certify")
 }
 
 fn is_number_option(word: &str) -> bool {

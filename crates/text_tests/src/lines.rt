@@ -103,6 +103,25 @@ fn reads_a_move(rt: HostRuntime) {
 }
 
 #[test]
+fn reads_a_solution(rt: HostRuntime) {
+    let words = [
+        "minimate", "solution", "--mate", "2", FEN, "--tries", "--json",
+    ];
+    match read_order(rt.alloc(), &words) {
+        Ok(Order::Solution(subject, limits, telling)) => {
+            assert_eq!(rt; subject.fen, FEN.as_bytes());
+            assert!(rt; subject.goal == Goal::Mate);
+            assert_eq!(rt; limits.limit, 3);
+            assert!(rt; telling.tries && telling.json);
+            assert!(rt; !telling.set_play && !telling.figurines);
+        }
+        _ => panic!(rt; "no solution"),
+    }
+    expect_none(&rt, &["minimate", "solution", "--set", FEN]);
+    expect_none(&rt, &["minimate", "solve", "--set", "--limit", "1", FEN]);
+}
+
+#[test]
 fn refuses_what_is_no_line(rt: HostRuntime) {
     expect_none(&rt, &["minimate", "solve", FEN]);
     expect_none(&rt, &["minimate", "solve", "--limit", "4294967296", FEN]);

@@ -29,4 +29,10 @@ returns-in_ok-limits-in_default-clause-some c = IfSome_then c.search_of.result c
 pub returns-in_ok-limits-in_default-clause-none : goal.returns-in_ok-limits-in_default-clause-none
 returns-in_ok-limits-in_default-clause-none c = if_none c.search_of.result c.search_of.ensures.none (λ none action means.
     no_action c.args.name.now (rows_of (found_of c.args.values.now)) action
-    (record { aims = record { moves = c.in_default.not-moves; show = c.in_default.not-show }; check = c.in_default.not-check }) none means)
+    (record { aims = record { moves = c.in_default.not-moves; show = c.in_default.not-show }; check = c.in_default.not-check }) (none c.in_default.not-tree) means)
+
+pub returns-in-tree-clause-some : goal.returns-in-tree-clause-some
+returns-in-tree-clause-some c = rw c.in-tree.is c.tree_of.ensures.some
+
+pub returns-in-tree-clause-none : goal.returns-in-tree-clause-none
+returns-in-tree-clause-none c = rw c.in-tree.is c.tree_of.ensures.none

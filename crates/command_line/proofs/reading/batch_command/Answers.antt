@@ -6,4 +6,6 @@ pub returns : goal.returns
 returns c =
     let limited = c.in-Ok.ensures _ c.named-bare.ensures in
     let echoing = one_argument _ _ _ _ _ limited c.echo.ensures c.in-Ok-arg.ensures in
-    IfOk-weaker c.arg-2.result _ _ (λ made adds. one_argument _ _ _ made _ echoing c.lines.ensures adds) c.arg-2.ensures
+    let finding = one_argument _ _ _ _ _ echoing c.flag.ensures c.in-Ok-arg-2.ensures in
+    let telling = one_argument _ _ _ _ _ finding c.flag-2.ensures c.in-Ok-arg-3.ensures in
+    IfOk-weaker c.arg-4.result _ _ (λ made adds. one_argument _ _ _ made _ telling c.lines.ensures adds) c.arg-4.ensures

@@ -7,7 +7,7 @@ use Rattle.console.proofs.batch.answer_lines.Goals as goal
 pub loop-init : goal.loop-init
 loop-init g c = record {
   desk = c.requires.desk;
-  same = (refl, refl, refl);
+  same = refl;
   reads = refl;
   writes = refl;
   kept = kept_first c.args.desk.now.solver (left_of c.args.desk.now.unread (g.S.Source.remaining c.args.reader.now)) (g.K.Sink.contents c.args.writer.now);
@@ -20,7 +20,7 @@ loop-preserved g c =
     let (line, text, feeds, taken, reply, grown, none) = step in
     record {
       desk = c.answer_next.ensures.desk;
-      same = (c.answer_next.ensures.same.0 ∙ so_far.same.0, c.answer_next.ensures.same.1 ∙ so_far.same.1, c.answer_next.ensures.same.2 ∙ so_far.same.2);
+      same = c.answer_next.ensures.same ∙ so_far.same;
       reads = omega (arith, none.0, so_far.reads);
       writes = omega (arith, none.1, so_far.writes);
       kept = kept_more c.args.desk.now.solver c.loop.desk.solver (left_of c.args.desk.now.unread (g.S.Source.remaining c.args.reader.now))

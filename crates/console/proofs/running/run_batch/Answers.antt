@@ -7,8 +7,8 @@ pub returns-in-None-clause-runs : goal.returns-in-None-clause-runs
 returns-in-None-clause-runs g c =
     let opened = c.in-Ok.ensures in
     let (texts, answers, (written, (unread, unfailed))) = c.in-None.ensures.lines in
-    batch_ran c.in-Ok.desk.solver c.args.batch.goal c.args.batch.limits c.args.batch.echo _ _ texts opened.0.0.0 opened.1 opened.2 opened.3
-    (fresh_left c.in-Ok.desk.unread (g.S.Source.remaining c.args.reader.now) opened.4 opened.5) answers
+    batch_ran c.in-Ok.desk.solver c.args.batch _ _ texts opened.0.0.0 opened.1
+    (fresh_left c.in-Ok.desk.unread (g.S.Source.remaining c.args.reader.now) opened.2 opened.3) answers
     (inl (omega (arith, unread), inl (written, omega (arith, unfailed), refl)))
 
 pub returns-in-Some-NoMemory-clause-runs : goal.returns-in-Some-NoMemory-clause-runs
@@ -16,27 +16,27 @@ returns-in-Some-NoMemory-clause-runs g c =
     let opened = c.in-Ok.ensures in
     let (texts, answers, (written, (unread, unfailed))) = rw c.in-Some-NoMemory.field-0-is at c.in-Some-NoMemory.ensures.lines in
     let left = left_of c.in-Ok.desk.unread (g.S.Source.remaining c.args.reader.now) in
-    batch_ran c.in-Ok.desk.solver c.args.batch.goal c.args.batch.limits c.args.batch.echo _ left texts opened.0.0.0 opened.1 opened.2 opened.3
-    (fresh_left c.in-Ok.desk.unread (g.S.Source.remaining c.args.reader.now) opened.4 opened.5)
-    (answers_with c.in-Ok.desk.solver.goal c.in-Ok.desk.solver.limits c.in-Ok.desk.solver.echo 3 c.give_up_for_memory.result left texts (gave_up _ _ c.give_up_for_memory.ensures) answers)
+    batch_ran c.in-Ok.desk.solver c.args.batch _ left texts opened.0.0.0 opened.1
+    (fresh_left c.in-Ok.desk.unread (g.S.Source.remaining c.args.reader.now) opened.2 opened.3)
+    (answers_with c.in-Ok.desk.solver.batch 3 c.give_up_for_memory.result left texts (gave_up _ _ c.give_up_for_memory.ensures) answers)
     (inr (inr (omega (arith, unread), finishes_after _ _ _ _ _ _ _ 3 _ _ written unfailed c.give_up_for_memory.ensures)))
 
 pub returns-in-Some-ReadFailed-clause-runs : goal.returns-in-Some-ReadFailed-clause-runs
 returns-in-Some-ReadFailed-clause-runs g c =
     let opened = c.in-Ok.ensures in
     let (texts, answers, (written, (unread, unfailed))) = rw c.in-Some-ReadFailed.field-0-is at c.in-Some-ReadFailed.ensures.lines in
-    batch_ran c.in-Ok.desk.solver c.args.batch.goal c.args.batch.limits c.args.batch.echo _ _ texts opened.0.0.0 opened.1 opened.2 opened.3
-    (fresh_left c.in-Ok.desk.unread (g.S.Source.remaining c.args.reader.now) opened.4 opened.5) answers
+    batch_ran c.in-Ok.desk.solver c.args.batch _ _ texts opened.0.0.0 opened.1
+    (fresh_left c.in-Ok.desk.unread (g.S.Source.remaining c.args.reader.now) opened.2 opened.3) answers
     (inr (inl (omega (arith, unread), omega (arith, unfailed), refl, written)))
 
 pub returns-in-Ok-clause-runs : goal.returns-in-Ok-clause-runs
 returns-in-Ok-clause-runs g c =
     let opened = c.in-Ok.ensures in
     let (texts, answers, (cut, (unread, failed))) = rw c.in-Some-WriteFailed.field-0-is at c.in-Some-WriteFailed.ensures.lines in
-    batch_ran c.in-Ok.desk.solver c.args.batch.goal c.args.batch.limits c.args.batch.echo _ _ texts opened.0.0.0 opened.1 opened.2 opened.3
-    (fresh_left c.in-Ok.desk.unread (g.S.Source.remaining c.args.reader.now) opened.4 opened.5) answers
+    batch_ran c.in-Ok.desk.solver c.args.batch _ _ texts opened.0.0.0 opened.1
+    (fresh_left c.in-Ok.desk.unread (g.S.Source.remaining c.args.reader.now) opened.2 opened.3) answers
     (inl (omega (arith, unread), inr (cut, omega (arith, failed), refl)))
 
 pub returns-clause-runs : goal.returns-clause-runs
 returns-clause-runs g c =
-    batch_refused c.args.batch.goal c.args.batch.limits c.args.batch.echo _ c.in-Err.fault (omega arith) c.in-Err.ensures (rw (← c.refusal_of.ensures) c.refuse_and_tell.ensures.refuses)
+    batch_refused c.args.batch _ c.in-Err.fault (omega arith) c.in-Err.ensures (rw (← c.refusal_of.ensures) c.refuse_and_tell.ensures.refuses)

@@ -1,0 +1,3 @@
+-- to be believed
+pub mod Text
+pub mod Naming

@@ -1,0 +1,3 @@
+pub mod Texts
+pub mod BestLine
+pub mod Asked

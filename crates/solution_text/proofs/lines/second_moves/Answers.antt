@@ -1,0 +1,20 @@
+use Rattle.std.proofs.Common.{subst, sym, refl, string_bytes}
+use Rattle.std.proofs.lemmas.List.{take_all}
+use Rattle.rules.specs.Moves.{IsLawful}
+use Rattle.solution_text.specs.Text.{AreTexts, IsSecond}
+use Rattle.solution_text.proofs.Texts.{AreTexts-more}
+use Rattle.solution_text.proofs.lines.second_moves.Goals as goal
+
+pub name-name-requires : goal.name-name-requires
+name-name-requires g c =
+    subst (IsLawful c.args.board.now) (sym c.m-item.is) (c.requires c.loop-m.m-index c.m-item.result c.loop-m-test.true)
+
+pub loop-m-preserved : goal.loop-m-preserved
+loop-m-preserved g c =
+    let P = IsSecond c.args.notation c.args.board.now in
+    subst (AreTexts P _) (sym c.in_ok-write.ensures.bytes)
+    (AreTexts-more P c.args.moves.now c.loop-m.m-index c.m-item.result _ _ c.loop-m-test.true c.m-item.is c.loop-m.invariant (c.name-name.result, c.name-name.ensures, refl))
+
+pub returns : goal.returns
+returns g c =
+    subst (λ ms. AreTexts (IsSecond c.args.notation c.args.board.now) ms (string_bytes c.loop-m.text)) (take_all c.loop-m.m-index c.args.moves.now c.loop-m-test.false) c.loop-m.invariant

@@ -1,0 +1,20 @@
+use Rattle.std.proofs.Common.{◌++◌, ◌∙◌, ap, subst, sym, string_bytes}
+use Rattle.std.proofs.lemmas.List.{take_all}
+use Rattle.solutions.specs.Solutions.{IsVariation}
+use Rattle.solution_text.specs.Text.{AreTexts, IsVariationText}
+use Rattle.solution_text.proofs.Texts.{AreTexts-more}
+use Rattle.solution_text.proofs.variations.variations_text.Goals as goal
+
+pub loop-variation-preserved : goal.loop-variation-preserved
+loop-variation-preserved g c =
+    let P = IsVariationText c.args.notation c.args.board.now in
+    let added = c.in_ok-push_str.ensures.bytes ∙ ap (λ t. string_bytes c.loop-variation.text ++ t) c.as_str.ensures.value in
+    subst (AreTexts P _) (sym added)
+    (AreTexts-more P c.args.variations.now c.loop-variation.variation-index c.variation-item.result (string_bytes c.loop-variation.text) (string_bytes c.in_ok-one.one) c.loop-variation-test.true c.variation-item.is c.loop-variation.invariant c.in_ok-one.ensures)
+
+pub returns : goal.returns
+returns g c =
+    subst (λ xs. AreTexts (IsVariationText c.args.notation c.args.board.now) xs (string_bytes c.loop-variation.text)) (take_all c.loop-variation.variation-index c.args.variations.now c.loop-variation-test.false) c.loop-variation.invariant
+
+pub variation_text-requires : goal.variation_text-requires
+variation_text-requires g c = subst (IsVariation c.args.notation.goal c.args.board.now) (sym c.variation-item.is) (c.requires c.loop-variation.variation-index c.variation-item.result c.loop-variation-test.true)

@@ -1,0 +1,11 @@
+//! The text of a solution, as composers write it.
+#![tactic(auto)]
+
+mod keys;
+mod lines;
+mod passing;
+mod tries;
+mod variations;
+mod whole;
+
+pub use whole::solution_text;

@@ -1,0 +1,5 @@
+pub mod Lists
+pub mod Forcing
+pub mod Variations
+pub mod Tries
+pub mod Plays

@@ -1,0 +1,48 @@
+use Rattle.std.proofs.Common.{subst, ◌∙◌, arith}
+use Rattle.board.specs.Board.{PlainBoard}
+use Rattle.rules.specs.declared.goal.Goal.{Goal}
+use Rattle.rules.proofs.Forcing.{same_side-self}
+use Rattle.decision.specs.Answer.{IsFewest, ForcesNothing}
+use Rattle.searcher.proofs.Halts.{err_halts}
+use Rattle.trees.proofs.Forcing.{some_ply}
+use Rattle.solutions.specs.Lines.{ListsContinuations}
+use Rattle.solutions.proofs.Forcing.{not_reached, mate_found, nothing_found}
+use Rattle.solutions.proofs.threatening.threats_of.Goals as goal
+
+pub returns-in_default-clause-threats : goal.returns-in_default-clause-threats
+returns-in_default-clause-threats g c = (not_reached c.args.goal c.args.board.now (c.has_lawful_move.ensures.0 c.if-not-has_lawful_move.false), c.in_default.ensures)
+
+pub continuations_of-requires-clause-plies : goal.continuations_of-requires-clause-plies
+continuations_of-requires-clause-plies g c =
+    let r = c.on-root.result in
+    let most = c.requires.left in
+    let found = mate_found r.goal r.board c.args.left c.in-Some-Mate.field-0 c.in-Some-Mate.plies c.in-Some-Mate.field-0-1 c.in-Some-Mate.field-0-is c.in-Some-Mate.ensures.answer in
+    (some_ply r.goal r.board.mover r.board c.in-Some-Mate.plies (same_side-self r.board.mover) found.1.forced, omega (arith, found.0))
+
+pub returns-in_err-continuations_of-in-Some-Mate-clause-goes : goal.returns-in_err-continuations_of-in-Some-Mate-clause-goes
+returns-in_err-continuations_of-in-Some-Mate-clause-goes g c = g.met.D.Decider.goes_on _ _ _ c.solve_by.ensures.goes c.continuations_of.ensures.goes
+
+pub returns-in_err-continuations_of-in-Some-Mate-clause-halt : goal.returns-in_err-continuations_of-in-Some-Mate-clause-halt
+returns-in_err-continuations_of-in-Some-Mate-clause-halt g c = err_halts c.from_residual.result _ _ c.from_residual.ensures.1 c.in_err-continuations_of-in-Some-Mate.ensures.halt
+
+pub returns-in-Some-NoneWithin-clause-threats : goal.returns-in-Some-NoneWithin-clause-threats
+returns-in-Some-NoneWithin-clause-threats g c = let r = c.on-root.result in (
+  not_reached c.args.goal c.args.board.now (c.has_lawful_move.ensures.0 c.if-not-has_lawful_move.false),
+  c.in-Some.ensures.1,
+  subst (λ (at : Goal × PlainBoard). ForcesNothing at.0 at.1 c.args.left) (λ i. (c.on-root.ensures.goal i, (c.on-root.ensures.position ∙ c.in-Some.ensures.0) i)) (nothing_found r.goal r.board c.args.left c.in-Some-NoneWithin.field-0 c.in-Some-NoneWithin.field-0-0 c.in-Some-NoneWithin.field-0-is c.in-Some-NoneWithin.ensures.answer),
+)
+
+pub returns-in_ok-continuations_of-in-Some-Mate-clause-goes : goal.returns-in_ok-continuations_of-in-Some-Mate-clause-goes
+returns-in_ok-continuations_of-in-Some-Mate-clause-goes g c = g.met.D.Decider.goes_on _ _ _ c.solve_by.ensures.goes c.continuations_of.ensures.goes
+
+pub returns-in_ok-continuations_of-in-Some-Mate-clause-threats : goal.returns-in_ok-continuations_of-in-Some-Mate-clause-threats
+returns-in_ok-continuations_of-in-Some-Mate-clause-threats g c =
+    let n = c.in-Some-Mate.plies in
+    let r = c.on-root.result in
+    let found = mate_found r.goal r.board c.args.left c.in-Some-Mate.field-0 n c.in-Some-Mate.field-0-1 c.in-Some-Mate.field-0-is c.in-Some-Mate.ensures.answer in (
+      not_reached c.args.goal c.args.board.now (c.has_lawful_move.ensures.0 c.if-not-has_lawful_move.false),
+      c.in-Some.ensures.1,
+      found.0,
+      subst (λ (at : Goal × PlainBoard). IsFewest at.0 at.1 n) (λ i. (c.on-root.ensures.goal i, (c.on-root.ensures.position ∙ c.in-Some.ensures.0) i)) found.1,
+      subst (λ (at : Goal × PlainBoard). ListsContinuations at.0 at.1 n c.in_ok-continuations_of-in-Some-Mate.field-0.items) (λ i. (c.on-root.ensures.goal i, (c.on-root.ensures.position ∙ c.in-Some.ensures.0) i)) c.in_ok-continuations_of-in-Some-Mate.ensures.moves,
+    )

@@ -1,0 +1,26 @@
+//! What a composer publishes of a problem: its keys with their threats and variations, its set play and its tries.
+#![tactic(auto)]
+
+mod continuing;
+mod extras;
+mod first_try;
+mod key_play;
+mod lines;
+mod passing;
+mod replying;
+mod solution;
+mod solving;
+mod threatening;
+mod threats;
+mod trying;
+mod variation;
+mod varying;
+
+pub use extras::Extras;
+pub use first_try::Try;
+pub use key_play::KeyPlay;
+pub use passing::passed;
+pub use solution::Solution;
+pub use solving::solution_of;
+pub use threats::Threats;
+pub use variation::Variation;
