@@ -29,7 +29,7 @@ no_goal name rows (Keys goal limits) aims none means = none goal means.1
 no_goal name rows (Tree goal limits) aims none means = none goal means.1
 no_goal name rows (Check goal) aims none means = none goal means.1
 no_goal name rows Moves aims none means = aims.moves means
-no_goal name rows Show aims none means = aims.show means
+no_goal name rows (Show drawing) aims none means = aims.show means.0
 
 -- a name that isn't one of the commands without limits
 pub record Searches (name : Text) : Type 0 where
@@ -44,7 +44,7 @@ no_limits name rows (Keys goal limits) searches none means = none limits means.2
 no_limits name rows (Tree goal limits) searches none means = none limits means.2
 no_limits name rows (Check goal) searches none means = searches.check means.0
 no_limits name rows Moves searches none means = searches.aims.moves means
-no_limits name rows Show searches none means = searches.aims.show means
+no_limits name rows (Show drawing) searches none means = searches.aims.show means.0
 
 pub batch_searches : (name : Text) → name ≡ codes "batch" → Searches name
 batch_searches name is = record {
@@ -62,7 +62,7 @@ no_action name rows (Keys goal limits) searches not means = not.keys means.0
 no_action name rows (Tree goal limits) searches not means = not.tree means.0
 no_action name rows (Check goal) searches not means = searches.check means.0
 no_action name rows Moves searches not means = searches.aims.moves means
-no_action name rows Show searches not means = searches.aims.show means
+no_action name rows (Show drawing) searches not means = searches.aims.show means.0
 
 verify_searches : (name : Text) → name ≡ codes "verify" → Searches name
 verify_searches name is = record {
@@ -210,7 +210,7 @@ tree_means name rows (Keys goal limits) is means = absurd (two_names 0 (codes "t
 tree_means name rows (Tree goal limits) is means = record { goal = goal; limits = limits; aims = means.1; within = means.2; unmoved = means.3 }
 tree_means name rows (Check goal) is means = absurd (two_names 0 (codes "tree") (codes "check") 116 99 refl refl (λ e. omega arith) name is means.0)
 tree_means name rows Moves is means = absurd (two_names 0 (codes "tree") (codes "moves") 116 109 refl refl (λ e. omega arith) name is means)
-tree_means name rows Show is means = absurd (two_names 0 (codes "tree") (codes "show") 116 115 refl refl (λ e. omega arith) name is means)
+tree_means name rows (Show drawing) is means = absurd (two_names 0 (codes "tree") (codes "show") 116 115 refl refl (λ e. omega arith) name is means.0)
 
 -- `tree` means no order but a command at a position, or the tree of a first move
 pub no_tree : (name : Text) (rows : List Row) (order : Order) → name ≡ codes "tree" → ((line : Line) → HasLine name rows line → ⊥)

@@ -99,9 +99,10 @@ verify_app = checking_app (codes "verify")
 abbrev pub moves_app : App
 moves_app = with_rule (new_app (codes "moves")) fen_rule
 
--- `show FEN`
+-- `show [--svg] [--unicode] [--black] FEN`
 abbrev pub show_app : App
-show_app = with_rule (new_app (codes "show")) fen_rule
+show_app = with_rule (with_rule (with_rule (with_rule (new_app (codes "show"))
+    (flag_rule (codes "svg"))) (flag_rule (codes "unicode"))) (flag_rule (codes "black"))) fen_rule
 
 -- `after FEN MOVE`
 abbrev pub after_app : App

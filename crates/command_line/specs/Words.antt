@@ -7,6 +7,7 @@ use Rattle.rules.specs.declared.goal.Goal.TheVariants.{Mate, MateOrStale}
 use Rattle.command_line.specs.Program.{program}
 use Rattle.command_line.specs.declared.line.Line.{Line}
 use Rattle.command_line.specs.declared.line.Limits.{Limits}
+use Rattle.command_line.specs.declared.line.Drawing.{Drawing}
 use Rattle.command_line.specs.declared.line.Subject.{Subject}
 use Rattle.command_line.specs.declared.line.Played.{Played}
 use Rattle.command_line.specs.declared.line.Manner.{Manner}
@@ -49,6 +50,16 @@ goal_word MateOrStale = codes "stale"
 abbrev pub HasGoal : List Row → Goal → Type 0
 HasGoal rows goal = first_of (codes "goal") rows ≡ Some (goal_word goal)
 
+-- the option of that name, which takes no value, was given
+abbrev pub IsGiven : Text → List Row → Type 0
+IsGiven id rows = first_of id rows ≡ Some (codes "true")
+
+-- what was found of how a board is drawn
+pub record HasDrawing (rows : List Row) (drawing : Drawing) : Type 0 where
+  pub svg : IsTrue drawing.svg ↔ IsGiven (codes "svg") rows
+  pub unicode : IsTrue drawing.unicode ↔ IsGiven (codes "unicode") rows
+  pub black : IsTrue drawing.black ↔ IsGiven (codes "black") rows
+
 -- the command of that name with the values that were found for it
 abbrev pub MeansAction : Text → List Row → Action → Type 0
 MeansAction name rows (Solve goal limits) = (name ≡ codes "solve") × HasGoal rows goal × HasLimits rows limits
@@ -56,15 +67,11 @@ MeansAction name rows (Keys goal limits) = (name ≡ codes "keys") × HasGoal ro
 MeansAction name rows (Tree goal limits) = (name ≡ codes "tree") × HasGoal rows goal × HasLimits rows limits × (first_of (codes "first") rows ≡ None)
 MeansAction name rows (Check goal) = (name ≡ codes "check") × HasGoal rows goal
 MeansAction name rows Moves = name ≡ codes "moves"
-MeansAction name rows Show = name ≡ codes "show"
+MeansAction name rows (Show drawing) = (name ≡ codes "show") × HasDrawing rows drawing
 
 -- the command at the position that was found for it
 abbrev pub HasLine : Text → List Row → Line → Type 0
 HasLine name rows line = (first_of (codes "FEN") rows ≡ Some line.fen.now) × MeansAction name rows line.action
-
--- the option of that name, which takes no value, was given
-abbrev pub IsGiven : Text → List Row → Type 0
-IsGiven id rows = first_of id rows ≡ Some (codes "true")
 
 -- what was found for the manner of a batch: whether the positions are written too, whether keys are, and as JSON, and a number of lines, where one is given
 pub record HasManner (rows : List Row) (manner : Manner) : Type 0 where

@@ -178,6 +178,20 @@ pub const SHOW_MORE: &str = "\
 The board is drawn with its ranks and files, a letter for each unit, a point for
 each empty square, and the side to move.";
 
+pub const SVG: &str = "Draw a picture, in Scalable Vector Graphics";
+
+pub const SVG_MORE: &str = "\
+Draw a picture, in Scalable Vector Graphics: a file that stands alone, of shapes
+and no fonts, for print. It is drawn whether --unicode is given or not.";
+
+pub const UNICODE: &str = "Draw units as symbols of chess";
+
+pub const UNICODE_MORE: &str = "Draw units as symbols of chess, in place of letters.";
+
+pub const BLACK: &str = "Draw the board as Black sees it";
+
+pub const BLACK_MORE: &str = "Draw the board as Black sees it, with rank 1 on top.";
+
 pub const AFTER: &str = "Write the position after a move";
 
 pub const AFTER_EXAMPLE: &str = "Example: minimate after 'k5/6/2K3/6/6/1R4 w' c4c5";

@@ -5,5 +5,5 @@ mod help;
 mod line;
 mod reading;
 
-pub use line::{Action, Limits, Line, Manner, Order, Played, Subject, Telling};
+pub use line::{Action, Drawing, Limits, Line, Manner, Order, Played, Subject, Telling};
 pub use reading::{LineFault, asks_progress, matches, read_order};

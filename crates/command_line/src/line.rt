@@ -81,11 +81,22 @@ pub enum Action {
     /// Each lawful move.
     Moves,
     /// The board, drawn.
-    Show,
+    Show(Drawing),
     /// The tree that shows the answer of a solve.
     Tree(Goal, Limits),
     /// In how many plies the tree of the input wins, if it wins.
     Check(Goal),
+}
+
+/// How a board is drawn: by letters as White sees it, unless something else is asked for.
+#[derive(Clone, Copy, PartialEq, Eq)]
+pub struct Drawing {
+    /// Whether it is a picture, whatever else.
+    pub svg: bool,
+    /// Whether units are symbols of chess.
+    pub unicode: bool,
+    /// Whether it is drawn as Black sees it.
+    pub black: bool,
 }
 
 /// How far and with what to search, as the command line has it: any numbers that it can name.

@@ -10,12 +10,12 @@ ghost use Rattle.command_line.specs.declared.line.Subject.{Subject as TheSubject
 ghost use Rattle.command_line.specs.declared.line.Played.{Played as ThePlayed};
 ghost use Rattle.command_line.specs.declared.line.Action.{Action as TheAction};
 ghost use Rattle.clap.specs.Words.{App, FailsBy, Row, fault_of, first_of, found_of, kind_of, new_app, rows_of, subcommand_of, subcommand_rows_of, with_subcommand};
-ghost use Rattle.command_line.specs.Words.{HasGoal, HasLimit, HasLimits, HasLine, HasManner, HasNumber, HasOrder, HasPlayed, HasSubject, HasTelling, IsGiven, MeansAction, MeansFound, MeansOrder, MeansNoOrder, progress_word};
+ghost use Rattle.command_line.specs.Words.{HasDrawing, HasGoal, HasLimit, HasLimits, HasLine, HasManner, HasNumber, HasOrder, HasPlayed, HasSubject, HasTelling, IsGiven, MeansAction, MeansFound, MeansOrder, MeansNoOrder, progress_word};
 ghost use Rattle.command_line.specs.Making.{IsLocal, IsLocalArg, NamesNoSearch, option_rule};
 ghost use Rattle.command_line.specs.Program.{after_app, fen_rule, move_rule, goal_rule, number_rule, limit_rule, mate_rule, workers_rule, slots_rule, first_rule, flag_rule, progress_rule, echo_rule, lines_rule, limits_app, search_app, checking_app, solve_app, keys_app, tree_app, check_app, verify_app, certify_app, solution_app, moves_app, show_app, batch_app, program};
 
 use crate::help;
-use crate::line::{Action, Limits, Line, Manner, Order, Played, Subject, Telling};
+use crate::line::{Action, Drawing, Limits, Line, Manner, Order, Played, Subject, Telling};
 use clap::error::ErrorKind;
 use clap::{Arg, ArgAction, ArgMatches, Command, Error, value_parser};
 use moves::Goal;
@@ -291,14 +291,24 @@ fn moves_command<'a>(alloc: Global) -> Result<Command<'a>, AllocError>
 fn show_command<'a>(alloc: Global) -> Result<Command<'a>, AllocError>
     ensures { IfOk result (IsLocal show_app) }
 {
-    named(
+    let bare = named(
         alloc,
         "show",
         help::SHOW,
         help::SHOW_EXAMPLE,
         help::SHOW_MORE,
-    )
-    .arg(fen(alloc))
+    );
+    let Ok(picturing) = bare.arg(flag(alloc, "svg", help::SVG, help::SVG_MORE)) else {
+        return Err(AllocError);
+    };
+    let symbols = flag(alloc, "unicode", help::UNICODE, help::UNICODE_MORE);
+    let Ok(spelling) = picturing.arg(symbols) else {
+        return Err(AllocError);
+    };
+    let Ok(turning) = spelling.arg(flag(alloc, "black", help::BLACK, help::BLACK_MORE)) else {
+        return Err(AllocError);
+    };
+    turning.arg(fen(alloc))
 }
 
 fn after_command<'a>(alloc: Global) -> Result<Command<'a>, AllocError>
@@ -521,6 +531,16 @@ fn tree_of(values: &ArgMatches<'_>) -> Option<Action>
     }
 }
 
+fn drawing_of(values: &ArgMatches<'_>) -> Drawing
+    ensures { HasDrawing (rows_of (found_of values.now)) result }
+{
+    Drawing {
+        svg: is_given(values, "svg"),
+        unicode: is_given(values, "unicode"),
+        black: is_given(values, "black"),
+    }
+}
+
 fn action_of(name: &str, values: &ArgMatches<'_>) -> Option<Action>
     ensures some { IfSome result (MeansAction name.now (rows_of (found_of values.now))) }
     ensures none { IfNone result
@@ -528,7 +548,7 @@ fn action_of(name: &str, values: &ArgMatches<'_>) -> Option<Action>
 {
     match name {
         "moves" => Some(Action::Moves),
-        "show" => Some(Action::Show),
+        "show" => Some(Action::Show(drawing_of(values))),
         "check" => Some(Action::Check(goal_of(values)?)),
         "tree" => tree_of(values),
         _ => search_of(name, goal_of(values)?, limits(values)?),

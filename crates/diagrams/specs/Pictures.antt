@@ -5,6 +5,7 @@ use Rattle.std.specs.Fmt.{decimal}
 use Rattle.board.specs.declared.game.Side.{Side}
 use Rattle.board.specs.declared.game.Side.TheVariants.{White, Black}
 use Rattle.board.specs.declared.game.Unit.{Unit as Man}
+use Rattle.board.specs.Board.{PlainBoard}
 use Rattle.board.specs.Games.{width_of}
 use Rattle.rules.specs.Squares.{Place, Ply, IsOnBoard, unit_at}
 use Rattle.diagrams.specs.Drawing.{mover_drawn}
@@ -12,9 +13,18 @@ use Rattle.diagrams.specs.Places.{column_of, row_of, place_in}
 use Rattle.diagrams.specs.Shapes.{outline, detail, file_sign, rank_sign}
 use Rattle.diagrams.specs.declared.diagram.Diagram.{Diagram}
 
+-- a board, as the side below sees it
+pub record View : Type 0 where
+  pub board : PlainBoard
+  pub below : Side
+
+-- what a diagram shows, but for its arrow
+abbrev pub view_of : Diagram → View
+view_of diagram = record { board = diagram.position.now; below = diagram.below }
+
 -- how many squares the board has in a row
-abbrev pub width : Diagram → ℕ
-width d = width_of d.position.now.game
+abbrev pub width : View → ℕ
+width v = width_of v.board.game
 
 -- how far a column is from the left, and a row from above: each is 100 wide, behind an edge of 44 and below one of 4
 abbrev pub left_of : ℕ → ℕ
@@ -62,14 +72,14 @@ picture_of drawn None = []
 picture_of drawn (Some x) = drawn x
 
 -- the square in a row and a column
-abbrev pub square_picture : Diagram → ℕ → ℕ → List ℕ
-square_picture d row column =
-    let s = place_in d.position.now.game d.below row column in
-    ground s row column ++ picture_of (λ u. unit_picture u row column) (unit_at d.position.now s)
+abbrev pub square_picture : View → ℕ → ℕ → List ℕ
+square_picture v row column =
+    let s = place_in v.board.game v.below row column in
+    ground s row column ++ picture_of (λ u. unit_picture u row column) (unit_at v.board s)
 
 -- a row of squares
-abbrev pub row_picture : Diagram → ℕ → List ℕ
-row_picture d row = flat_map (square_picture d row) (range_with_len 0 (width d))
+abbrev pub row_picture : View → ℕ → List ℕ
+row_picture v row = flat_map (square_picture v row) (range_with_len 0 (width v))
 
 -- a sign, its corner so many from the left and from above
 abbrev pub sign_picture : ℕ → ℕ → List ℕ → List ℕ
@@ -78,38 +88,38 @@ sign_picture x y sign =
     ++ codes "\" fill=\"none\" stroke=\"#23251f\" stroke-width=\"3\" stroke-linecap=\"round\"/>\n")))))
 
 -- the sign of the rank in a row, at the left
-abbrev pub rank_picture : Diagram → ℕ → List ℕ
-rank_picture d row = sign_picture 6 (39 + 100 * row) (rank_sign (row_of d.position.now.game d.below row))
+abbrev pub rank_picture : View → ℕ → List ℕ
+rank_picture v row = sign_picture 6 (39 + 100 * row) (rank_sign (row_of v.board.game v.below row))
 
 -- the sign of the file in a column, below the board
-abbrev pub file_picture : Diagram → ℕ → List ℕ
-file_picture d column = sign_picture (79 + 100 * column) (9 + 100 * width d) (file_sign (column_of d.position.now.game d.below column))
+abbrev pub file_picture : View → ℕ → List ℕ
+file_picture v column = sign_picture (79 + 100 * column) (9 + 100 * width v) (file_sign (column_of v.board.game v.below column))
 
 -- the signs of the n-th row and the n-th column
-abbrev pub signs_picture : Diagram → ℕ → List ℕ
-signs_picture d n = rank_picture d n ++ file_picture d n
+abbrev pub signs_picture : View → ℕ → List ℕ
+signs_picture v n = rank_picture v n ++ file_picture v n
 
 -- how far the middle of a square is from the left, and from above
-abbrev pub middle_x : Diagram → Place → ℕ
-middle_x d s = 94 + 100 * column_of d.position.now.game d.below s.file
+abbrev pub middle_x : View → Place → ℕ
+middle_x v s = 94 + 100 * column_of v.board.game v.below s.file
 
-abbrev pub middle_y : Diagram → Place → ℕ
-middle_y d s = 54 + 100 * row_of d.position.now.game d.below s.rank
+abbrev pub middle_y : View → Place → ℕ
+middle_y v s = 54 + 100 * row_of v.board.game v.below s.rank
 
 -- the arrow, if there is one, goes from square to square of the board
-abbrev pub AreOnBoard : Diagram → Type 0
-AreOnBoard d = IfSome d.arrow (λ m. IsOnBoard d.position.now.game m.from × IsOnBoard d.position.now.game m.to)
+abbrev pub AreOnBoard : View → Option Ply → Type 0
+AreOnBoard v arrow = IfSome arrow (λ m. IsOnBoard v.board.game m.from × IsOnBoard v.board.game m.to)
 
 -- an arrow from a point to another
-abbrev pub arrow : ℕ → ℕ → ℕ → ℕ → List ℕ
-arrow x y to_x to_y =
+abbrev pub arrow_between : ℕ → ℕ → ℕ → ℕ → List ℕ
+arrow_between x y to_x to_y =
     codes "<marker id=\"head\" viewBox=\"0 0 10 10\" refX=\"7\" refY=\"5\" markerWidth=\"4\" markerHeight=\"4\" orient=\"auto\"><path d=\"M0 0L10 5 0 10z\" fill=\"#b3261e\"/></marker>\n<path d=\"M"
     ++ (decimal x ++ (codes " " ++ (decimal y ++ (codes "L" ++ (decimal to_x ++ (codes " " ++ (decimal to_y
     ++ codes "\" fill=\"none\" stroke=\"#b3261e\" stroke-width=\"9\" marker-end=\"url(#head)\"/>\n")))))))
 
 -- the arrow of a move
-abbrev pub arrow_picture : Diagram → Ply → List ℕ
-arrow_picture d m = arrow (middle_x d m.from) (middle_y d m.from) (middle_x d m.to) (middle_y d m.to)
+abbrev pub arrow_picture : View → Ply → List ℕ
+arrow_picture v m = arrow_between (middle_x v m.from) (middle_y v m.from) (middle_x v m.to) (middle_y v m.to)
 
 -- the head of the file: how wide and high it is
 abbrev pub head : ℕ → List ℕ
@@ -127,7 +137,7 @@ abbrev pub frame : ℕ → List ℕ
 frame side = codes "<path d=\"M44 4h" ++ (decimal side ++ (codes "v" ++ (decimal side ++ codes "H44z\" fill=\"none\" stroke=\"#23251f\" stroke-width=\"3\"/>\n")))
 
 -- the squares row by row, the frame, the signs of ranks and files, and the arrow
-abbrev pub picture : Diagram → List ℕ
-picture d =
-    head (48 + 100 * width d) ++ (paper (48 + 100 * width d) (mover_drawn d.position.now.mover) ++ (flat_map (row_picture d) (range_with_len 0 (width d)) ++ (frame (100 * width d)
-    ++ (flat_map (signs_picture d) (range_with_len 0 (width d)) ++ (picture_of (arrow_picture d) d.arrow ++ codes "</svg>\n")))))
+abbrev pub picture : View → Option Ply → List ℕ
+picture v arrow =
+    head (48 + 100 * width v) ++ (paper (48 + 100 * width v) (mover_drawn v.board.mover) ++ (flat_map (row_picture v) (range_with_len 0 (width v)) ++ (frame (100 * width v)
+    ++ (flat_map (signs_picture v) (range_with_len 0 (width v)) ++ (picture_of (arrow_picture v) arrow ++ codes "</svg>\n")))))

@@ -1,7 +1,7 @@
 //! The squares of a picture, with what stands on them.
 ghost use Rattle.std.specs.Prelude.{◌≡◌, ◌++◌, ◌<◌, OnOk, string_bytes};
 ghost use Rattle.board.specs.Games.{width_of};
-ghost use Rattle.diagrams.specs.Pictures.{ground, colours, inner_colour, group, unit_shape, unit_picture, square_picture};
+ghost use Rattle.diagrams.specs.Pictures.{ground, colours, inner_colour, group, unit_shape, unit_picture, view_of, square_picture};
 
 use crate::diagram::Diagram;
 use crate::place::{column_of, row_of};
@@ -110,7 +110,7 @@ pub(crate) fn draw_square(
     requires row { row < width_of diagram.now.position.now.game }
     requires column { column < width_of diagram.now.position.now.game }
     ensures { OnOk result (string_bytes text.new
-        ≡ string_bytes text.old ++ square_picture diagram.now row column) }
+        ≡ string_bytes text.old ++ square_picture (view_of diagram.now) row column) }
 {
     let game = diagram.position.game();
     let file = column_of(game, diagram.below, column);

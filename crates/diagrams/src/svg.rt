@@ -3,7 +3,7 @@ ghost use Rattle.std.specs.Prelude.{◌≡◌, ℕ, ◌++◌, ◌<◌, List, IfO
 ghost use Rattle.std.specs.List.{flat_map, range_with_len};
 ghost use Rattle.board.specs.Games.{width_of};
 ghost use Rattle.rules.specs.Squares.{IsOnBoard};
-ghost use Rattle.diagrams.specs.Pictures.{width, row_picture, sign_picture, rank_picture, file_picture, signs_picture, middle_x, middle_y, AreOnBoard, arrow, arrow_picture, picture_of, head, paper, frame, picture};
+ghost use Rattle.diagrams.specs.Pictures.{view_of, width, row_picture, sign_picture, rank_picture, file_picture, signs_picture, middle_x, middle_y, AreOnBoard, arrow_between, arrow_picture, picture_of, head, paper, frame, picture};
 
 use crate::diagram::Diagram;
 use crate::drawing::mover_drawn;
@@ -15,8 +15,8 @@ use std::alloc::{AllocError, Global};
 use std::fmt::Write;
 
 fn draw_row(text: &mut String, diagram: &Diagram<'_>, row: u8) -> Result<(), AllocError>
-    requires { row < width diagram.now }
-    ensures { OnOk result (string_bytes text.new ≡ string_bytes text.old ++ row_picture diagram.now row) }
+    requires { row < width (view_of diagram.now) }
+    ensures { OnOk result (string_bytes text.new ≡ string_bytes text.old ++ row_picture (view_of diagram.now) row) }
 {
     for column in 0..diagram.position.game().width() {
         draw_square(text, diagram, row, column)?;
@@ -26,7 +26,7 @@ fn draw_row(text: &mut String, diagram: &Diagram<'_>, row: u8) -> Result<(), All
 
 fn draw_rows(text: &mut String, diagram: &Diagram<'_>) -> Result<(), AllocError>
     ensures { OnOk result (string_bytes text.new
-        ≡ string_bytes text.old ++ flat_map (row_picture diagram.now) (range_with_len 0 (width diagram.now))) }
+        ≡ string_bytes text.old ++ flat_map (row_picture (view_of diagram.now)) (range_with_len 0 (width (view_of diagram.now)))) }
 {
     for row in 0..diagram.position.game().width() {
         draw_row(text, diagram, row)?;
@@ -45,8 +45,8 @@ fn draw_sign(text: &mut String, x: u16, y: u16, sign: &str) -> Result<(), AllocE
 
 /// Draws the sign of the rank in a row.
 fn draw_rank(text: &mut String, diagram: &Diagram<'_>, row: u8) -> Result<(), AllocError>
-    requires { row < width diagram.now }
-    ensures { OnOk result (string_bytes text.new ≡ string_bytes text.old ++ rank_picture diagram.now row) }
+    requires { row < width (view_of diagram.now) }
+    ensures { OnOk result (string_bytes text.new ≡ string_bytes text.old ++ rank_picture (view_of diagram.now) row) }
 {
     let sign = rank_sign(row_of(diagram.position.game(), diagram.below, row));
     draw_sign(text, 6, 39 + 100 * u16::from(row), sign)
@@ -54,8 +54,8 @@ fn draw_rank(text: &mut String, diagram: &Diagram<'_>, row: u8) -> Result<(), Al
 
 /// Draws the sign of the file in a column.
 fn draw_file(text: &mut String, diagram: &Diagram<'_>, column: u8) -> Result<(), AllocError>
-    requires { column < width diagram.now }
-    ensures { OnOk result (string_bytes text.new ≡ string_bytes text.old ++ file_picture diagram.now column) }
+    requires { column < width (view_of diagram.now) }
+    ensures { OnOk result (string_bytes text.new ≡ string_bytes text.old ++ file_picture (view_of diagram.now) column) }
 {
     let game = diagram.position.game();
     let sign = file_sign(column_of(game, diagram.below, column));
@@ -65,7 +65,7 @@ fn draw_file(text: &mut String, diagram: &Diagram<'_>, column: u8) -> Result<(),
 
 fn draw_signs(text: &mut String, diagram: &Diagram<'_>) -> Result<(), AllocError>
     ensures { OnOk result (string_bytes text.new
-        ≡ string_bytes text.old ++ flat_map (signs_picture diagram.now) (range_with_len 0 (width diagram.now))) }
+        ≡ string_bytes text.old ++ flat_map (signs_picture (view_of diagram.now)) (range_with_len 0 (width (view_of diagram.now)))) }
 {
     for n in 0..diagram.position.game().width() {
         draw_rank(text, diagram, n)?;
@@ -77,7 +77,7 @@ fn draw_signs(text: &mut String, diagram: &Diagram<'_>) -> Result<(), AllocError
 /// How far the middle of a square is from the left.
 fn middle_x(diagram: &Diagram<'_>, square: Square) -> u16
     requires { IsOnBoard diagram.now.position.now.game square }
-    ensures { result ≡ middle_x diagram.now square }
+    ensures { result ≡ middle_x (view_of diagram.now) square }
 {
     94 + 100 * u16::from(column_of(diagram.position.game(), diagram.below, square.file))
 }
@@ -85,13 +85,13 @@ fn middle_x(diagram: &Diagram<'_>, square: Square) -> u16
 /// How far it is from above.
 fn middle_y(diagram: &Diagram<'_>, square: Square) -> u16
     requires { IsOnBoard diagram.now.position.now.game square }
-    ensures { result ≡ middle_y diagram.now square }
+    ensures { result ≡ middle_y (view_of diagram.now) square }
 {
     54 + 100 * u16::from(row_of(diagram.position.game(), diagram.below, square.rank))
 }
 
 fn draw_arrow(text: &mut String, x: u16, y: u16, to_x: u16, to_y: u16) -> Result<(), AllocError>
-    ensures { OnOk result (string_bytes text.new ≡ string_bytes text.old ++ arrow x y to_x to_y) }
+    ensures { OnOk result (string_bytes text.new ≡ string_bytes text.old ++ arrow_between x y to_x to_y) }
 {
     write!(
         text,
@@ -102,7 +102,7 @@ fn draw_arrow(text: &mut String, x: u16, y: u16, to_x: u16, to_y: u16) -> Result
 fn draw_move(text: &mut String, diagram: &Diagram<'_>, m: Move) -> Result<(), AllocError>
     requires from { IsOnBoard diagram.now.position.now.game m.from }
     requires to { IsOnBoard diagram.now.position.now.game m.to }
-    ensures { OnOk result (string_bytes text.new ≡ string_bytes text.old ++ arrow_picture diagram.now m) }
+    ensures { OnOk result (string_bytes text.new ≡ string_bytes text.old ++ arrow_picture (view_of diagram.now) m) }
 {
     let (x, y) = (middle_x(diagram, m.from), middle_y(diagram, m.from));
     let (to_x, to_y) = (middle_x(diagram, m.to), middle_y(diagram, m.to));
@@ -110,9 +110,9 @@ fn draw_move(text: &mut String, diagram: &Diagram<'_>, m: Move) -> Result<(), Al
 }
 
 fn draw_arrow_of(text: &mut String, diagram: &Diagram<'_>) -> Result<(), AllocError>
-    requires { AreOnBoard diagram.now }
+    requires { AreOnBoard (view_of diagram.now) diagram.now.arrow }
     ensures { OnOk result (string_bytes text.new
-        ≡ string_bytes text.old ++ picture_of (arrow_picture diagram.now) diagram.now.arrow) }
+        ≡ string_bytes text.old ++ picture_of (arrow_picture (view_of diagram.now)) diagram.now.arrow) }
 {
     if let Some(m) = diagram.arrow {
         draw_move(text, diagram, m)?;
@@ -149,8 +149,8 @@ fn draw_frame(text: &mut String, side: u16) -> Result<(), AllocError>
 
 /// The diagram as the text of a file that stands alone, of shapes and no fonts.
 pub fn svg_of(alloc: Global, diagram: &Diagram<'_>) -> Result<String, AllocError>
-    requires { AreOnBoard diagram.now }
-    ensures { IfOk result (λ text. string_bytes text ≡ picture diagram.now) }
+    requires { AreOnBoard (view_of diagram.now) diagram.now.arrow }
+    ensures { IfOk result (λ text. string_bytes text ≡ picture (view_of diagram.now) diagram.now.arrow) }
 {
     let mut text = String::new(alloc);
     let position = diagram.position;

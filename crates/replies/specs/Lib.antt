@@ -1,4 +1,5 @@
 -- to be believed
+pub mod Drawings
 pub mod Output
 pub mod Verdict
 pub mod Playing

@@ -27,9 +27,7 @@ use Rattle.wintree.specs.Offset.{IsFaultOf}
 use Rattle.wintree.specs.Plan.{Plan, depth}
 use Rattle.wintree.specs.Text.{TreeText, text as plan_text}
 use Rattle.wintree.specs.Wins.{Wins, height}
-use Rattle.board.specs.declared.game.Side.TheVariants.{White}
-use Rattle.diagrams.specs.Drawing.{board_drawn}
-use Rattle.diagrams.specs.declared.look.Look.TheVariants.{Letters}
+use Rattle.replies.specs.Drawings.{drawn}
 use Rattle.devices.specs.Input.{without_line_feed}
 use Rattle.refusals.specs.Refusal.{refusal_of_fen, refusal_of_tree}
 use Rattle.refusals.specs.Reply.{Reply, answered, refused, line_of}
@@ -139,7 +137,7 @@ abbrev pub Shows : PlainBoard → Action → List ℕ → Reply → Type 0
 Shows b (Solve goal limits) input reply = ShowsAnswer goal b limits reply
 Shows b (Keys goal limits) input reply = ShowsKeys goal b limits reply
 Shows b Moves input reply = ShowsMoves b reply
-Shows b Show input reply = reply ≡ answered (board_drawn Letters White b)
+Shows b (Show drawing) input reply = reply ≡ answered (drawn drawing b)
 Shows b (Tree goal limits) input reply = ShowsPlanFound goal b limits reply
 Shows b (Check goal) input reply = ShowsCheck goal b input reply
 

@@ -2,6 +2,7 @@
 #![tactic(auto)]
 
 mod certified;
+mod drawn;
 mod played;
 mod replying;
 mod trouble;

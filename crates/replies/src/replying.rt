@@ -13,12 +13,12 @@ ghost use Rattle.replies.specs.Outcome.{Solves, FindsKeys, Gives, GivesIfRead, G
 ghost use Rattle.replies.specs.Output.{answer_text, none_text, key_text, keys_text, moves_text, checked_text, ShowsAnswer, ShowsKeys, ShowsPlanFound, ShowsTree, ShowsCheck, MayRead, fault_of};
 ghost use Rattle.refusals.specs.Reply.{answered, line_of};
 
+use crate::drawn::drawn;
 use crate::trouble::{Trouble, refusal_of};
-use board::{Position, Side};
+use board::Position;
 use command_line::{Action, Limits, Line};
 use decision::Answer;
 use devices::{Source, read_all, without_line_feed};
-use diagrams::{Look, board_drawn};
 use entry::MateLore;
 use moves::{Goal, Move, lawful, read_sound};
 use refusals::Refusal;
@@ -406,7 +406,7 @@ pub fn reply_told<R: Threads + Wait + Sync, T: Gate, S: Source>(
             let moves = lawful(&position);
             Ok(moves_text(alloc, moves.as_slice())?.into_bytes())
         }
-        Action::Show => Ok(board_drawn(alloc, &position, Side::White, Look::Letters)?.into_bytes()),
+        Action::Show(drawing) => Ok(drawn(alloc, &position, drawing)?.into_bytes()),
         Action::Tree(goal, limits) => Ok(plan_text(rt, told, &position, goal, limits)?),
         Action::Check(goal) => check_text(alloc, &position, goal, reader),
     }

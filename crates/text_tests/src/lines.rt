@@ -1,5 +1,5 @@
 //! The line of some words, and words that mean none.
-use command_line::{Action, Limits, LineFault, Order, asks_progress, matches, read_order};
+use command_line::{Action, Drawing, Limits, LineFault, Order, asks_progress, matches, read_order};
 use moves::Goal;
 use std::process::Abort;
 
@@ -22,6 +22,26 @@ fn expect_none<R: Abort + AllocGlobal>(rt: &R, words: &[&str]) {
         Err(LineFault::Words) => {}
         _ => panic!(rt; "a line, or no memory"),
     }
+}
+
+#[test]
+fn shows_as_it_is_asked(rt: HostRuntime) {
+    let plain = Drawing {
+        svg: false,
+        unicode: false,
+        black: false,
+    };
+    expect_action(&rt, &["minimate", "show", FEN], Action::Show(plain));
+    let turned = Drawing {
+        unicode: true,
+        black: true,
+        ..plain
+    };
+    let words = ["minimate", "show", "--black", "--unicode", FEN];
+    expect_action(&rt, &words, Action::Show(turned));
+    let picture = Drawing { svg: true, ..plain };
+    let words = ["minimate", "show", "--svg", FEN];
+    expect_action(&rt, &words, Action::Show(picture));
 }
 
 #[test]
@@ -51,7 +71,6 @@ fn reads_each_command(rt: HostRuntime) {
     };
     expect_action(&rt, &all, Action::Solve(Goal::MateOrStale, greatest));
     expect_action(&rt, &["minimate", "moves", FEN], Action::Moves);
-    expect_action(&rt, &["minimate", "show", FEN], Action::Show);
     let tree = ["minimate", "tree", "--limit", "1", FEN];
     expect_action(&rt, &tree, Action::Tree(Goal::Mate, least));
     let keys = ["minimate", "keys", "--goal", "stale", "--limit", "1", FEN];

@@ -2,13 +2,13 @@ use Rattle.std.proofs.Common.{◌∙◌, ◌+◌, ◌*◌, ◌++◌, [], ap, cod
 use Rattle.std.specs.List.{flat_map, range_with_len}
 use Rattle.board.specs.Games.{width_of}
 use Rattle.diagrams.specs.Drawing.{mover_drawn}
-use Rattle.diagrams.specs.Pictures.{width, head, paper, frame, row_picture, signs_picture, picture_of, arrow_picture}
+use Rattle.diagrams.specs.Pictures.{view_of, width, head, paper, frame, row_picture, signs_picture, picture_of, arrow_picture}
 use Rattle.diagrams.proofs.DrawingLemmas.{seven_drawn}
 use Rattle.diagrams.proofs.svg.svg_of.Goals as goal
 
 pub returns : goal.returns
 returns c =
-    let d = c.args.diagram.now in
+    let d = view_of c.args.diagram.now in
     let w = width d in
     let wide = ap (λ n. 100 * n) (c.from-side.ensures ∙ c.width.ensures ∙ ap width_of c.game.ensures.value) in
     let side = ap (λ n. 48 + n) wide in
@@ -17,8 +17,8 @@ returns c =
     let three = string_bytes c.draw_rows.new.text in
     seven_drawn (string_bytes c.new-text.result) one (string_bytes c.draw_paper.new.text) three (string_bytes c.draw_frame.new.text)
     (string_bytes c.draw_signs.new.text) (string_bytes c.draw_arrow_of.new.text) (string_bytes c.push_str.new.self)
-    (head (48 + 100 * w)) (paper (48 + 100 * w) (mover_drawn d.position.now.mover)) (flat_map (row_picture d) (range_with_len 0 w)) (frame (100 * w))
-    (flat_map (signs_picture d) (range_with_len 0 w)) (picture_of (arrow_picture d) d.arrow) (codes "</svg>\n")
+    (head (48 + 100 * w)) (paper (48 + 100 * w) (mover_drawn d.board.mover)) (flat_map (row_picture d) (range_with_len 0 w)) (frame (100 * w))
+    (flat_map (signs_picture d) (range_with_len 0 w)) (picture_of (arrow_picture d) c.args.diagram.now.arrow) (codes "</svg>\n")
     c.new-text.ensures.bytes
     (c.in_ok-draw_head.ensures ∙ ap (λ n. string_bytes c.new-text.result ++ head n) side)
     (c.in_ok-draw_paper.ensures ∙ (λ i. one ++ paper (side i) (mover i)))

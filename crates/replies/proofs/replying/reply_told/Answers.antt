@@ -58,11 +58,11 @@ returns-in-Check-clause-given g c =
     let sound : IsSoundText c.args.line.now.fen.now c.in_ok-position.position = search rules in
     gives_reply _ c.args.line.now _ c.in_ok-position.position (Check c.in-Check.goal) _ sound c.in-Check.is c.check_text.ensures.shown
 
-pub returns-in_ok-board_drawn-in-Show-clause-given : goal.returns-in_ok-board_drawn-in-Show-clause-given
-returns-in_ok-board_drawn-in-Show-clause-given g c =
+pub returns-in_ok-drawn-in-Show-clause-given : goal.returns-in_ok-drawn-in-Show-clause-given
+returns-in_ok-drawn-in-Show-clause-given g c =
     let sound : IsSoundText c.args.line.now.fen.now c.in_ok-position.position = search rules in
-    gives_unread vec_items c.args.line.now (g.S.Source.remaining c.args.reader.now) c.in_ok-position.position Show (Ok c.into_bytes-in-Show.result) sound c.in-Show.is refl
-    (ap answered (ap vec_items c.into_bytes-in-Show.ensures.value ∙ c.in_ok-board_drawn-in-Show.ensures))
+    gives_unread vec_items c.args.line.now (g.S.Source.remaining c.args.reader.now) c.in_ok-position.position (Show c.in-Show.drawing) (Ok c.into_bytes-in-Show.result) sound c.in-Show.is refl
+    (ap answered (ap vec_items c.into_bytes-in-Show.ensures.value ∙ c.in_ok-drawn-in-Show.ensures))
 
 pub returns-in_ok-moves_text-in-Moves-clause-given : goal.returns-in_ok-moves_text-in-Moves-clause-given
 returns-in_ok-moves_text-in-Moves-clause-given g c =

@@ -1,0 +1,26 @@
+-- A board as it is asked for.
+use Rattle.std.specs.Prelude.{ℕ, List, None, if◌then◌else◌}
+use Rattle.board.specs.declared.game.Side.{Side}
+use Rattle.board.specs.declared.game.Side.TheVariants.{White, Black}
+use Rattle.board.specs.Board.{PlainBoard}
+use Rattle.command_line.specs.declared.line.Drawing.{Drawing}
+use Rattle.diagrams.specs.declared.look.Look.{Look}
+use Rattle.diagrams.specs.declared.look.Look.TheVariants.{Letters, Symbols}
+use Rattle.diagrams.specs.Drawing.{board_drawn}
+use Rattle.diagrams.specs.Pictures.{View, picture}
+
+-- the side that sits below
+abbrev pub below_of : Drawing → Side
+below_of drawing = if drawing.black then Black else White
+
+-- how units are written
+abbrev pub look_of : Drawing → Look
+look_of drawing = if drawing.unicode then Symbols else Letters
+
+-- the board as the side below sees it
+abbrev pub view_of : Drawing → PlainBoard → View
+view_of drawing b = record { board = b; below = below_of drawing }
+
+-- a picture with no arrow, or text
+abbrev pub drawn : Drawing → PlainBoard → List ℕ
+drawn drawing b = if drawing.svg then picture (view_of drawing b) None else board_drawn (look_of drawing) (below_of drawing) b
