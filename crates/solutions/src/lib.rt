@@ -19,6 +19,7 @@ mod varying;
 pub use extras::Extras;
 pub use first_try::Try;
 pub use key_play::KeyPlay;
+pub use passing::passed;
 pub use solution::Solution;
 pub use solving::solution_of;
 pub use threats::Threats;

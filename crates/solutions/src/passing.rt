@@ -7,7 +7,7 @@ use board::Position;
 use moves::{Board, sound};
 
 /// The same board with the other side to move, where that is sound.
-pub(crate) fn passed(board: &Board) -> Option<Board>
+pub fn passed(board: &Board) -> Option<Board>
     ensures { MatchOption result (IsSound (passed board.now) → ⊥)
         (λ next. (next ≡ passed board.now) × IsSound (passed board.now)) }
 {
