@@ -1,6 +1,6 @@
 //! Texts of solutions. The moves are those that tools/check_solution works out; their names are worked out by hand.
 
-use crate::tables::position;
+use crate::tables::{last_seat, position};
 use algebraic::{Notation, Symbols};
 use decision::{Answer, Memory, Never, Scout};
 use entry::MateLore;
@@ -19,7 +19,7 @@ fn text_of<R: Abort + AllocGlobal>(
     extras: Extras,
 ) -> String {
     let (table, mut seats) = Slots::<MateLore>::make(rt.alloc(), 4096, 1).expect(rt, "a table");
-    let Some(mut seat) = seats.pop() else {
+    let Some(mut seat) = last_seat(&table, &mut seats) else {
         panic!(rt; "no seat")
     };
     let mut scout = Scout {
