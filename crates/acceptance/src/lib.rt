@@ -8,6 +8,8 @@ mod certified;
 #[cfg(test)]
 mod claims;
 #[cfg(test)]
+mod composed_texts;
+#[cfg(test)]
 mod deciding;
 #[cfg(test)]
 mod expansions;

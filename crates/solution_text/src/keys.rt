@@ -4,11 +4,10 @@ ghost use Rattle.solutions.specs.Solutions.{AreThreats, IsKeyPlay};
 ghost use Rattle.solution_text.specs.Text.{AreTexts, threat_word, AreThreatsText, IsKeyText};
 
 use crate::lines::second_moves;
-use crate::passing::passed;
 use crate::variations::variations_text;
 use algebraic::Notation;
 use moves::{Board, Move, after};
-use solutions::{KeyPlay, Threats};
+use solutions::{KeyPlay, Threats, passed};
 use std::alloc::{AllocError, Allocator};
 
 fn threat_word(moves: &[Move]) -> &'static str

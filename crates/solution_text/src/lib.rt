@@ -3,7 +3,6 @@
 
 mod keys;
 mod lines;
-mod passing;
 mod tries;
 mod variations;
 mod whole;

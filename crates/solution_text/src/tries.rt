@@ -3,11 +3,10 @@ ghost use Rattle.std.specs.Prelude.{ℕ, All, IfOk, string_bytes};
 ghost use Rattle.solutions.specs.Solutions.{IsSetPlay, IsTry};
 ghost use Rattle.solution_text.specs.Text.{AreTexts, IsSetPlayText, IsTryText, AreTriesText};
 
-use crate::passing::passed;
 use crate::variations::variations_text;
 use algebraic::Notation;
 use moves::{Board, after};
-use solutions::{Try, Variation};
+use solutions::{Try, Variation, passed};
 use std::alloc::{AllocError, Allocator};
 
 /// The set play, under a heading.

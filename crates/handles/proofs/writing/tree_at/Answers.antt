@@ -5,11 +5,11 @@ use Rattle.handles.proofs.writing.tree_at.Goals as goal
 
 pub returns-in_ok-text-in-Some-Mate-clause-told : goal.returns-in_ok-text-in-Some-Mate-clause-told
 returns-in_ok-text-in-Some-Mate-clause-told c =
-    let right = subst (IsAnswer c.args.goal c.args.position.now c.args.limit) c.in-Some-Mate.field-0-is c.in-Some-Mate.ensures.answer in
-    tree_tells c.args.goal c.args.position.now c.args.limit c.in-Some-Mate.plies c.in_ok-tree-in-Some-Mate.tree c.in_ok-text-in-Some-Mate.text.items
+    let right = subst (IsAnswer c.args.problem.now.goal c.args.problem.now.position c.args.problem.now.limit) c.in-Some-Mate.field-0-is c.in-Some-Mate.ensures.answer in
+    tree_tells c.args.problem.now.goal c.args.problem.now.position c.args.problem.now.limit c.in-Some-Mate.plies c.in_ok-tree-in-Some-Mate.tree c.in_ok-text-in-Some-Mate.text.items
     right.0 right.1 c.in_ok-tree-in-Some-Mate.ensures.best c.in_ok-text-in-Some-Mate.ensures
 
 pub returns-in-Some-NoneWithin-clause-told : goal.returns-in-Some-NoneWithin-clause-told
 returns-in-Some-NoneWithin-clause-told c =
-    let right = subst (IsAnswer c.args.goal c.args.position.now c.args.limit) c.in-Some-NoneWithin.field-0-is c.in-Some-NoneWithin.ensures.answer in
-    none_tells c.args.goal c.args.position.now c.args.limit c.in-Some-NoneWithin.limit c.none_told.result right.0 right.1 c.none_told.ensures.told
+    let right = subst (IsAnswer c.args.problem.now.goal c.args.problem.now.position c.args.problem.now.limit) c.in-Some-NoneWithin.field-0-is c.in-Some-NoneWithin.ensures.answer in
+    none_tells c.args.problem.now.goal c.args.problem.now.position c.args.problem.now.limit c.in-Some-NoneWithin.limit c.none_told.result right.0 right.1 c.none_told.ensures.told

@@ -5,8 +5,8 @@ use Rattle.handles.proofs.writing.tree_found.Goals as goal
 pub returns-in_default-clause-why : goal.returns-in_default-clause-why
 returns-in_default-clause-why c = refused c.in_default.field-0 c.in_default.ensures.fault
 
-pub returns-in_default-plies_of-clause-why : goal.returns-in_default-plies_of-clause-why
-returns-in_default-plies_of-clause-why c = another_limit c.in_default-plies_of.ensures
+pub returns-in_default-problem_of-clause-why : goal.returns-in_default-problem_of-clause-why
+returns-in_default-problem_of-clause-why c = another_limit c.in_default-problem_of.ensures
 
 pub returns-in-Err-clause-why : goal.returns-in-Err-clause-why
 returns-in-Err-clause-why c =
