@@ -8,6 +8,8 @@ mod certified;
 #[cfg(test)]
 mod claims;
 #[cfg(test)]
+mod composing;
+#[cfg(test)]
 mod deciding;
 #[cfg(test)]
 mod expansions;
