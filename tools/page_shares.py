@@ -7,16 +7,16 @@ import re
 import struct
 import tempfile
 import time
-import xml.etree.ElementTree
 import zlib
 
+import check_tree
 import checking
 import chromium
+import diagrams as pictures
 from page_drive import DONE, ONE_PAWN, TEXT, THIRD, VALUE, address, top
 
 SHOW_TREE = checking.loaded("show_tree")
 ONE_FILE = checking.loaded("one_file", os.path.join(top(), "one_file.py"))
-SVG = "{http://www.w3.org/2000/svg}"
 
 
 # What a paste hands over.
@@ -128,17 +128,7 @@ def seen_at(square, is_flipped):
 def check_svg(drive, file, is_flipped):
     name, data = file
     drive.same("the file's name", name, "minimate-k5-6-2K3-6-6-1R4-w.svg")
-    drawn = xml.etree.ElementTree.fromstring(data)
-    drive.same("its title", drawn.find(f"{SVG}title").text, f"White to move: {THIRD}")
-    units = sorted((one.get("data-unit"), one.get("transform")) for one in drawn.iter(f"{SVG}g") if one.get("data-unit"))
-    wanted = []
-    for letter, square in (("K", "c4"), ("R", "b1"), ("k", "a6")):
-        column, row = seen_at(square, is_flipped)
-        wanted.append((letter, f"translate({44 + 100 * column} {4 + 100 * row})"))
-    drive.same("its units", units, sorted(wanted))
-    names = [one.text for one in drawn.iter(f"{SVG}text")]
-    drive.same("its files and ranks", sorted(names), sorted("abcdef123456"))
-    drive.same("nothing is fetched, and no style is wanted", [b"href" in data, b"class=" in data, b"<style" in data], [False] * 3)
+    drive.same("the picture", data.decode(), pictures.svg(check_tree.read_position(THIRD.encode()), is_flipped))
 
 
 def check_png(drive, file, is_flipped):

@@ -13,7 +13,7 @@ const OUTLINES = {
 
 // What is drawn inside the outline, in the colour of the line.
 const DETAILS = {
-  p: "",
+  p: "M38 70h24",
   r: "M36 45h28M33 70h34",
   n: "M44 34v.01M36 68q2-10 14-20",
   b: "M50 30v16M42 38h16M36 62h28",
@@ -44,6 +44,12 @@ export function drawn(name, attributes, ...inside) {
   for (const [key, value] of Object.entries(attributes)) element.setAttribute(key, value);
   element.append(...inside);
   return element;
+}
+
+/** The unit's outline, and what is drawn inside. */
+export function shapeOf(letter) {
+  const kind = letter.toLowerCase();
+  return [OUTLINES[kind].join(""), DETAILS[kind]];
 }
 
 /** The unit as a group, in a square of 100 by 100. */
