@@ -93,7 +93,8 @@ fn own_keys<T: Gate>(
         seat,
         gate: search.gate,
     };
-    keys_of(alloc, &mut gated, problem)
+    let root = Root::of(&problem.position, problem.goal);
+    keys_of(alloc, &mut gated, &root, problem.limit)
 }
 
 /// Each first move that forces the goal within the limit, in order, with the fewest plies that it takes:

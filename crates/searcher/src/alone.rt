@@ -8,6 +8,7 @@ ghost use Rattle.searcher.specs.Keys.{ListsKeys};
 use crate::halt::Halt;
 use crate::keys::{Key, keys_of};
 use crate::problem::Problem;
+use crate::root::Root;
 use crate::searcher::Searcher;
 use crate::solving::solve_by;
 use decision::{Answer, Memory, Never, Scout};
@@ -34,7 +35,8 @@ pub fn solve_alone<A: Allocator>(
         seat,
         scout: &mut scout,
     };
-    let Some(answer) = solve_by(&mut searcher, problem) else {
+    let root = Root::of(&problem.position, problem.goal);
+    let Some(answer) = solve_by(&mut searcher, &root, problem.limit) else {
         unreachable!()
     };
     answer
@@ -60,7 +62,8 @@ pub fn keys_alone<A: Allocator, B: Allocator>(
         seat,
         scout: &mut scout,
     };
-    match keys_of(alloc, &mut searcher, problem) {
+    let root = Root::of(&problem.position, problem.goal);
+    match keys_of(alloc, &mut searcher, &root, problem.limit) {
         Ok(keys) => Ok(keys),
         Err(Halt::NoMemory) => Err(AllocError),
         Err(Halt::Stopped) => unreachable!(),

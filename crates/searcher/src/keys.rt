@@ -6,7 +6,6 @@ ghost use Rattle.searcher.specs.Roots.{IsRoot, IsJobOf, TakesIn};
 
 use crate::decider::Decider;
 use crate::halt::Halt;
-use crate::problem::Problem;
 use crate::root::Root;
 use moves::Move;
 use std::alloc::Allocator;
@@ -42,23 +41,20 @@ pub fn plies_of<D: Decider>(decider: &mut D, root: &Root, job: u16, limit: u8) -
 pub fn keys_of<D: Decider, A: Allocator>(
     alloc: A,
     decider: &mut D,
-    problem: &Problem,
+    root: &Root,
+    limit: u8,
 ) -> Result<Vec<Key, A>, Halt>
+    requires root { IsRoot root.now }
+    requires limit { limit ≤ 63 }
     ensures goes { D.goes decider.old decider.new }
-    ensures keys { IfOk result (λ keys. ListsKeys problem.now.goal problem.now.position problem.now.limit keys.items) }
+    ensures keys { IfOk result (λ keys. ListsKeys root.now.goal root.now.board limit keys.items) }
     ensures halt { IfErr result (λ halt. halt ≡ Stopped → D.told decider.new) }
 {
-    let Problem {
-        position,
-        goal,
-        limit,
-    } = *problem;
-    let root = Root::of(&position, goal);
     let mut keys = Vec::new(alloc);
     decider.begin(0, root.jobs());
     for job in 0..root.jobs() {
         let first = root.moves[usize::from(job)];
-        let Some(found) = plies_of(decider, &root, job, limit) else {
+        let Some(found) = plies_of(decider, root, job, limit) else {
             return Err(Halt::Stopped);
         };
         if let Some(plies) = found {

@@ -10,7 +10,7 @@ use crate::solver::Solver;
 use board::Position;
 use decision::Answer;
 use moves::Goal;
-use searcher::{Halt, Key, Problem, Searcher, keys_of, solve_by};
+use searcher::{Halt, Key, Problem, Root, Searcher, keys_of, solve_by};
 use std::alloc::Global;
 use trees::tree_by;
 use wintree::Tree;
@@ -28,7 +28,8 @@ impl Solver {
             seat: &mut self.seat,
             scout: &mut self.scout,
         };
-        solve_by(&mut searcher, problem)
+        let root = Root::of(&problem.position, problem.goal);
+        solve_by(&mut searcher, &root, problem.limit)
     }
 
     /// Each first move that forces the goal within the limit, in order, with the fewest plies that it takes; or that it was told to stop,
@@ -44,7 +45,8 @@ impl Solver {
             seat: &mut self.seat,
             scout: &mut self.scout,
         };
-        keys_of(alloc, &mut searcher, problem)
+        let root = Root::of(&problem.position, problem.goal);
+        keys_of(alloc, &mut searcher, &root, problem.limit)
     }
 
     /// The tree of a position whose fewest plies to the goal these are: at each turn of the attacker it takes the fewest plies, and then

@@ -1,5 +1,4 @@
-use Rattle.std.proofs.Common.{refl, sym, arith, subst, ◌+◌, ◌*◌}
-use Rattle.decision.specs.Answer.{ForcesNothing}
+use Rattle.std.proofs.Common.{refl, arith, subst, ◌+◌, ◌*◌}
 use Rattle.searcher.specs.Roots.{EndsRound}
 use Rattle.searcher.proofs.Jobs.{move_at, answered, more_rounds}
 use Rattle.decision.proofs.Winning.{nothing_at_once}
@@ -7,7 +6,7 @@ use Rattle.decision.proofs.Options.{none_is}
 use Rattle.searcher.proofs.solving.solve_by.Goals as goal
 
 pub loop-number-init : goal.loop-number-init
-loop-number-init g c = record { goes = g.met.D.Decider.goes_at_once _; nothing = nothing_at_once c.of-root.result.goal c.of-root.result.board }
+loop-number-init g c = record { goes = g.met.D.Decider.goes_at_once _; nothing = nothing_at_once c.args.root.now.goal c.args.root.now.board }
 
 pub returns-in_err-job-clause-goes : goal.returns-in_err-job-clause-goes
 returns-in_err-job-clause-goes g c = g.met.D.Decider.goes_on _ _ _ c.loop-number.invariant.goes c.least_win.ensures.goes
@@ -16,23 +15,15 @@ pub returns-in-Some-clause-goes : goal.returns-in-Some-clause-goes
 returns-in-Some-clause-goes g c = g.met.D.Decider.goes_on _ _ _ c.loop-number.invariant.goes c.least_win.ensures.goes
 
 pub returns-in-Some-clause-answer : goal.returns-in-Some-clause-answer
-returns-in-Some-clause-answer g c = let r = c.of-root.result in
-    rw (sym c.of-root.ensures.goal, sym c.of-root.ensures.position) (answered r.goal r.board r.moves.items c.of-root.ensures.lists c.loop-number.number (2 * c.loop-number.number + 1) c.args.problem.now.limit c.in-Some.job c.index-deref-from.result
+returns-in-Some-clause-answer g c = let r = c.args.root.now in
+    answered r.goal r.board r.moves.items c.requires.root c.loop-number.number (2 * c.loop-number.number + 1) c.args.limit c.in-Some.job c.index-deref-from.result
     refl (omega (arith, c.loop-number-test.true)) c.loop-number.invariant.nothing
     (move_at r.moves.items c.deref.result.now c.from.result c.in-Some.job c.index-deref-from.result c.deref.ensures.0 c.from.ensures c.index-deref-from.is)
-    (subst (EndsRound r (2 * c.loop-number.number + 1)) c.in-Some.is c.in_ok-job.ensures.least))
+    (subst (EndsRound r (2 * c.loop-number.number + 1)) c.in-Some.is c.in_ok-job.ensures.least)
 
 pub loop-number-preserved : goal.loop-number-preserved
-loop-number-preserved g c = let r = c.of-root.result in record {
+loop-number-preserved g c = let r = c.args.root.now in record {
   goes = g.met.D.Decider.goes_on _ _ _ c.loop-number.invariant.goes c.least_win.ensures.goes;
-  nothing = more_rounds r.goal r.board r.moves.items c.of-root.ensures.lists c.loop-number.number (2 * c.loop-number.number + 1) refl c.loop-number.invariant.nothing
+  nothing = more_rounds r.goal r.board r.moves.items c.requires.root c.loop-number.number (2 * c.loop-number.number + 1) refl c.loop-number.invariant.nothing
       (subst (EndsRound r (2 * c.loop-number.number + 1)) (none_is c.in_ok-job.field-0 c.in_default.not-Some) c.in_ok-job.ensures.least);
 }
-
-pub returns-clause-answer : goal.returns-clause-answer
-returns-clause-answer g c =
-    let r = c.of-root.result in
-    let p = c.args.problem.now in
-    let none : ForcesNothing r.goal r.board p.limit = λ k few. c.loop-number.invariant.nothing k (omega (arith, few, c.loop-number-test.false)) in
-    (refl, subst (λ b. ForcesNothing p.goal b p.limit) c.of-root.ensures.position
-        (subst (λ goal. ForcesNothing goal r.board p.limit) c.of-root.ensures.goal none))
