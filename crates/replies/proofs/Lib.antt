@@ -2,3 +2,4 @@ pub mod ReplyLemmas
 mod VerdictLemmas
 mod DrawingLemmas
 mod PlayingLemmas
+mod FirstLemmas
