@@ -78,10 +78,9 @@ tree_app = with_rule (search_app (codes "tree")) first_rule
 abbrev pub certify_app : App
 certify_app = search_app (codes "certify")
 
--- `solution [--set] [--tries] [--figurines] [--json] FEN`, and the options of a search
+-- `solution [--set] [--tries] [--figurines] FEN`, and the options of a search
 abbrev pub solution_app : App
-solution_app = with_rule (with_rule (with_rule (with_rule (search_app (codes "solution"))
-    (flag_rule (codes "set"))) (flag_rule (codes "tries"))) (flag_rule (codes "figurines"))) (flag_rule (codes "json"))
+solution_app = with_rule (with_rule (with_rule (search_app (codes "solution")) (flag_rule (codes "set"))) (flag_rule (codes "tries"))) (flag_rule (codes "figurines"))
 
 -- a command of this name with a goal, and a position
 abbrev pub checking_app : Text → App

@@ -85,7 +85,6 @@ pub record HasTelling (rows : List Row) (telling : Telling) : Type 0 where
   pub set_play : IsTrue telling.set_play ↔ IsGiven (codes "set") rows
   pub tries : IsTrue telling.tries ↔ IsGiven (codes "tries") rows
   pub figurines : IsTrue telling.figurines ↔ IsGiven (codes "figurines") rows
-  pub json : IsTrue telling.json ↔ IsGiven (codes "json") rows
 
 -- what was found for the position and for the goal
 abbrev pub HasSubject : List Row → Subject → Type 0

@@ -119,11 +119,6 @@ pub const FIGURINES: &str = "Name units by figurines";
 pub const FIGURINES_MORE: &str = "\
 Names units by figurines in place of the letters K Q R B N.";
 
-pub const JSON: &str = "Write the solution as JSON";
-
-pub const JSON_MORE: &str = "\
-Writes the solution as one JSON object.";
-
 pub const CHECK: &str = "Check a tree of moves that is read from the input";
 
 pub const CHECK_EXAMPLE: &str =

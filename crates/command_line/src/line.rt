@@ -29,8 +29,6 @@ pub struct Telling {
     pub tries: bool,
     /// Whether units are named by figurines.
     pub figurines: bool,
-    /// Whether it is written as JSON.
-    pub json: bool,
 }
 
 /// How the replies of a batch are written, and what is known of its input.

@@ -398,10 +398,7 @@ fn solution_command<'a>(alloc: Global) -> Result<Command<'a>, AllocError>
         return Err(AllocError);
     };
     let figurines = flag(alloc, "figurines", help::FIGURINES, help::FIGURINES_MORE);
-    let Ok(drawing) = trying.arg(figurines) else {
-        return Err(AllocError);
-    };
-    drawing.arg(flag(alloc, "json", help::JSON, help::JSON_MORE))
+    trying.arg(figurines)
 }
 
 /// Adds a command to another, if both could be made.
@@ -620,7 +617,6 @@ fn telling_of(values: &ArgMatches<'_>) -> Telling
         set_play: is_given(values, "set"),
         tries: is_given(values, "tries"),
         figurines: is_given(values, "figurines"),
-        json: is_given(values, "json"),
     }
 }
 

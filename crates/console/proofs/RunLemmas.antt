@@ -7,14 +7,11 @@ use Rattle.refusals.specs.Reply.{Reply, refused}
 use Rattle.refusals.specs.Refusal.{refusal_status}
 use Rattle.refusals.specs.declared.refusal.Refusal.{Refusal}
 use Rattle.refusals.specs.declared.refusal.Refusal.TheVariants.{Fields, Shape, Letter, Run as RunOfDigits, Side, Kings, Units, PawnRank, OtherInCheck, Move, Limit, Workers, Slots, TooLong, Grammar, Deep, Answer, Claim, NoMemory}
-use Rattle.console.specs.Run.{Ending, Run, Writes, HasReply, no_memory, RunsLine, Finishes, Refuses}
+use Rattle.console.specs.Run.{Run, Writes, HasReply, no_memory, RunsLine, Finishes, Refuses}
 use Rattle.console.specs.Verifying.{RunsVerify}
 use Rattle.command_line.specs.declared.line.Subject.{Subject}
 use Rattle.replies.specs.Verdict.{IsVerdict}
 use Rattle.command_line.specs.declared.line.Line.{Line}
-use Rattle.command_line.specs.declared.line.Played.{Played}
-use Rattle.replies.specs.Playing.{IsAfterReply}
-use Rattle.console.specs.Playing.{WritesAfter}
 
 -- a run that wrote a reply of status 0 or 1
 pub run_of_reply : (line : Line) (run : Run) (reply : Reply) → run.failed_reads ≡ 0
@@ -134,10 +131,3 @@ verify_refused subject run refusal unread (input, same, inl is) (inl wrote) =
 verify_refused subject run refusal unread (input, same, inr verdict) (inl wrote) = inl (unread, (input, same, (refused refusal, verdict, wrote)))
 
 -- ---- a run of `after`
-
--- a run that wrote the refusal of a move, or the line for want of memory
-pub after_refused : (played : Played) (ending : Ending) (refusal : Refusal) → (refusal ≡ NoMemory) ⊎ IsAfterReply played.fen.now played.name.now (refused refusal)
-    → Refuses ending refusal → WritesAfter played ending
-after_refused played ending refusal known (inr wrote) = inr wrote
-after_refused played ending refusal (inl is) (inl wrote) = inr (subst (λ r. Finishes ending (refused r).text (refused r).status) is wrote)
-after_refused played ending refusal (inr reply) (inl wrote) = inl (refused refusal, reply, wrote)

@@ -102,8 +102,8 @@ IsFoundText batch asked found text =
     let limit = limit_of batch.limits.limit asked.moves in
     (agrees : Option Bool) × IsJudged asked.moves found agrees
     × MatchBool batch.manner.json
-      (text ≡ found_object (string_of asked.fen.now) batch.goal limit found agrees)
-      (text ≡ judged_line agrees (found_line batch.goal limit found))
+    (text ≡ found_object (string_of asked.fen.now) batch.goal limit found agrees)
+    (text ≡ judged_line agrees (found_line batch.goal limit found))
 
 -- what is written for a refusal: its name, and as JSON some sentence too
 abbrev pub IsRefusalText : Bool → Option (List ℕ) → Refusal → List ℕ → Type 0

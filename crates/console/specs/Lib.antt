@@ -6,6 +6,7 @@ pub mod Batch
 pub mod Verifying
 pub mod Certifying
 pub mod Playing
+pub mod Solving
 pub mod Order
 pub mod Program
 -- inside

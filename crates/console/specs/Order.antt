@@ -18,6 +18,7 @@ use Rattle.console.specs.Batch.{RunsBatch}
 use Rattle.console.specs.Certifying.{RunsCertify}
 use Rattle.console.specs.Verifying.{RunsVerify, MayReadAbout}
 use Rattle.console.specs.Playing.{RunsAfter}
+use Rattle.console.specs.Solving.{RunsFirst, RunsSolution}
 use Rattle.console.specs.Run.{Run, Writes, GivesUp, RunsLine, failures_of}
 
 -- the run is one of the order
@@ -27,8 +28,8 @@ RunsOrder (Batch goal limits manner) run = RunsBatch (record { goal = goal; limi
 RunsOrder (Verify subject) run = RunsVerify subject run
 RunsOrder (Certify subject limits) run = RunsCertify subject limits run
 RunsOrder (After played) run = RunsAfter played run
-RunsOrder (TreeAfter played goal limits) run = RunsAfter played run
-RunsOrder (Solution subject limits telling) run = RunsCertify subject limits run
+RunsOrder (TreeAfter played goal limits) run = RunsFirst played goal limits run
+RunsOrder (Solution subject limits telling) run = RunsSolution subject telling limits run
 
 -- the order reads the input: a batch does, but where its limits are refused, and a check where its position is sound
 abbrev pub MayReadOf : Order → Type 0

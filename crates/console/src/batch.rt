@@ -134,7 +134,13 @@ fn find_at<R: Threads + Wait + Eprint + Clock + Sync + AllocGlobal>(
             limit,
             gate: &NoGate,
         };
-        return find_over(host.rt, manner.keys, &task, &solver.slots, &mut solver.seats);
+        return find_over(
+            host.rt,
+            manner.keys,
+            &task,
+            &solver.slots,
+            &mut solver.seats,
+        );
     };
     let task = Task {
         position,
@@ -238,12 +244,7 @@ fn refusal_line<E: Write>(
 }
 
 /// The text, with the position before it, if that is asked for.
-fn echoed(
-    alloc: Global,
-    batch: &Batch,
-    said: &[u8],
-    plain: Vec<u8>,
-) -> Result<Vec<u8>, AllocError>
+fn echoed(alloc: Global, batch: &Batch, said: &[u8], plain: Vec<u8>) -> Result<Vec<u8>, AllocError>
     ensures { IfOk result (λ text. text.items ≡ with_position batch.now said.now plain.items) }
 {
     if !batch.manner.echo || batch.manner.json || is_remark(said) {

@@ -12,7 +12,7 @@ use crate::batch::{Desk, Solver, Stop, position_answer};
 use crate::beside::Host;
 use board::Position;
 use certifying::Certificate;
-use command_line::{Limits, Manner, Subject};
+use command_line::{Limits, Subject};
 use decision::Question;
 use devices::{Sink, write_all};
 use entry::MateLore;
@@ -32,7 +32,7 @@ pub struct Begun {
 }
 
 /// The table of what has solved, and a seat there.
-fn table_of(solver: Solver) -> (Slots<MateLore>, Seat)
+pub fn table_of(solver: Solver) -> (Slots<MateLore>, Seat)
     requires { IsSolver solver }
     ensures { IsSeatOf result.0 result.1 }
 {
@@ -55,17 +55,7 @@ fn begin_at<R: Threads + Wait + Eprint + Clock + Sync + AllocGlobal>(
     ensures { Gives line_text (ShowsAnswer goal position.now limits) result }
 {
     let alloc = host.rt.alloc();
-    let batch = Batch {
-        goal,
-        limits,
-        manner: Manner {
-            echo: false,
-            keys: false,
-            json: false,
-            lines: None,
-        },
-    };
-    let mut desk = match Desk::open(alloc, batch) {
+    let mut desk = match Desk::open(alloc, Batch::answers(goal, limits)) {
         Ok(desk) => desk,
         Err(fault) => return Err(refusal_of(fault)),
     };

@@ -94,7 +94,9 @@ pub fn found_object(
     let word = goal_word(goal);
     let members = found_members(alloc, goal, found)?;
     let ok = judged_member(agrees);
-    format!(in alloc; "{{\"position\":{position},\"goal\":\"{word}\",\"limit\":{limit},{members}{ok}}}\n")
+    format!(in alloc;
+        "{{\"position\":{position},\"goal\":\"{word}\",\"limit\":{limit},{members}{ok}}}\n"
+    )
 }
 
 /// The position of a line, which is null where it was too long to be kept.
@@ -119,5 +121,7 @@ pub fn refused_object(
 {
     let position = position_member(alloc, fen)?;
     let sentence = string_of(alloc, sentence)?;
-    format!(in alloc; "{{\"position\":{position},\"refused\":\"{refusal}\",\"sentence\":{sentence}}}\n")
+    format!(in alloc;
+        "{{\"position\":{position},\"refused\":\"{refusal}\",\"sentence\":{sentence}}}\n"
+    )
 }

@@ -9,6 +9,7 @@ mod certificate;
 mod ending;
 mod forms;
 mod json;
+mod problem;
 mod program;
 mod running;
 mod said;

@@ -6,6 +6,7 @@ ghost use Rattle.console.specs.Order.{IsOver, MayReadFor, RunsWords, Searches, T
 ghost use Rattle.console.specs.Verifying.{RunsVerify, MayReadAbout};
 ghost use Rattle.console.specs.Certifying.{WritesCertificate};
 ghost use Rattle.console.specs.Playing.{WritesAfter};
+ghost use Rattle.console.specs.Solving.{EndsReply};
 ghost use Rattle.console.specs.Run.{ending_of, run_of, MayTell, Refuses, RunsLine};
 
 use crate::asked::Batch;
@@ -15,6 +16,7 @@ use crate::certificate::{begin, write_claims};
 use crate::ending::{
     ANSWERED, FAILED, REFUSED_WORDS, finish, give_up_for_memory, may_tell, refuse,
 };
+use crate::problem::solution_reply;
 use crate::tally::Tally;
 use board::Position;
 use command_line::{
@@ -23,7 +25,7 @@ use command_line::{
 use devices::{Sink, Source, write_all};
 use moves::{Board, has_lawful_move, read_sound};
 use refusals::{Refusal, Refused, advise, advise_move, advise_over};
-use replies::{Trouble, after_reply, refusal_of, verified};
+use replies::{Trouble, after_reply, first_reply, refusal_of, verified};
 use std::convert::AsStr;
 use std::io::{self, Write, sink};
 use std::sync::Wait;
@@ -248,6 +250,42 @@ fn refuse_move<R: AllocGlobal, K: Sink, E: Write>(
     status
 }
 
+/// Writes a reply, or why there is none, which `errors` is told too.
+fn write_reply<R: AllocGlobal, K: Sink, E: Write>(
+    rt: &R,
+    writer: &mut K,
+    errors: &mut E,
+    fen: &[u8],
+    reply: Result<Vec<u8>, Refusal>,
+) -> u8
+    requires { K.failures writer.old < u64.MAX }
+    ensures runs { EndsReply (ending_of K.contents K.failures writer.old writer.new result) reply }
+    ensures silent { MayTell result ⊎ (errors.new ≡ errors.old) }
+{
+    match reply {
+        Ok(text) => finish(writer, text.as_slice(), ANSWERED),
+        Err(refusal) => refuse_and_tell(rt, writer, errors, fen, refusal),
+    }
+}
+
+/// Writes a reply to a move that is named, or why there is none.
+fn write_played<R: AllocGlobal, K: Sink, E: Write>(
+    rt: &R,
+    played: &Played<'_>,
+    writer: &mut K,
+    errors: &mut E,
+    reply: Result<Vec<u8>, Refusal>,
+) -> u8
+    requires { K.failures writer.old < u64.MAX }
+    ensures runs { EndsReply (ending_of K.contents K.failures writer.old writer.new result) reply }
+    ensures silent { MayTell result ⊎ (errors.new ≡ errors.old) }
+{
+    match reply {
+        Ok(text) => finish(writer, text.as_slice(), ANSWERED),
+        Err(refusal) => refuse_move(rt, writer, errors, played, refusal),
+    }
+}
+
 /// Answers the position after a move. `errors` is told why it was refused.
 fn run_after<R: AllocGlobal, K: Sink, E: Write>(
     rt: &R,
@@ -259,10 +297,8 @@ fn run_after<R: AllocGlobal, K: Sink, E: Write>(
     ensures runs { WritesAfter played.now (ending_of K.contents K.failures writer.old writer.new result) }
     ensures silent { MayTell result ⊎ (errors.new ≡ errors.old) }
 {
-    match after_reply(rt.alloc(), played.fen, played.name) {
-        Ok(text) => finish(writer, text.as_slice(), ANSWERED),
-        Err(refusal) => refuse_move(rt, writer, errors, played, refusal),
-    }
+    let reply = after_reply(rt.alloc(), played.fen, played.name);
+    write_played(rt, played, writer, errors, reply)
 }
 
 /// The host of a batch whose input has so many lines, and whether the words ask for a sign of life.
@@ -320,9 +356,14 @@ pub fn run<
             run_certify(&host_of(rt, words), &subject, limits, writer, errors)
         }
         Ok(Order::After(played)) => run_after(rt, &played, writer, errors),
-        Ok(Order::TreeAfter(played, _, _)) => run_after(rt, &played, writer, errors),
-        Ok(Order::Solution(subject, limits, _)) => {
-            run_certify(&host_of(rt, words), &subject, limits, writer, errors)
+        Ok(Order::TreeAfter(played, goal, limits)) => {
+            let reply = first_reply(rt.alloc(), &played, goal, limits);
+            write_played(rt, &played, writer, errors, reply)
+        }
+        Ok(Order::Solution(subject, limits, telling)) => {
+            let host = host_of(rt, words);
+            let reply = solution_reply(&host, &subject, limits, telling);
+            write_reply(rt, writer, errors, subject.fen, reply)
         }
         Err(LineFault::Words) => REFUSED_WORDS,
         Err(LineFault::NoMemory) => give_up_for_memory(writer),

@@ -120,18 +120,22 @@ fn writes_objects(rt: HostRuntime) {
     let keys = [
         "minimate", "batch", "--json", "--keys", "--goal", "stale", "--limit", "1",
     ];
-    let found = "{\"position\":\"k5/6/2K3/6/6/1R4 w\",\"goal\":\"stale\",\"limit\":1,\"keys\":[{\"first\":\"b1b5\",\"plies\":1}]}
+    let found =
+        "{\"position\":\"k5/6/2K3/6/6/1R4 w\",\"goal\":\"stale\",\"limit\":1,\"keys\":[{\"first\":\"b1b5\",\"plies\":1}]}
 ";
     expect_batch(&rt, &keys, "k5/6/2K3/6/6/1R4 w", found);
-    let both = "{\"position\":\"k4/2P2/1K3/5/5 w\",\"goal\":\"mate\",\"limit\":1,\"keys\":[{\"first\":\"c4c5q\",\"plies\":1},{\"first\":\"c4c5r\",\"plies\":1}],\"ok\":true}
+    let both =
+        "{\"position\":\"k4/2P2/1K3/5/5 w\",\"goal\":\"mate\",\"limit\":1,\"keys\":[{\"first\":\"c4c5q\",\"plies\":1},{\"first\":\"c4c5r\",\"plies\":1}],\"ok\":true}
 ";
     let mates = ["minimate", "batch", "--json", "--keys", "--limit", "3"];
     expect_batch(&rt, &mates, "k4/2P2/1K3/5/5 w ; dm 1", both);
     let long = long_line(&rt, 257, b'x', b"\n#");
-    let told = "{\"position\":null,\"refused\":\"TooLong\",\"sentence\":\"a line has at most 256 bytes\"}\n";
+    let told =
+        "{\"position\":null,\"refused\":\"TooLong\",\"sentence\":\"a line has at most 256 bytes\"}\n";
     expect_with(&rt, &words, long.as_slice(), 0, told);
     let broken = b"\xff w".as_slice();
-    let shown = "{\"position\":\"\u{fffd} w\",\"refused\":\"Shape\",\"sentence\":\"character 1 is not ASCII: write a letter, a digit, / or a space for '\\\\xff'\"}\n";
+    let shown =
+        "{\"position\":\"\u{fffd} w\",\"refused\":\"Shape\",\"sentence\":\"character 1 is not ASCII: write a letter, a digit, / or a space for '\\\\xff'\"}\n";
     expect_with(&rt, &words, broken, 0, shown);
 }
 

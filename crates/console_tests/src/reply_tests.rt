@@ -185,6 +185,54 @@ minimate,check,--goal,stale,k5/6/2K3/6/6/1R4 w|b1b5=;|yes 1;",
     );
 }
 
+// What tools/check_tree.py's rules make of these first moves.
+#[test]
+fn writes_trees_of_first_moves(rt: HostRuntime) {
+    expect_runs(
+        &rt,
+        0,
+        "minimate,tree,--limit,3,--first,f1f2,k5/6/1K4/6/6/5R w||f1f2{a6b6:f2f6#};
+minimate,tree,--first,b4c5,--mate,2,k5/6/1K4/6/6/5R w||b4c5{a6a5:f1a1#};
+minimate,tree,--first=f1f6,--limit,3,k5/6/1K4/6/6/5R w||f1f6#;
+minimate,tree,--first,f1a1,--limit,3,k5/6/1K4/6/6/5R w||none within 3;
+minimate,tree,--first,c4c5,--limit,2,k5/6/2K3/6/6/1R4 w||none within 2;
+minimate,tree,--first,b1b5,--limit,3,--goal,stale,k5/6/2K3/6/6/1R4 w||b1b5=;
+minimate,tree,--first,c4c5,--limit,3,--goal,stale,k5/6/2K3/6/6/1R4 w||c4c5{a6a5:b1a1#};
+minimate,tree,--first,c4c5r,--limit,1,k4/2P2/1K3/5/5 w||c4c5r#;
+minimate,check,k5/6/1K4/6/6/5R w|f1f2{a6b6:f2f6#};|yes 3;",
+    );
+    expect_runs(
+        &rt,
+        1,
+        "minimate,tree,--limit,3,--first,c4c6,k5/6/2K3/6/6/1R4 w||refused: Move;
+minimate,tree,--limit,64,--first,c4c6,k5/6/2K3/6/6/1R4 w||refused: Move;
+minimate,tree,--limit,64,--first,c4c5,k5/6/2K3/6/6/1R4 w||refused: Limit;
+minimate,tree,--limit,3,--slots,0,--first,c4c5,k5/6/2K3/6/6/1R4 w||refused: Slots;
+minimate,tree,--limit,3,--first,c4c5,k5 w||refused: Shape;",
+    );
+}
+
+// After 1.Kc5 the rook threatens mate on the a-file, and Black's king has one move; with Black to move there is no mate at once.
+#[test]
+fn writes_solutions(rt: HostRuntime) {
+    expect_runs(
+        &rt,
+        0,
+        "minimate,solution,--mate,2,k5/6/2K3/6/6/1R4 w||mate in 2;1.Kc5! threat 2.Ra1#;  1...Ka5 2.Ra1#;
+minimate,solution,--limit,3,--set,k5/6/2K3/6/6/1R4 w||mate in 2;no set play;1.Kc5! threat 2.Ra1#;  1...Ka5 2.Ra1#;
+minimate,solution,--limit,3,--figurines,k5/6/2K3/6/6/1R4 w||mate in 2;1.\u{2654}c5! threat 2.\u{2656}a1#;  1...\u{2654}a5 2.\u{2656}a1#;
+minimate,solution,--limit,1,k4/2P2/1K3/5/5 w||mate in 1, cooked by 2 keys;1.c5=Q#!;1.c5=R#!;
+minimate,solution,--limit,1,--goal,stale,k5/6/2K3/6/6/1R4 w||goal in 1;1.Rb5=!;
+minimate,solution,--limit,2,--tries,k5/6/2K3/6/6/1R4 w||none within 2;",
+    );
+    expect_runs(
+        &rt,
+        1,
+        "minimate,solution,--limit,64,k5/6/2K3/6/6/1R4 w||refused: Limit;
+minimate,solution,--limit,64,k5 w||refused: Shape;",
+    );
+}
+
 /// Writes the tree of a line to the input of a `check`, and gives the second run's output.
 fn checked_tree<R: Threads + Wait + Abort + AllocGlobal + Eprint + Clock + Sync>(
     rt: &R,

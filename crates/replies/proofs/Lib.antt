@@ -1,3 +1,4 @@
 pub mod ReplyLemmas
 mod VerdictLemmas
 mod PlayingLemmas
+mod FirstLemmas

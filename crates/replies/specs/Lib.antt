@@ -3,4 +3,5 @@ pub mod Drawings
 pub mod Output
 pub mod Verdict
 pub mod Playing
+pub mod First
 pub mod Outcome

@@ -3,11 +3,13 @@
 
 mod certified;
 mod drawn;
+mod first;
 mod played;
 mod replying;
 mod trouble;
 
 pub use certified::verified;
+pub use first::first_reply;
 pub use played::after_reply;
 pub use replying::{
     MOST_INPUT, Search, Told, answer_text, keys_text, moves_text, none_line, reply, reply_told,

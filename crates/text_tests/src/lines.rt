@@ -98,8 +98,15 @@ fn reads_a_batch(rt: HostRuntime) {
     match read_order(rt.alloc(), &told) {
         Ok(Order::Batch(_, limits, manner)) => {
             assert_eq!(rt; limits.limit, 5);
-            assert!(rt; manner.echo);
+            assert!(rt; manner.echo && !manner.keys && !manner.json);
             assert_eq!(rt; manner.lines, Some(1500));
+        }
+        _ => panic!(rt; "no batch"),
+    }
+    let written = ["minimate", "batch", "--keys", "--json", "--limit", "5"];
+    match read_order(rt.alloc(), &written) {
+        Ok(Order::Batch(_, _, manner)) => {
+            assert!(rt; manner.keys && manner.json && !manner.echo);
         }
         _ => panic!(rt; "no batch"),
     }
@@ -122,17 +129,43 @@ fn reads_a_move(rt: HostRuntime) {
 }
 
 #[test]
+fn reads_a_first_move(rt: HostRuntime) {
+    let words = [
+        "minimate", "tree", "--first", "f1f2", "--goal", "stale", "--limit", "3", FEN,
+    ];
+    match read_order(rt.alloc(), &words) {
+        Ok(Order::TreeAfter(played, goal, limits)) => {
+            assert_eq!(rt; played.fen, FEN.as_bytes());
+            assert_eq!(rt; played.name, b"f1f2".as_slice());
+            assert!(rt; goal == Goal::MateOrStale);
+            assert_eq!(rt; limits.limit, 3);
+        }
+        _ => panic!(rt; "no first move"),
+    }
+    expect_none(&rt, &["minimate", "tree", "--first", "f1f2", FEN]);
+    expect_none(
+        &rt,
+        &["minimate", "keys", "--first", "f1f2", "--limit", "3", FEN],
+    );
+}
+
+#[test]
 fn reads_a_solution(rt: HostRuntime) {
     let words = [
-        "minimate", "solution", "--mate", "2", FEN, "--tries", "--json",
+        "minimate",
+        "solution",
+        "--mate",
+        "2",
+        FEN,
+        "--tries",
+        "--figurines",
     ];
     match read_order(rt.alloc(), &words) {
         Ok(Order::Solution(subject, limits, telling)) => {
             assert_eq!(rt; subject.fen, FEN.as_bytes());
             assert!(rt; subject.goal == Goal::Mate);
             assert_eq!(rt; limits.limit, 3);
-            assert!(rt; telling.tries && telling.json);
-            assert!(rt; !telling.set_play && !telling.figurines);
+            assert!(rt; telling.tries && telling.figurines && !telling.set_play);
         }
         _ => panic!(rt; "no solution"),
     }

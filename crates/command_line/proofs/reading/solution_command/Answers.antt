@@ -6,5 +6,4 @@ pub returns : goal.returns
 returns c =
     let setting = one_argument _ _ _ _ _ c.in-Ok.ensures c.flag.ensures c.in-Ok-arg.ensures in
     let trying = one_argument _ _ _ _ _ setting c.flag-2.ensures c.in-Ok-arg-2.ensures in
-    let drawing = one_argument _ _ _ _ _ trying c.flag-figurines.ensures c.in-Ok-arg-3.ensures in
-    IfOk-weaker c.arg-4.result _ _ (λ made adds. one_argument _ _ _ made _ drawing c.flag-3.ensures adds) c.arg-4.ensures
+    IfOk-weaker c.arg-3.result _ _ (λ made adds. one_argument _ _ _ made _ trying c.flag-figurines.ensures adds) c.arg-3.ensures

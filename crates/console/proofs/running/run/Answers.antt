@@ -1,5 +1,9 @@
 use Rattle.std.proofs.Common.{inl, inr, refl, arith}
 use Rattle.std.proofs.KnownBytes.{Appends-nil}
+use Rattle.command_line.specs.declared.line.Order.TheVariants.{Solution, TreeAfter}
+use Rattle.replies.specs.First.{IsFirstReply}
+use Rattle.console.specs.Solving.{IsSolutionReply}
+use Rattle.console.proofs.SolvingLemmas.{reply_ran}
 use Rattle.console.proofs.running.run.Goals as goal
 
 pub returns-in-Err-Words-clause-runs : goal.returns-in-Err-Words-clause-runs
@@ -17,3 +21,21 @@ returns-in-Ok-One-clause-silent g c =
         | inr same ↦ inr (inr same)
       ]
     ]
+
+pub returns-in-Ok-Solution-clause-runs : goal.returns-in-Ok-Solution-clause-runs
+returns-in-Ok-Solution-clause-runs g c =
+    let one = c.in-Ok-Solution in
+    inr (inr (
+      Solution one.subject one.limits one.telling,
+      rw one.field-0-is at one.ensures.order,
+      (omega arith, reply_ran (IsSolutionReply one.subject one.telling one.limits) _ c.solution_reply-reply.result c.solution_reply-reply.ensures c.write_reply.ensures.runs),
+    ))
+
+pub returns-in-Ok-TreeAfter-clause-runs : goal.returns-in-Ok-TreeAfter-clause-runs
+returns-in-Ok-TreeAfter-clause-runs g c =
+    let one = c.in-Ok-TreeAfter in
+    inr (inr (
+      TreeAfter one.played one.goal one.limits,
+      rw one.field-0-is at one.ensures.order,
+      (omega arith, reply_ran (IsFirstReply one.played one.goal one.limits) _ c.first_reply-reply.result c.first_reply-reply.ensures c.write_played.ensures.runs),
+    ))

@@ -1,10 +1,7 @@
-use Rattle.std.proofs.Common.{inl}
-use Rattle.refusals.specs.Reply.{answered}
-use Rattle.console.proofs.RunLemmas.{after_refused}
+use Rattle.replies.specs.Playing.{IsAfterReply}
+use Rattle.console.proofs.SolvingLemmas.{reply_ran}
 use Rattle.console.proofs.running.run_after.Goals as goal
 
-pub returns-in-Ok-clause-runs : goal.returns-in-Ok-clause-runs
-returns-in-Ok-clause-runs g c = inl (answered c.in-Ok.text.items, c.in-Ok.ensures, rw (← c.as_slice.ensures.value) c.finish.ensures)
-
-pub returns-in-Err-clause-runs : goal.returns-in-Err-clause-runs
-returns-in-Err-clause-runs g c = after_refused c.args.played.now _ c.in-Err.refusal c.in-Err.ensures c.refuse_move.ensures.refuses
+pub returns-clause-runs : goal.returns-clause-runs
+returns-clause-runs g c =
+    reply_ran (IsAfterReply c.args.played.now.fen.now c.args.played.now.name.now) _ c.after_reply-reply.result c.after_reply-reply.ensures c.write_played.ensures.runs

@@ -1,4 +1,4 @@
-use Rattle.std.proofs.Common.{List, ℕ, ◌∙◌, sym, subst}
+use Rattle.std.proofs.Common.{List, ℕ, subst}
 use Rattle.std.specs.Io.KnownBytes.{Appends}
 use Rattle.devices.specs.Device.{AppendsBeginning}
 use Rattle.console.proofs.CertifyLemmas.{certificate_refused, first_cut, whole_certificate, claims_cut, no_room}

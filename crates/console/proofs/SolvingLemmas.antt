@@ -1,0 +1,61 @@
+-- A solution, from what its parts give.
+use Rattle.std.proofs.Common.{◌≡◌, ◌≤◌, ℕ, List, None, Result, Ok, Err, Vec, inl, inr, refl, subst, sym, vec_items}
+use Rattle.std.specs.declared.alloc.Global.{Global}
+use Rattle.board.specs.Board.{PlainBoard}
+use Rattle.rules.specs.declared.goal.Goal.{Goal}
+use Rattle.decision.specs.Answer.{IsFewest, ForcesNothing}
+use Rattle.command_line.specs.declared.line.Limits.{Limits}
+use Rattle.command_line.specs.declared.line.Subject.{Subject}
+use Rattle.command_line.specs.declared.line.Telling.{Telling}
+use Rattle.refusals.specs.Reply.{Reply, answered, refused}
+use Rattle.refusals.specs.declared.refusal.Refusal.{Refusal}
+use Rattle.replies.specs.Outcome.{Gives}
+use Rattle.replies.specs.Output.{IsSoundText, fault_of, none_text}
+use Rattle.algebraic.specs.declared.naming.Notation.{Notation}
+use Rattle.solutions.specs.declared.solution.Solution.{Solution}
+use Rattle.solutions.specs.Solutions.{IsSolution}
+use Rattle.solution_text.specs.Text.{IsSolutionText}
+use Rattle.console.specs.Run.{Ending, Finishes}
+use Rattle.console.specs.Solving.{EndsReply, IsPublished, IsSolutionReply, ShowsSolution, WritesReply, extras_of, notation_of}
+
+-- what is given is given for what follows of it
+gives_weaker : {B : Type 0} (bytes : B → List ℕ) (P Q : Reply → Type 0) (r : Result B Refusal) → ((reply : Reply) → P reply → Q reply) → Gives bytes P r → Gives bytes Q r
+gives_weaker bytes P Q (Ok text) so gives = so (answered (bytes text)) gives
+gives_weaker bytes P Q (Err refusal) so (inl none) = inl none
+gives_weaker bytes P Q (Err refusal) so (inr shows) = inr (so (refused refusal) shows)
+
+-- the text of the solution of the position's root is published
+pub published_text : (goal other : Goal) (b c d : PlainBoard) (telling : Telling) (notation : Notation) (solution : Solution Global) (text written : List ℕ) → other ≡ goal → c ≡ b
+    → IsSolution other c (extras_of telling) solution → notation ≡ notation_of goal telling → d ≡ b → IsSolutionText notation d solution written → text ≡ written
+    → IsPublished goal b telling text
+published_text goal other b c d telling notation solution text written same_goal same_board is same_notation same is_text same_text = (
+  solution,
+  subst (λ g. IsSolution g b (extras_of telling) solution) same_goal (subst (λ x. IsSolution other x (extras_of telling) solution) same_board is),
+  subst (λ t. IsSolutionText (notation_of goal telling) b solution t) (sym same_text)
+      (subst (λ x. IsSolutionText (notation_of goal telling) x solution written) same (subst (λ n. IsSolutionText n d solution written) same_notation is_text)),
+)
+
+-- the solution is shown
+pub published_shown : (goal : Goal) (b : PlainBoard) (telling : Telling) (limits : Limits) (plies : ℕ) (text : List ℕ) → fault_of limits ≡ None → plies ≤ limits.limit
+    → IsFewest goal b plies → IsPublished goal b telling text → ShowsSolution goal b telling limits (answered text)
+published_shown goal b telling limits plies text none within fewest is = rw none (inl (plies, within, fewest, (text, is, refl)))
+
+-- nothing is forced
+pub none_shown : (goal : Goal) (b : PlainBoard) (telling : Telling) (limits : Limits) (within : ℕ) (r : Result (Vec ℕ Global) Refusal) → fault_of limits ≡ None → within ≡ limits.limit
+    → ForcesNothing goal b limits.limit → Gives vec_items (λ reply. reply ≡ answered (none_text within)) r → Gives vec_items (ShowsSolution goal b telling limits) r
+none_shown goal b telling limits within r none same nothing gives =
+    gives_weaker vec_items (λ reply. reply ≡ answered (none_text within)) (ShowsSolution goal b telling limits) r
+    (λ reply is. rw none (inr (nothing, subst (λ n. reply ≡ answered (none_text n)) same is))) gives
+
+-- what is shown at the sound position is the reply
+pub solution_at_text : (subject : Subject) (telling : Telling) (limits : Limits) (b : PlainBoard) (r : Result (Vec ℕ Global) Refusal) → IsSoundText subject.fen.now b
+    → Gives vec_items (ShowsSolution subject.goal b telling limits) r → Gives vec_items (IsSolutionReply subject telling limits) r
+solution_at_text subject telling limits b r sound gives =
+    gives_weaker vec_items (ShowsSolution subject.goal b telling limits) (IsSolutionReply subject telling limits) r (λ reply shows. inl (b, sound, shows)) gives
+
+-- a reply was written
+pub reply_ran : (Is : Reply → Type 0) (ending : Ending) (r : Result (Vec ℕ Global) Refusal) → Gives vec_items Is r → EndsReply ending r → WritesReply Is ending
+reply_ran Is ending (Ok text) gives wrote = inl (answered (vec_items text), gives, wrote)
+reply_ran Is ending (Err why) gives (inr wrote) = inr wrote
+reply_ran Is ending (Err why) (inl none) (inl wrote) = inr (subst (λ r. Finishes ending (refused r).text (refused r).status) none wrote)
+reply_ran Is ending (Err why) (inr is) (inl wrote) = inl (refused why, is, wrote)
