@@ -10,6 +10,8 @@ mod claims;
 #[cfg(test)]
 mod composed_texts;
 #[cfg(test)]
+mod composing;
+#[cfg(test)]
 mod deciding;
 #[cfg(test)]
 mod expansions;

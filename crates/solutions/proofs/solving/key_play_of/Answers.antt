@@ -1,4 +1,5 @@
 use Rattle.std.proofs.Common.{ℕ, ◌-◌, subst}
+use Rattle.searcher.proofs.Halts.{err_halts}
 use Rattle.solutions.specs.Solutions.{AreThreats, ListsVariations}
 use Rattle.solutions.proofs.Forcing.{key_reaches, key_meets}
 use Rattle.solutions.proofs.Variations.{all_replies}
@@ -22,3 +23,15 @@ returns-clause-play g c =
       replies = all_replies r.goal q (c.args.plies - 2) c.in_ok-variations.variations.items (key_meets r.goal r.board c.args.first q c.after-next.ensures c.args.plies c.requires.key) lists;
       variations = lists.each;
     }
+
+pub returns-in_err-threats-clause-goes : goal.returns-in_err-threats-clause-goes
+returns-in_err-threats-clause-goes g c = c.threats_of.ensures.goes
+
+pub returns-in_err-threats-clause-halt : goal.returns-in_err-threats-clause-halt
+returns-in_err-threats-clause-halt g c = err_halts c.from_residual.result _ _ c.from_residual.ensures.1 c.in_err-threats.ensures.halt
+
+pub returns-in_err-variations-clause-goes : goal.returns-in_err-variations-clause-goes
+returns-in_err-variations-clause-goes g c = g.met.D.Decider.goes_on _ _ _ c.threats_of.ensures.goes c.variations_of.ensures.goes
+
+pub returns-in_err-variations-clause-halt : goal.returns-in_err-variations-clause-halt
+returns-in_err-variations-clause-halt g c = err_halts c.from_residual-in_err-variations.result _ _ c.from_residual-in_err-variations.ensures.1 c.in_err-variations.ensures.halt

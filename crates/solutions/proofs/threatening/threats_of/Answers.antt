@@ -1,4 +1,5 @@
-use Rattle.std.proofs.Common.{subst, ◌∙◌, arith}
+use Rattle.std.proofs.Common.{sym, subst, ◌∙◌, arith}
+use Rattle.std.proofs.lemmas.Bool.{false≢true}
 use Rattle.board.specs.Board.{PlainBoard}
 use Rattle.rules.specs.declared.goal.Goal.{Goal}
 use Rattle.rules.proofs.Forcing.{same_side-self}
@@ -46,3 +47,12 @@ returns-in_ok-continuations_of-in-Some-Mate-clause-threats g c =
       subst (λ (at : Goal × PlainBoard). IsFewest at.0 at.1 n) (λ i. (c.on-root.ensures.goal i, (c.on-root.ensures.position ∙ c.in-Some.ensures.0) i)) found.1,
       subst (λ (at : Goal × PlainBoard). ListsContinuations at.0 at.1 n c.in_ok-continuations_of-in-Some-Mate.field-0.items) (λ i. (c.on-root.ensures.goal i, (c.on-root.ensures.position ∙ c.in-Some.ensures.0) i)) c.in_ok-continuations_of-in-Some-Mate.ensures.moves,
     )
+
+pub returns-in-None-clause-goes : goal.returns-in-None-clause-goes
+returns-in-None-clause-goes g c = c.solve_by.ensures.goes
+
+pub returns-in-Some-NoneWithin-clause-goes : goal.returns-in-Some-NoneWithin-clause-goes
+returns-in-Some-NoneWithin-clause-goes g c = c.solve_by.ensures.goes
+
+pub returns-then-not-has_lawful_move-clause-threats : goal.returns-then-not-has_lawful_move-clause-threats
+returns-then-not-has_lawful_move-clause-threats g c = c.requires.over (λ m lawful. false≢true (sym c.if-not-has_lawful_move.true ∙ c.has_lawful_move.ensures.1 (m, lawful)))
