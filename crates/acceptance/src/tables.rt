@@ -27,7 +27,7 @@ pub(crate) fn position(rt: &impl Abort, text: &str) -> Position {
 }
 
 // The last seat, taken out.
-fn last_seat(slots: &Slots<MateLore>, seats: &mut Vec<Seat>) -> Option<Seat>
+pub(crate) fn last_seat(slots: &Slots<MateLore>, seats: &mut Vec<Seat>) -> Option<Seat>
     requires { AllNew slots.now seats.old.items }
     ensures { IfSome result (λ s. IsSeatOf slots.now s) }
 {
