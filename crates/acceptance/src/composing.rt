@@ -1,6 +1,6 @@
 //! Solutions of problems, as tools/check_solution works them out: its rules and its search share no line with the program.
 
-use crate::tables::position;
+use crate::tables::{last_seat, position};
 use board::Side;
 use decision::{Answer, Memory, Never, Scout};
 use entry::MateLore;
@@ -83,7 +83,7 @@ fn solution_in<R: Abort + AllocGlobal>(
     extras: Extras,
 ) -> Result<Solution, Halt> {
     let (table, mut seats) = Slots::<MateLore>::make(rt.alloc(), 4096, 1).expect(rt, "a table");
-    let Some(mut seat) = seats.pop() else {
+    let Some(mut seat) = last_seat(&table, &mut seats) else {
         panic!(rt; "no seat")
     };
     let mut scout = Scout {

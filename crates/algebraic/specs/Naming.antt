@@ -16,11 +16,12 @@ use Rattle.algebraic.specs.declared.ending.Ending.TheVariants.{Mated, Stalemated
 use Rattle.algebraic.specs.declared.name.Name.{Name}
 use Rattle.algebraic.specs.declared.naming.Notation.{Notation}
 
--- the kind of what stands on a square
+-- the kind of a unit, if there is one
 abbrev pub kind_in : Option Man → Option Kind
 kind_in None = None
 kind_in (Some u) = Some u.kind
 
+-- the kind of the unit on a square, if one stands there
 abbrev pub kind_at : PlainBoard → Place → Option Kind
 kind_at b s = kind_in (unit_at b s)
 

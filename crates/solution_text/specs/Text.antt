@@ -103,6 +103,7 @@ IsTextOf P (Some x) text = P x text
 
 -- ---- the whole
 
+-- what is said of a goal: `mate`, or `goal` where stalemate is as good
 abbrev pub goal_word : Goal → List ℕ
 goal_word Mate = codes "mate"
 goal_word MateOrStale = codes "goal"

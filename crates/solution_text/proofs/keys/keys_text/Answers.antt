@@ -9,8 +9,7 @@ pub loop-key-preserved : goal.loop-key-preserved
 loop-key-preserved g c =
     let P = IsKeyText c.args.notation c.args.board.now in
     let added = c.in_ok-push_str.ensures.bytes ∙ ap (λ t. string_bytes c.loop-key.text ++ t) c.as_str.ensures.value in
-    subst (AreTexts P _) (sym added)
-    (AreTexts-more P c.args.keys.now c.loop-key.key-index c.key-item.result (string_bytes c.loop-key.text) (string_bytes c.in_ok-one.one) c.loop-key-test.true c.key-item.is c.loop-key.invariant c.in_ok-one.ensures)
+    AreTexts-more P c.args.keys.now c.loop-key.key-index c.key-item.result (string_bytes c.loop-key.text) (string_bytes c.in_ok-one.one) (string_bytes c.push_str.new.self) c.loop-key-test.true c.key-item.is c.loop-key.invariant c.in_ok-one.ensures added
 
 pub returns : goal.returns
 returns g c =

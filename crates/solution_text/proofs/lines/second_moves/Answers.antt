@@ -12,8 +12,7 @@ name-name-requires g c =
 pub loop-m-preserved : goal.loop-m-preserved
 loop-m-preserved g c =
     let P = IsSecond c.args.notation c.args.board.now in
-    subst (AreTexts P _) (sym c.in_ok-write.ensures.bytes)
-    (AreTexts-more P c.args.moves.now c.loop-m.m-index c.m-item.result _ _ c.loop-m-test.true c.m-item.is c.loop-m.invariant (c.name-name.result, c.name-name.ensures, refl))
+    AreTexts-more P c.args.moves.now c.loop-m.m-index c.m-item.result (string_bytes c.loop-m.text) _ (string_bytes c.write.new.self) c.loop-m-test.true c.m-item.is c.loop-m.invariant (c.name-name.result, c.name-name.ensures, refl) c.in_ok-write.ensures.bytes
 
 pub returns : goal.returns
 returns g c =

@@ -9,8 +9,7 @@ pub loop-variation-preserved : goal.loop-variation-preserved
 loop-variation-preserved g c =
     let P = IsVariationText c.args.notation c.args.board.now in
     let added = c.in_ok-push_str.ensures.bytes ∙ ap (λ t. string_bytes c.loop-variation.text ++ t) c.as_str.ensures.value in
-    subst (AreTexts P _) (sym added)
-    (AreTexts-more P c.args.variations.now c.loop-variation.variation-index c.variation-item.result (string_bytes c.loop-variation.text) (string_bytes c.in_ok-one.one) c.loop-variation-test.true c.variation-item.is c.loop-variation.invariant c.in_ok-one.ensures)
+    AreTexts-more P c.args.variations.now c.loop-variation.variation-index c.variation-item.result (string_bytes c.loop-variation.text) (string_bytes c.in_ok-one.one) (string_bytes c.push_str.new.self) c.loop-variation-test.true c.variation-item.is c.loop-variation.invariant c.in_ok-one.ensures added
 
 pub returns : goal.returns
 returns g c =
