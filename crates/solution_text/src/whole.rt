@@ -53,7 +53,8 @@ fn set_play_if_asked<A: Allocator + Copy, B: Allocator>(
     set_play: &Option<Vec<Variation<B>, B>>,
 ) -> Result<String<A>, AllocError>
     requires { (n : ℕ) × IfSome set_play.now (λ list. IsSetPlay notation.goal board.now n list.items) }
-    ensures { IfOk result (λ text. IsTextOf (λ list. IsSetPlayText notation board.now list.items) set_play.now (string_bytes text)) }
+    ensures { IfOk result (λ text.
+        IsTextOf (λ list. IsSetPlayText notation board.now list.items) set_play.now (string_bytes text)) }
 {
     match set_play {
         Some(variations) => set_play_text(alloc, notation, board, variations.as_slice()),
@@ -69,7 +70,8 @@ fn tries_if_asked<A: Allocator + Copy, B: Allocator>(
     tries: &Option<Vec<Try, B>>,
 ) -> Result<String<A>, AllocError>
     requires { (n : ℕ) × IfSome tries.now (λ list. All (IsTry notation.goal board.now n) list.items) }
-    ensures { IfOk result (λ text. IsTextOf (λ list. AreTriesText notation board.now list.items) tries.now (string_bytes text)) }
+    ensures { IfOk result (λ text.
+        IsTextOf (λ list. AreTriesText notation board.now list.items) tries.now (string_bytes text)) }
 {
     match tries {
         Some(tries) => tries_text(alloc, notation, board, tries.as_slice()),
