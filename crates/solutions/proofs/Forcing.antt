@@ -168,3 +168,7 @@ module _ (goal : Goal) (b : PlainBoard) (limit : ℕ) (answer : Answer) where
 
   pub nothing_found : (within : ℕ) → answer ≡ NoneWithin within → IsAnswer goal b limit answer → ForcesNothing goal b limit
   nothing_found within is found = (subst (IsAnswer goal b limit) is found).1
+
+-- what holds where a root is laid holds of the position that it was laid on
+pub carried : (P : Goal → PlainBoard → Type 0) (g goal : Goal) (b next q : PlainBoard) → g ≡ goal → b ≡ next → next ≡ q → P g b → P goal q
+carried P g goal b next q is laid leads h = subst (P goal) leads (subst (P goal) laid (subst (λ (x : Goal). P x b) is h))

@@ -1,4 +1,4 @@
-use Rattle.std.proofs.Common.{sym, subst, ◌∙◌, arith}
+use Rattle.std.proofs.Common.{sym, ◌∙◌, arith}
 use Rattle.std.proofs.lemmas.Bool.{false≢true}
 use Rattle.board.specs.Board.{PlainBoard}
 use Rattle.rules.specs.declared.goal.Goal.{Goal}
@@ -7,7 +7,8 @@ use Rattle.decision.specs.Answer.{IsFewest, ForcesNothing}
 use Rattle.searcher.proofs.Halts.{err_halts}
 use Rattle.trees.proofs.Forcing.{some_ply}
 use Rattle.solutions.specs.Lines.{ListsContinuations}
-use Rattle.solutions.proofs.Forcing.{not_reached, mate_found, nothing_found}
+use Rattle.solutions.specs.Solutions.{passed}
+use Rattle.solutions.proofs.Forcing.{not_reached, mate_found, nothing_found, carried}
 use Rattle.solutions.proofs.threatening.threats_of.Goals as goal
 
 pub returns-in_default-clause-threats : goal.returns-in_default-clause-threats
@@ -30,7 +31,7 @@ pub returns-in-Some-NoneWithin-clause-threats : goal.returns-in-Some-NoneWithin-
 returns-in-Some-NoneWithin-clause-threats g c = let r = c.on-root.result in (
   not_reached c.args.goal c.args.board.now (c.has_lawful_move.ensures.0 c.if-not-has_lawful_move.false),
   c.in-Some.ensures.1,
-  subst (λ (at : Goal × PlainBoard). ForcesNothing at.0 at.1 c.args.left) (λ i. (c.on-root.ensures.goal i, (c.on-root.ensures.position ∙ c.in-Some.ensures.0) i)) (nothing_found r.goal r.board c.args.left c.in-Some-NoneWithin.field-0 c.in-Some-NoneWithin.field-0-0 c.in-Some-NoneWithin.field-0-is c.in-Some-NoneWithin.ensures.answer),
+  carried (λ (x : Goal) (b : PlainBoard). ForcesNothing x b c.args.left) r.goal c.args.goal r.board c.in-Some.next (passed c.args.board.now) c.on-root.ensures.goal c.on-root.ensures.position c.in-Some.ensures.0 (nothing_found r.goal r.board c.args.left c.in-Some-NoneWithin.field-0 c.in-Some-NoneWithin.field-0-0 c.in-Some-NoneWithin.field-0-is c.in-Some-NoneWithin.ensures.answer),
 )
 
 pub returns-in_ok-continuations_of-in-Some-Mate-clause-goes : goal.returns-in_ok-continuations_of-in-Some-Mate-clause-goes
@@ -44,8 +45,8 @@ returns-in_ok-continuations_of-in-Some-Mate-clause-threats g c =
       not_reached c.args.goal c.args.board.now (c.has_lawful_move.ensures.0 c.if-not-has_lawful_move.false),
       c.in-Some.ensures.1,
       found.0,
-      subst (λ (at : Goal × PlainBoard). IsFewest at.0 at.1 n) (λ i. (c.on-root.ensures.goal i, (c.on-root.ensures.position ∙ c.in-Some.ensures.0) i)) found.1,
-      subst (λ (at : Goal × PlainBoard). ListsContinuations at.0 at.1 n c.in_ok-continuations_of-in-Some-Mate.field-0.items) (λ i. (c.on-root.ensures.goal i, (c.on-root.ensures.position ∙ c.in-Some.ensures.0) i)) c.in_ok-continuations_of-in-Some-Mate.ensures.moves,
+      carried (λ (x : Goal) (b : PlainBoard). IsFewest x b n) r.goal c.args.goal r.board c.in-Some.next (passed c.args.board.now) c.on-root.ensures.goal c.on-root.ensures.position c.in-Some.ensures.0 found.1,
+      carried (λ (x : Goal) (b : PlainBoard). ListsContinuations x b n c.in_ok-continuations_of-in-Some-Mate.field-0.items) r.goal c.args.goal r.board c.in-Some.next (passed c.args.board.now) c.on-root.ensures.goal c.on-root.ensures.position c.in-Some.ensures.0 c.in_ok-continuations_of-in-Some-Mate.ensures.moves,
     )
 
 pub returns-in-None-clause-goes : goal.returns-in-None-clause-goes
