@@ -214,15 +214,16 @@ fewer, and else `differs`.";
 pub const KEY_LISTS: &str = "Write the keys of each position on a line";
 
 pub const KEY_LISTS_MORE: &str = "\
-Writes the keys of each position, as `minimate keys` finds them, on one
-line, parted by commas: `c1c5 5,d3c5 5`, or `none within 5`.";
+Writes the keys of each position, as `minimate keys` finds them, on
+one line, parted by commas: `c1c5 5,d3c5 5`, or `none within 5`.";
 
 pub const OBJECTS: &str = "Write each reply as a JSON object";
 
 pub const OBJECTS_MORE: &str = "\
-Writes each reply as a JSON object on a line of its own, with position,
-goal, limit, answer, plies and first, or keys; or with position,
-refused and a sentence. Empty lines and remarks are left out.";
+Writes each reply as a JSON object on a line of its own, with
+position, goal, limit, answer, plies and first, or keys; or with
+position, refused and a sentence. Empty lines and remarks are left
+out.";
 
 pub const ECHO: &str = "Write the position and a tab before each answer";
 
