@@ -176,8 +176,9 @@ each empty square, and the side to move.";
 pub const SVG: &str = "Draw a picture, in Scalable Vector Graphics";
 
 pub const SVG_MORE: &str = "\
-Draw a picture, in Scalable Vector Graphics: a file that stands alone, of shapes
-and no fonts, for print. It is drawn whether --unicode is given or not.";
+Draw a picture, in Scalable Vector Graphics: a file that stands
+alone, of shapes and no fonts, for print. It is drawn whether
+--unicode is given or not.";
 
 pub const UNICODE: &str = "Draw units as symbols of chess";
 
