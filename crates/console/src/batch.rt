@@ -12,7 +12,7 @@ use crate::asked::{Asked, Batch, Found};
 use crate::asking::{asked_in, limit_of};
 use crate::beside::{Host, find_beside, find_over};
 use crate::forms::found_text;
-use crate::json::refused_object;
+use crate::objects::refused_object;
 use crate::said::{is_remark, said_in};
 use board::Position;
 use command_line::Limits;

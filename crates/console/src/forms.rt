@@ -4,7 +4,7 @@ ghost use Rattle.console.specs.Forms.{IsFoundText, found_line, judged_line, key_
 
 use crate::asked::{Asked, Batch, Found};
 use crate::asking::{judged, limit_of};
-use crate::json::{found_object, string_of};
+use crate::objects::{found_object, string_of};
 use devices::without_line_feed;
 use moves::Goal;
 use replies::{answer_text, keys_text};

@@ -8,7 +8,7 @@ mod beside;
 mod certificate;
 mod ending;
 mod forms;
-mod json;
+mod objects;
 mod problem;
 mod program;
 mod running;

@@ -2,7 +2,7 @@
 #![tactic(auto)]
 
 #[cfg(test)]
-mod diagrams;
+mod drawings;
 #[cfg(test)]
 mod entries;
 #[cfg(test)]

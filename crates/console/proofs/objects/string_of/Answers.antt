@@ -3,7 +3,7 @@ use Rattle.std.specs.Str.Lossy.{utf8_lossy}
 use Rattle.json.specs.Print.{print, print_from, quoted}
 use Rattle.json.specs.Token.{Token, string}
 use Rattle.console.specs.Forms.{string_of}
-use Rattle.console.proofs.json.string_of.Goals as goal
+use Rattle.console.proofs.objects.string_of.Goals as goal
 
 -- one string was written, into nothing
 one_string : (items before : List ℕ) (tokens : List Token) (text bytes : List ℕ) → items ≡ before ++ print tokens → before ≡ [] → tokens ≡ string text ∷ []
