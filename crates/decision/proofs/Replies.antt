@@ -17,6 +17,7 @@ use Rattle.entry.specs.Laws.{MeetingIsRight}
 use Rattle.entry.proofs.Questions.{one_entry}
 use Rattle.entry.proofs.Truths.{hit_right, yes_right, no_right, raise}
 use Rattle.decision.specs.declared.question.Question.{Question}
+use Rattle.decision.specs.Turned.{HaveOneAnswer}
 use Rattle.decision.specs.Questions.{IsForced, IsKnownOf, entry_for, entry_words, key_for, EndsBy, Says, RepliesThat, Settles, said, IsMetWith, IsWhole, Tells}
 
 -- a hit with the key is whole
@@ -147,3 +148,14 @@ says_on n false i = omega arith
 -- what is forced within fewer plies is forced within more
 pub forced_later : (q : Question) (k n : ℕ) → k ≤ n → IsForced q k → IsForced q n
 forced_later q k n le f = raise (asked_for q) (n - k) k n (omega (arith, le)) f
+
+-- what is known of a question is known of one that has its answers, and the other way round
+pub known_as : (q other : Question) (i : Bounds) → HaveOneAnswer q other → IsKnownOf q i → IsKnownOf other i
+known_as q other i same right = record { below = λ n lt f. right.below n lt ((same n).1 f); upto = ends i.upto right.upto }
+  where
+    ends : (end : Option ℕ) → IfSome end (Forces q.goal q.attacker q.position) → IfSome end (Forces other.goal other.attacker other.position)
+    ends None h = h
+    ends (Some m) h = (same m).0 h
+
+pub known_back : (q other : Question) (i : Bounds) → HaveOneAnswer q other → IsKnownOf other i → IsKnownOf q i
+known_back q other i same right = known_as other q i (λ n. ((same n).1, (same n).0)) right

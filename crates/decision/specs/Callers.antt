@@ -2,7 +2,7 @@
 use Rattle.std.specs.Prelude.{◌≡◌, List}
 use Rattle.slots.specs.declared.calls.Call.{Call}
 use Rattle.decision.specs.declared.caller.Caller.{Caller}
-use Rattle.decision.specs.declared.scout.Scout.{Scout}
+use Rattle.decision.specs.declared.lead.Lead.{Lead}
 use Rattle.decision.specs.Calls.{added, Continues}
 
 -- the calls that the caller has added, in its order
@@ -15,7 +15,8 @@ pub record GoesOn {A : Type 0} (before after : Caller A) : Type 0 where
   pub reference : after.seat.ghost_name ≡ before.seat.ghost_name
   pub calls : Continues before.slots.now before.seat.now after.seat.now
 
--- a caller and what leads its search, later
-pub record Searches {S A : Type 0} (stays : S → S → Type 0) (before after : Caller A) (scout scout' : Scout S) : Type 0 where
+-- a caller and what leads its search, later: the search is led by the same scout, whose stop stays
+pub record Searches {S A : Type 0} (stays : S → S → Type 0) (before after : Caller A) (lead lead' : Lead S) : Type 0 where
   pub caller : GoesOn before after
-  pub stop : stays scout.stop scout'.stop
+  pub reference : lead'.scout.ghost_name ≡ lead.scout.ghost_name
+  pub stop : stays lead.scout.now.stop lead'.scout.now.stop

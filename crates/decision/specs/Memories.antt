@@ -4,7 +4,7 @@ use Rattle.decision.specs.declared.memory.Memory.{Memory}
 
 -- no move has won, no reply has refuted, and nothing is counted
 pub record IsBlank (memory : Memory) : Type 0 where
-  pub won : (pair : ℕ) → pair < 1296 → slice_index_or memory.learned.won pair 0 ≡ 0
-  pub latest : memory.learned.latest ≡ None
-  pub earlier : memory.learned.earlier ≡ None
-  pub expanded : memory.learned.expanded ≡ 0
+  pub won : (pair : ℕ) → pair < 1296 → slice_index_or memory.won pair 0 ≡ 0
+  pub latest : memory.latest ≡ None
+  pub earlier : memory.earlier ≡ None
+  pub expanded : memory.expanded ≡ 0

@@ -25,8 +25,8 @@ pub(crate) fn first_slot<A: Allocator>(slots: &Slots<MateLore, A>, key: [u64; 3]
     slot_of(&key, slots.len()) / 2 * 2
 }
 
-/// The first of two slots more, in which an entry is kept too. Their number mixes all bits of the key: that of the format leaves
-/// some squares out where the number of slots is a power of two, and spreads small endings over few slots.
+/// The first of two slots more, in which the entry of a question's image is kept. Their number mixes all bits of the key: that of the
+/// format leaves some squares out where the number of slots is a power of two, and spreads small endings over few slots.
 pub(crate) fn far_slot<A: Allocator>(slots: &Slots<MateLore, A>, key: [u64; 3]) -> usize
     ensures { result < slots_of slots.now }
 {
@@ -115,26 +115,47 @@ fn told(q: &Question, reply: Probe) -> Interval
     }
 }
 
-/// What the table knows of the question: its own two slots are asked, and two more where these don't decide n plies.
+/// Asks the question's own two slots, as `ask` does.
+pub(crate) fn ask_near<A: Allocator>(caller: &mut Caller<'_, A>, q: &Question, n: u8) -> Probe
+    ensures goes_on { GoesOn caller.old caller.new }
+    ensures history { KnowsHistory caller.new.seat.now }
+    ensures asked { Asks (key_for q.now) (first_slot (key_for q.now) (slots_of caller.old.slots.now))
+        (slots_of caller.old.slots.now) n (number caller.old.seat.now) result (adds caller.old caller.new) }
+    ensures probes { All (IsProbeOf (key_for q.now)) (adds caller.old caller.new) }
+    ensures hit { HitFits key_words IsTruePacking (Asked (key_for q.now) result) }
+    ensures position { IsPosition q.now.position }
+{
+    let key = q.key();
+    let slot = first_slot(caller.slots, key);
+    ask(caller, key, slot, n)
+}
+
+/// What the table knows of the question: its own two slots are asked, and the far slots where these don't decide n plies.
 pub(crate) fn look<A: Allocator>(caller: &mut Caller<'_, A>, q: &Question, n: u8) -> Interval
     ensures goes_on { GoesOn caller.old caller.new }
     ensures asked { IsAsked q.now (slots_of caller.old.slots.now) (number caller.old.seat.now)
         (adds caller.old caller.new) }
     ensures right { IsKnownOf q.now result }
 {
-    let key = q.key();
-    let slot = first_slot(caller.slots, key);
-    let near = ask(caller, key, slot, n);
+    let near = ask_near(caller, q, n);
     if settled(near, n).is_some() {
         return told(q, near);
     }
-    let slot = far_slot(caller.slots, key);
-    let far = ask(caller, key, slot, n);
+    let far = look_turned(caller, q, n);
     interval_laws();
-    meet(told(q, near), told(q, far))
+    meet(told(q, near), far)
 }
 
-/// What the table knows of the question in the far slots alone.
+/// What the table knows of the question's image, in the far slots: the same is known of the question.
+fn look_turned<A: Allocator>(caller: &mut Caller<'_, A>, q: &Question, n: u8) -> Interval
+    ensures goes_on { GoesOn caller.old caller.new }
+    ensures right { IsKnownOf q.now result }
+{
+    let image = q.image();
+    look_far(caller, &image, n)
+}
+
+/// What the table knows of the question, which is turned, in the far slots: no others stand there.
 pub(crate) fn look_far<A: Allocator>(caller: &mut Caller<'_, A>, q: &Question, n: u8) -> Interval
     ensures goes_on { GoesOn caller.old caller.new }
     ensures right { IsKnownOf q.now result }

@@ -3,40 +3,47 @@ ghost use Rattle.std.specs.Prelude.{◌≡◌, ◌<◌, ◌≤◌, ◌↔◌, Is
 ghost use Rattle.rules.specs.Squares.{Ply};
 ghost use Rattle.rules.specs.Moves.{IsLawful};
 ghost use Rattle.rules.specs.Forces.{Forces};
+ghost use Rattle.board.specs.Board.{IsPosition};
 ghost use Rattle.slots.specs.Promise.{slots_of, number, IsSeatOf};
+ghost use Rattle.slots.specs.Steps.{HitFits};
+ghost use Rattle.slots.specs.declared.calls.Act.TheVariants.{Asked};
+ghost use Rattle.entry.specs.Keys.{key_words};
+ghost use Rattle.entry.specs.Truth.{IsTruePacking};
 ghost use Rattle.decision.specs.Calls.{added, Continues, KnowsHistory};
 ghost use Rattle.decision.specs.Callers.{adds, GoesOn, Searches};
-ghost use Rattle.decision.specs.Questions.{question, IsForced};
+ghost use Rattle.decision.specs.Questions.{question, key_for, IsForced, IsKnownOf};
+ghost use Rattle.decision.specs.Below.{IsFound};
 ghost use Rattle.decision.specs.Decisions.{Decides, AsksBelow, IsDecided};
 
-use crate::asking::{ask, decided, first_slot, look_far, settled};
+use crate::asking::{ask_near, decided, look_far, settled};
 use crate::caller::Caller;
 use crate::decision::Decision;
 use crate::first::try_moves;
-use crate::leaf::{answer_now, leaf, short_leaf};
+use crate::lead::{Lead, Rooms};
+use crate::leaf::{answer_now, short_leaf};
 use crate::memory::Memory;
-use crate::order::in_order;
+use crate::order::order_into;
 use crate::question::Question;
 use crate::scout::{Never, Scout, Stop};
-use crate::searching::visit;
+use crate::searching::search_from;
 use crate::storing::{keep, known_after};
 use arrayvec::ArrayVec;
 use board::{Position, Side};
-use entry::MateLore;
+use entry::{Interval, MateLore};
 use moves::{Board, Goal};
-use slots::{Seat, Slots};
+use slots::{Probe, Seat, Slots};
 use std::alloc::Allocator;
 
 /// The answer by the positions below.
 fn search_given<S: Stop, A: Allocator>(
     caller: &mut Caller<'_, A>,
-    scout: &mut Scout<S>,
+    lead: &mut Lead<'_, S>,
     q: &Question,
     n: u8,
 ) -> Option<bool>
     requires { n ≤ 63 }
-    ensures goes_on { Searches S.stays caller.old caller.new scout.old scout.new }
-    ensures answer { MatchOption result (S.told scout.new.stop) (λ yes. IsTrue yes ↔ IsForced q.now n) }
+    ensures goes_on { Searches S.stays caller.old caller.new lead.old lead.new }
+    ensures answer { MatchOption result (S.told lead.new.scout.now.stop) (λ yes. IsTrue yes ↔ IsForced q.now n) }
     ensures below { IfSome result
         (λ yes. 0 < n → ((m : Ply) × IsLawful q.now.position m) → AsksBelow q.now (slots_of caller.old.slots.now) (number caller.old.seat.now) yes (adds caller.old caller.new)) }
 {
@@ -44,11 +51,69 @@ fn search_given<S: Stop, A: Allocator>(
         return Some(answer_now(q));
     }
     let mut moves = ArrayVec::new();
-    in_order(&scout.memory, q, n, &mut moves);
+    order_into(&lead.scout.memory, q, n, &mut lead.rooms.costed, &mut moves);
     if moves.is_empty() {
         return Some(answer_now(q));
     }
-    try_moves(caller, scout, q, n, moves.as_slice())
+    try_moves(caller, lead, q, n, moves.as_slice())
+}
+
+/// The decision by a search, where the table's reply doesn't decide n plies, or `None` where it was told to stop. It is stored last.
+// It stands apart, since the lists of a search are cleared as they are made, and mostly the table knows the answer.
+#[inline(never)]
+fn search_and_keep<S: Stop, A: Allocator>(
+    caller: &mut Caller<'_, A>,
+    scout: &mut Scout<S>,
+    q: &Question,
+    n: u8,
+    reply: Probe,
+) -> Option<Decision>
+    requires position { IsPosition q.now.position }
+    requires plies { n ≤ 63 }
+    requires hit { HitFits key_words IsTruePacking (Asked (key_for q.now) reply) }
+    ensures goes_on { GoesOn caller.old caller.new }
+    ensures stop { S.stays scout.old.stop scout.new.stop }
+    ensures found { MatchOption result (S.told scout.new.stop)
+        (λ d. IsFound q.now (slots_of caller.old.slots.now) n (number caller.old.seat.now) reply d (adds caller.old caller.new)) }
+{
+    let mut lead = Lead {
+        scout,
+        rooms: Rooms::new(),
+    };
+    lead.scout.memory.expanded = 0;
+    let yes = search_given(caller, &mut lead, q, n)?;
+    let expanded = lead.scout.memory.expanded.saturating_add(1);
+    keep(caller, q, known_after(q, n, yes, reply));
+    Some(Decision {
+        yes,
+        expanded,
+        first: reply,
+    })
+}
+
+/// `search_and_keep`, with a memory of its own, where nothing stops it.
+#[inline(never)]
+fn search_and_keep_alone<A: Allocator>(
+    caller: &mut Caller<'_, A>,
+    q: &Question,
+    n: u8,
+    reply: Probe,
+) -> Decision
+    requires position { IsPosition q.now.position }
+    requires plies { n ≤ 63 }
+    requires hit { HitFits key_words IsTruePacking (Asked (key_for q.now) reply) }
+    ensures goes_on { GoesOn caller.old caller.new }
+    ensures found { IsFound q.now (slots_of caller.old.slots.now) n (number caller.old.seat.now) reply result
+        (adds caller.old caller.new) }
+{
+    let mut scout = Scout {
+        stop: Never,
+        memory: Memory::new(),
+    };
+    let Some(decision) = search_and_keep(caller, &mut scout, q, n, reply) else {
+        unreachable!()
+    };
+    decision
 }
 
 /// The decision, or `None` where it was told to stop.
@@ -59,33 +124,47 @@ fn decide_with<S: Stop, A: Allocator>(
     n: u8,
 ) -> Option<Decision>
     requires { n ≤ 63 }
-    ensures goes_on { Searches S.stays caller.old caller.new scout.old scout.new }
+    ensures goes_on { GoesOn caller.old caller.new }
+    ensures stop { S.stays scout.old.stop scout.new.stop }
     ensures history { KnowsHistory caller.new.seat.now }
     ensures decided { MatchOption result (S.told scout.new.stop)
         (λ d. IsDecided q.now (slots_of caller.old.slots.now) n (number caller.old.seat.now) d (adds caller.old caller.new)) }
 {
-    let key = q.key();
-    let first = ask(caller, key, first_slot(caller.slots, key), n);
-    if let Some(yes) = settled(first, n) {
-        return Some(Decision {
+    let reply = ask_near(caller, q, n);
+    match settled(reply, n) {
+        Some(yes) => Some(Decision {
             yes,
             expanded: 0,
-            first,
-        });
+            first: reply,
+        }),
+        None => search_and_keep(caller, scout, q, n, reply),
     }
-    scout.memory.learned.expanded = 0;
-    let yes = search_given(caller, scout, q, n)?;
-    keep(caller, q, known_after(q, n, yes, first));
-    Some(Decision {
-        yes,
-        expanded: scout.memory.learned.expanded.saturating_add(1),
-        first,
-    })
+}
+
+/// The decision, where nothing stops it. A memory is made where the table doesn't know it.
+fn decide_alone<A: Allocator>(caller: &mut Caller<'_, A>, q: &Question, n: u8) -> Decision
+    requires { n ≤ 63 }
+    ensures goes_on { GoesOn caller.old caller.new }
+    ensures history { KnowsHistory caller.new.seat.now }
+    ensures decided { IsDecided q.now (slots_of caller.old.slots.now) n (number caller.old.seat.now) result
+        (adds caller.old caller.new) }
+{
+    let reply = ask_near(caller, q, n);
+    match settled(reply, n) {
+        Some(yes) => Decision {
+            yes,
+            expanded: 0,
+            first: reply,
+        },
+        None => search_and_keep_alone(caller, q, n, reply),
+    }
 }
 
 /// Whether the attacker forces the goal within n plies, whatever the table holds and whatever its other callers do, or `None`
-/// where the search was told to stop. The table is asked first, of this position and of each below it; what is searched is stored
-/// after its own subtree, and stays in the table where the search is stopped.
+/// where the search was told to stop. The table is asked first of this position, in its own two slots. Where it doesn't know the
+/// answer, it is asked of the positions directly below, in their own two slots and, turned about, in the far slots; and of those
+/// further down that have three plies left or more, turned about, in the far slots alone. What it was asked of and didn't know is
+/// stored after its own subtree, and stays in the table where the search is stopped.
 pub fn decide_until<S: Stop, A: Allocator>(
     slots: &Slots<MateLore, A>,
     seat: &mut Seat,
@@ -105,7 +184,7 @@ pub fn decide_until<S: Stop, A: Allocator>(
     decide_with(&mut caller, scout, q, n)
 }
 
-/// `decide_until`, where nothing stops it.
+/// `decide_until`, where nothing stops it. Where the table knows the answer, no memory is made for a search.
 pub fn decide_on<A: Allocator>(
     slots: &Slots<MateLore, A>,
     seat: &mut Seat,
@@ -118,21 +197,43 @@ pub fn decide_on<A: Allocator>(
     ensures history { KnowsHistory seat.new }
     ensures decided { IsDecided q.now (slots_of slots.now) n (number seat.old) result (added seat.old seat.new) }
 {
-    let mut scout = Scout {
-        stop: Never,
-        memory: Memory::new(),
-    };
-    let Some(decision) = decide_until(slots, seat, &mut scout, q, n) else {
-        unreachable!()
-    };
-    decision
+    let mut caller = Caller { slots, seat };
+    decide_alone(&mut caller, q, n)
 }
 
-/// The answer alone, by a search with a memory of its own.
-// It stands apart, since a new memory is cleared, and mostly the table knows the answer.
+/// The answer alone by a search from what is known on, or `None` where it was told to stop.
+// It stands apart, since the lists of a search are cleared as they are made, and mostly the table knows the answer.
 #[inline(never)]
-fn search_alone<A: Allocator>(caller: &mut Caller<'_, A>, q: &Question, n: u8) -> bool
-    requires { n ≤ 63 }
+fn search_on<S: Stop, A: Allocator>(
+    caller: &mut Caller<'_, A>,
+    scout: &mut Scout<S>,
+    q: &Question,
+    n: u8,
+    known: Interval,
+) -> Option<bool>
+    requires plies { n ≤ 63 }
+    requires known { IsKnownOf q.now known }
+    ensures goes_on { GoesOn caller.old caller.new }
+    ensures stop { S.stays scout.old.stop scout.new.stop }
+    ensures answer { MatchOption result (S.told scout.new.stop) (λ yes. IsTrue yes ↔ IsForced q.now n) }
+{
+    let mut lead = Lead {
+        scout,
+        rooms: Rooms::new(),
+    };
+    search_from(caller, &mut lead, q, n, known)
+}
+
+/// `search_on`, with a memory of its own, where nothing stops it.
+#[inline(never)]
+fn search_alone<A: Allocator>(
+    caller: &mut Caller<'_, A>,
+    q: &Question,
+    n: u8,
+    known: Interval,
+) -> bool
+    requires plies { n ≤ 63 }
+    requires known { IsKnownOf q.now known }
     ensures goes_on { GoesOn caller.old caller.new }
     ensures answer { IsTrue result ↔ IsForced q.now n }
 {
@@ -140,10 +241,29 @@ fn search_alone<A: Allocator>(caller: &mut Caller<'_, A>, q: &Question, n: u8) -
         stop: Never,
         memory: Memory::new(),
     };
-    let Some(yes) = visit(caller, &mut scout, q, n) else {
+    let Some(yes) = search_on(caller, &mut scout, q, n, known) else {
         unreachable!()
     };
     yes
+}
+
+/// The answer alone, as the far slots have it, or else by a search, or `None` where that was told to stop.
+fn ask_until<S: Stop, A: Allocator>(
+    caller: &mut Caller<'_, A>,
+    scout: &mut Scout<S>,
+    q: &Question,
+    n: u8,
+) -> Option<bool>
+    requires { n ≤ 63 }
+    ensures goes_on { GoesOn caller.old caller.new }
+    ensures stop { S.stays scout.old.stop scout.new.stop }
+    ensures answer { MatchOption result (S.told scout.new.stop) (λ yes. IsTrue yes ↔ IsForced q.now n) }
+{
+    let known = look_far(caller, q, n);
+    match decided(known, n) {
+        Some(yes) => Some(yes),
+        None => search_on(caller, scout, q, n, known),
+    }
 }
 
 /// The answer alone, as the far slots have it, or else by a search.
@@ -155,12 +275,22 @@ fn ask_alone<A: Allocator>(caller: &mut Caller<'_, A>, q: &Question, n: u8) -> b
     let known = look_far(caller, q, n);
     match decided(known, n) {
         Some(yes) => yes,
-        None => search_alone(caller, q, n),
+        None => search_alone(caller, q, n, known),
     }
 }
 
 /// Up to so many plies the answer alone is found sooner than the table is asked.
 const UNASKED: u8 = 2;
+
+/// The answer alone for at most two plies, with a memory of its own.
+// It stands apart, since a new memory is cleared.
+#[inline(never)]
+fn short_alone(q: &Question, n: u8) -> bool
+    requires { n ≤ 2 }
+    ensures { IsTrue result ↔ IsForced q.now n }
+{
+    short_leaf(&mut Memory::new(), q, n)
+}
 
 /// Whether the attacker forces the goal within n plies, or `None` where the search was told to stop: the answer alone. The far slots
 /// are asked, for the position turned about, and an attacker's position is searched round by round.
@@ -178,11 +308,10 @@ pub fn is_forced_until<S: Stop, A: Allocator>(
     ensures answer { MatchOption result (S.told scout.new.stop) (λ yes. IsTrue yes ↔ IsForced q.now n) }
 {
     if n <= UNASKED {
-        return Some(leaf(&mut scout.memory, q, n));
+        return Some(short_leaf(&mut scout.memory, q, n));
     }
     let mut caller = Caller { slots, seat };
-    let q = q.copied().turned();
-    visit(&mut caller, scout, &q, n)
+    ask_until(&mut caller, scout, &q.image(), n)
 }
 
 /// `is_forced_until`, where nothing stops it. Where the table knows the answer, no memory is made for a search.
@@ -198,15 +327,15 @@ pub fn is_forced<A: Allocator>(
     ensures answer { IsTrue result ↔ IsForced q.now n }
 {
     if n <= UNASKED {
-        return short_leaf(q, n);
+        return short_alone(q, n);
     }
     let mut caller = Caller { slots, seat };
-    let q = q.copied().turned();
-    ask_alone(&mut caller, &q, n)
+    ask_alone(&mut caller, &q.image(), n)
 }
 
 /// Whether the attacker forces the goal from the position within n plies, whatever the table holds and whatever its other callers
-/// do. The table is asked first, of this position and of each below it; what is searched is stored after its own subtree.
+/// do. The table is asked first of this position, in its own two slots, and where it doesn't know the answer, of those below, as
+/// `decide_until` says. What it was asked of and didn't know is stored after its own subtree.
 pub fn decide<A: Allocator>(
     slots: &Slots<MateLore, A>,
     seat: &mut Seat,

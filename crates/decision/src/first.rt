@@ -9,8 +9,9 @@ ghost use Rattle.decision.specs.Decisions.{IsAsked};
 
 use crate::asking::{decided, look};
 use crate::caller::Caller;
+use crate::lead::Lead;
 use crate::question::Question;
-use crate::scout::{Scout, Stop};
+use crate::scout::Stop;
 use crate::searching::search_in_rounds;
 use crate::storing::keep;
 use moves::Move;
@@ -19,21 +20,21 @@ use std::alloc::Allocator;
 /// The answer for n plies. The table is asked first, and what is found is stored last.
 fn visit_child<S: Stop, A: Allocator>(
     caller: &mut Caller<'_, A>,
-    scout: &mut Scout<S>,
+    lead: &mut Lead<'_, S>,
     q: &Question,
     n: u8,
 ) -> Option<bool>
     requires { n ≤ 63 }
-    ensures goes_on { Searches S.stays caller.old caller.new scout.old scout.new }
+    ensures goes_on { Searches S.stays caller.old caller.new lead.old lead.new }
     ensures asked { IsAsked q.now (slots_of caller.old.slots.now) (number caller.old.seat.now)
         (adds caller.old caller.new) }
-    ensures answer { MatchOption result (S.told scout.new.stop) (λ yes. IsTrue yes ↔ IsForced q.now n) }
+    ensures answer { MatchOption result (S.told lead.new.scout.now.stop) (λ yes. IsTrue yes ↔ IsForced q.now n) }
 {
     let known = look(caller, q, n);
     if let Some(yes) = decided(known, n) {
         return Some(yes);
     }
-    let found = search_in_rounds(caller, scout, q, n, known)?;
+    let found = search_in_rounds(caller, lead, q, n, known)?;
     keep(caller, q, found.known);
     Some(found.yes)
 }
@@ -41,23 +42,23 @@ fn visit_child<S: Stop, A: Allocator>(
 /// Tries the moves in turn, until one ends the search. The table is asked of each position below, as it stands.
 pub(crate) fn try_moves<S: Stop, A: Allocator>(
     caller: &mut Caller<'_, A>,
-    scout: &mut Scout<S>,
+    lead: &mut Lead<'_, S>,
     q: &Question,
     n: u8,
     moves: &[Move],
 ) -> Option<bool>
     requires plies { (0 < n) × (n ≤ 63) }
     requires lawful { All (IsLawful q.now.position) moves.now }
-    ensures goes_on { Searches S.stays caller.old caller.new scout.old scout.new }
-    ensures tells { MatchOption result (S.told scout.new.stop) (Tells q.now n moves.now) }
+    ensures goes_on { Searches S.stays caller.old caller.new lead.old lead.new }
+    ensures tells { MatchOption result (S.told lead.new.scout.now.stop) (Tells q.now n moves.now) }
     ensures asked { IfSome result
         (λ yes. Asked q.now (slots_of caller.old.slots.now) (number caller.old.seat.now) moves.now yes (adds caller.old caller.new)) }
 {
     let own = q.is_own_turn();
     for m in moves {
-        let yes = visit_child(caller, scout, &q.after(*m), n - 1)?;
+        let yes = visit_child(caller, lead, &q.after(*m), n - 1)?;
         if yes == own {
-            scout.memory.learned.remember(*m, n, own);
+            lead.scout.memory.remember(*m, n, own);
             return Some(own);
         }
     }

@@ -4,8 +4,8 @@ ghost use Rattle.rules.specs.Forces.{IsReached};
 ghost use Rattle.decision.specs.Questions.{IsForced};
 ghost use Rattle.decision.specs.Below.{is_own};
 
-use crate::memory::{Learned, Memory};
-use crate::order::order_into;
+use crate::lead::Rooms;
+use crate::memory::Memory;
 use crate::question::Question;
 use arrayvec::ArrayVec;
 use moves::{Board, Goal, Move, has_lawful_move, list_lawful, mover_in_check, reaches_at_once};
@@ -32,45 +32,58 @@ pub(crate) fn answer_now(q: &Question) -> bool
 }
 
 /// Whether the attacker, who is to move, reaches the goal by its next move.
-fn wins_at_once(learned: &mut Learned, q: &Question) -> bool
+fn wins_at_once(memory: &mut Memory, q: &Question) -> bool
     requires { is_own q.now ≡ true }
     ensures { IsTrue result ↔ IsForced q.now 1 }
 {
-    learned.count();
+    memory.count();
     reaches_at_once(&q.position, q.goal)
 }
 
 /// Whether the move is one of the defender's, and keeps the attacker from reaching the goal by its next.
-fn refutes(learned: &mut Learned, q: &Question, m: Move) -> bool
+fn refutes(memory: &mut Memory, q: &Question, m: Move) -> bool
     requires { is_own q.now ≡ false }
     ensures { IsTrue result → IsForced q.now 2 → ⊥ }
 {
     let Some(next) = q.after_if_lawful(m) else {
         return false;
     };
-    !wins_at_once(learned, &next)
+    !wins_at_once(memory, &next)
 }
 
 /// One of the replies that refuted last, if it does again: where it does, no list is made.
-fn remembered_refutation(learned: &mut Learned, q: &Question) -> Option<Move>
+fn remembered_refutation(memory: &mut Memory, q: &Question) -> Option<Move>
     requires { is_own q.now ≡ false }
     ensures { IfSome result (λ _. IsForced q.now 2 → ⊥) }
 {
-    for reply in learned.replies() {
+    for reply in memory.replies() {
         let Some(m) = reply else {
             continue;
         };
-        if refutes(learned, q, m) {
+        if refutes(memory, q, m) {
             return Some(m);
         }
     }
     None
 }
 
+/// Whether one of the replies that refuted last keeps the attacker, who isn't to move, from reaching the goal by its next move.
+fn is_refuted_again(memory: &mut Memory, q: &Question) -> bool
+    requires { is_own q.now ≡ false }
+    ensures { IsTrue result → IsForced q.now 2 → ⊥ }
+{
+    memory.count();
+    let Some(m) = remembered_refutation(memory, q) else {
+        return false;
+    };
+    memory.remember_reply(m);
+    true
+}
+
 /// Whether each move of the defender, who is to move and has one, lets the attacker reach the goal by its next, by the list of them.
 // It stands apart, since most calls find a remembered reply.
 #[inline(never)]
-fn loses_by_all(learned: &mut Learned, replies: &mut ArrayVec<Move, 512>, q: &Question) -> bool
+fn loses_by_all(memory: &mut Memory, replies: &mut ArrayVec<Move, 512>, q: &Question) -> bool
     requires { is_own q.now ≡ false }
     ensures { IsTrue result ↔ IsForced q.now 2 }
 {
@@ -79,8 +92,8 @@ fn loses_by_all(learned: &mut Learned, replies: &mut ArrayVec<Move, 512>, q: &Qu
         return is_reached(&q.position, q.goal);
     }
     for m in replies.as_slice() {
-        if !wins_at_once(learned, &q.after(*m)) {
-            learned.remember_reply(*m);
+        if !wins_at_once(memory, &q.after(*m)) {
+            memory.remember_reply(*m);
             return false;
         }
     }
@@ -89,82 +102,95 @@ fn loses_by_all(learned: &mut Learned, replies: &mut ArrayVec<Move, 512>, q: &Qu
 
 /// Whether each move of the defender, who is to move and has one, lets the attacker reach the goal by its next.
 #[inline(never)]
-fn loses_in_two(learned: &mut Learned, replies: &mut ArrayVec<Move, 512>, q: &Question) -> bool
+fn loses_in_two(memory: &mut Memory, replies: &mut ArrayVec<Move, 512>, q: &Question) -> bool
     requires { is_own q.now ≡ false }
     ensures { IsTrue result ↔ IsForced q.now 2 }
 {
-    learned.count();
-    if let Some(m) = remembered_refutation(learned, q) {
-        learned.remember_reply(m);
+    if is_refuted_again(memory, q) {
         return false;
     }
-    loses_by_all(learned, replies, q)
+    loses_by_all(memory, replies, q)
+}
+
+/// `loses_by_all`, with a list of its own.
+#[inline(never)]
+fn loses_by_own_list(memory: &mut Memory, q: &Question) -> bool
+    requires { is_own q.now ≡ false }
+    ensures { IsTrue result ↔ IsForced q.now 2 }
+{
+    let mut replies = ArrayVec::new();
+    loses_by_all(memory, &mut replies, q)
 }
 
 /// Whether the attacker, who is to move, forces the goal within three plies.
 #[inline(never)]
-fn wins_in_three(memory: &mut Memory, q: &Question) -> bool
+fn wins_in_three(memory: &mut Memory, rooms: &mut Rooms, q: &Question) -> bool
     requires { is_own q.now ≡ true }
     ensures { IsTrue result ↔ IsForced q.now 3 }
 {
-    let learned = &mut memory.learned;
-    let rooms = &mut memory.rooms;
-    learned.count();
-    order_into(learned, q, 3, &mut rooms.costed, &mut rooms.moves);
+    memory.count();
+    rooms.order(memory, q, 3);
     for m in rooms.moves.as_slice() {
-        if loses_in_two(learned, &mut rooms.replies, &q.after(*m)) {
+        if loses_in_two(memory, &mut rooms.replies, &q.after(*m)) {
             return true;
         }
     }
     false
 }
 
-/// The answer for at most three plies, with the attacker to move.
-fn own_leaf(memory: &mut Memory, q: &Question, n: u8) -> bool
-    requires plies { n ≤ 3 }
+/// The answer for at most two plies, with the attacker to move.
+fn own_short_leaf(memory: &mut Memory, q: &Question, n: u8) -> bool
+    requires plies { n ≤ 2 }
     requires own { is_own q.now ≡ true }
     ensures { IsTrue result ↔ IsForced q.now n }
 {
     if n == 0 {
         return answer_now(q);
     }
+    wins_at_once(memory, q)
+}
+
+/// The answer for at most three plies, with the attacker to move.
+fn own_leaf(memory: &mut Memory, rooms: &mut Rooms, q: &Question, n: u8) -> bool
+    requires plies { n ≤ 3 }
+    requires own { is_own q.now ≡ true }
+    ensures { IsTrue result ↔ IsForced q.now n }
+{
     if n < 3 {
-        return wins_at_once(&mut memory.learned, q);
+        return own_short_leaf(memory, q, n);
     }
-    wins_in_three(memory, q)
+    wins_in_three(memory, rooms, q)
 }
 
 /// The answer for at most three plies.
-pub(crate) fn leaf(memory: &mut Memory, q: &Question, n: u8) -> bool
+pub(crate) fn leaf(memory: &mut Memory, rooms: &mut Rooms, q: &Question, n: u8) -> bool
     requires { n ≤ 3 }
     ensures { IsTrue result ↔ IsForced q.now n }
 {
     let own = q.is_own_turn();
     if own {
-        return own_leaf(memory, q, n);
+        return own_leaf(memory, rooms, q, n);
     }
     if n < 2 {
         return answer_now(q);
     }
-    loses_in_two(&mut memory.learned, &mut memory.rooms.replies, q)
+    loses_in_two(memory, &mut rooms.replies, q)
 }
 
-/// The answer for at most two plies, with no room for longer lists.
-pub(crate) fn short_leaf(q: &Question, n: u8) -> bool
+/// The answer for at most two plies, with no room for lists: the one of the replies is made where all are needed.
+pub(crate) fn short_leaf(memory: &mut Memory, q: &Question, n: u8) -> bool
     requires { n ≤ 2 }
     ensures { IsTrue result ↔ IsForced q.now n }
 {
     let own = q.is_own_turn();
-    let mut learned = Learned::new();
     if own {
-        if n == 0 {
-            return answer_now(q);
-        }
-        return wins_at_once(&mut learned, q);
+        return own_short_leaf(memory, q, n);
     }
     if n < 2 {
         return answer_now(q);
     }
-    let mut replies = ArrayVec::new();
-    loses_in_two(&mut learned, &mut replies, q)
+    if is_refuted_again(memory, q) {
+        return false;
+    }
+    loses_by_own_list(memory, q)
 }

@@ -7,6 +7,7 @@ mod caller;
 mod deciding;
 mod decision;
 mod first;
+mod lead;
 mod leaf;
 mod memory;
 mod order;

@@ -1,33 +1,15 @@
 //! What a search remembers of moves. Its order rests on it, and no answer.
 ghost use Rattle.std.specs.Prelude.{◌<◌};
 
-use crate::order::{Costed, order_into};
-use crate::question::Question;
-use arrayvec::ArrayVec;
 use moves::Move;
 
 /// Which moves won, which replies refuted, and how many positions had their moves made.
 #[derive(Drop)]
-pub(crate) struct Learned {
+pub struct Memory {
     won: [u8; 1296],
     latest: Option<Move>,
     earlier: Option<Move>,
     pub(crate) expanded: u64,
-}
-
-/// Lists that are used position after position, since a new one is cleared.
-#[derive(Drop)]
-pub(crate) struct Rooms {
-    pub(crate) costed: ArrayVec<Costed, 512>,
-    pub(crate) moves: ArrayVec<Move, 512>,
-    pub(crate) replies: ArrayVec<Move, 512>,
-}
-
-/// What was learned of moves, and room for lists of them.
-#[derive(Drop)]
-pub struct Memory {
-    pub(crate) learned: Learned,
-    pub(crate) rooms: Rooms,
 }
 
 /// The place of the move's two squares among those of all pairs.
@@ -41,40 +23,12 @@ pub(crate) fn pair_of(m: Move) -> usize
 
 impl Memory {
     ghost use Rattle.decision.specs.Memories.{IsBlank};
-    ghost use Rattle.decision.specs.Orders.{ListsAll};
 
     /// Nothing is remembered.
     pub fn new() -> Memory
         ensures { IsBlank result }
     {
         Memory {
-            learned: Learned {
-                won: [0; 1296],
-                latest: None,
-                earlier: None,
-                expanded: 0,
-            },
-            rooms: Rooms {
-                costed: ArrayVec::new(),
-                moves: ArrayVec::new(),
-                replies: ArrayVec::new(),
-            },
-        }
-    }
-
-    /// Puts the lawful moves into the room for them, those of least cost first.
-    pub(crate) fn order(&mut self, q: &Question, n: u8)
-        ensures { ListsAll q.now.position self.new.rooms.moves.items }
-    {
-        let rooms = &mut self.rooms;
-        order_into(&self.learned, q, n, &mut rooms.costed, &mut rooms.moves);
-    }
-}
-
-impl Learned {
-    /// Nothing was learned.
-    pub(crate) fn new() -> Learned {
-        Learned {
             won: [0; 1296],
             latest: None,
             earlier: None,

@@ -4,7 +4,7 @@ ghost use Rattle.std.specs.List.Sorted.{IsPermutation};
 ghost use Rattle.rules.specs.Moves.{IsLawful};
 ghost use Rattle.decision.specs.Orders.{ListsAll, moves_of};
 
-use crate::memory::{Learned, Memory};
+use crate::memory::Memory;
 use crate::question::Question;
 use arrayvec::ArrayVec;
 use board::{Kind, Side};
@@ -66,24 +66,24 @@ fn cost_of_reply(q: &Question, m: Move, next: &Board) -> u16
 
 /// What counts against the attacker's move to the board `next`: that it gives no check, then how many replies it leaves, and then how
 /// seldom it won.
-fn cost_of_move(learned: &Learned, n: u8, m: Move, next: &Board) -> u16 {
+fn cost_of_move(memory: &Memory, n: u8, m: Move, next: &Board) -> u16 {
     let replies = if n < COUNTED_FROM {
         0
     } else {
         count_lawful(next).min(127)
     };
     let quiet = if mover_in_check(next) { 0 } else { 0x8000 };
-    let seldom = u8::MAX - learned.wins_of(m);
+    let seldom = u8::MAX - memory.wins_of(m);
     quiet + replies * 256 + u16::from(seldom)
 }
 
 /// What counts against the move.
-fn cost(learned: &Learned, q: &Question, n: u8, m: Move) -> u16
+fn cost(memory: &Memory, q: &Question, n: u8, m: Move) -> u16
     requires { IsLawful q.now.position m }
 {
     let next = after(&q.position, m);
     if q.is_own_turn() {
-        cost_of_move(learned, n, m, &next)
+        cost_of_move(memory, n, m, &next)
     } else {
         cost_of_reply(q, m, &next)
     }
@@ -109,7 +109,7 @@ fn last_alike(moves: &[Move], first: usize) -> usize
 /// Puts the moves with their costs into the list in place of what it held. Where moves have the same two squares, the cost is that of
 /// the last.
 fn cost_all(
-    learned: &Learned,
+    memory: &Memory,
     q: &Question,
     n: u8,
     moves: &[Move],
@@ -122,7 +122,7 @@ fn cost_all(
     costed.clear();
     for i in 0..moves.len() {
         let m = moves[i];
-        let cost = cost(learned, q, n, moves[last_alike(moves, i)]);
+        let cost = cost(memory, q, n, moves[last_alike(moves, i)]);
         costed.push(Costed { cost, m });
     }
 }
@@ -141,7 +141,7 @@ fn put_moves(costed: &[Costed], moves: &mut ArrayVec<Move, 512>)
 /// Puts the lawful moves into the list in place of what it held, those of least cost first. The other list has room for their costs.
 #[inline(never)]
 pub(crate) fn order_into(
-    learned: &Learned,
+    memory: &Memory,
     q: &Question,
     n: u8,
     costed: &mut ArrayVec<Costed, 512>,
@@ -150,7 +150,7 @@ pub(crate) fn order_into(
     ensures { ListsAll q.now.position moves.new.items }
 {
     list_lawful(&q.position, moves);
-    cost_all(learned, q, n, moves.as_slice(), costed);
+    cost_all(memory, q, n, moves.as_slice(), costed);
     costed
         .as_mut_slice()
         .sort_unstable_by_key(|it: &Costed| it.cost);
@@ -162,5 +162,5 @@ pub fn in_order(memory: &Memory, q: &Question, n: u8, moves: &mut ArrayVec<Move,
     ensures { ListsAll q.now.position moves.new.items }
 {
     let mut costed = ArrayVec::new();
-    order_into(&memory.learned, q, n, &mut costed, moves);
+    order_into(memory, q, n, &mut costed, moves);
 }

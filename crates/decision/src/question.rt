@@ -3,7 +3,8 @@ ghost use Rattle.std.specs.Prelude.{◌≡◌, MatchOption};
 ghost use Rattle.board.specs.Board.{IsPosition};
 ghost use Rattle.board.specs.Games.{is_same_side};
 ghost use Rattle.rules.specs.Moves.{IsLawful};
-ghost use Rattle.decision.specs.Questions.{key_for, LeadsTo};
+ghost use Rattle.entry.specs.Bounds.{Bounds};
+ghost use Rattle.decision.specs.Questions.{key_for, LeadsTo, IsKnownOf};
 ghost use Rattle.decision.specs.Turned.{HaveOneAnswer, AnswersAfter};
 
 use crate::turning::{least, turned};
@@ -79,6 +80,15 @@ impl Question {
             attacker: self.attacker,
             goal: self.goal,
         }
+    }
+
+    /// The question's image: the same of the position turned about. What is known of the one is known of the other.
+    pub(crate) fn image(&self) -> Question
+        ensures answer { HaveOneAnswer self.now result }
+        ensures onto { (i : Bounds) → IsKnownOf self.now i → IsKnownOf result i }
+        ensures back { (i : Bounds) → IsKnownOf result i → IsKnownOf self.now i }
+    {
+        self.copied().turned()
     }
 
     /// The question after a lawful move, of the position turned about.

@@ -10,9 +10,10 @@ ghost use Rattle.decision.specs.Orders.{ListsAll};
 
 use crate::asking::{decided, look_far};
 use crate::caller::Caller;
+use crate::lead::Lead;
 use crate::leaf::{answer_now, leaf};
 use crate::question::Question;
-use crate::scout::{Scout, Stop};
+use crate::scout::Stop;
 use crate::storing::{keep_far, known_with};
 use arrayvec::ArrayVec;
 use entry::Interval;
@@ -55,21 +56,21 @@ fn is_cut<A: Allocator>(caller: &mut Caller<'_, A>, q: &Question, n: u8, moves: 
 #[cycle(searching)]
 fn try_below<S: Stop, A: Allocator>(
     caller: &mut Caller<'_, A>,
-    scout: &mut Scout<S>,
+    lead: &mut Lead<'_, S>,
     q: &Question,
     n: u8,
     moves: &[Move],
 ) -> Option<bool>
     requires plies { (0 < n) × (n ≤ 63) }
     requires lawful { All (IsLawful q.now.position) moves.now }
-    ensures goes_on { Searches S.stays caller.old caller.new scout.old scout.new }
-    ensures tells { MatchOption result (S.told scout.new.stop) (Tells q.now n moves.now) }
+    ensures goes_on { Searches S.stays caller.old caller.new lead.old lead.new }
+    ensures tells { MatchOption result (S.told lead.new.scout.now.stop) (Tells q.now n moves.now) }
 {
     let own = q.is_own_turn();
     for m in moves {
-        let yes = visit(caller, scout, &q.turned_after(*m), n - 1)?;
+        let yes = visit(caller, lead, &q.turned_after(*m), n - 1)?;
         if yes == own {
-            scout.memory.learned.remember(*m, n, own);
+            lead.scout.memory.remember(*m, n, own);
             return Some(own);
         }
     }
@@ -92,7 +93,7 @@ fn copied<const CAP: usize>(moves: &[Move]) -> ArrayVec<Move, CAP>
 #[cycle(searching)]
 fn search_listed<S: Stop, A: Allocator>(
     caller: &mut Caller<'_, A>,
-    scout: &mut Scout<S>,
+    lead: &mut Lead<'_, S>,
     q: &Question,
     n: u8,
     moves: &[Move],
@@ -100,32 +101,32 @@ fn search_listed<S: Stop, A: Allocator>(
     requires plies { (3 < n) × (n ≤ 63) }
     requires lists { ListsAll q.now.position moves.now }
     requires some { 0 < length moves.now }
-    ensures goes_on { Searches S.stays caller.old caller.new scout.old scout.new }
-    ensures answer { MatchOption result (S.told scout.new.stop) (λ yes. IsTrue yes ↔ IsForced q.now n) }
+    ensures goes_on { Searches S.stays caller.old caller.new lead.old lead.new }
+    ensures answer { MatchOption result (S.told lead.new.scout.now.stop) (λ yes. IsTrue yes ↔ IsForced q.now n) }
 {
     if is_cut(caller, q, n, moves) {
         return Some(q.is_own_turn());
     }
-    try_below(caller, scout, q, n, moves)
+    try_below(caller, lead, q, n, moves)
 }
 
 /// The answer by the moves in the room for them, where they are few. A longer list takes longer to clear.
 #[cycle(searching)]
 fn search_few<S: Stop, A: Allocator>(
     caller: &mut Caller<'_, A>,
-    scout: &mut Scout<S>,
+    lead: &mut Lead<'_, S>,
     q: &Question,
     n: u8,
 ) -> Option<bool>
     requires plies { (3 < n) × (n ≤ 63) }
-    requires lists { ListsAll q.now.position scout.old.memory.rooms.moves.items }
-    requires some { 0 < array_vec_len scout.old.memory.rooms.moves }
-    requires few { array_vec_len scout.old.memory.rooms.moves ≤ 64 }
-    ensures goes_on { Searches S.stays caller.old caller.new scout.old scout.new }
-    ensures answer { MatchOption result (S.told scout.new.stop) (λ yes. IsTrue yes ↔ IsForced q.now n) }
+    requires lists { ListsAll q.now.position lead.old.rooms.moves.items }
+    requires some { 0 < array_vec_len lead.old.rooms.moves }
+    requires few { array_vec_len lead.old.rooms.moves ≤ 64 }
+    ensures goes_on { Searches S.stays caller.old caller.new lead.old lead.new }
+    ensures answer { MatchOption result (S.told lead.new.scout.now.stop) (λ yes. IsTrue yes ↔ IsForced q.now n) }
 {
-    let moves = copied::<64>(scout.memory.rooms.moves.as_slice());
-    search_listed(caller, scout, q, n, moves.as_slice())
+    let few = copied::<64>(lead.rooms.moves.as_slice());
+    search_listed(caller, lead, q, n, few.as_slice())
 }
 
 /// The answer by the moves in the room for them.
@@ -133,48 +134,48 @@ fn search_few<S: Stop, A: Allocator>(
 #[inline(never)]
 fn search_many<S: Stop, A: Allocator>(
     caller: &mut Caller<'_, A>,
-    scout: &mut Scout<S>,
+    lead: &mut Lead<'_, S>,
     q: &Question,
     n: u8,
 ) -> Option<bool>
     requires plies { (3 < n) × (n ≤ 63) }
-    requires lists { ListsAll q.now.position scout.old.memory.rooms.moves.items }
-    requires some { 0 < array_vec_len scout.old.memory.rooms.moves }
-    ensures goes_on { Searches S.stays caller.old caller.new scout.old scout.new }
-    ensures answer { MatchOption result (S.told scout.new.stop) (λ yes. IsTrue yes ↔ IsForced q.now n) }
+    requires lists { ListsAll q.now.position lead.old.rooms.moves.items }
+    requires some { 0 < array_vec_len lead.old.rooms.moves }
+    ensures goes_on { Searches S.stays caller.old caller.new lead.old lead.new }
+    ensures answer { MatchOption result (S.told lead.new.scout.now.stop) (λ yes. IsTrue yes ↔ IsForced q.now n) }
 {
-    let moves = copied::<512>(scout.memory.rooms.moves.as_slice());
-    search_listed(caller, scout, q, n, moves.as_slice())
+    let many = copied::<512>(lead.rooms.moves.as_slice());
+    search_listed(caller, lead, q, n, many.as_slice())
 }
 
 /// The answer for n plies by the positions below.
 #[cycle(searching)]
-pub(crate) fn search<S: Stop, A: Allocator>(
+fn search<S: Stop, A: Allocator>(
     caller: &mut Caller<'_, A>,
-    scout: &mut Scout<S>,
+    lead: &mut Lead<'_, S>,
     q: &Question,
     n: u8,
 ) -> Option<bool>
     requires { n ≤ 63 }
-    ensures goes_on { Searches S.stays caller.old caller.new scout.old scout.new }
-    ensures answer { MatchOption result (S.told scout.new.stop) (λ yes. IsTrue yes ↔ IsForced q.now n) }
+    ensures goes_on { Searches S.stays caller.old caller.new lead.old lead.new }
+    ensures answer { MatchOption result (S.told lead.new.scout.now.stop) (λ yes. IsTrue yes ↔ IsForced q.now n) }
 {
     if n <= LEAF {
-        return Some(leaf(&mut scout.memory, q, n));
+        return Some(leaf(&mut lead.scout.memory, &mut lead.rooms, q, n));
     }
-    if scout.stop.is_set() {
+    if lead.scout.stop.is_set() {
         return None;
     }
-    scout.memory.learned.count();
-    scout.memory.order(q, n);
-    let count = scout.memory.rooms.moves.len();
+    lead.scout.memory.count();
+    lead.rooms.order(&lead.scout.memory, q, n);
+    let count = lead.rooms.moves.len();
     if count == 0 {
         return Some(answer_now(q));
     }
     if count <= 64 {
-        search_few(caller, scout, q, n)
+        search_few(caller, lead, q, n)
     } else {
-        search_many(caller, scout, q, n)
+        search_many(caller, lead, q, n)
     }
 }
 
@@ -190,28 +191,28 @@ pub(crate) struct Found {
 #[cycle(searching)]
 pub(crate) fn search_in_rounds<S: Stop, A: Allocator>(
     caller: &mut Caller<'_, A>,
-    scout: &mut Scout<S>,
+    lead: &mut Lead<'_, S>,
     q: &Question,
     n: u8,
     known: Interval,
 ) -> Option<Found>
     requires plies { n ≤ 63 }
     requires known { IsKnownOf q.now known }
-    ensures goes_on { Searches S.stays caller.old caller.new scout.old scout.new }
-    ensures found { MatchOption result (S.told scout.new.stop)
+    ensures goes_on { Searches S.stays caller.old caller.new lead.old lead.new }
+    ensures found { MatchOption result (S.told lead.new.scout.now.stop)
         (λ found. (IsTrue found.yes ↔ IsForced q.now n) × IsKnownOf q.now found.known) }
 {
     let mut known = known;
     let mut plies = first_round(q, n, known);
     while plies < n {
-        let yes = search(caller, scout, q, plies)?;
+        let yes = search(caller, lead, q, plies)?;
         known = known_with(q, plies, yes, known);
         if yes {
             return Some(Found { yes, known });
         }
         plies += 2;
     }
-    let yes = search(caller, scout, q, n)?;
+    let yes = search(caller, lead, q, n)?;
     let known = known_with(q, n, yes, known);
     Some(Found { yes, known })
 }
@@ -226,23 +227,40 @@ fn first_round(q: &Question, n: u8, known: Interval) -> u8
     (known.below | 1).max(3).min(n)
 }
 
+/// The answer for n plies by a search, from what is known on; what is found is stored last.
+#[cycle(searching)]
+pub(crate) fn search_from<S: Stop, A: Allocator>(
+    caller: &mut Caller<'_, A>,
+    lead: &mut Lead<'_, S>,
+    q: &Question,
+    n: u8,
+    known: Interval,
+) -> Option<bool>
+    requires plies { n ≤ 63 }
+    requires known { IsKnownOf q.now known }
+    ensures goes_on { Searches S.stays caller.old caller.new lead.old lead.new }
+    ensures answer { MatchOption result (S.told lead.new.scout.now.stop) (λ yes. IsTrue yes ↔ IsForced q.now n) }
+{
+    let found = search_in_rounds(caller, lead, q, n, known)?;
+    keep_far(caller, q, found.known);
+    Some(found.yes)
+}
+
 /// The answer for n plies. The far slots are asked first, and what is found is stored last.
 #[cycle(searching)]
-pub(crate) fn visit<S: Stop, A: Allocator>(
+fn visit<S: Stop, A: Allocator>(
     caller: &mut Caller<'_, A>,
-    scout: &mut Scout<S>,
+    lead: &mut Lead<'_, S>,
     q: &Question,
     n: u8,
 ) -> Option<bool>
     requires { n ≤ 63 }
-    ensures goes_on { Searches S.stays caller.old caller.new scout.old scout.new }
-    ensures answer { MatchOption result (S.told scout.new.stop) (λ yes. IsTrue yes ↔ IsForced q.now n) }
+    ensures goes_on { Searches S.stays caller.old caller.new lead.old lead.new }
+    ensures answer { MatchOption result (S.told lead.new.scout.now.stop) (λ yes. IsTrue yes ↔ IsForced q.now n) }
 {
     let known = look_far(caller, q, n);
     if let Some(yes) = decided(known, n) {
         return Some(yes);
     }
-    let found = search_in_rounds(caller, scout, q, n, known)?;
-    keep_far(caller, q, found.known);
-    Some(found.yes)
+    search_from(caller, lead, q, n, known)
 }

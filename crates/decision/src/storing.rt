@@ -105,20 +105,21 @@ fn offer_far<A: Allocator>(caller: &mut Caller<'_, A>, slot: usize, words: [u64;
     }
 }
 
-/// Stores what is known of the question: in one of the far slots, and last in its own two.
+/// Stores what is known of the question: the entry of its image in one of the far slots, and last its own entry in its own two.
 pub(crate) fn keep<A: Allocator>(caller: &mut Caller<'_, A>, q: &Question, known: Interval)
     requires { IsKnownOf q.now known }
     ensures goes_on { GoesOn caller.old caller.new }
     ensures kept { OffersBoth (first_slot (key_for q.now) (slots_of caller.old.slots.now))
         (slots_of caller.old.slots.now) (number caller.old.seat.now) (entry_words (entry_for q.now known)) (adds caller.old caller.new) }
 {
-    let key = q.key();
+    let image = q.image();
+    keep_far(caller, &image, known);
     let words = pack_board(&q.position, q.attacker, q.goal, known);
-    offer_far(caller, far_slot(caller.slots, key), words);
-    offer(caller, first_slot(caller.slots, key), words);
+    let slot = first_slot(caller.slots, q.key());
+    offer(caller, slot, words);
 }
 
-/// Stores what is known of the question in one of the far slots.
+/// Stores what is known of the question, which is turned, in one of the far slots.
 pub(crate) fn keep_far<A: Allocator>(caller: &mut Caller<'_, A>, q: &Question, known: Interval)
     requires { IsKnownOf q.now known }
     ensures { GoesOn caller.old caller.new }

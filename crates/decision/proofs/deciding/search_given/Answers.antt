@@ -16,23 +16,23 @@ returns-then-n-eq0-clause-below g c = λ some. absurd (omega (arith, some, c.if-
 pub returns-then-is_empty-clause-answer : goal.returns-then-is_empty-clause-answer
 returns-then-is_empty-clause-answer g c =
     now_for c.args.q.now c.args.n c.answer_now-then-is_empty.result
-    (none_listed c.args.q.now.position c.in_order.new.moves.items c.in_order.ensures ((Decides-eqb (length c.in_order.new.moves.items) 0).0 (sym c.is_empty.ensures ∙ c.if-is_empty.true)))
+    (none_listed c.args.q.now.position c.order_into.new.moves.items c.order_into.ensures ((Decides-eqb (length c.order_into.new.moves.items) 0).0 (sym c.is_empty.ensures ∙ c.if-is_empty.true)))
     c.answer_now-then-is_empty.ensures
 
 pub returns-then-is_empty-clause-below : goal.returns-then-is_empty-clause-below
 returns-then-is_empty-clause-below g c = λ _ some. absurd
-    (none_listed c.args.q.now.position c.in_order.new.moves.items c.in_order.ensures ((Decides-eqb (length c.in_order.new.moves.items) 0).0 (sym c.is_empty.ensures ∙ c.if-is_empty.true)) some.0 some.1)
+    (none_listed c.args.q.now.position c.order_into.new.moves.items c.order_into.ensures ((Decides-eqb (length c.order_into.new.moves.items) 0).0 (sym c.is_empty.ensures ∙ c.if-is_empty.true)) some.0 some.1)
 
 pub try_moves-requires-clause-lawful : goal.try_moves-requires-clause-lawful
-try_moves-requires-clause-lawful g c = subst (All (IsLawful c.args.q.now.position)) (sym c.as_slice.ensures.value) (all_listed c.args.q.now.position c.in_order.new.moves.items c.in_order.ensures)
+try_moves-requires-clause-lawful g c = subst (All (IsLawful c.args.q.now.position)) (sym c.as_slice.ensures.value) (all_listed c.args.q.now.position c.order_into.new.moves.items c.order_into.ensures)
 
 pub returns-clause-answer : goal.returns-clause-answer
 returns-clause-answer g c =
     tells_answer c.args.q.now c.args.n _ c.try_moves.result (omega (arith, c.if-n-eq0.false))
-    (some_listed c.args.q.now.position c.in_order.new.moves.items c.in_order.ensures (not_empty (length c.in_order.new.moves.items) c.if-is_empty.ensures))
-    c.as_slice.result.now (subst (ListsAll c.args.q.now.position) (sym c.as_slice.ensures.value) c.in_order.ensures) c.try_moves.ensures.tells
+    (some_listed c.args.q.now.position c.order_into.new.moves.items c.order_into.ensures (not_empty (length c.order_into.new.moves.items) c.if-is_empty.ensures))
+    c.as_slice.result.now (subst (ListsAll c.args.q.now.position) (sym c.as_slice.ensures.value) c.order_into.ensures) c.try_moves.ensures.tells
 
 pub returns-clause-below : goal.returns-clause-below
 returns-clause-below g c =
-    tells_below c.args.q.now c.args.n c.try_moves.result c.as_slice.result.now (subst (ListsAll c.args.q.now.position) (sym c.as_slice.ensures.value) c.in_order.ensures)
+    tells_below c.args.q.now c.args.n c.try_moves.result c.as_slice.result.now (subst (ListsAll c.args.q.now.position) (sym c.as_slice.ensures.value) c.order_into.ensures)
     (slots_of c.args.caller.now.slots.now) (number c.args.caller.now.seat.now) (adds c.args.caller.now c.try_moves.new.caller) c.try_moves.ensures.asked

@@ -15,12 +15,14 @@ after-requires g c = subst (IsLawful c.args.q.now.position) (sym c.m-item.is) (c
 pub returns-in_err-yes-clause-goes_on : goal.returns-in_err-yes-clause-goes_on
 returns-in_err-yes-clause-goes_on g c = record {
   caller = goes_more _ _ _ c.loop-m.invariant.goes_on.caller c.visit_child.ensures.goes_on.caller;
+  reference = c.visit_child.ensures.goes_on.reference ∙ c.loop-m.invariant.goes_on.reference;
   stop = g.met.S.Stop.stays_on _ _ _ c.loop-m.invariant.goes_on.stop c.visit_child.ensures.goes_on.stop;
 }
 
 pub returns-then-yes-own-clause-goes_on : goal.returns-then-yes-own-clause-goes_on
 returns-then-yes-own-clause-goes_on g c = record {
   caller = goes_more _ _ _ c.loop-m.invariant.goes_on.caller c.visit_child.ensures.goes_on.caller;
+  reference = c.visit_child.ensures.goes_on.reference ∙ c.loop-m.invariant.goes_on.reference;
   stop = g.met.S.Stop.stays_on _ _ _ c.loop-m.invariant.goes_on.stop c.visit_child.ensures.goes_on.stop;
 }
 
@@ -46,6 +48,7 @@ pub loop-m-preserved : goal.loop-m-preserved
 loop-m-preserved g c = record {
   goes_on = record {
     caller = goes_more _ _ _ c.loop-m.invariant.goes_on.caller c.visit_child.ensures.goes_on.caller;
+    reference = c.visit_child.ensures.goes_on.reference ∙ c.loop-m.invariant.goes_on.reference;
     stop = g.met.S.Stop.stays_on _ _ _ c.loop-m.invariant.goes_on.stop c.visit_child.ensures.goes_on.stop;
   };
   passed = passed_after c.args.q.now (c.args.n - 1) c.is_own_turn-own.result c.args.moves.now c.loop-m.m-index c.m-item.result c.after.result c.loop-m-test.true c.m-item.is c.after.ensures c.loop-m.invariant.passed

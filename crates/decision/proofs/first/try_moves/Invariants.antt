@@ -8,7 +8,7 @@ use Rattle.decision.proofs.first.try_moves.Given as goal
 abbrev pub invariant-loop-m : goal.invariant-loop-m
 invariant-loop-m g l =
     record {
-      goes_on : Searches g.S.Stop.stays l.fn.caller l.caller l.fn.scout l.scout;
+      goes_on : Searches g.S.Stop.stays l.fn.caller l.caller l.fn.lead l.lead;
       passed : All (IsPassed l.q (l.n - 1) l.own) (take l.m-index l.moves);
       asked : All (IsAskedAfter l.q (slots_of l.fn.caller.slots.now) (number l.fn.caller.seat.now) (adds l.fn.caller l.caller)) (take l.m-index l.moves);
     }

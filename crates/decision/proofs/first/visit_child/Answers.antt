@@ -1,3 +1,4 @@
+use Rattle.std.proofs.Common.{refl}
 use Rattle.decision.proofs.Callers.{goes_more}
 use Rattle.decision.proofs.Replies.{known_is_right}
 use Rattle.decision.proofs.Decided.{asked_then}
@@ -7,11 +8,12 @@ pub returns-in-Some-clause-answer : goal.returns-in-Some-clause-answer
 returns-in-Some-clause-answer g c = known_is_right c.args.q.now c.look-known.result c.look-known.ensures.right c.args.n c.in-Some.yes c.in-Some.ensures
 
 pub returns-in-Some-clause-goes_on : goal.returns-in-Some-clause-goes_on
-returns-in-Some-clause-goes_on g c = record { caller = c.look-known.ensures.goes_on; stop = g.met.S.Stop.stays_at_once _ }
+returns-in-Some-clause-goes_on g c = record { caller = c.look-known.ensures.goes_on; reference = refl; stop = g.met.S.Stop.stays_at_once _ }
 
 pub returns-in_err-found-clause-goes_on : goal.returns-in_err-found-clause-goes_on
 returns-in_err-found-clause-goes_on g c = record {
   caller = goes_more _ _ _ c.look-known.ensures.goes_on c.search_in_rounds.ensures.goes_on.caller;
+  reference = c.search_in_rounds.ensures.goes_on.reference;
   stop = c.search_in_rounds.ensures.goes_on.stop;
 }
 
@@ -22,6 +24,7 @@ returns-in_err-found-clause-asked g c =
 pub returns-clause-goes_on : goal.returns-clause-goes_on
 returns-clause-goes_on g c = record {
   caller = goes_more _ _ _ (goes_more _ _ _ c.look-known.ensures.goes_on c.search_in_rounds.ensures.goes_on.caller) c.keep.ensures.goes_on;
+  reference = c.search_in_rounds.ensures.goes_on.reference;
   stop = c.search_in_rounds.ensures.goes_on.stop;
 }
 

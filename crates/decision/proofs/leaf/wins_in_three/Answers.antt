@@ -8,7 +8,7 @@ use Rattle.decision.proofs.leaf.wins_in_three.Goals as goal
 
 pub after-requires : goal.after-requires
 after-requires c =
-    (subst (ListsAll c.args.q.now.position) (sym c.as_slice-m-items.ensures.value) c.order_into.ensures c.m-item.result).0 (c.loop-m.m-index, c.loop-m-test.true, sym c.m-item.is)
+    (subst (ListsAll c.args.q.now.position) (sym c.as_slice-m-items.ensures.value) c.order.ensures c.m-item.result).0 (c.loop-m.m-index, c.loop-m-test.true, sym c.m-item.is)
 
 pub loses_in_two-requires : goal.loses_in_two-requires
 loses_in_two-requires c = passes_own c.args.q.now c.after.result c.m-item.result c.after.ensures c.requires
@@ -25,5 +25,5 @@ loop-m-preserved c =
 
 pub returns : goal.returns
 returns c =
-    lost c.args.q.now 3 c.requires (omega arith) c.as_slice-m-items.result.now (subst (ListsAll c.args.q.now.position) (sym c.as_slice-m-items.ensures.value) c.order_into.ensures)
+    lost c.args.q.now 3 c.requires (omega arith) c.as_slice-m-items.result.now (subst (ListsAll c.args.q.now.position) (sym c.as_slice-m-items.ensures.value) c.order.ensures)
     (subst (All (IsPassed c.args.q.now 2 true)) (take_all c.loop-m.m-index c.as_slice-m-items.result.now c.loop-m-test.false) c.loop-m.invariant)

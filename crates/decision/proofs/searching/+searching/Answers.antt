@@ -14,17 +14,17 @@ use Rattle.decision.proofs.searching.+searching.Goals as goal
 pub search-returns-then-count-eq0-clause-answer : goal.search-returns-then-count-eq0-clause-answer
 search-returns-then-count-eq0-clause-answer g t c =
     now_for c.args.q.now c.args.n c.answer_now.result
-    (none_listed c.args.q.now.position c.order.new.self.rooms.moves.items c.order.ensures (omega (arith, c.if-count-eq0.true, c.len-count.ensures.value)))
+    (none_listed c.args.q.now.position c.order.new.self.moves.items c.order.ensures (omega (arith, c.if-count-eq0.true, c.len-count.ensures.value)))
     c.answer_now.ensures
 
 pub search_few-search_listed-requires : goal.search_few-search_listed-requires
 search_few-search_listed-requires g t c κs within =
-    let same : c.as_slice-2.result.now ≡ c.args.scout.now.memory.rooms.moves.items = c.as_slice-2.ensures.value ∙ c.copied-moves.ensures ∙ c.as_slice.ensures.value in
+    let same : c.as_slice-2.result.now ≡ c.args.lead.now.rooms.moves.items = c.as_slice-2.ensures.value ∙ c.copied-few.ensures ∙ c.as_slice.ensures.value in
     (omega (arith, c.decreases), (within.0, (within.1, (c.requires.plies, (subst (ListsAll c.args.q.now.position) (sym same) c.requires.lists, subst (λ (l : List Ply). 0 < length l) (sym same) c.requires.some)))))
 
 pub search_many-search_listed-requires : goal.search_many-search_listed-requires
 search_many-search_listed-requires g t c κs within =
-    let same : c.as_slice-2.result.now ≡ c.args.scout.now.memory.rooms.moves.items = c.as_slice-2.ensures.value ∙ c.copied-moves.ensures ∙ c.as_slice.ensures.value in
+    let same : c.as_slice-2.result.now ≡ c.args.lead.now.rooms.moves.items = c.as_slice-2.ensures.value ∙ c.copied-many.ensures ∙ c.as_slice.ensures.value in
     (omega (arith, c.decreases), (within.0, (within.1, (c.requires.plies, (subst (ListsAll c.args.q.now.position) (sym same) c.requires.lists, subst (λ (l : List Ply). 0 < length l) (sym same) c.requires.some)))))
 
 pub search_listed-is_cut-requires-clause-lawful : goal.search_listed-is_cut-requires-clause-lawful
@@ -45,6 +45,7 @@ search_listed-try_below-requires g t c κs within =
 pub search_listed-returns-clause-goes_on : goal.search_listed-returns-clause-goes_on
 search_listed-returns-clause-goes_on g t c = record {
   caller = goes_more _ _ _ c.is_cut.ensures.goes_on c.try_below.ensures.goes_on.caller;
+  reference = c.try_below.ensures.goes_on.reference;
   stop = c.try_below.ensures.goes_on.stop;
 }
 
@@ -58,12 +59,14 @@ search_listed-returns-clause-answer g t c =
 pub search_in_rounds-returns-in_err-yes-clause-goes_on : goal.search_in_rounds-returns-in_err-yes-clause-goes_on
 search_in_rounds-returns-in_err-yes-clause-goes_on g t c = record {
   caller = goes_more _ _ _ c.loop-plies.invariant.goes_on.caller c.search.ensures.goes_on.caller;
+  reference = c.search.ensures.goes_on.reference ∙ c.loop-plies.invariant.goes_on.reference;
   stop = g.met.S.Stop.stays_on _ _ _ c.loop-plies.invariant.goes_on.stop c.search.ensures.goes_on.stop;
 }
 
 pub search_in_rounds-returns-then-yes-clause-goes_on : goal.search_in_rounds-returns-then-yes-clause-goes_on
 search_in_rounds-returns-then-yes-clause-goes_on g t c = record {
   caller = goes_more _ _ _ c.loop-plies.invariant.goes_on.caller c.search.ensures.goes_on.caller;
+  reference = c.search.ensures.goes_on.reference ∙ c.loop-plies.invariant.goes_on.reference;
   stop = g.met.S.Stop.stays_on _ _ _ c.loop-plies.invariant.goes_on.stop c.search.ensures.goes_on.stop;
 }
 
@@ -71,6 +74,7 @@ pub search_in_rounds-loop-plies-preserved : goal.search_in_rounds-loop-plies-pre
 search_in_rounds-loop-plies-preserved g t c = record {
   goes_on = record {
     caller = goes_more _ _ _ c.loop-plies.invariant.goes_on.caller c.search.ensures.goes_on.caller;
+    reference = c.search.ensures.goes_on.reference ∙ c.loop-plies.invariant.goes_on.reference;
     stop = g.met.S.Stop.stays_on _ _ _ c.loop-plies.invariant.goes_on.stop c.search.ensures.goes_on.stop;
   };
   known = c.known_with-known.ensures.right;
@@ -79,12 +83,14 @@ search_in_rounds-loop-plies-preserved g t c = record {
 pub search_in_rounds-returns-in_err-yes-2-clause-goes_on : goal.search_in_rounds-returns-in_err-yes-2-clause-goes_on
 search_in_rounds-returns-in_err-yes-2-clause-goes_on g t c = record {
   caller = goes_more _ _ _ c.loop-plies.invariant.goes_on.caller c.search-2.ensures.goes_on.caller;
+  reference = c.search-2.ensures.goes_on.reference ∙ c.loop-plies.invariant.goes_on.reference;
   stop = g.met.S.Stop.stays_on _ _ _ c.loop-plies.invariant.goes_on.stop c.search-2.ensures.goes_on.stop;
 }
 
 pub search_in_rounds-returns-clause-goes_on : goal.search_in_rounds-returns-clause-goes_on
 search_in_rounds-returns-clause-goes_on g t c = record {
   caller = goes_more _ _ _ c.loop-plies.invariant.goes_on.caller c.search-2.ensures.goes_on.caller;
+  reference = c.search-2.ensures.goes_on.reference ∙ c.loop-plies.invariant.goes_on.reference;
   stop = g.met.S.Stop.stays_on _ _ _ c.loop-plies.invariant.goes_on.stop c.search-2.ensures.goes_on.stop;
 }
 
@@ -103,12 +109,14 @@ try_below-turned_after-requires g t c = subst (IsLawful c.args.q.now.position) (
 pub try_below-returns-in_err-yes-clause-goes_on : goal.try_below-returns-in_err-yes-clause-goes_on
 try_below-returns-in_err-yes-clause-goes_on g t c = record {
   caller = goes_more _ _ _ c.loop-m.invariant.goes_on.caller c.visit.ensures.goes_on.caller;
+  reference = c.visit.ensures.goes_on.reference ∙ c.loop-m.invariant.goes_on.reference;
   stop = g.met.S.Stop.stays_on _ _ _ c.loop-m.invariant.goes_on.stop c.visit.ensures.goes_on.stop;
 }
 
 pub try_below-returns-then-yes-own-clause-goes_on : goal.try_below-returns-then-yes-own-clause-goes_on
 try_below-returns-then-yes-own-clause-goes_on g t c = record {
   caller = goes_more _ _ _ c.loop-m.invariant.goes_on.caller c.visit.ensures.goes_on.caller;
+  reference = c.visit.ensures.goes_on.reference ∙ c.loop-m.invariant.goes_on.reference;
   stop = g.met.S.Stop.stays_on _ _ _ c.loop-m.invariant.goes_on.stop c.visit.ensures.goes_on.stop;
 }
 
@@ -123,6 +131,7 @@ pub try_below-loop-m-preserved : goal.try_below-loop-m-preserved
 try_below-loop-m-preserved g t c = record {
   goes_on = record {
     caller = goes_more _ _ _ c.loop-m.invariant.goes_on.caller c.visit.ensures.goes_on.caller;
+    reference = c.visit.ensures.goes_on.reference ∙ c.loop-m.invariant.goes_on.reference;
     stop = g.met.S.Stop.stays_on _ _ _ c.loop-m.invariant.goes_on.stop c.visit.ensures.goes_on.stop;
   };
   passed = passed_turned c.args.q.now (c.args.n - 1) c.is_own_turn-own.result c.args.moves.now c.loop-m.m-index c.m-item.result c.turned_after.result c.loop-m-test.true c.m-item.is c.turned_after.ensures c.loop-m.invariant.passed
@@ -141,16 +150,25 @@ pub visit-returns-in-Some-clause-answer : goal.visit-returns-in-Some-clause-answ
 visit-returns-in-Some-clause-answer g t c = known_is_right c.args.q.now c.look_far-known.result c.look_far-known.ensures.right c.args.n c.in-Some.yes c.in-Some.ensures
 
 pub visit-returns-in-Some-clause-goes_on : goal.visit-returns-in-Some-clause-goes_on
-visit-returns-in-Some-clause-goes_on g t c = record { caller = c.look_far-known.ensures.goes_on; stop = g.met.S.Stop.stays_at_once _ }
+visit-returns-in-Some-clause-goes_on g t c = record { caller = c.look_far-known.ensures.goes_on; reference = refl; stop = g.met.S.Stop.stays_at_once _ }
 
-pub visit-returns-in_err-found-clause-goes_on : goal.visit-returns-in_err-found-clause-goes_on
-visit-returns-in_err-found-clause-goes_on g t c = record {
-  caller = goes_more _ _ _ c.look_far-known.ensures.goes_on c.search_in_rounds.ensures.goes_on.caller;
+pub search_from-returns-in_err-found-clause-goes_on : goal.search_from-returns-in_err-found-clause-goes_on
+search_from-returns-in_err-found-clause-goes_on g t c = record {
+  caller = c.search_in_rounds.ensures.goes_on.caller;
+  reference = c.search_in_rounds.ensures.goes_on.reference;
+  stop = c.search_in_rounds.ensures.goes_on.stop;
+}
+
+pub search_from-returns-clause-goes_on : goal.search_from-returns-clause-goes_on
+search_from-returns-clause-goes_on g t c = record {
+  caller = goes_more _ _ _ c.search_in_rounds.ensures.goes_on.caller c.keep_far.ensures;
+  reference = c.search_in_rounds.ensures.goes_on.reference;
   stop = c.search_in_rounds.ensures.goes_on.stop;
 }
 
 pub visit-returns-clause-goes_on : goal.visit-returns-clause-goes_on
 visit-returns-clause-goes_on g t c = record {
-  caller = goes_more _ _ _ (goes_more _ _ _ c.look_far-known.ensures.goes_on c.search_in_rounds.ensures.goes_on.caller) c.keep_far.ensures;
-  stop = c.search_in_rounds.ensures.goes_on.stop;
+  caller = goes_more _ _ _ c.look_far-known.ensures.goes_on c.search_from.ensures.goes_on.caller;
+  reference = c.search_from.ensures.goes_on.reference;
+  stop = c.search_from.ensures.goes_on.stop;
 }

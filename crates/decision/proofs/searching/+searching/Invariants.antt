@@ -5,31 +5,34 @@ use Rattle.decision.specs.Below.{IsPassed}
 use Rattle.decision.proofs.searching.+searching.Given as goal
 
 abbrev pub decreases-visit : goal.decreases-visit
-decreases-visit g l = 6 * l.n + 5
+decreases-visit g l = 7 * l.n + 6
+
+abbrev pub decreases-search_from : goal.decreases-search_from
+decreases-search_from g l = 7 * l.n + 5
 
 abbrev pub decreases-search_in_rounds : goal.decreases-search_in_rounds
-decreases-search_in_rounds g l = 6 * l.n + 4
+decreases-search_in_rounds g l = 7 * l.n + 4
 
 abbrev pub decreases-search : goal.decreases-search
-decreases-search g l = 6 * l.n + 3
+decreases-search g l = 7 * l.n + 3
 
 abbrev pub decreases-search_few : goal.decreases-search_few
-decreases-search_few g l = 6 * l.n + 2
+decreases-search_few g l = 7 * l.n + 2
 
 abbrev pub decreases-search_many : goal.decreases-search_many
-decreases-search_many g l = 6 * l.n + 2
+decreases-search_many g l = 7 * l.n + 2
 
 abbrev pub decreases-search_listed : goal.decreases-search_listed
-decreases-search_listed g l = 6 * l.n + 1
+decreases-search_listed g l = 7 * l.n + 1
 
 abbrev pub decreases-try_below : goal.decreases-try_below
-decreases-try_below g l = 6 * l.n
+decreases-try_below g l = 7 * l.n
 
 -- the moves so far ended nothing
 abbrev pub invariant-try_below-loop-m : goal.invariant-try_below-loop-m
 invariant-try_below-loop-m g l =
     record {
-      goes_on : Searches g.S.Stop.stays l.fn.caller l.caller l.fn.scout l.scout;
+      goes_on : Searches g.S.Stop.stays l.fn.caller l.caller l.fn.lead l.lead;
       passed : All (IsPassed l.q (l.n - 1) l.own) (take l.m-index l.moves);
     }
 
@@ -37,7 +40,7 @@ invariant-try_below-loop-m g l =
 abbrev pub invariant-search_in_rounds-loop-plies : goal.invariant-search_in_rounds-loop-plies
 invariant-search_in_rounds-loop-plies g l =
     record {
-      goes_on : Searches g.S.Stop.stays l.fn.caller l.caller l.fn.scout l.scout;
+      goes_on : Searches g.S.Stop.stays l.fn.caller l.caller l.fn.lead l.lead;
       known : IsKnownOf l.q l.known;
     }
 

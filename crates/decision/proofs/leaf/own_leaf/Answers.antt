@@ -1,6 +1,0 @@
-use Rattle.std.proofs.Common.{arith}
-use Rattle.decision.proofs.LastPlies.{own_two_of}
-use Rattle.decision.proofs.leaf.own_leaf.Goals as goal
-
-pub returns-then-n-lt3 : goal.returns-then-n-lt3
-returns-then-n-lt3 c = own_two_of c.args.q.now c.args.n c.wins_at_once.result c.requires.own (omega (arith, c.if-n-eq0.false)) (omega (arith, c.if-n-lt3.true)) c.wins_at_once.ensures
