@@ -11,6 +11,8 @@ from typing import NamedTuple, Optional
 
 TOP = os.path.dirname(os.path.dirname(os.path.abspath(__file__)))
 SHOWN = 300
+# The variable by which the C library is told what it reads at a program's start, and its name for large pages.
+TUNABLES, LARGE_PAGES = "GLIBC_TUNABLES", "glibc.malloc.hugetlb"
 
 
 class Tally:
@@ -83,14 +85,26 @@ def need(tool):
 
 
 def find_program(path):
-    """The launcher builds, if need be; then what it would start is run, so that it needn't look at the sources each time. It is started as
-    the launcher starts a search: with a table in large pages."""
-    os.environ.setdefault("GLIBC_TUNABLES", "glibc.malloc.hugetlb=1")
+    """The launcher builds, if need be; then what it would start is run, so that it needn't look at the sources each time."""
     if path:
         return executable(path)
     if subprocess.run([os.path.join(TOP, "minimate"), "moves", "k5/6/6/6/6/5K w"], stdout=subprocess.DEVNULL, check=False).returncode:
         stop("./minimate can't be run")
     return os.path.join(TOP, "out", "minimate")
+
+
+def launched(environment):
+    """The environment that the launcher gives to a search: in it the C library is told to use large pages, unless a user has said of them."""
+    told = environment.get(TUNABLES, "")
+    if f":{LARGE_PAGES}=" in f":{told}":
+        return dict(environment)
+    return {**environment, TUNABLES: f"{told}:{LARGE_PAGES}=1".lstrip(":")}
+
+
+def plain(environment):
+    """The environment without a word of large pages: who starts the program and no launcher has this."""
+    kept = [it for it in environment.get(TUNABLES, "").split(":") if not it.startswith(f"{LARGE_PAGES}=")]
+    return {**environment, TUNABLES: ":".join(kept)}
 
 
 def find_calls(path):

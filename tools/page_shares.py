@@ -13,7 +13,7 @@ import check_tree
 import checking
 import chromium
 import diagrams as pictures
-from page_drive import DONE, ONE_PAWN, TEXT, THIRD, VALUE, address, top
+from page_drive import ONE_PAWN, TEXT, THIRD, VALUE, address, top
 
 SHOW_TREE = checking.loaded("show_tree")
 ONE_FILE = checking.loaded("one_file", os.path.join(top(), "one_file.py"))
