@@ -6,10 +6,10 @@ use Rattle.std.proofs.lemmas.Option.{slice_get_read, get_or_from_slice_get}
 use Rattle.board.specs.Board.{PlainBoard}
 use Rattle.rules.specs.Squares.{Ply}
 use Rattle.rules.specs.declared.goal.Goal.{Goal}
-use Rattle.rules.specs.Moves.{IsLawful}
+use Rattle.rules.specs.Moves.{IsLawful, IsMove}
 use Rattle.rules.specs.Order.{IsPlyBefore, ListsLawful}
 use Rattle.decision.specs.declared.question.Question.{Question}
-use Rattle.decision.specs.Questions.{IsForced}
+use Rattle.decision.specs.Questions.{IsForced, question}
 use Rattle.decision.specs.Answer.{Wins, IsLeastWin, ForcesNothing, IsAnswer}
 use Rattle.decision.specs.declared.answer.Answer.TheVariants.{Mate}
 use Rattle.decision.proofs.Winning.{wins_by, forced_by, next_round}
@@ -73,6 +73,11 @@ module _ (goal : Goal) (b : PlainBoard) (n : ℕ) (xs : List Ply) where
     -- where no job wins, no move does
     pub none_moves : NoneWins (JobWins goal b n xs) (length xs) → (m : Ply) → Wins goal b n m → ⊥
     none_moves none m w = let among = listed m w in none among.0 among.1 (job_of m w among)
+
+-- what is asked of a job is asked after its move
+pub asked_after : (r : Root) (job : ℕ) (m : Ply) (p : PlainBoard) (q : Question) → slice_get r.moves.items job ≡ Some m → IsMove r.board m p
+    → q ≡ question p r.board.mover r.goal → IsQuestionOf r job q
+asked_after r job m p q at move is = subst (IsQuestionOf r job) (sym is) (m, at, move, refl)
 
 -- a job wins where the goal is forced from the position that its move leads to
 pub job_after : (r : Root) (n job : ℕ) (q : Question) (answer : Bool) → IsQuestionOf r job q → (IsTrue answer ↔ IsForced q (n - 1)) → IsTrue answer ↔ WinsIn r n job

@@ -1,9 +1,10 @@
 //! Solves and keys by the caller's own thread over a table, with no lock, where nothing stops it.
-ghost use Rattle.std.specs.Prelude.{IfOk};
+ghost use Rattle.std.specs.Prelude.{◌≤◌, IfOk};
 ghost use Rattle.slots.specs.Promise.{IsSeatOf};
 ghost use Rattle.decision.specs.Answer.{IsAnswer};
 ghost use Rattle.decision.specs.Calls.{Continues};
 ghost use Rattle.searcher.specs.Keys.{ListsKeys};
+ghost use Rattle.searcher.specs.Roots.{IsRoot};
 
 use crate::halt::Halt;
 use crate::keys::{Key, keys_of};
@@ -13,8 +14,37 @@ use crate::searcher::Searcher;
 use crate::solving::solve_by;
 use decision::{Answer, Memory, Never, Scout};
 use entry::MateLore;
+use moves::{Board, Goal};
 use slots::{Seat, Slots};
 use std::alloc::{AllocError, Allocator};
+
+/// `solve_by`, over a table.
+fn solve_root<A: Allocator>(
+    slots: &Slots<MateLore, A>,
+    seat: &mut Seat,
+    root: &Root,
+    limit: u8,
+) -> Answer
+    requires seat { IsSeatOf slots.now seat.old }
+    requires root { IsRoot root.now }
+    requires limit { limit ≤ 63 }
+    ensures continues { Continues slots.now seat.old seat.new }
+    ensures answer { IsAnswer root.now.goal root.now.board limit result }
+{
+    let mut scout = Scout {
+        stop: Never,
+        memory: Memory::new(),
+    };
+    let mut searcher = Searcher {
+        slots,
+        seat,
+        scout: &mut scout,
+    };
+    let Some(answer) = solve_by(&mut searcher, root, limit) else {
+        unreachable!()
+    };
+    answer
+}
 
 /// `solve_by`, over a table. The table and the seat serve the next call.
 pub fn solve_alone<A: Allocator>(
@@ -26,20 +56,26 @@ pub fn solve_alone<A: Allocator>(
     ensures continues { Continues slots.now seat.old seat.new }
     ensures answer { IsAnswer problem.now.goal problem.now.position problem.now.limit result }
 {
-    let mut scout = Scout {
-        stop: Never,
-        memory: Memory::new(),
-    };
-    let mut searcher = Searcher {
-        slots,
-        seat,
-        scout: &mut scout,
-    };
     let root = Root::of(&problem.position, problem.goal);
-    let Some(answer) = solve_by(&mut searcher, &root, problem.limit) else {
-        unreachable!()
-    };
-    answer
+    solve_root(slots, seat, &root, problem.limit)
+}
+
+/// The fewest plies in which the side to move forces the goal, with the least first move, or that there are none up to the limit, of 0 to
+/// 63: `solve_alone`, on a board. The table and the seat serve the next call.
+pub fn solve_board_alone<A: Allocator>(
+    slots: &Slots<MateLore, A>,
+    seat: &mut Seat,
+    board: &Board,
+    goal: Goal,
+    limit: u8,
+) -> Answer
+    requires seat { IsSeatOf slots.now seat.old }
+    requires limit { limit ≤ 63 }
+    ensures continues { Continues slots.now seat.old seat.new }
+    ensures answer { IsAnswer goal board.now limit result }
+{
+    let root = Root::on(board.copied(), goal);
+    solve_root(slots, seat, &root, limit)
 }
 
 /// `keys_of`, over a table. After a want of memory the table and the seat serve the next call.

@@ -10,7 +10,7 @@ mod root;
 mod searcher;
 mod solving;
 
-pub use alone::{keys_alone, solve_alone};
+pub use alone::{keys_alone, solve_alone, solve_board_alone};
 pub use decider::Decider;
 pub use halt::Halt;
 pub use keys::{Key, keys_of, plies_of};

@@ -44,26 +44,29 @@ impl Root {
         self.moves.len() as u16
     }
 
+    /// Whether the attacker, who is to move at the root, forces the goal from the position.
+    fn question_at(&self, position: Board) -> Question
+        ensures { result ≡ question position self.now.board.mover self.now.goal }
+    {
+        Question {
+            position,
+            attacker: self.board.mover(),
+            goal: self.goal,
+        }
+    }
+
     /// Whether the attacker forces the goal after the job's move.
     pub fn question_of(&self, job: u16) -> Question
         requires { IsJobOf self.now job }
         ensures { IsQuestionOf self.now job result }
     {
-        Question {
-            position: after(&self.board, self.moves[usize::from(job)]),
-            attacker: self.board.mover(),
-            goal: self.goal,
-        }
+        self.question_at(after(&self.board, self.moves[usize::from(job)]))
     }
 
     /// Whether the attacker, who is to move, forces the goal.
     pub fn question(&self) -> Question
         ensures { result ≡ question self.now.board self.now.board.mover self.now.goal }
     {
-        Question {
-            position: self.board.copied(),
-            attacker: self.board.mover(),
-            goal: self.goal,
-        }
+        self.question_at(self.board.copied())
     }
 }

@@ -1,5 +1,4 @@
-use Rattle.decision.specs.Questions.{question}
-use Rattle.searcher.proofs.Jobs.{move_at, got_at, lawful_job}
+use Rattle.searcher.proofs.Jobs.{move_at, got_at, lawful_job, asked_after}
 use Rattle.searcher.proofs.root.Root.question_of.Goals as goal
 
 pub after-requires : goal.after-requires
@@ -8,10 +7,8 @@ after-requires c =
     (move_at c.args.self.now.moves.items c.deref.result.now c.from.result c.args.job c.index-deref-from.result c.deref.ensures.0 c.from.ensures c.index-deref-from.is)
 
 pub returns : goal.returns
-returns c = (
-  c.index-deref-from.result,
-  got_at c.args.self.now.moves.items c.args.job c.index-deref-from.result c.requires.1
-      (move_at c.args.self.now.moves.items c.deref.result.now c.from.result c.args.job c.index-deref-from.result c.deref.ensures.0 c.from.ensures c.index-deref-from.is),
-  c.after.ensures,
-  (λ i. question c.after.result (c.mover.ensures.value i) c.args.self.now.goal),
-)
+returns c =
+    asked_after c.args.self.now c.args.job c.index-deref-from.result c.after.result c.question_at.result
+    (got_at c.args.self.now.moves.items c.args.job c.index-deref-from.result c.requires.1
+    (move_at c.args.self.now.moves.items c.deref.result.now c.from.result c.args.job c.index-deref-from.result c.deref.ensures.0 c.from.ensures c.index-deref-from.is))
+    c.after.ensures c.question_at.ensures
