@@ -11,6 +11,10 @@ mod lead;
 mod leaf;
 mod memory;
 mod order;
+#[cfg(test)]
+mod order_at_first;
+#[cfg(test)]
+mod order_tests;
 mod question;
 mod scout;
 mod searching;

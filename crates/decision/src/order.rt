@@ -17,6 +17,9 @@ pub(crate) struct Costed {
     pub(crate) m: Move,
 }
 
+// std sorts what has at most eight bytes in its own way, moves alone among them: so the order is theirs, where costs are equal too.
+const _: () = prove!(std::mem::size_of::<Costed>() <= 8);
+
 /// From so many plies on the replies to an attacker's move are counted.
 const COUNTED_FROM: u8 = 4;
 
