@@ -12,7 +12,7 @@ SENTENCES = {
     "Answer": "the first line is no answer: write it as `solve` prints it for this goal, as mate 3 c4c5",
     "Claim": "this line isn't there, is no claim's, or says what isn't so of this position and goal",
     "Move": "no lawful move has this name: a move is two squares and what a pawn becomes, as c4c5q",
-    "NoMemory": "memory is wanting: fewer --slots or --workers take less",
+    "NoMemory": "memory is wanting: a search takes less with fewer --slots or --workers",
 }
 NO_TREE = "the input begins with no move: where `tree` wrote no tree, there is none to check"
 BROKEN_TREE = (

@@ -386,11 +386,14 @@ fn explains_limits_of_words(rt: HostRuntime) {
         "minimate,solve,k5/6/2K3/6/6/1R4 w|a search has a limit: add --limit 3, in plies, or --mate 2, in moves|minimate,solve,--mate,2,k5/6/2K3/6/6/1R4 w
 minimate,keys,--limit=3,--mate=2,k5/6/2K3/6/6/1R4 w|--limit and --mate say the same: leave one of them out|minimate,keys,--limit=3,k5/6/2K3/6/6/1R4 w
 minimate,solve,--moves,2,k5/6/2K3/6/6/1R4 w|moves of the attacker are counted by --mate: write that in place of --moves|minimate,solve,--mate,2,k5/6/2K3/6/6/1R4 w
+minimate,solve,--threads,4,--limit,3,k5/6/2K3/6/6/1R4 w|threads are counted by --workers: write that in place of --threads|minimate,solve,--workers,4,--limit,3,k5/6/2K3/6/6/1R4 w
+minimate,solve,--lim,3,k5/6/2K3/6/6/1R4 w|write --limit in place of --lim|minimate,solve,--limit,3,k5/6/2K3/6/6/1R4 w
 minimate,solve,3,k5/6/2K3/6/6/1R4 w|a limit stands behind its option: write '--limit 3' in place of '3'|minimate,solve,--limit,3,k5/6/2K3/6/6/1R4 w";
     expect_hints(&rt, limits);
     let numbers =
         "minimate,solve,--limit,1.5,k5/6/2K3/6/6/1R4 w|--limit is a number from 1 to 63: write 3 in place of '1.5'|minimate,solve,--limit,3,k5/6/2K3/6/6/1R4 w
 minimate,tree,--mate=two,k5/6/2K3/6/6/1R4 w|--mate is a number from 1 to 32: write 2 in place of 'two'|minimate,tree,--mate=2,k5/6/2K3/6/6/1R4 w
+minimate,batch,--limit,3,--lines,x|--lines is a number from 0 to 4294967295: write 100 in place of 'x'|minimate,batch,--limit,3,--lines,100
 minimate,keys,--limit,3,--slots,64M,k5/6/2K3/6/6/1R4 w|--slots is a number from 1 to 1048576: write 1048573 in place of '64M'|minimate,keys,--limit,3,--slots,1048573,k5/6/2K3/6/6/1R4 w
 minimate,solve,--limit,3,--workers=4294967296,k5/6/2K3/6/6/1R4 w|--workers is a number from 1 to 16: write 2 in place of '4294967296'|minimate,solve,--limit,3,--workers=2,k5/6/2K3/6/6/1R4 w";
     expect_hints(&rt, numbers);
@@ -401,10 +404,22 @@ fn explains_words_of_another_kind(rt: HostRuntime) {
     let words =
         "minimate,--moves,k5/6/2K3/6/6/1R4 w|moves is a command: write it without dashes|minimate,moves,k5/6/2K3/6/6/1R4 w
 minimate,batch,--limit,3,positions|batch reads positions from its input: write '< positions' in place of 'positions'|minimate,batch,--limit,3
+minimate,batch,--limit,3,k5/6/2K3/6/6/1R4 w|batch reads positions from its input: write solve in place of batch for one position|minimate,solve,--limit,3,k5/6/2K3/6/6/1R4 w
+minimate,--workers,4,solve,--limit,3,k5/6/2K3/6/6/1R4 w|options stand behind the command: write it before --workers|minimate,solve,--workers,4,--limit,3,k5/6/2K3/6/6/1R4 w
+minimate,show,--slots,k5/6/2K3/6/6/1R4 w|show makes no search: leave out --slots|minimate,show,k5/6/2K3/6/6/1R4 w
 minimate,check,--mate,2,k5/6/2K3/6/6/1R4 w|check makes no search: leave out --mate 2|minimate,check,k5/6/2K3/6/6/1R4 w
 minimate,moves,--limit=3,k5/6/2K3/6/6/1R4 w|moves makes no search: leave out --limit=3|minimate,moves,k5/6/2K3/6/6/1R4 w
 minimate,show,--progress,k5/6/2K3/6/6/1R4 w|show makes no search: leave out --progress|minimate,show,k5/6/2K3/6/6/1R4 w";
     expect_hints(&rt, words);
+}
+
+// Of a command that nobody knows no advice is given that it makes no search.
+#[test]
+fn tells_nothing_of_an_unknown_command(rt: HostRuntime) {
+    let told = explained(&rt, "minimate,sovle,--mate,2", "k5/6/2K3/6/6/1R4 w");
+    let advised = explained(&rt, "minimate,show,--mate,2", "k5/6/2K3/6/6/1R4 w");
+    assert!(rt; !told.as_slice().ends_with(b"leave out --mate 2\n"));
+    assert!(rt; advised.as_slice().ends_with(b"leave out --mate 2\n"));
 }
 
 // What can't be played is told by the square that the move leaves, and a lawful move from there.

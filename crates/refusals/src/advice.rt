@@ -58,7 +58,7 @@ fn values_advice(refusal: Refusal) -> &'static str {
             "the first line is no answer: write it as `solve` prints it for this goal, as mate 3 c4c5",
         Refusal::Claim(_) =>
             "this line isn't there, is no claim's, or says what isn't so of this position and goal",
-        _ => "memory is wanting: fewer --slots or --workers take less",
+        _ => "memory is wanting: a search takes less with fewer --slots or --workers",
     }
 }
 

@@ -170,12 +170,21 @@ impl<'a> Layout<'a> {
         }
     }
 
+    /// Whether the second word is more of the board: it has a slash, or it is no side, and one stands behind it.
+    fn is_split(self) -> bool {
+        if self.side.contains(&b'/') {
+            return true;
+        }
+        let (_, rest) = self.rest.split_at(run_length(self.rest, true));
+        !matches!(self.side, b"w" | b"b") && matches!(rest, b"w" | b"b")
+    }
+
     /// What is wrong with the side and what stands around it.
     fn side_slip(self) -> Option<Slip<'a>> {
         if self.side.is_empty() {
             return Some(Slip::NoSide);
         }
-        if self.side.contains(&b'/') && !Board::of(self.board).has_shape() {
+        if self.is_split() && !Board::of(self.board).has_shape() {
             return Some(Slip::Inside);
         }
         match self.parting() {

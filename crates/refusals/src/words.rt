@@ -13,15 +13,25 @@ enum Hint<'a> {
     Number(&'a str, &'a str),
     /// A name where a batch reads its input.
     Name(&'a str),
+    /// A position where a batch reads its input.
+    Position,
+    /// An option before the command.
+    Before(&'a str),
+    /// The beginning of an option's name, and the whole.
+    Short(&'a str, &'static str),
     /// A number alone.
     Limit(&'a str),
     Moves,
+    Threads,
     /// A command that makes no search, with an option of one and the word behind it.
     NoSearch(&'a str, &'a str, &'a str),
 }
 
 fn is_command(word: &str) -> bool {
-    matches!(word, "check" | "verify" | "moves" | "show" | "batch") || searches(word)
+    matches!(
+        word,
+        "check" | "verify" | "moves" | "show" | "after" | "batch"
+    ) || searches(word)
 }
 
 /// Whether it searches at a position of the line.
@@ -30,7 +40,10 @@ fn searches(command: &str) -> bool {
 }
 
 fn is_number_option(word: &str) -> bool {
-    matches!(word, "--limit" | "--mate" | "--workers" | "--slots")
+    matches!(
+        word,
+        "--limit" | "--mate" | "--workers" | "--slots" | "--lines"
+    )
 }
 
 fn is_number(word: &str) -> bool {
@@ -45,10 +58,24 @@ fn option_of<'a>(word: &'a str, next: &'a str) -> (&'a str, &'a str) {
     }
 }
 
-/// What a word means that is no option, behind this command and this word.
+/// The option of a search whose name begins so, if it is one alone and not the whole.
+fn longer(word: &str) -> Option<&'static str> {
+    match word {
+        "--l" | "--li" | "--lim" | "--limi" => Some("--limit"),
+        "--m" | "--ma" | "--mat" => Some("--mate"),
+        "--w" | "--wo" | "--wor" | "--work" | "--worke" | "--worker" => Some("--workers"),
+        "--sl" | "--slo" | "--slot" => Some("--slots"),
+        "--g" | "--go" | "--goa" => Some("--goal"),
+        _ => None,
+    }
+}
+
+/// What a word means that is no option, behind this command and this word. Behind an option it is that one's value.
 fn lone_hint<'a>(command: &str, last: &str, word: &'a str) -> Option<Hint<'a>> {
-    if last == "--goal" || is_number_option(last) || word.starts_with("-") {
+    if last.starts_with("-") || word.starts_with("-") {
         None
+    } else if command == "batch" && word.contains("/") && word.contains(" ") {
+        Some(Hint::Position)
     } else if command == "batch" {
         Some(Hint::Name(word))
     } else if searches(command) && is_number(word) {
@@ -58,17 +85,37 @@ fn lone_hint<'a>(command: &str, last: &str, word: &'a str) -> Option<Hint<'a>> {
     }
 }
 
+/// What an option means behind a command that searches, with the word behind it.
+fn search_hint<'a>(word: &'a str, next: &'a str) -> Option<Hint<'a>> {
+    let (option, value) = option_of(word, next);
+    if let Some(whole) = longer(option) {
+        return Some(Hint::Short(option, whole));
+    }
+    match option {
+        "--moves" => Some(Hint::Moves),
+        "--threads" => Some(Hint::Threads),
+        _ if !is_number_option(option) || is_number(value) => None,
+        _ => Some(Hint::Number(option, value)),
+    }
+}
+
+/// What an option means behind a command that makes no search, with the word behind it.
+fn idle_hint<'a>(command: &'a str, word: &'a str, next: &'a str) -> Option<Hint<'a>> {
+    let (option, value) = option_of(word, next);
+    match option {
+        "--progress" => Some(Hint::NoSearch(command, option, "")),
+        _ if !is_number_option(option) => None,
+        _ if is_number(value) => Some(Hint::NoSearch(command, word, next)),
+        _ => Some(Hint::NoSearch(command, word, "")),
+    }
+}
+
 /// What an option means behind this command, with the word behind it.
 fn option_hint<'a>(command: &'a str, word: &'a str, next: &'a str) -> Option<Hint<'a>> {
-    let (option, value) = option_of(word, next);
-    let takes = command == "batch" || searches(command);
-    match option {
-        "--moves" if takes => Some(Hint::Moves),
-        "--progress" if !takes => Some(Hint::NoSearch(command, option, "")),
-        _ if !is_number_option(option) => None,
-        _ if !takes => Some(Hint::NoSearch(command, word, next)),
-        _ if is_number(value) => None,
-        _ => Some(Hint::Number(option, value)),
+    if command == "batch" || searches(command) {
+        search_hint(word, next)
+    } else {
+        idle_hint(command, word, next)
     }
 }
 
@@ -108,14 +155,35 @@ fn cut_of(words: &[String]) -> Option<Hint<'_>> {
     None
 }
 
-/// What is to be changed first.
+/// Whether one of the words is a command's name.
+fn has_command(words: &[String]) -> bool {
+    for word in words {
+        if is_command(word.as_str()) {
+            return true;
+        }
+    }
+    false
+}
+
+/// What the first word means, which is no command.
+fn first_hint(words: &[String]) -> Option<Hint<'_>> {
+    let first = word_at(words, 1);
+    match first.strip_prefix("--") {
+        Some(name) if is_command(name) => Some(Hint::Dashes(name)),
+        Some(_) if has_command(words) => Some(Hint::Before(first)),
+        _ => None,
+    }
+}
+
+/// What is to be changed first. Of words whose command nobody knows nothing is told.
 fn hint_of(words: &[String]) -> Option<Hint<'_>> {
     if let Some(hint) = cut_of(words) {
         return Some(hint);
     }
-    match word_at(words, 1).strip_prefix("--") {
-        Some(name) if is_command(name) => Some(Hint::Dashes(name)),
-        _ => hint_behind(words),
+    if is_command(word_at(words, 1)) {
+        hint_behind(words)
+    } else {
+        first_hint(words)
     }
 }
 
@@ -125,6 +193,7 @@ fn range_of(option: &str) -> (&'static str, &'static str) {
         "--limit" => ("1 to 63", "3"),
         "--mate" => ("1 to 32", "2"),
         "--workers" => ("1 to 16", "2"),
+        "--lines" => ("0 to 4294967295", "100"),
         _ => ("1 to 1048576", "1048573"),
     }
 }
@@ -173,6 +242,17 @@ fn write_hint<E: Write>(errors: &mut E, hint: Hint<'_>) -> io::Result<()> {
         Hint::Limit(number) => write!(
             errors,
             "error: a limit stands behind its option: write '--limit {number}' in place of '{number}'\n"
+        ),
+        Hint::Position => errors.write_all(
+            b"error: batch reads positions from its input: write solve in place of batch for one position\n",
+        ),
+        Hint::Before(option) => write!(
+            errors,
+            "error: options stand behind the command: write it before {option}\n"
+        ),
+        Hint::Short(option, whole) => write!(errors, "error: write {whole} in place of {option}\n"),
+        Hint::Threads => errors.write_all(
+            b"error: threads are counted by --workers: write that in place of --threads\n",
         ),
         Hint::Moves => errors.write_all(
             b"error: moves of the attacker are counted by --mate: write that in place of --moves\n",
