@@ -1,6 +1,7 @@
 //! The keys of a position, searched by all threads.
 ghost use Rattle.std.specs.Prelude.{◌≡◌, ◌≤◌, All, IfErr, IfOk, None, length, vec_capacity};
 ghost use Rattle.slots.specs.Promise.{IsSeatOf};
+ghost use Rattle.decision.specs.Calls.{Continues};
 ghost use Rattle.searcher.specs.Keys.{ListsKeys};
 ghost use Rattle.searcher.specs.Roots.{IsRoot, IsLimit};
 ghost use Rattle.rounds.specs.Limits.{task_fault, IsTaskRefusal};
@@ -10,11 +11,11 @@ ghost use Rattle.rounds.specs.Going.{GoesOn, SeatsGoOn};
 use crate::bench::Search;
 use crate::gated::Gated;
 use crate::solving::problem_of;
-use crate::task::{Gate, SolveFault, Task};
+use crate::task::{Asked, Gate, SolveFault, Task};
 use entry::MateLore;
 use searcher::{Decider, Halt, Key, Problem, Root, keys_of, plies_of};
 use slots::{Seat, Slots};
-use std::alloc::Global;
+use std::alloc::{Allocator, Global};
 use std::sync::Wait;
 use std::sync::atomic::{AtomicU64, Ordering};
 use std::thread;
@@ -125,4 +126,28 @@ pub fn keys_over<T: Gate, R: Threads + Wait + Sync>(
     let keys = own_keys(alloc, &search, &problem, &mut own);
     seats.push_reserved(own);
     keys.map_err(|_| SolveFault::NoMemory)
+}
+
+/// Each first move that forces the goal within the limit, in order, with the fewest plies that it takes: searched by the
+/// caller's own thread, with no lock, over a table that is lent. After a fault the table and the seat serve the next call.
+pub fn keys_alone<A: Allocator, B: Allocator>(
+    alloc: B,
+    asked: &Asked<'_>,
+    slots: &Slots<MateLore, A>,
+    seat: &mut Seat,
+) -> Result<Vec<Key, B>, SolveFault>
+    requires { IsSeatOf slots.now seat.old }
+    ensures lists { IfOk result (λ keys. ListsKeys asked.now.goal asked.now.position.now asked.now.limit keys.items) }
+    ensures accepted { IfOk result (λ _. task_fault asked.now.limit 1 ≡ None) }
+    ensures refused { IfErr result (IsTaskRefusal asked.now.limit 1) }
+    ensures seat { IsSeatOf slots.now seat.new }
+    ensures continues { Continues slots.now seat.old seat.new }
+{
+    let Some(problem) = Problem::of(asked.position, asked.goal, asked.limit) else {
+        return Err(SolveFault::Limit);
+    };
+    let Ok(keys) = searcher::keys_alone(alloc, slots, seat, &problem) else {
+        return Err(SolveFault::NoMemory);
+    };
+    Ok(keys)
 }

@@ -12,6 +12,6 @@ mod solving;
 mod task;
 mod telling;
 
-pub use keys::keys_over;
+pub use keys::{keys_alone, keys_over};
 pub use solving::{MOST_WORKERS, make_table, make_table_in, solve, solve_over};
-pub use task::{Ended, Gate, NoGate, SolveFault, Task, kept_seats_go_on, no_gate_keeps_on};
+pub use task::{Asked, Ended, Gate, NoGate, SolveFault, Task, kept_seats_go_on, no_gate_keeps_on};

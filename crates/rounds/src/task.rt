@@ -21,6 +21,14 @@ pub struct Task<'a, T: Gate> {
     pub gate: &'a T,
 }
 
+/// Which first moves force the goal for the side to move, within so many plies at most.
+#[derive(Clone, Copy)]
+pub struct Asked<'a> {
+    pub position: &'a Position,
+    pub goal: Goal,
+    pub limit: u8,
+}
+
 /// Why a solve is refused: the first of these that holds.
 #[derive(Clone, Copy, PartialEq, Eq, Debug, Error)]
 pub enum SolveFault {
