@@ -32,7 +32,7 @@ const CHUNK: usize = 4096;
 pub enum InputFault {
     #[error("a read failed")]
     ReadFailed,
-    #[error("the input has too many bytes")]
+    #[error("the input has more than 1,048,576 bytes, or a line of it more than 8,192")]
     TooLong,
     #[error("out of memory")]
     NoMemory,

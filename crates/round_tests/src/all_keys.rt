@@ -31,7 +31,7 @@ fn keys<R: Threads + Wait + Abort + Sync>(
     keys_over(rt, alloc, &task, &table, &mut seats)
 }
 
-fn key(from: (u8, u8), to: (u8, u8), plies: u8) -> Key {
+pub(crate) fn key(from: (u8, u8), to: (u8, u8), plies: u8) -> Key {
     Key {
         first: Move {
             from: Square {

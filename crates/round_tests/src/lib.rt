@@ -4,6 +4,8 @@
 #[cfg(test)]
 mod all_keys;
 #[cfg(test)]
+mod alone;
+#[cfg(test)]
 mod beginnings;
 #[cfg(test)]
 mod ends;

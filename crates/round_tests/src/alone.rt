@@ -1,0 +1,106 @@
+//! Solves and keys by the test's own thread alone, over a table that is lent.
+ghost use Rattle.std.specs.Prelude.{◌≤◌, IfOk};
+ghost use Rattle.slots.specs.Promise.{IsSeatOf};
+
+use crate::all_keys::key;
+use crate::solves::{expected, root};
+use decision::Answer;
+use entry::MateLore;
+use moves::{Board, Goal, Move, Square};
+use rounds::{Asked, SolveFault, keys_alone, make_table};
+use searcher::{Key, solve_board_alone};
+use slots::{Seat, Slots};
+use std::alloc::Global;
+use std::process::Abort;
+use std::test::*;
+
+// A table and a seat there.
+fn lent(alloc: Global) -> Result<(Slots<MateLore>, Seat), SolveFault>
+    ensures seat { IfOk result (λ lent. IsSeatOf lent.0 lent.1) }
+{
+    let (table, mut seats) = make_table(alloc, 1, 1, 64)?;
+    let seat = seats.take_last();
+    Ok((table, seat))
+}
+
+// The answer of the root within the limit.
+fn solved_alone(rt: &impl Abort, alloc: Global, goal: Goal, limit: u8) -> Result<Answer, SolveFault>
+    requires { limit ≤ 63 }
+{
+    let (table, mut seat) = lent(alloc)?;
+    let board = Board::of(&root(rt));
+    Ok(solve_board_alone(&table, &mut seat, &board, goal, limit))
+}
+
+// The keys of the root within the limit.
+fn found_alone(
+    rt: &impl Abort,
+    alloc: Global,
+    goal: Goal,
+    limit: u8,
+) -> Result<Vec<Key>, SolveFault> {
+    let (table, mut seat) = lent(alloc)?;
+    let asked = Asked {
+        position: &root(rt),
+        goal,
+        limit,
+    };
+    keys_alone(alloc, &asked, &table, &mut seat)
+}
+
+// Whether these are the keys of the root within the limit.
+fn finds(rt: &impl Abort, alloc: Global, goal: Goal, limit: u8, expected: &[Key]) -> bool {
+    match found_alone(rt, alloc, goal, limit) {
+        Ok(found) => found.as_slice() == expected,
+        Err(_) => false,
+    }
+}
+
+// The root's move that is stalemate.
+const B1B5: Move = Move {
+    from: Square { file: 1, rank: 0 },
+    to: Square { file: 1, rank: 4 },
+    promotion: None,
+};
+
+#[test]
+fn a_board_is_solved_within_any_limit(rt: HostRuntime) {
+    for limit in [0, 1, 2] {
+        let answer = solved_alone(&rt, rt.alloc(), Goal::Mate, limit);
+        assert!(rt; answer == Ok(Answer::NoneWithin(limit)));
+    }
+    for limit in [3, 4, 63] {
+        assert!(rt; solved_alone(&rt, rt.alloc(), Goal::Mate, limit) == Ok(expected()));
+    }
+    let none = solved_alone(&rt, rt.alloc(), Goal::MateOrStale, 0);
+    assert!(rt; none == Ok(Answer::NoneWithin(0)));
+    let stale = solved_alone(&rt, rt.alloc(), Goal::MateOrStale, 63);
+    assert!(rt;
+        stale
+            == Ok(Answer::Mate {
+                plies: 1,
+                first: B1B5
+            })
+    );
+}
+
+#[test]
+fn keys_by_one_thread(rt: HostRuntime) {
+    let mates = [key((2, 3), (2, 4), 3)];
+    let stales = [key((1, 0), (1, 4), 1)];
+    let none = Vec::new(rt.alloc());
+    assert!(rt; finds(&rt, rt.alloc(), Goal::Mate, 3, mates.as_slice()));
+    assert!(rt; finds(&rt, rt.alloc(), Goal::Mate, 2, none.as_slice()));
+    assert!(rt; finds(&rt, rt.alloc(), Goal::MateOrStale, 2, stales.as_slice()));
+}
+
+#[test]
+fn keys_by_one_thread_within_other_limits_are_refused(rt: HostRuntime) {
+    for limit in [0, 64, 255] {
+        let refused = match found_alone(&rt, rt.alloc(), Goal::Mate, limit) {
+            Ok(_found) => false,
+            Err(fault) => fault == SolveFault::Limit,
+        };
+        assert!(rt; refused);
+    }
+}
