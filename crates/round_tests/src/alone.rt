@@ -1,35 +1,38 @@
 //! Solves and keys by the test's own thread alone, over a table that is lent.
-ghost use Rattle.std.specs.Prelude.{◌≤◌, IfOk};
+ghost use Rattle.std.specs.Prelude.{◌≤◌, All, IfSome};
 ghost use Rattle.slots.specs.Promise.{IsSeatOf};
 
 use crate::all_keys::key;
+use crate::lent_tables::table;
 use crate::solves::{expected, root};
 use decision::Answer;
 use entry::MateLore;
 use moves::{Board, Goal, Move, Square};
-use rounds::{Asked, SolveFault, keys_alone, make_table};
+use rounds::{Asked, SolveFault, keys_alone};
 use searcher::{Key, solve_board_alone};
 use slots::{Seat, Slots};
 use std::alloc::Global;
 use std::process::Abort;
 use std::test::*;
 
-// A table and a seat there.
-fn lent(alloc: Global) -> Result<(Slots<MateLore>, Seat), SolveFault>
-    ensures seat { IfOk result (λ lent. IsSeatOf lent.0 lent.1) }
+// The last seat, taken out.
+fn last_seat(slots: &Slots<MateLore>, seats: &mut Vec<Seat>) -> Option<Seat>
+    requires { All (IsSeatOf slots.now) seats.old.items }
+    ensures { IfSome result (λ seat. IsSeatOf slots.now seat) }
 {
-    let (table, mut seats) = make_table(alloc, 1, 1, 64)?;
-    let seat = seats.take_last();
-    Ok((table, seat))
+    seats.pop()
 }
 
 // The answer of the root within the limit.
-fn solved_alone(rt: &impl Abort, alloc: Global, goal: Goal, limit: u8) -> Result<Answer, SolveFault>
+fn solved_alone(rt: &impl Abort, alloc: Global, goal: Goal, limit: u8) -> Answer
     requires { limit ≤ 63 }
 {
-    let (table, mut seat) = lent(alloc)?;
+    let (slots, mut seats) = table(rt, alloc, 1, 64);
+    let Some(mut seat) = last_seat(&slots, &mut seats) else {
+        panic!(rt; "no seat")
+    };
     let board = Board::of(&root(rt));
-    Ok(solve_board_alone(&table, &mut seat, &board, goal, limit))
+    solve_board_alone(&slots, &mut seat, &board, goal, limit)
 }
 
 // The keys of the root within the limit.
@@ -39,13 +42,16 @@ fn found_alone(
     goal: Goal,
     limit: u8,
 ) -> Result<Vec<Key>, SolveFault> {
-    let (table, mut seat) = lent(alloc)?;
+    let (slots, mut seats) = table(rt, alloc, 1, 64);
+    let Some(mut seat) = last_seat(&slots, &mut seats) else {
+        panic!(rt; "no seat")
+    };
     let asked = Asked {
         position: &root(rt),
         goal,
         limit,
     };
-    keys_alone(alloc, &asked, &table, &mut seat)
+    keys_alone(alloc, &asked, &slots, &mut seat)
 }
 
 // Whether these are the keys of the root within the limit.
@@ -67,20 +73,20 @@ const B1B5: Move = Move {
 fn a_board_is_solved_within_any_limit(rt: HostRuntime) {
     for limit in [0, 1, 2] {
         let answer = solved_alone(&rt, rt.alloc(), Goal::Mate, limit);
-        assert!(rt; answer == Ok(Answer::NoneWithin(limit)));
+        assert!(rt; answer == Answer::NoneWithin(limit));
     }
     for limit in [3, 4, 63] {
-        assert!(rt; solved_alone(&rt, rt.alloc(), Goal::Mate, limit) == Ok(expected()));
+        assert!(rt; solved_alone(&rt, rt.alloc(), Goal::Mate, limit) == expected());
     }
     let none = solved_alone(&rt, rt.alloc(), Goal::MateOrStale, 0);
-    assert!(rt; none == Ok(Answer::NoneWithin(0)));
+    assert!(rt; none == Answer::NoneWithin(0));
     let stale = solved_alone(&rt, rt.alloc(), Goal::MateOrStale, 63);
     assert!(rt;
         stale
-            == Ok(Answer::Mate {
+            == Answer::Mate {
                 plies: 1,
-                first: B1B5
-            })
+                first: B1B5,
+            }
     );
 }
 
