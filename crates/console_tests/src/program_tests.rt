@@ -404,6 +404,8 @@ fn explains_words_of_another_kind(rt: HostRuntime) {
     let words =
         "minimate,--moves,k5/6/2K3/6/6/1R4 w|moves is a command: write it without dashes|minimate,moves,k5/6/2K3/6/6/1R4 w
 minimate,batch,--limit,3,positions|batch reads positions from its input: write '< positions' in place of 'positions'|minimate,batch,--limit,3
+minimate,batch,--limit=3,positions|batch reads positions from its input: write '< positions' in place of 'positions'|minimate,batch,--limit=3
+minimate,batch,--limit=3,--echo,positions|batch reads positions from its input: write '< positions' in place of 'positions'|minimate,batch,--limit=3,--echo
 minimate,batch,--limit,3,k5/6/2K3/6/6/1R4 w|batch reads positions from its input: write solve in place of batch for one position|minimate,solve,--limit,3,k5/6/2K3/6/6/1R4 w
 minimate,--workers,4,solve,--limit,3,k5/6/2K3/6/6/1R4 w|options stand behind the command: write it before --workers|minimate,solve,--workers,4,--limit,3,k5/6/2K3/6/6/1R4 w
 minimate,show,--slots,k5/6/2K3/6/6/1R4 w|show makes no search: leave out --slots|minimate,show,k5/6/2K3/6/6/1R4 w

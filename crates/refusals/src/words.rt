@@ -70,9 +70,22 @@ fn longer(word: &str) -> Option<&'static str> {
     }
 }
 
-/// What a word means that is no option, behind this command and this word. Behind an option it is that one's value.
+/// Whether it is an option of a search that has no value.
+fn is_flag(word: &str) -> bool {
+    matches!(
+        word,
+        "--progress" | "--echo" | "--keys" | "--json" | "--set" | "--tries" | "--figurines"
+    )
+}
+
+/// Whether the word behind it is its value, as far as one can tell of an option that there isn't.
+fn has_value_behind(word: &str) -> bool {
+    word.starts_with("-") && !word.contains("=") && !is_flag(word)
+}
+
+/// What a word means that is no option, behind this command and this word.
 fn lone_hint<'a>(command: &str, last: &str, word: &'a str) -> Option<Hint<'a>> {
-    if last.starts_with("-") || word.starts_with("-") {
+    if has_value_behind(last) || word.starts_with("-") {
         None
     } else if command == "batch" && word.contains("/") && word.contains(" ") {
         Some(Hint::Position)
