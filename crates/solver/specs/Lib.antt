@@ -1,3 +1,4 @@
 -- to be believed
 pub mod Stopping
 pub mod Placing
+pub mod PlaceRule

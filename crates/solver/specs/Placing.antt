@@ -1,5 +1,5 @@
 -- How far a search is told to be.
-use Rattle.std.specs.Prelude.{ℕ, ◌≤◌}
+use Rattle.std.specs.Prelude.{ℕ, ◌+◌, ◌≤◌, ◌/◌, ◌%◌, min}
 use Rattle.solver.specs.declared.listening.Place.{Place}
 
 -- a place that a search can be at: of at most 512 moves some are tried, and nothing is forced within at most 63 plies
@@ -7,3 +7,19 @@ pub record IsPlace (place : Place) : Type 0 where
   pub plies : place.none_within ≤ 63
   pub moves : place.moves ≤ 512
   pub tried : place.tried ≤ place.moves
+
+-- nothing is forced within so many plies, and so many are tried of so many moves
+abbrev pub place : ℕ → ℕ → ℕ → Place
+place none_within tried moves = record { none_within = none_within; tried = tried; moves = moves }
+
+-- the place that a word stands for: its lowest 16 bits are the moves tried, the next 16 the moves, and those above the plies
+abbrev pub place_of : ℕ → Place
+place_of word = place (word / 65536 / 65536) (word % 65536) (word / 65536 % 65536)
+
+-- the place at which a round begins
+abbrev pub begun : ℕ → ℕ → Place
+begun none_within moves = place (min none_within 63) 0 (min moves 512)
+
+-- the place where a move more is tried, up to all
+abbrev pub stepped : Place → Place
+stepped p = place p.none_within (min (p.tried + 1) p.moves) p.moves

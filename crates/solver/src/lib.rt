@@ -3,6 +3,7 @@
 
 mod listening;
 mod making;
+mod place_word;
 mod solver;
 mod solving;
 

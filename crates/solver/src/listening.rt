@@ -1,26 +1,19 @@
 //! What a solver shares with the handle that stops it: the requests, and how far a search is.
 ghost use Rattle.std.specs.Arc.{arc_value};
-ghost use Rattle.stops.specs.Promise.{IsSeatOf, IsAsker, WantsStop, requests};
+ghost use Rattle.stops.specs.Promise.{IsSeatOf, IsAsker, WantsStop, requests, after_stop, after_go_on};
 ghost use Rattle.solver.specs.Placing.{IsPlace};
 
+use crate::place_word::PlaceWord;
 use decision::Stop;
 use std::alloc::Global;
 use std::sync::Arc;
-use std::sync::atomic::AtomicU64;
-use std::sync::atomic::Ordering::SeqCst;
 use stops::{RequestSeat, Requests};
-
-/// A search is of at most so many plies.
-const MOST_PLIES: u64 = 63;
-
-/// A root has at most so many moves.
-const MOST_MOVES: u64 = 512;
 
 /// What both share.
 #[derive(Drop)]
 pub struct Shared {
     pub requests: Requests,
-    pub(crate) place: AtomicU64,
+    pub(crate) place: PlaceWord,
 }
 
 /// How far a search is: nothing is forced within so many plies, and of so many moves of the round so many are tried.
@@ -41,7 +34,7 @@ pub struct Listener {
 }
 
 impl Stop for Listener {
-    ghost use Rattle.std.specs.Prelude.{◌≡◌, ◌≤◌};
+    ghost use Rattle.std.specs.Prelude.{◌≡◌, ◌≤◌, ◌↔◌, IsTrue};
     ghost use Rattle.std.proofs.Common.{◌∙◌, refl, rules};
     ghost use Rattle.std.specs.Arc.{arc_value};
     ghost use Rattle.stops.specs.Promise.{WantsStop, requests};
@@ -50,17 +43,19 @@ impl Stop for Listener {
 
     ghost stays = { λ a b. (arc_value b.shared ≡ arc_value a.shared) × (requests a.seat ≤ requests b.seat) };
 
-    fn is_set(&mut self) -> bool {
+    fn is_set(&mut self) -> bool
+        ensures told { IsTrue result ↔ WantsStop self.new.seat }
+        ensures stays { (arc_value self.new.shared ≡ arc_value self.old.shared) × (requests self.old.seat ≤ requests self.new.seat) }
+    {
         self.shared.requests.is_stopped(&mut self.seat)
     }
 
     fn begin(&self, none_within: u8, moves: u16) {
-        let place = u64::from(none_within) << 32 | u64::from(moves) << 16;
-        self.shared.place.store(place, SeqCst);
+        let _ = self.shared.place.begin(none_within, moves);
     }
 
     fn step(&self) {
-        self.shared.place.fetch_add(1, SeqCst);
+        let _ = self.shared.place.step();
     }
 
     ghost stays_at_once = { λ _. (refl, Prim.search rules) };
@@ -82,6 +77,7 @@ impl StopSource {
     /// The search that is under way, and each that is begun, is to stop, until `go_on`.
     pub fn stop(&mut self)
         ensures stop { WantsStop self.new.seat }
+        ensures one { requests self.new.seat ≡ after_stop (requests self.old.seat) }
         ensures same { arc_value self.new.shared ≡ arc_value self.old.shared }
     {
         self.shared.requests.stop(&mut self.seat);
@@ -90,6 +86,7 @@ impl StopSource {
     /// Searches that are begun from now on aren't to stop. After 2^64 - 1 requests a stop stays one.
     pub fn go_on(&mut self)
         ensures on { (WantsStop self.new.seat → ⊥) ⊎ (requests self.new.seat ≡ 18446744073709551615) }
+        ensures one { requests self.new.seat ≡ after_go_on (requests self.old.seat) }
         ensures same { arc_value self.new.shared ≡ arc_value self.old.shared }
     {
         self.shared.requests.go_on(&mut self.seat);
@@ -99,12 +96,6 @@ impl StopSource {
     pub fn place(&self) -> Place
         ensures { IsPlace result }
     {
-        let place = self.shared.place.load(SeqCst);
-        let moves = (place >> 16 & 0xFFFF).min(MOST_MOVES);
-        Place {
-            none_within: (place >> 32).min(MOST_PLIES) as u32,
-            tried: (place & 0xFFFF).min(moves) as u32,
-            moves: moves as u32,
-        }
+        self.shared.place.look().0
     }
 }

@@ -5,12 +5,12 @@ ghost use Rattle.slots.specs.Promise.{slots_of, IsSize};
 ghost use Rattle.stops.specs.Promise.{requests};
 
 use crate::listening::{Listener, Shared, StopSource};
+use crate::place_word::PlaceWord;
 use crate::solver::Solver;
 use decision::{Memory, Scout};
 use slots::{MakeFault, Slots};
 use std::alloc::{AllocError, Global};
 use std::sync::Arc;
-use std::sync::atomic::AtomicU64;
 use stops::Requests;
 
 /// What listens, and what it listens to.
@@ -19,13 +19,8 @@ fn make_ends(alloc: Global) -> Result<(Listener, StopSource), AllocError>
     ensures none { IfOk result (λ r. (requests r.0.seat ≡ 0) × (requests r.1.seat ≡ 0)) }
 {
     let (requests, asking, hearing) = Requests::make(alloc)?;
-    let shared = Arc::new(
-        alloc,
-        Shared {
-            requests,
-            place: AtomicU64::new(0),
-        },
-    )?;
+    let (place, _) = PlaceWord::make(alloc)?;
+    let shared = Arc::new(alloc, Shared { requests, place })?;
     let again = Arc::try_clone(&shared)?;
     Ok((
         Listener {

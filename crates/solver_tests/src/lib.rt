@@ -3,3 +3,5 @@
 
 #[cfg(test)]
 mod stopped;
+#[cfg(test)]
+mod telling;

@@ -3,16 +3,19 @@ use board::{Position, read_fen};
 use decision::Answer;
 use moves::{Goal, Move, Square};
 use searcher::{Halt, Key, Problem};
-use solver::{Solver, StopSource};
+use solver::{Place, Solver, StopSource};
 use std::alloc::Global;
 use std::process::Abort;
 use std::test::*;
+use wintree::tree_text;
 
+/// Of 17 lawful moves, of which the rook b1 has ten and the king c4 seven, fifteen come before c4c5, which mates.
 const ROOK_MATES_IN_THREE: &[u8] = b"k5/6/2K3/6/6/1R4 w";
 
+/// The king a1 has two lawful moves, to b1 and a2, since a pawn guards b2.
 const NONE_MATES: &[u8] = b"2k2/2p2/2p2/3pp/K4 w";
 
-fn read<R: Abort>(rt: &R, text: &[u8]) -> Position {
+pub(crate) fn read<R: Abort>(rt: &R, text: &[u8]) -> Position {
     let Ok(position) = read_fen(text) else {
         panic!(rt; "no position")
     };
@@ -27,7 +30,7 @@ fn problem<R: Abort>(rt: &R, position: &Position, limit: u8) -> Problem {
     problem
 }
 
-fn made<R: Abort>(rt: &R, alloc: Global) -> (Solver, StopSource) {
+pub(crate) fn made<R: Abort>(rt: &R, alloc: Global) -> (Solver, StopSource) {
     let Ok(ends) = Solver::make(alloc, 64) else {
         panic!(rt; "no solver")
     };
@@ -40,24 +43,37 @@ const KEY: Move = Move {
     promotion: None,
 };
 
+/// Of so many moves so many are tried, and nothing is forced within so many plies.
+fn at(none_within: u32, tried: u32, moves: u32) -> Place {
+    Place {
+        none_within,
+        tried,
+        moves,
+    }
+}
+
 #[test]
 fn answers_again_and_again(rt: HostRuntime) {
-    let (mut solver, _source) = made(&rt, rt.alloc());
+    let (mut solver, source) = made(&rt, rt.alloc());
+    assert_eq!(rt; source.place(), at(0, 0, 0));
     let third = read(&rt, ROOK_MATES_IN_THREE);
     let mate = Some(Answer::Mate {
         plies: 3,
         first: KEY,
     });
     assert!(rt; solver.solve(&problem(&rt, &third, 3)) == mate);
+    assert_eq!(rt; source.place(), at(2, 15, 17));
     assert!(rt; solver.solve(&problem(&rt, &third, 1)) == Some(Answer::NoneWithin(1)));
+    assert_eq!(rt; source.place(), at(0, 17, 17));
     assert!(rt; solver.solve(&problem(&rt, &third, 5)) == mate);
     let none = read(&rt, NONE_MATES);
     assert!(rt; solver.solve(&problem(&rt, &none, 9)) == Some(Answer::NoneWithin(9)));
+    assert_eq!(rt; source.place(), at(8, 2, 2));
 }
 
 #[test]
-fn finds_keys_and_builds_a_tree(rt: HostRuntime) {
-    let (mut solver, _source) = made(&rt, rt.alloc());
+fn finds_keys(rt: HostRuntime) {
+    let (mut solver, source) = made(&rt, rt.alloc());
     let third = read(&rt, ROOK_MATES_IN_THREE);
     let Ok(keys) = solver.keys(rt.alloc(), &problem(&rt, &third, 3)) else {
         panic!(rt; "no keys")
@@ -67,6 +83,24 @@ fn finds_keys_and_builds_a_tree(rt: HostRuntime) {
         plies: 3,
     }];
     assert!(rt; keys.as_slice() == expected.as_slice());
+    assert_eq!(rt; source.place(), at(0, 17, 17));
+}
+
+// The king a6 may go to a5 alone, where the rook mates it from a1.
+#[test]
+fn builds_a_tree(rt: HostRuntime) {
+    let (mut solver, _source) = made(&rt, rt.alloc());
+    let third = problem(&rt, &read(&rt, ROOK_MATES_IN_THREE), 5);
+    let Some(Answer::Mate { plies, .. }) = solver.solve(&third) else {
+        panic!(rt; "no mate")
+    };
+    let Ok(tree) = solver.tree(rt.alloc(), &third.position, third.goal, plies) else {
+        panic!(rt; "no tree")
+    };
+    let Ok(text) = tree_text(rt.alloc(), &tree) else {
+        panic!(rt; "no text")
+    };
+    assert_eq!(rt; text.as_slice(), "c4c5{a6a5:b1a1#}".as_bytes());
 }
 
 #[test]
@@ -75,9 +109,8 @@ fn is_stopped_until_it_may_go_on(rt: HostRuntime) {
     let none = read(&rt, NONE_MATES);
     source.stop();
     assert!(rt; solver.solve(&problem(&rt, &none, 9)) == None);
-    // a stop is heard where four plies are left, so first in the round of five
-    let place = source.place();
-    assert_eq!(rt; place.none_within, 4);
+    // a stop is heard where four plies are left, so first in the round of five, at its first move
+    assert_eq!(rt; source.place(), at(4, 0, 2));
     let keys = solver.keys(rt.alloc(), &problem(&rt, &none, 9));
     assert!(rt; matches!(&keys, Err(Halt::Stopped)));
     source.go_on();

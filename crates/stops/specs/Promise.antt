@@ -1,5 +1,5 @@
 -- What contracts say of the requests and their seats.
-use Rattle.std.specs.Prelude.{◌≡◌, ℕ, ◌%◌, ◌≤◌, Bool, true, []}
+use Rattle.std.specs.Prelude.{◌≡◌, ℕ, ◌+◌, ◌%◌, ◌≤◌, min, Bool, true, []}
 use mathlib.Core.Option as option
 use lib.ListN.{get_elem?}
 use Rattle.atomic_table.specs.Table.{State}
@@ -27,6 +27,14 @@ IsAsker table seat = IsSeatOf table seat × (asks seat ≡ true)
 -- the last request that it knows of is one for a stop: these have the odd numbers
 abbrev pub WantsStop : Seat (Unit {0}) RequestView → Type 0
 WantsStop seat = requests seat % 2 ≡ 1
+
+-- so many requests there are once a stop is asked for: one more, unless the last is one for a stop
+abbrev pub after_stop : ℕ → ℕ
+after_stop n = n + (n + 1) % 2
+
+-- so many there are once it is asked to go on: one more, if the last is one for a stop, up to 2^64 - 1
+abbrev pub after_go_on : ℕ → ℕ
+after_go_on n = min (n + n % 2) 18446744073709551615
 
 -- of what any seat knows, the seat that asks has made it
 abbrev pub AreMade : State (Unit {0}) RequestView → Type 0

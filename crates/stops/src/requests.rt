@@ -1,6 +1,6 @@
 //! The word, how it is made with its two seats, counted up and read.
 ghost use Rattle.std.specs.Prelude.{◌≡◌, ◌⊎◌, ◌+◌, ◌≤◌, ◌↔◌, IfOk, IsTrue, true, false};
-ghost use Rattle.stops.specs.Promise.{IsSeatOf, IsAsker, requests, asks, WantsStop};
+ghost use Rattle.stops.specs.Promise.{IsSeatOf, IsAsker, requests, asks, WantsStop, after_stop, after_go_on};
 
 use crate::rule::{Ask, Counted, Deal, Hear};
 use crate::views::RequestView;
@@ -45,7 +45,7 @@ impl Requests {
         requires seat { IsAsker self.now seat.old }
         ensures seat { IsAsker self.now seat.new }
         ensures stop { WantsStop seat.new }
-        ensures one { requests seat.new ≤ requests seat.old + 1 }
+        ensures one { requests seat.new ≡ after_stop (requests seat.old) }
     {
         let count = self.count(seat);
         if count % 2 == 0 {
@@ -58,7 +58,7 @@ impl Requests {
         requires seat { IsAsker self.now seat.old }
         ensures seat { IsAsker self.now seat.new }
         ensures on { (WantsStop seat.new → ⊥) ⊎ (requests seat.new ≡ 18446744073709551615) }
-        ensures one { requests seat.new ≤ requests seat.old + 1 }
+        ensures one { requests seat.new ≡ after_go_on (requests seat.old) }
     {
         let count = self.count(seat);
         if count % 2 == 1 && count < u64::MAX {
@@ -70,8 +70,10 @@ impl Requests {
     pub fn is_stopped(&self, seat: &mut RequestSeat) -> bool
         requires seat { IsSeatOf self.now seat.old }
         ensures seat { IsSeatOf self.now seat.new }
+        ensures asks { asks seat.new ≡ asks seat.old }
         ensures stop { IsTrue result ↔ WantsStop seat.new }
         ensures grows { requests seat.old ≤ requests seat.new }
+        ensures own { asks seat.old ≡ true → requests seat.new ≡ requests seat.old }
     {
         self.count(seat) % 2 == 1
     }
