@@ -1,4 +1,5 @@
 -- to be believed
 pub mod Stopping
 pub mod Placing
+-- inside
 pub mod PlaceRule
