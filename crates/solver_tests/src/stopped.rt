@@ -7,7 +7,7 @@ use solver::{Place, Solver, StopSource};
 use std::alloc::Global;
 use std::process::Abort;
 use std::test::*;
-use wintree::tree_text;
+use wintree::{Tree, tree_text};
 
 /// Of 17 lawful moves, of which the rook b1 has ten and the king c4 seven, fifteen come before c4c5, which mates.
 const ROOK_MATES_IN_THREE: &[u8] = b"k5/6/2K3/6/6/1R4 w";
@@ -35,6 +35,24 @@ pub(crate) fn made<R: Abort>(rt: &R, alloc: Global) -> (Solver, StopSource) {
         panic!(rt; "no solver")
     };
     ends
+}
+
+fn text_of<R: Abort>(rt: &R, alloc: Global, tree: &Tree) -> Vec<u8> {
+    let Ok(text) = tree_text(alloc, tree) else {
+        panic!(rt; "no text")
+    };
+    text
+}
+
+/// The text of the tree that shows the mate.
+fn tree_of<R: Abort>(rt: &R, alloc: Global, solver: &mut Solver, problem: &Problem) -> Vec<u8> {
+    let Some(Answer::Mate { plies, .. }) = solver.solve(problem) else {
+        panic!(rt; "no mate")
+    };
+    let Ok(tree) = solver.tree(alloc, &problem.position, problem.goal, plies) else {
+        panic!(rt; "no tree")
+    };
+    text_of(rt, alloc, &tree)
 }
 
 const KEY: Move = Move {
@@ -91,15 +109,7 @@ fn finds_keys(rt: HostRuntime) {
 fn builds_a_tree(rt: HostRuntime) {
     let (mut solver, _source) = made(&rt, rt.alloc());
     let third = problem(&rt, &read(&rt, ROOK_MATES_IN_THREE), 5);
-    let Some(Answer::Mate { plies, .. }) = solver.solve(&third) else {
-        panic!(rt; "no mate")
-    };
-    let Ok(tree) = solver.tree(rt.alloc(), &third.position, third.goal, plies) else {
-        panic!(rt; "no tree")
-    };
-    let Ok(text) = tree_text(rt.alloc(), &tree) else {
-        panic!(rt; "no text")
-    };
+    let text = tree_of(&rt, rt.alloc(), &mut solver, &third);
     assert_eq!(rt; text.as_slice(), "c4c5{a6a5:b1a1#}".as_bytes());
 }
 

@@ -1,10 +1,15 @@
 //! How far a search is, as it is heard while it runs. The numbers are worked out by the rules of play.
+ghost use Rattle.std.specs.Prelude.{◌≤◌, IfSome};
+ghost use Rattle.slots.specs.Promise.{IsSeatOf, AllNew};
+ghost use Rattle.searcher.specs.Roots.{IsRoot};
+
 use crate::stopped::{made, read};
 use decision::{Answer, Memory, Scout, Stop};
+use entry::MateLore;
 use moves::Goal;
 use searcher::{Root, Searcher, solve_by};
-use slots::Slots;
-use solver::{Listener, Place, StopSource};
+use slots::{Seat, Slots};
+use solver::{Listener, Place, Solver, StopSource};
 use std::process::Abort;
 use std::test::*;
 
@@ -38,6 +43,36 @@ impl Stop for Watcher {
     ghost stays_on = { λ _ _ _ _ _. tt };
 }
 
+/// What listens in a solver that is given up.
+fn listener_of(solver: Solver) -> Listener {
+    let scout = solver.scout;
+    scout.stop
+}
+
+/// The last seat, taken out.
+fn last_seat(slots: &Slots<MateLore>, seats: &mut Vec<Seat>) -> Option<Seat>
+    requires { AllNew slots.now seats.old.items }
+    ensures { IfSome result (λ seat. IsSeatOf slots.now seat) }
+{
+    seats.pop()
+}
+
+/// The solve of a root, as one thread makes it.
+fn solved(
+    slots: &Slots<MateLore>,
+    seat: &mut Seat,
+    scout: &mut Scout<Watcher>,
+    root: &Root,
+    limit: u8,
+) -> Option<Answer>
+    requires seat { IsSeatOf slots.now seat.old }
+    requires root { IsRoot root.now }
+    requires limit { limit ≤ 63 }
+{
+    let mut searcher = Searcher { slots, seat, scout };
+    solve_by(&mut searcher, root, limit)
+}
+
 /// What is heard while it is decided that nothing is forced within so many plies.
 fn heard_in<R: Abort + AllocGlobal>(rt: &R, text: &[u8], limit: u8) -> Vec<Place>
     requires { limit ≤ 63 }
@@ -46,23 +81,21 @@ fn heard_in<R: Abort + AllocGlobal>(rt: &R, text: &[u8], limit: u8) -> Vec<Place
     let Ok((slots, mut seats)) = Slots::make(rt.alloc(), 64, 1) else {
         panic!(rt; "no slots")
     };
-    let mut seat = seats.take_last();
-    let mut scout = Scout {
-        stop: Watcher {
-            listener: solver.scout.stop,
-            source,
-            heard: Vec::new(rt.alloc()),
-        },
-        memory: Memory::new(),
+    let Some(mut seat) = last_seat(&slots, &mut seats) else {
+        panic!(rt; "no seat")
     };
+    let stop = Watcher {
+        listener: listener_of(solver),
+        source,
+        heard: Vec::new(rt.alloc()),
+    };
+    let memory = Memory::new();
+    let mut scout = Scout { stop, memory };
     let root = Root::of(&read(rt, text), Goal::Mate);
-    let mut searcher = Searcher {
-        slots: &slots,
-        seat: &mut seat,
-        scout: &mut scout,
-    };
-    assert!(rt; solve_by(&mut searcher, &root, limit) == Some(Answer::NoneWithin(limit)));
-    scout.stop.heard
+    let answer = solved(&slots, &mut seat, &mut scout, &root, limit);
+    assert!(rt; answer == Some(Answer::NoneWithin(limit)));
+    let watcher = scout.stop;
+    watcher.heard
 }
 
 // A lone knight mates nobody: the king c4 has seven moves and the knight b1 three. A search asks where four plies are left, so first in the
@@ -74,7 +107,7 @@ fn tried_grows_move_by_move(rt: HostRuntime) {
     for place in &heard {
         assert_eq!(rt; place.none_within, 4);
         assert_eq!(rt; place.moves, 10);
-        assert!(rt; tried == place.tried || tried + 1 == place.tried);
+        assert!(rt; matches!(place.tried.checked_sub(tried), Some(0 | 1)));
         tried = place.tried;
     }
     assert!(rt; !heard.is_empty());
