@@ -4,10 +4,19 @@ import os
 import sys
 import threading
 import time
-
-import proving
+from typing import NamedTuple
 
 SHARES = os.path.join(os.path.dirname(os.path.abspath(__file__)), "proof_shares.tsv")
+
+
+class Share(NamedTuple):
+    """What the proof of a crate took where the table was made: functions, and seconds of one processor."""
+
+    functions: int
+    seconds: float
+
+
+UNKNOWN = Share(0, 60.0)
 
 
 def read_shares():
@@ -16,7 +25,11 @@ def read_shares():
         return {}
     with open(SHARES, encoding="ascii") as table:
         rows = [line.split("\t") for line in table if not line.startswith("#")]
-    return {row[0]: proving.Share(int(row[1]), float(row[3]), float(row[4]) * 1e9) for row in rows}
+    return {row[0]: Share(int(row[1]), float(row[3])) for row in rows}
+
+
+def processors():
+    return len(os.sched_getaffinity(0))
 
 
 def minutes(seconds):
@@ -27,16 +40,14 @@ def counted(count, what):
     return f"{count} {what}{'s' * (count != 1)}"
 
 
-def quicker(jobs):
-    """How many times as quick as one processor so many are with one check."""
-    return 1 + proving.GAIN * (jobs - 1)
-
-
 class Progress:
     """Tells of the proofs until it is left."""
 
     def __init__(self, proofs, is_first):
         self.proofs, self.is_first, self.at_terminal = proofs, is_first, sys.stderr.isatty()
+        self.shares = read_shares()
+        # How many crates were done when last one was, and when that was.
+        self.done, self.done_at = 0, time.monotonic()
         self.began, self.drawn = time.monotonic(), ""
         self.ended, self.writing = threading.Event(), threading.Lock()
         self.thread = threading.Thread(target=self.draw_until_ended, daemon=True)
@@ -51,38 +62,42 @@ class Progress:
         self.thread.join()
         self.draw("")
 
+    def share_of(self, name):
+        return self.shares.get(name, UNKNOWN)
+
+    def functions_of(self, names):
+        return sum(self.share_of(it).functions for it in names)
+
     def what_begins(self):
         if not self.is_first:
             return "a source has changed: proving what it touches and building again .."
-        waiting = [it for it in self.proofs.names if it not in self.proofs.done]
-        functions = sum(self.proofs.share_of(it).functions for it in waiting)
-        what = f"{counted(functions, 'function')} in {counted(len(waiting), 'crate')}"
+        names = self.proofs.names
+        what = f"{counted(self.functions_of(names), 'function')} in {counted(len(names), 'crate')}"
         left = counted(minutes(self.left()), "minute")
-        return f"building for the first time: {what} are proved first, some {left} on {counted(self.proofs.most, 'idle processor')} .."
+        return f"building for the first time: {what} are proved first, some {left} on {counted(processors(), 'idle processor')} .."
 
     def left(self):
-        """Seconds that the rest may take: the longest chain of checks, or all that is left over all processors, whichever is more."""
-        ahead = {name: self.seconds_left(name) for name in self.proofs.names}
+        """Seconds that the rest may take: the longest chain of crates that stand on each other, or all that is left over all processors,
+        whichever is more. What runs longer than the table says is said to be nearly done."""
+        waiting = [it for it in self.proofs.names if it not in self.proofs.done]
         chain = {}
-        for name in reversed(self.proofs.names):
-            above = [it for it in self.proofs.names if name in self.proofs.crates[it].below]
-            chain[name] = ahead[name] + max((chain[it] for it in above), default=0)
-        return max(max(chain.values()) / quicker(self.proofs.most), sum(ahead.values()) / self.proofs.most)
+        for name in reversed(waiting):
+            above = [it for it in waiting if name in self.proofs.crates[it].below]
+            chain[name] = self.share_of(name).seconds + max((chain[it] for it in above), default=0)
+        whole = max([sum(self.share_of(it).seconds for it in waiting) / processors(), *chain.values()])
+        return max(whole - self.waited(), whole / 10)
 
-    def seconds_left(self, name):
-        """Seconds of one processor that the crate's check may still take. One that takes longer than the table says is said to be nearly done."""
-        seconds, check = self.proofs.share_of(name).seconds, self.proofs.running.get(name)
-        if name in self.proofs.done:
-            return 0
-        took = (time.monotonic() - check.began) * quicker(check.jobs) if check else 0
-        return max(seconds - took, seconds / 10)
+    def waited(self):
+        """Seconds since the last crate was done, or since all began."""
+        if len(self.proofs.done) > self.done:
+            self.done, self.done_at = len(self.proofs.done), time.monotonic()
+        return time.monotonic() - self.done_at
 
     def line(self):
-        """The toolchain tells of a crate's functions when it has ended with all of them."""
-        done, total = (sum(self.proofs.share_of(name).functions for name in names) for names in (list(self.proofs.done), self.proofs.names))
+        """The toolchain tells of a crate's functions when it is done with all of them."""
+        done, total = self.functions_of(list(self.proofs.done)), self.functions_of(self.proofs.names)
         so_far = counted(minutes(time.monotonic() - self.began), "minute")
-        left, under_way = minutes(self.left()), ", ".join(list(self.proofs.running))
-        return f"{done} of {total} functions proved, {so_far} so far, some {left} left ({under_way})"
+        return f"{done} of {total} functions proved, {so_far} so far, some {minutes(self.left())} left"
 
     def draw_until_ended(self):
         while not self.ended.wait(2 if self.at_terminal else 60):

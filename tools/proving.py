@@ -1,7 +1,8 @@
-"""How crates are proved and built, side by side: each once those below it are, over what these state.
+"""How crates are proved and built: by the toolchain's command `rt` alone, in a folder that is made for it.
 
-What is built stands in one folder: of a library NAME.rlib, of a program NAME. Beside it NAME.sum is a sum of all that it was made of, so that
-nothing is proved again that hasn't changed.
+A command of `rt` looks through the whole repository that it is started in, and two of them there wait for each other. So a crate and those that
+it stands on are copied into a folder outside the clone, which is gone again when the work is done. What `rt ci` has proved the toolchain keeps
+beside itself, for any folder: so nothing is proved again there that hasn't changed.
 """
 
 import contextlib
@@ -13,21 +14,18 @@ import shutil
 import signal
 import subprocess
 import sys
-import time
+import tempfile
 from typing import NamedTuple
 
 PARTS = ("src", "specs", "proofs")
-# One processor more makes a check quicker, though not as many times: measured on the crates of the chain, with two and with four.
-GAIN = 0.7
-# So many processes the check has that the others wait for. Each further one makes it dearer, by an eighth, so that it has more only
-# where processors are idle else.
-FEWEST = 2
-# What each further process of one check takes of the first one's memory.
-FURTHER = 0.3
-# How far the checks that others wait for least stand back, in the system's own measure.
-STANDS_BACK = 5
-# What a check starts is a group, which ends whole. It is no session of its own, where it can be: the system shares processors out to
-# sessions first, and who stands back does so within one.
+# What `rt ci` runs a program with: words, input, files, and what has to come of it.
+RUN_WITH = ("args", "stdin", "data", "stdout", "status")
+# The logic by which all was proved, as `rt version` names it.
+LOGIC = "dac8208d650f15bf"
+# So many seconds a command has to end in that was interrupted.
+ENDS_WITHIN = 20
+# What a command starts is a group, which ends whole. It is no session of its own, where it can be: the system shares processors out to
+# sessions first, and who has put the launcher back means the proofs too.
 OWN_GROUP = {"process_group": 0} if sys.version_info >= (3, 11) else {"start_new_session": True}
 
 
@@ -39,12 +37,10 @@ class NotProved(Exception):
 
 
 class Crate(NamedTuple):
-    """A line of crates.txt: the crates of the repository that it names, and the libraries of the toolchain."""
+    """A line of crates.txt, and the crates of the repository that it names."""
 
     name: str
-    is_static: bool
     below: list
-    libraries: list
     line: str
 
 
@@ -53,12 +49,7 @@ def read_crates(top):
     with open(os.path.join(top, "crates.txt"), encoding="utf-8") as file:
         lines = [line.partition("#")[0].strip() for line in file]
     lines = {re.match(r"\w+", line)[0]: line for line in lines if ":" in line}
-    crates = {}
-    for name, line in lines.items():
-        head, _, uses = line.partition(":")
-        below, libraries = [it for it in uses.split() if it in lines], [it for it in uses.split() if it not in lines]
-        crates[name] = Crate(name, "staticlib" in head.split(), below, libraries, line)
-    return crates
+    return {name: Crate(name, [it for it in line.partition(":")[2].split() if it in lines], line) for name, line in lines.items()}
 
 
 def reached(crates, name):
@@ -69,36 +60,76 @@ def reached(crates, name):
     return [*found, name]
 
 
-def sources_of(top, name):
+def sources_of(top, name, parts=PARTS):
     """All files of a crate that are proved, and their folders, since a file that was removed counts by its folder."""
-    for part in PARTS:
-        for folder, _, files in os.walk(os.path.join(top, "crates", name, part)):
+    for part in parts:
+        path = os.path.join(top, "crates", name, part)
+        if os.path.isfile(path):
+            yield path
+        for folder, _, files in os.walk(path):
             yield folder
             yield from (os.path.join(folder, file) for file in files)
-
-
-def copy_sources(top, name, room):
-    """What is proved of a crate, in the same place of another folder."""
-    for part in PARTS:
-        source = os.path.join(top, "crates", name, part)
-        if os.path.isdir(source):
-            shutil.copytree(source, os.path.join(room, "crates", name, part))
 
 
 def is_program(top, name):
     return os.path.isfile(os.path.join(top, "crates", name, "src", "main.rt"))
 
 
-# The machine
+# A folder of their own
 
 
-def processors():
-    return len(os.sched_getaffinity(0))
+def end_tidily():
+    """SIGTERM ends this process as other ends do, so that what it has started ends too, and no folder stays."""
+    signal.signal(signal.SIGTERM, lambda number, _: sys.exit(128 + number))
 
 
-def free_memory():
-    with open("/proc/meminfo", encoding="ascii") as file:
-        return 1024 * int(re.search(r"MemAvailable:\s+(\d+)", file.read())[1])
+@contextlib.contextmanager
+def own_folder(hold=contextlib.nullcontext):
+    """A new folder, which is gone again afterwards. While `hold` is entered no signal is heard."""
+    room = None
+    try:
+        with hold():
+            room = tempfile.mkdtemp(prefix="minimate-")
+        yield room
+    finally:
+        with hold():
+            if room:
+                shutil.rmtree(room, ignore_errors=True)
+
+
+def lay_out(top, names, folder, lines=None):
+    """Makes a repository of these crates and of those that they stand on: their sources, and their lines of crates.txt, but for those given here. No
+    other crate of tests is there and no wrong body, so `rt ci` does no more than they need. Answers the crates, lowest first."""
+    crates = read_crates(top)
+    found = list(dict.fromkeys(it for name in names for it in reached(crates, name)))
+    # By it `rt` sees that the repository begins here.
+    os.makedirs(os.path.join(folder, ".git"))
+    shutil.copyfile(os.path.join(top, "HANDLES"), os.path.join(folder, "HANDLES"))
+    for path in [it for name in found for it in sources_of(top, name, PARTS + RUN_WITH)]:
+        place = os.path.join(folder, os.path.relpath(path, top))
+        if os.path.isdir(path):
+            os.makedirs(place, exist_ok=True)
+        else:
+            os.makedirs(os.path.dirname(place), exist_ok=True)
+            shutil.copyfile(path, place)
+    with open(os.path.join(folder, "crates.txt"), "w", encoding="utf-8") as file:
+        file.writelines(f"{(lines or {}).get(name, crates[name].line)}\n" for name in found)
+    return found
+
+
+def sum_of(top, name, version, lines=None):
+    """A sum of all that a crate is built of: its files, those of the crates below it, their lines, and which toolchain it is."""
+    crates = read_crates(top)
+    whole = hashlib.sha256(version.encode())
+    for crate in reached(crates, name):
+        whole.update(f"\0{(lines or {}).get(crate, crates[crate].line)}\0".encode())
+        for path in sorted(it for it in sources_of(top, crate) if os.path.isfile(it)):
+            with open(path, "rb") as file:
+                whole.update(os.fsencode(os.path.relpath(path, top)) + b"\0" + hashlib.sha256(file.read()).digest())
+    return whole.hexdigest()
+
+
+# The toolchain
 
 
 class Kit:
@@ -108,33 +139,62 @@ class Kit:
         found = [path for path in (shutil.which("rt"), "/opt/rattle/bin/rt") if path and os.access(path, os.X_OK)]
         if not found:
             raise NotProved("found no rt on the path, nor in /opt/rattle/bin: install the toolchain")
-        self.rt, self.folder = found[0], os.path.dirname(os.path.dirname(os.path.realpath(found[0])))
-        self.rattle, self.toolchain = self.path("bin/rattle"), self.path("toolchain")
-        if not os.access(self.rattle, os.X_OK):
-            raise NotProved(f"found no rattle at {self.rattle}, beside {self.rt}: install the toolchain anew")
-        said = subprocess.run([self.rattle, "build", "--help"], stdin=subprocess.DEVNULL, capture_output=True, check=False, text=True)
-        # Without it a library is built with its proofs, which serves as well, and takes longer to read.
-        self.states = "--statements" in said.stdout
-        self.name = ""
-        with contextlib.suppress(OSError), open(self.path("KIT-ID"), encoding="utf-8") as file:
-            self.name = file.read()
+        self.rt = found[0]
+        self.version = self.answer("version")
+        if "logic" not in self.version.split():
+            raise NotProved(f"`{self.rt} version` names no logic, but `{self.version}`: install a newer toolchain, of logic {LOGIC}")
 
-    def path(self, below):
-        return os.path.join(self.folder, below)
+    def answer(self, word):
+        """The line that `rt` has for this word."""
+        try:
+            ran = subprocess.run([self.rt, word], stdin=subprocess.DEVNULL, stdout=subprocess.PIPE, stderr=subprocess.STDOUT, check=False)
+        except OSError as error:
+            raise NotProved(f"`{self.rt} {word}` can't be run: {error.strerror}: install the toolchain anew") from error
+        lines = ran.stdout.decode(errors="replace").splitlines()
+        if ran.returncode or not lines:
+            raise NotProved(f"`{self.rt} {word}` ended with status {ran.returncode}: install a newer toolchain, of logic {LOGIC}")
+        return lines[0].strip()
 
-    def words(self, crate, root, built, jobs):
-        """What a check of the crate is told, over the libraries in the folder `built`."""
-        words = ["--crate-name", crate.name, os.path.join("src", root), "-L", f"dependency={self.path('rlibs')}", "-L", f"dependency={built}"]
-        for library in ["std", *crate.libraries]:
-            words += ["--extern", f"{library}={self.path(os.path.join('rlibs', library))}.rlib"]
-        for below in crate.below:
-            words += ["--extern", f"{below}={os.path.join(built, below)}.rlib"]
-        words += ["--antt-project", self.path("rattle/logic/antt-project.json"), "--logic-built", self.path("logic_built")]
-        return [*words, "--links", f"{crate.name}=", "--jobs", str(jobs)]
+    def has_logic(self):
+        """Whether its logic is the one by which all was proved."""
+        return self.version.split()[-1] == LOGIC
 
-    def link_words(self, made, program):
-        words = [self.path("bin/rattle-link"), "--target", "x86_64-unknown-linux-gnu", "--toolchain", self.toolchain, "-o", program]
-        return [*words, made, self.path("c/libos_c.a"), self.path("c/liblibc_c.a")]
+    def file(self, place):
+        """A file of the toolchain, by its place in the toolchain's folder, in which the page lies that `rt doc` names."""
+        page = self.answer("doc")
+        folder = os.path.dirname(page)
+        while not os.path.isfile(os.path.join(folder, place)):
+            if folder == os.path.dirname(folder):
+                raise NotProved(f"found no {place} in the toolchain's folder, that of {page}: install the toolchain anew")
+            folder = os.path.dirname(folder)
+        return os.path.join(folder, place)
+
+
+@contextlib.contextmanager
+def started(kit, words, folder, hold=contextlib.nullcontext):
+    """A command of `rt` in a folder, whose lines are read of it. What of it still runs in the end is interrupted, as by a key at a terminal."""
+    process = None
+    try:
+        with hold():
+            how = {"stdin": subprocess.DEVNULL, "stdout": subprocess.PIPE, "stderr": subprocess.STDOUT, **OWN_GROUP}
+            process = subprocess.Popen([kit.rt, *words], cwd=folder, encoding="utf-8", errors="replace", **how)
+        yield process
+    finally:
+        with hold():
+            if process and process.poll() is None:
+                end(process)
+            if process:
+                process.stdout.close()
+
+
+def end(process):
+    """Interrupts the command and all that it has started, and ends what doesn't heed that."""
+    for number, seconds in ((signal.SIGINT, ENDS_WITHIN), (signal.SIGKILL, None)):
+        with contextlib.suppress(ProcessLookupError):
+            os.killpg(process.pid, number)
+        with contextlib.suppress(subprocess.TimeoutExpired):
+            process.communicate(timeout=seconds)
+            return
 
 
 @contextlib.contextmanager
@@ -149,193 +209,68 @@ def alone(top, say):
         yield
 
 
-# Checks
+# What `rt` says
+
+HEAD = re.compile(r"== (\w+)$")
+PROVED = re.compile(r"rt: (\w+) proved$")
+WRONG = re.compile(
+    r"(?:note: )?\S+\.(?:rt|antt):\d+:\d+: (?!warning|note)|fn \S+: (?:not proved|no proof|could not tell)|error\b|\w+: error\b"
+    r"|rt: (?!\w+ proved|\w+: trying|chose|waiting)"
+)
 
 
-class Share(NamedTuple):
-    """What the check of a crate took where the table was made: functions, seconds of one processor, and bytes."""
+def fault_of(lines):
+    """The line that says first what is wrong, with the crate in whose lines it stands; or the last line."""
+    proved, name = {PROVED.match(line)[1] for line in lines if PROVED.match(line)}, ""
+    for line in lines:
+        if HEAD.match(line):
+            name = HEAD.match(line)[1]
+        elif PROVED.match(line):
+            name = ""
+        elif name not in proved and WRONG.match(line):
+            return f"{name} isn't proved: {line.strip()}" if name else line.strip()
+    return next((line.strip() for line in reversed(lines) if line.strip()), "the toolchain said nothing")
 
-    functions: int
-    seconds: float
-    memory: float
 
-
-UNKNOWN = Share(0, 60.0, 3e9)
-
-
-class Check:
-    """The toolchain's run for one crate, and all that it starts."""
-
-    def __init__(self, name, words, log, folder, jobs, stands_back):
-        self.name, self.log, self.jobs, self.began = name, log, jobs, time.monotonic()
-        self.status, self.seconds, self.clock, self.memory = None, 0.0, 0.0, 0
-        with open(log, "w", encoding="utf-8") as said:
-            how = {"stdin": subprocess.DEVNULL, "stdout": said, "stderr": subprocess.STDOUT, **OWN_GROUP}
-            self.process = subprocess.Popen(words, cwd=folder, **how)
-        os.setpriority(os.PRIO_PROCESS, self.process.pid, os.getpriority(os.PRIO_PROCESS, 0) + stands_back)
-
-    def has_ended(self):
-        """Whether the run is over: then its status is known, and what it took of processors."""
-        pid, status, usage = os.wait4(self.process.pid, os.WNOHANG)
-        if pid:
-            self.status = self.process.returncode = os.waitstatus_to_exitcode(status)
-            self.seconds, self.memory = usage.ru_utime + usage.ru_stime, 1024 * usage.ru_maxrss
-            self.clock = time.monotonic() - self.began
-        return pid != 0
-
-    def end(self):
-        if self.status is None:
-            os.killpg(self.process.pid, signal.SIGKILL)
-            self.process.wait()
-
-    def was_killed(self):
-        """A process of the toolchain was killed, as it says with a status of its own; or it was killed itself."""
-        return self.status in (-signal.SIGKILL, 256 - signal.SIGKILL, 128 + signal.SIGKILL)
+def run(kit, words, folder, has_said, hold=contextlib.nullcontext):
+    """A command of `rt` to its end. The caller is told each line when it comes, and why where it doesn't end well."""
+    lines = []
+    with started(kit, words, folder, hold) as process:
+        for line in process.stdout:
+            lines.append(line.rstrip("\n"))
+            has_said(lines[-1])
+        status = process.wait()
+    if status < 0:
+        raise NotProved(f"`rt {' '.join(words)}` was ended by signal {-status}{', most likely for memory' if status == -signal.SIGKILL else ''}")
+    if status:
+        logic = "" if kit.has_logic() else f" (this toolchain is `{kit.version}`, and all was proved by logic {LOGIC})"
+        raise NotProved(f"{fault_of(lines)}{logic}")
 
 
 class Proofs:
-    """The checks of a crate and of those below it, each once those below it have ended, as many at once as there are processors and memory for."""
+    """The proofs of the crates that one stands on, and of itself, by one run of `rt ci` in a folder of their own."""
 
-    def __init__(self, top, built, name, shares, hold=contextlib.nullcontext):
-        """While `hold` is entered no signal is heard, so that nothing is started, or put into place, by half."""
-        self.top, self.built, self.kit, self.hold = top, built, Kit(), hold
-        self.crates, self.shares = read_crates(top), shares
-        self.names = reached(self.crates, name)
-        self.most = self.most_jobs = processors()
-        self.memory, self.keeps = 0.9 * free_memory(), False
-        self.sums, self.running = {}, {}
-        self.done = [name for name in self.names if self.is_kept(name)]
+    def __init__(self, kit, top, name, folder, hold=contextlib.nullcontext):
+        self.kit, self.folder, self.hold = kit, folder, hold
+        self.crates, self.names = read_crates(top), lay_out(top, [name], folder)
+        self.done = []
 
-    def share_of(self, name):
-        return self.shares.get(name, UNKNOWN)
+    def run(self, log):
+        """Proves and builds all. `rt` minds processors and memory. Its lines go into the log when they come: those of a crate once it is
+        done with that."""
 
-    def chain(self, name):
-        """Seconds of the longest chain of checks that waits for this one, with its own."""
-        above = [it for it in self.names if name in self.crates[it].below]
-        return self.share_of(name).seconds + max((self.chain(it) for it in above), default=0)
+        def has_said(line):
+            log.write(f"{line}\n")
+            log.flush()
+            found = PROVED.match(line)
+            if found and found[1] in self.names and found[1] not in self.done:
+                self.done.append(found[1])
 
-    # What is built
+        run(self.kit, ["ci"], self.folder, has_said, self.hold)
 
-    def sum_of(self, name):
-        """A sum of all that the crate's library is made of: its files, those of the crates below it, and the toolchain. It is taken before the
-        first check, so that an edit from then on makes another one."""
-        if name not in self.sums:
-            whole = hashlib.sha256(f"{self.kit.name}\0{self.crates[name].line}\0".encode())
-            for path in sorted(it for it in sources_of(self.top, name) if os.path.isfile(it)):
-                with open(path, "rb") as file:
-                    whole.update(os.fsencode(os.path.relpath(path, self.top)) + b"\0" + hashlib.sha256(file.read()).digest())
-            for below in self.crates[name].below:
-                whole.update(self.sum_of(below).encode())
-            self.sums[name] = whole.hexdigest()
-        return self.sums[name]
-
-    def made_of(self, name):
-        return os.path.join(self.built, f"{name}.sum")
-
-    def path_of(self, name):
-        """Where a crate's library stands, or the program."""
-        crate = self.crates[name]
-        return os.path.join(self.built, name if is_program(self.top, name) else f"lib{name}.a" if crate.is_static else f"{name}.rlib")
-
-    def is_kept(self, name):
-        """Whether what is built of the crate was built of these very files."""
-        with contextlib.suppress(OSError), open(self.made_of(name), encoding="ascii") as file:
-            return file.read() == self.sum_of(name) and os.path.exists(self.path_of(name))
-        return False
-
-    def words(self, name, jobs):
-        """The toolchain's run that proves and builds the crate."""
-        crate, links = self.crates[name], is_program(self.top, name) or self.crates[name].is_static
-        words = [self.kit.rattle, "build", *self.kit.words(crate, "main.rt" if is_program(self.top, name) else "lib.rt", self.built, jobs)]
-        words += ["--crate-type", "staticlib"] if crate.is_static else []
-        words += ["--toolchain", self.kit.toolchain] if links else ["--statements"] if self.kit.states and not self.keeps else []
-        words += ["--incremental", f"{self.path_of(name)}.kept"] if self.keeps else []
-        return [*words, "-o", f"{self.path_of(name)}.o" if is_program(self.top, name) else self.path_of(name)]
-
-    def link(self, check):
-        """The program of what its check has compiled. What the linker says goes into the log."""
-        program = self.path_of(check.name)
-        with open(check.log, "a", encoding="utf-8") as said:
-            words = self.kit.link_words(f"{program}.o", program)
-            check.status = subprocess.run(words, stdin=subprocess.DEVNULL, stdout=said, stderr=subprocess.STDOUT, check=False).returncode
-
-    # The order
-
-    def ready(self):
-        """Those whose crates below have all been proved, with the longest chain first."""
-        waiting = [it for it in self.names if it not in self.done and it not in self.running]
-        ready = [it for it in waiting if all(below in self.done for below in reached(self.crates, it)[:-1])]
-        return sorted(ready, key=self.chain, reverse=True)
-
-    def memory_of(self, name, jobs):
-        return self.share_of(name).memory * (1 + FURTHER * (jobs - 1))
-
-    def start_ready(self):
-        """Starts what can be. The check that most waits for gets the processors that no other can use, two at least, and the others one each,
-        which stands back where they are full."""
-        ready = self.ready()
-        for name in ready:
-            room = self.memory - sum(self.memory_of(it, check.jobs) for it, check in self.running.items())
-            waited = max((self.chain(it) for it in self.running), default=0)
-            is_first = self.chain(name) >= waited
-            others = len({*ready, *self.running}) - 1
-            jobs = min(self.most, self.most_jobs, max(FEWEST, self.most - others)) if is_first else 1
-            while jobs > 1 and self.memory_of(name, jobs) > room:
-                jobs -= 1
-            if self.running and (len(self.running) >= self.most or self.memory_of(name, jobs) > room):
-                return
-            with self.hold():
-                self.start(name, jobs, 0 if is_first else STANDS_BACK)
-
-    def start(self, name, jobs, stands_back):
-        os.makedirs(self.built, exist_ok=True)
-        for path in (self.made_of(name), self.path_of(name)):
-            shutil.rmtree(path, ignore_errors=True)
-            with contextlib.suppress(OSError):
-                os.remove(path)
-        log, folder = os.path.join(self.built, f"{name}.log"), os.path.join(self.top, "crates", name)
-        self.running[name] = Check(name, self.words(name, jobs), log, folder, jobs, stands_back)
-
-    def run(self, has_ended):
-        """Proves all, or ends all at the first that fails. The caller is told of each check that has ended."""
-        try:
-            while any(it not in self.done for it in self.names):
-                self.start_ready()
-                name = self.wait_for_one()
-                with self.hold():
-                    check = self.running.pop(name)
-                    if check.status == 0 and is_program(self.top, name):
-                        self.link(check)
-                    has_ended(check)
-                    self.judge(check)
-        finally:
-            with self.hold():
-                for check in self.running.values():
-                    check.end()
-
-    def judge(self, check):
-        """A check that ended well is done. One that was killed, most likely for memory, comes again, with nothing beside it."""
-        if check.status == 0:
-            with open(self.made_of(check.name), "w", encoding="ascii") as file:
-                file.write(self.sum_of(check.name))
-            self.done.append(check.name)
-        elif check.was_killed() and (self.most > 1 or check.jobs > 1):
-            self.most = 1
-        else:
-            raise NotProved(f"{check.name} isn't proved: {first_error(check.log)}")
-
-    def wait_for_one(self):
-        """The name of a check that has ended."""
-        while True:
-            for name, check in self.running.items():
-                if check.has_ended():
-                    return name
-            time.sleep(0.1)
-
-
-def first_error(path):
-    """The line of a log that says first what is wrong."""
-    with open(path, encoding="utf-8", errors="replace") as log:
-        lines = [line.strip() for line in log if line.strip()]
-    wrong = re.compile(r"(note: )?\S+\.(rt|antt):\d+:\d+: (?!warning)|fn \S+: (not proved|no proof|could not tell)|error\b|rattle: |rt: (?!chose|waiting)")
-    return next((line for line in lines if wrong.match(line)), lines[-1] if lines else "the toolchain said nothing")
+    def program(self, name):
+        """Where the program stands that was built."""
+        path = os.path.join(self.folder, "crates", name, "out", name)
+        if not os.path.isfile(path):
+            raise NotProved(f"`rt ci` has passed, and left no program at {path}")
+        return path
