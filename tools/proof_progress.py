@@ -74,7 +74,8 @@ class Progress:
         names = self.proofs.names
         what = f"{counted(self.functions_of(names), 'function')} in {counted(len(names), 'crate')}"
         left = counted(minutes(self.left()), "minute")
-        return f"building for the first time: {what} are proved first, some {left} on {counted(processors(), 'idle processor')} .."
+        on = f"on {counted(processors(), 'idle processor')}, less where the toolchain has kept some"
+        return f"building for the first time: {what} are proved first, some {left} {on} .."
 
     def left(self):
         """Seconds that the rest may take: the longest chain of crates that stand on each other, or all that is left over all processors,

@@ -109,7 +109,7 @@ def lay_out(top, names, folder, lines=None):
         place = os.path.join(folder, os.path.relpath(path, top))
         if os.path.isdir(path):
             os.makedirs(place, exist_ok=True)
-        else:
+        elif os.path.isfile(path):
             os.makedirs(os.path.dirname(place), exist_ok=True)
             shutil.copyfile(path, place)
     with open(os.path.join(folder, "crates.txt"), "w", encoding="utf-8") as file:
@@ -211,25 +211,26 @@ def alone(top, say):
 
 # What `rt` says
 
-HEAD = re.compile(r"== (\w+)$")
-PROVED = re.compile(r"rt: (\w+) proved$")
-WRONG = re.compile(
-    r"(?:note: )?\S+\.(?:rt|antt):\d+:\d+: (?!warning|note)|fn \S+: (?:not proved|no proof|could not tell)|error\b|\w+: error\b"
-    r"|rt: (?!\w+ proved|\w+: trying|chose|waiting)"
-)
+# The lines of a crate, or of its tests, and the line behind them where all of it is proved.
+HEAD = re.compile(r"== (.+)$")
+PROVED = re.compile(r"rt: (.+?)(?: are)? proved$")
+# What a proof lacks; and what else keeps a run from its end.
+WRONG = re.compile(r"(?:note: )?\S+\.(?:rt|antt):\d+:\d+: (?!warning|note)|fn \S+: (?:not proved|no proof|could not tell)|(?:\w+: )?error\b")
+REFUSED = re.compile(r"rt: .*\b(?:not|no|cannot|refused|failed|killed|free|wants?)\b")
 
 
 def fault_of(lines):
     """The line that says first what is wrong, with the crate in whose lines it stands; or the last line."""
     proved, name = {PROVED.match(line)[1] for line in lines if PROVED.match(line)}, ""
     for line in lines:
-        if HEAD.match(line):
-            name = HEAD.match(line)[1]
-        elif PROVED.match(line):
-            name = ""
+        if HEAD.match(line) or PROVED.match(line):
+            name = HEAD.match(line)[1] if HEAD.match(line) else ""
         elif name not in proved and WRONG.match(line):
-            return f"{name} isn't proved: {line.strip()}" if name else line.strip()
-    return next((line.strip() for line in reversed(lines) if line.strip()), "the toolchain said nothing")
+            crate, _, tests = name.partition(":")
+            whose = f"the tests of {crate} aren't proved: " if tests else f"{crate} isn't proved: " if crate else ""
+            return f"{whose}{line.strip()}"
+    told = [line.strip() for line in lines if line.strip()]
+    return next((it for it in told if REFUSED.match(it)), told[-1] if told else "the toolchain said nothing")
 
 
 def run(kit, words, folder, has_said, hold=contextlib.nullcontext):
