@@ -98,8 +98,8 @@ def own_folder(hold=contextlib.nullcontext):
 
 
 def lay_out(top, names, folder, lines=None):
-    """Makes a repository of these crates and of those that they stand on: their sources, and their lines of crates.txt, but for those given here. No
-    other crate of tests is there and no wrong body, so `rt ci` does no more than they need. Answers the crates, lowest first."""
+    """Makes a repository of these crates and of those that they stand on: their sources, and their lines of crates.txt, but for those given here.
+    No crate of tests is there, and no wrong body, so `rt ci` does no more than they need. Answers the crates, lowest first."""
     crates = read_crates(top)
     found = list(dict.fromkeys(it for name in names for it in reached(crates, name)))
     # By it `rt` sees that the repository begins here.
@@ -188,13 +188,15 @@ def started(kit, words, folder, hold=contextlib.nullcontext):
 
 
 def end(process):
-    """Interrupts the command and all that it has started, and ends what doesn't heed that."""
-    for number, seconds in ((signal.SIGINT, ENDS_WITHIN), (signal.SIGKILL, None)):
+    """Interrupts the command and all that it has started, and kills what doesn't heed that."""
+    with contextlib.suppress(ProcessLookupError):
+        os.killpg(process.pid, signal.SIGINT)
+    try:
+        process.communicate(timeout=ENDS_WITHIN)
+    except subprocess.TimeoutExpired:
         with contextlib.suppress(ProcessLookupError):
-            os.killpg(process.pid, number)
-        with contextlib.suppress(subprocess.TimeoutExpired):
-            process.communicate(timeout=seconds)
-            return
+            os.killpg(process.pid, signal.SIGKILL)
+        process.wait()
 
 
 @contextlib.contextmanager
