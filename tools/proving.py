@@ -213,9 +213,9 @@ def alone(top, say):
 
 # What `rt` says
 
-# The lines of a crate, or of its tests, and the line behind them where all of it is proved.
+# The lines of a crate, or of its tests; and the line behind them where all of it is proved, or where it was by an earlier run.
 HEAD = re.compile(r"== (.+)$")
-PROVED = re.compile(r"rt: (.+?)(?: are)? proved$")
+PROVED = re.compile(r"rt: (.+?)(?:(?: are)? proved$| is kept: )")
 # What a proof lacks; and what else keeps a run from its end.
 WRONG = re.compile(r"(?:note: )?\S+\.(?:rt|antt):\d+:\d+: (?!warning|note)|fn \S+: (?:not proved|no proof|could not tell)|(?:\w+: )?error\b")
 REFUSED = re.compile(r"rt: .*\b(?:not|no|cannot|refused|failed|killed|free|wants?)\b")
