@@ -12,7 +12,7 @@ use solutions::{Extras, solution_of};
 use std::process::Abort;
 
 /// The text of the solution of a position whose side to move forces the goal within five plies.
-fn text_of<R: Abort + AllocGlobal>(
+pub(crate) fn text_of<R: Abort + AllocGlobal>(
     rt: &R,
     fen: &str,
     notation: Notation,
@@ -41,12 +41,12 @@ fn text_of<R: Abort + AllocGlobal>(
     solution_text(rt.alloc(), notation, &root.board, &solution).expect(rt, "memory")
 }
 
-const LETTERS: Notation = Notation {
+pub(crate) const LETTERS: Notation = Notation {
     symbols: Symbols::Letters,
     goal: Goal::Mate,
 };
 
-const ALL: Extras = Extras {
+pub(crate) const ALL: Extras = Extras {
     set_play: true,
     tries: true,
 };
@@ -103,7 +103,7 @@ fn zugzwangs_set_play_and_a_dual(rt: HostRuntime) {
     assert_eq!(rt;
         text.as_str(),
         "\
-mate in 2, cooked by 11 keys\n\
+mate in 2, cooked by 10 keys\n\
 set play\n  1...Ka6 2.Rc6#\n\
 tries\n\
 1.Rd1? Kc6!\n\
@@ -130,12 +130,9 @@ fn promotions_end_the_game(rt: HostRuntime) {
     assert_eq!(rt;
         text.as_str(),
         "\
-mate in 1, cooked by 2 keys\n\
+mate in 1, cooked by 1 key\n\
 no set play\n\
-tries\n\
-1.Kc3? Ka4!\n\
-1.c5=B? Kb5!\n\
-1.c5=N? Kb5!\n\
+no tries\n\
 1.c5=Q#!\n\
 1.c5=R#!\n"
     );
@@ -147,7 +144,7 @@ fn lines_of_three_moves_by_black(rt: HostRuntime) {
     assert_eq!(rt;
         text.as_str(),
         "\
-mate in 3, cooked by 2 keys\n\
+mate in 3, cooked by 1 key\n\
 no set play\n\
 tries\n\
 1.Ra1+? Ke2!\n\

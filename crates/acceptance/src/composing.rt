@@ -137,16 +137,6 @@ tries\n\
 key b1b5 end\n\
 set\n\
 tries\n\
-- b1a1 a6b6\n\
-- b1b2 a6a5\n\
-- b1b3 a6a5\n\
-- b1b4 a6a5\n\
-- c4c3 a6a5\n\
-- c4d3 a6a5\n\
-- c4b4 a6b6\n\
-- c4d4 a6a5\n\
-- c4c5 a6a5\n\
-- c4d5 a6a5\n\
 ",
         ),
         (
@@ -195,9 +185,6 @@ key c4c5q end\n\
 key c4c5r end\n\
 set\n\
 tries\n\
-- b3c3 a5a4\n\
-- c4c5b a5b5\n\
-- c4c5n a5b5\n\
 ",
         ),
         (

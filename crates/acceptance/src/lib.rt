@@ -26,6 +26,8 @@ mod perft;
 #[cfg(test)]
 mod rules_of_play;
 #[cfg(test)]
+mod searching;
+#[cfg(test)]
 mod sets_of_cells;
 #[cfg(test)]
 mod solving;
@@ -37,3 +39,5 @@ mod turnings;
 mod winning;
 #[cfg(test)]
 mod without_lists;
+#[cfg(test)]
+mod worked_by_hand;

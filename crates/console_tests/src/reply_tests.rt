@@ -221,7 +221,7 @@ fn writes_solutions(rt: HostRuntime) {
         "minimate,solution,--mate,2,k5/6/2K3/6/6/1R4 w||mate in 2;1.Kc5! threat 2.Ra1#;  1...Ka5 2.Ra1#;
 minimate,solution,--limit,3,--set,k5/6/2K3/6/6/1R4 w||mate in 2;no set play;1.Kc5! threat 2.Ra1#;  1...Ka5 2.Ra1#;
 minimate,solution,--limit,3,--figurines,k5/6/2K3/6/6/1R4 w||mate in 2;1.\u{2654}c5! threat 2.\u{2656}a1#;  1...\u{2654}a5 2.\u{2656}a1#;
-minimate,solution,--limit,1,k4/2P2/1K3/5/5 w||mate in 1, cooked by 2 keys;1.c5=Q#!;1.c5=R#!;
+minimate,solution,--limit,1,k4/2P2/1K3/5/5 w||mate in 1, cooked by 1 key;1.c5=Q#!;1.c5=R#!;
 minimate,solution,--limit,1,--goal,stale,k5/6/2K3/6/6/1R4 w||goal in 1;1.Rb5=!;
 minimate,solution,--limit,2,--tries,k5/6/2K3/6/6/1R4 w||none within 2;",
     );

@@ -26,7 +26,8 @@ fn draw_row(text: &mut String, diagram: &Diagram<'_>, row: u8) -> Result<(), All
 
 fn draw_rows(text: &mut String, diagram: &Diagram<'_>) -> Result<(), AllocError>
     ensures { OnOk result (string_bytes text.new
-        ≡ string_bytes text.old ++ flat_map (row_picture (view_of diagram.now)) (range_with_len 0 (width (view_of diagram.now)))) }
+        ≡ string_bytes text.old
+        ++ flat_map (row_picture (view_of diagram.now)) (range_with_len 0 (width (view_of diagram.now)))) }
 {
     for row in 0..diagram.position.game().width() {
         draw_row(text, diagram, row)?;
@@ -65,7 +66,8 @@ fn draw_file(text: &mut String, diagram: &Diagram<'_>, column: u8) -> Result<(),
 
 fn draw_signs(text: &mut String, diagram: &Diagram<'_>) -> Result<(), AllocError>
     ensures { OnOk result (string_bytes text.new
-        ≡ string_bytes text.old ++ flat_map (signs_picture (view_of diagram.now)) (range_with_len 0 (width (view_of diagram.now)))) }
+        ≡ string_bytes text.old
+        ++ flat_map (signs_picture (view_of diagram.now)) (range_with_len 0 (width (view_of diagram.now)))) }
 {
     for n in 0..diagram.position.game().width() {
         draw_rank(text, diagram, n)?;

@@ -5,7 +5,7 @@ use crate::solver_pointer::SolverPointer;
 use crate::stop_pointer::StopPointer;
 use solver::{Solver, StopSource};
 use std::alloc::Global;
-use std::mem;
+use std::{mem, ptr};
 
 /// A solver, or none. It may go to another thread.
 #[derive(Drop)]
@@ -18,9 +18,21 @@ pub struct SolverHandle {
 }
 
 impl SolverHandle {
+    /// No solver.
+    pub fn none(alloc: Global) -> SolverHandle
+        ensures closed { result.full ≡ false }
+    {
+        SolverHandle {
+            full: false,
+            held: SolverPointer::to_none(ptr::null_mut(), alloc),
+            spare: ptr::null_mut(),
+        }
+    }
+
     /// Takes the solver out.
     pub fn take(&mut self, alloc: Global) -> Option<Box<Solver>>
-        ensures taken { MatchOption result ((self.old.full ≡ false) × (self.old.held.value ≡ None)) (λ b. (self.old.full ≡ true) × (self.old.held.value ≡ Some b.value)) }
+        ensures taken { MatchOption result ((self.old.full ≡ false) × (self.old.held.value ≡ None))
+            (λ b. (self.old.full ≡ true) × (self.old.held.value ≡ Some b.value)) }
         ensures closed { self.new.full ≡ false }
     {
         if !self.full {
@@ -53,9 +65,21 @@ pub struct StopHandle {
 }
 
 impl StopHandle {
+    /// Nothing that stops one.
+    pub fn none(alloc: Global) -> StopHandle
+        ensures closed { result.full ≡ false }
+    {
+        StopHandle {
+            full: false,
+            held: StopPointer::to_none(ptr::null_mut(), alloc),
+            spare: ptr::null_mut(),
+        }
+    }
+
     /// Takes it out.
     pub fn take(&mut self, alloc: Global) -> Option<Box<StopSource>>
-        ensures taken { MatchOption result ((self.old.full ≡ false) × (self.old.held.value ≡ None)) (λ b. (self.old.full ≡ true) × (self.old.held.value ≡ Some b.value)) }
+        ensures taken { MatchOption result ((self.old.full ≡ false) × (self.old.held.value ≡ None))
+            (λ b. (self.old.full ≡ true) × (self.old.held.value ≡ Some b.value)) }
         ensures closed { self.new.full ≡ false }
     {
         if !self.full {

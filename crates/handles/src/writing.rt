@@ -57,7 +57,8 @@ fn number_for(keys: &[Key]) -> u32
 
 /// The keys, each on a line, or that there are none.
 fn keys_told(alloc: Global, limit: u8, keys: &[Key]) -> Result<Told, Halt>
-    ensures told { IfOk result (λ told. (told.number ≡ keys_number keys.now) × (told.text.items ≡ keys_text limit keys.now)) }
+    ensures told { IfOk result (λ told.
+        (told.number ≡ keys_number keys.now) × (told.text.items ≡ keys_text limit keys.now)) }
     ensures halt { IfErr result (λ halt. halt ≡ want) }
 {
     let Ok(text) = keys_text(alloc, u32::from(limit), keys) else {
@@ -118,7 +119,8 @@ fn tree_at(alloc: Global, solver: &mut Solver, problem: &Problem) -> Result<Told
 /// The keys at the position of a text, or why there are none to tell.
 fn keys_found(alloc: Global, solver: &mut Solver, asked: &Asked<'_>) -> Result<Told, u32>
     ensures hears { Hears solver.old solver.new }
-    ensures told { IfOk result (λ told. IsTold KeysTold asked.now.fen.now asked.now.stale asked.now.limit told.number told.text.items) }
+    ensures told { IfOk result (λ told.
+        IsTold KeysTold asked.now.fen.now asked.now.stale asked.now.limit told.number told.text.items) }
     ensures why { IfErr result (IsWhy asked.now.fen.now asked.now.limit (IsStopped solver.new)) }
 {
     let Ok(position) = read_sound(asked.fen) else {
@@ -136,7 +138,8 @@ fn keys_found(alloc: Global, solver: &mut Solver, asked: &Asked<'_>) -> Result<T
 /// The best tree at the position of a text, or why there is none to tell.
 fn tree_found(alloc: Global, solver: &mut Solver, asked: &Asked<'_>) -> Result<Told, u32>
     ensures hears { Hears solver.old solver.new }
-    ensures told { IfOk result (λ told. IsTold TreeTold asked.now.fen.now asked.now.stale asked.now.limit told.number told.text.items) }
+    ensures told { IfOk result (λ told.
+        IsTold TreeTold asked.now.fen.now asked.now.stale asked.now.limit told.number told.text.items) }
     ensures why { IfErr result (IsWhy asked.now.fen.now asked.now.limit (IsStopped solver.new)) }
 {
     let Ok(position) = read_sound(asked.fen) else {
@@ -178,8 +181,8 @@ pub fn keys(
     room: &mut [u8],
     length: &mut usize,
 ) -> u32
-    ensures { Writes KeysTold asked.now.fen.now asked.now.stale asked.now.limit room.old handle.old.held.value handle.new.held.value
-        result room.new length.new }
+    ensures { Writes KeysTold asked.now.fen.now asked.now.stale asked.now.limit room.old
+        handle.old.held.value handle.new.held.value result room.new length.new }
 {
     let Some(mut solver) = handle.take(alloc) else {
         *length = 0;
@@ -198,8 +201,8 @@ pub fn tree(
     room: &mut [u8],
     length: &mut usize,
 ) -> u32
-    ensures { Writes TreeTold asked.now.fen.now asked.now.stale asked.now.limit room.old handle.old.held.value handle.new.held.value
-        result room.new length.new }
+    ensures { Writes TreeTold asked.now.fen.now asked.now.stale asked.now.limit room.old
+        handle.old.held.value handle.new.held.value result room.new length.new }
 {
     let Some(mut solver) = handle.take(alloc) else {
         *length = 0;

@@ -170,7 +170,8 @@ pub extern "C" fn minimate_solver_keys(
     room: &mut [u8],
     length: &mut usize,
 ) -> u32
-    ensures { Writes KeysTold fen.now stale limit room.old solver.old.held.value solver.new.held.value result room.new length.new }
+    ensures { Writes KeysTold fen.now stale limit room.old
+        solver.old.held.value solver.new.held.value result room.new length.new }
 {
     let asked = Asked { fen, stale, limit };
     handles::keys(alloc, solver, &asked, room, length)
@@ -187,7 +188,8 @@ pub extern "C" fn minimate_solver_tree(
     room: &mut [u8],
     length: &mut usize,
 ) -> u32
-    ensures { Writes TreeTold fen.now stale limit room.old solver.old.held.value solver.new.held.value result room.new length.new }
+    ensures { Writes TreeTold fen.now stale limit room.old
+        solver.old.held.value solver.new.held.value result room.new length.new }
 {
     let asked = Asked { fen, stale, limit };
     handles::tree(alloc, solver, &asked, room, length)

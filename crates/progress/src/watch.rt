@@ -1,5 +1,7 @@
 //! What is known of a search while it lasts, and the thread that shows it on standard error.
 ghost use Rattle.std.specs.Prelude.{◌≡◌, ◌↔◌, ◌<◌, ◌≤◌, ℕ, IfOk, IfSome, IsTrue, string_bytes};
+ghost use Rattle.atomic_table.specs.Seated.{TableId};
+ghost use Rattle.rounds.specs.Going.{KeepsOn};
 ghost use Rattle.progress.specs.Text.{drawn_text, sign_text};
 ghost use Rattle.progress.specs.declared.sign.Sign.{Sign};
 ghost use Rattle.progress.specs.Signs.{IsRoundAfter, IsSignOf, Watches};
@@ -198,6 +200,11 @@ impl Gate for Watch {
         }
     }
 }
+
+/// In the calls of the gate that draws the sign of life each seat goes on. The function does nothing: its contract is the law.
+pub fn watch_keeps_on()
+    ensures { (table : TableId) → KeepsOn ⟦<Watch as Gate>⟧.keeps table }
+{}
 
 /// Leaves a line behind for each round that has ended with nothing since so many plies, and answers the plies
 /// of the last one. Of a batch's search none is left. A failed write plays no part.

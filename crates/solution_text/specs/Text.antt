@@ -1,5 +1,5 @@
 -- The text of a solution. The attacker's moves are numbered from 1, and a reply that begins a line stands behind `1...`.
-use Rattle.std.specs.Prelude.{◌≡◌, ℕ, suc, ◌+◌, ◌/◌, List, [], ◌∷◌, ◌++◌, Option, None, Some, length, codes}
+use Rattle.std.specs.Prelude.{◌≡◌, ℕ, zero, suc, ◌+◌, ◌/◌, List, [], ◌∷◌, ◌++◌, Option, None, Some, length, codes}
 use Rattle.std.specs.Fmt.{decimal}
 use Rattle.board.specs.Board.{PlainBoard}
 use Rattle.rules.specs.declared.goal.Goal.{Goal}
@@ -108,9 +108,10 @@ abbrev pub goal_word : Goal → List ℕ
 goal_word Mate = codes "mate"
 goal_word MateOrStale = codes "goal"
 
--- that more than one key solves the problem
+-- that keys beside the author's solve the problem too, and how many
 abbrev pub cooked_text : ℕ → List ℕ
-cooked_text (suc (suc n)) = codes ", cooked by " ++ (decimal (suc (suc n)) ++ codes " keys")
+cooked_text (suc (suc zero)) = codes ", cooked by 1 key"
+cooked_text (suc (suc (suc n))) = codes ", cooked by " ++ (decimal (suc (suc n)) ++ codes " keys")
 cooked_text _ = []
 
 -- in how many moves of the attacker, as `mate in 3`

@@ -20,14 +20,18 @@ fn goal_word(goal: Goal) -> &'static str
     }
 }
 
-/// That there are several keys.
+/// How many keys there are beside the author's, if any.
 fn cooked_text<A: Allocator>(alloc: A, keys: usize) -> Result<String<A>, AllocError>
     ensures { IfOk result (λ text. string_bytes text ≡ cooked_text keys) }
 {
-    if keys < 2 {
-        return Ok(String::new(alloc));
+    match keys {
+        0 | 1 => Ok(String::new(alloc)),
+        2 => format!(in alloc; ", cooked by 1 key"),
+        _ => {
+            let others = keys - 1;
+            format!(in alloc; ", cooked by {others} keys")
+        },
     }
-    format!(in alloc; ", cooked by {keys} keys")
 }
 
 /// The number of moves, and of keys where there are several.

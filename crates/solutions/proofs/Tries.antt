@@ -1,5 +1,5 @@
 -- The one reply that refutes a move, and the moves that one reply alone refutes.
-use Rattle.std.proofs.Common.{◌≡◌, ℕ, ◌+◌, ◌-◌, ◌<◌, ◌≤◌, inl, inr, sym, subst, ◌∙◌, arith, List, [], ◌∷◌, ◌++◌, length, take, get_or, All, map, Contains, Option, Some, None, is_some, true, false, MatchOption}
+use Rattle.std.proofs.Common.{◌≡◌, ℕ, ◌+◌, ◌-◌, ◌<◌, ◌≤◌, inl, inr, sym, subst, ◌∙◌, arith, rules, List, [], ◌∷◌, ◌++◌, length, take, get_or, All, map, Contains, Option, Some, None, is_some, true, false, MatchOption}
 use Rattle.std.proofs.lemmas.Bool.{false≢true}
 use Rattle.std.proofs.lemmas.List.{map-append, take_all}
 use Rattle.std.proofs.lemmas.List.Elements.{All-push, All-nil}
@@ -105,14 +105,25 @@ pub record TriesOver (goal : Goal) (b : PlainBoard) (n : ℕ) (xs : List Ply) (t
   pub picks : PicksMoves b.game (IsTried goal b n) xs (firsts_of tries)
   pub each : All (IsTry goal b n) tries
 
+-- nothing is among none
+not_among : (m : Ply) → Contains [] m → ⊥
+not_among m among = omega (arith, among.1)
+
+-- a problem of one move has none
+pub no_tries : (goal : Goal) (b : PlainBoard) (n : ℕ) → n < 2 → (tries : List Try) → tries ≡ [] → ListsTries goal b n tries
+no_tries goal b n one tries none = subst (ListsTries goal b n) (sym none) (record {
+  firsts = record { ordered = search rules; exact = λ m. (λ among. absurd (not_among m among), λ tried. absurd (omega (arith, one, tried.1.several))) };
+  each = All-nil (IsTry goal b n);
+})
+
 module _ (goal : Goal) (b : PlainBoard) (n : ℕ) (xs : List Ply) where
   pub try_none : (tries : List Try) → tries ≡ [] → TriesOver goal b n (take 0 xs) tries
   try_none tries none = subst (TriesOver goal b n (take 0 xs)) (sym none) (record { picks = pick_none b (IsTried goal b n) xs; each = All-nil (IsTry goal b n) })
 
   module _ (lists : ListsLawful b xs) (tries : List Try) (i : ℕ) (m : Ply) (within : i < length xs) (is : m ≡ get_or xs i m) (q : PlainBoard) (move : IsMove b m q) (so_far : TriesOver goal b n (take i xs) tries) where
     -- one reply alone refutes the move
-    pub try_one : (r : Ply) (more : List Try) → more ≡ tries ++ (record { first = m; refutation = r }) ∷ [] → RefutesAlone goal q (n - 2) r → TriesOver goal b n (take (i + 1) xs) more
-    try_one r more pushed alone = subst (TriesOver goal b n (take (i + 1) xs)) (sym pushed) (record {
+    pub try_one : 2 ≤ n → (r : Ply) (more : List Try) → more ≡ tries ++ (record { first = m; refutation = r }) ∷ [] → RefutesAlone goal q (n - 2) r → TriesOver goal b n (take (i + 1) xs) more
+    try_one several r more pushed alone = subst (TriesOver goal b n (take (i + 1) xs)) (sym pushed) (record {
       picks = subst (PicksMoves b.game (IsTried goal b n) (take (i + 1) xs)) (sym (map-append (λ (t : Try). t.first) tries (tried ∷ [])))
           (pick_one b (IsTried goal b n) xs lists (firsts_of tries) i m within is so_far.picks (r, is_try));
       each = All-push (IsTry goal b n) tries tried so_far.each is_try;
@@ -127,7 +138,7 @@ module _ (goal : Goal) (b : PlainBoard) (n : ℕ) (xs : List Ply) where
             refutes.2 (met_here goal q r refutes.0 refutes.1 (n - 2) (key_meets goal b m q move n wins r (refutes.0, refutes.1)))
 
         is_try : IsTry goal b n tried
-        is_try = record { after = q; move = move; no_key = no_key; refutation = alone }
+        is_try = record { several = several; after = q; move = move; no_key = no_key; refutation = alone }
 
     -- none does, or several do
     pub try_skip : ((r : Ply) → RefutesAlone goal q (n - 2) r → ⊥) → TriesOver goal b n (take (i + 1) xs) tries

@@ -77,8 +77,9 @@ pub record RefutesAlone (goal : Goal) (q : PlainBoard) (n : ℕ) (r : Ply) : Typ
   pub refutes : Refutes goal q n r
   pub only : (s : Ply) → Refutes goal q n s → s ≡ r
 
--- a try, which is no key, and the one reply that refutes it
+-- a try of a problem of several moves: a first move that is no key, and the one reply that refutes it
 pub record IsTry (goal : Goal) (b : PlainBoard) (n : ℕ) (t : Try) : Type 0 where
+  pub several : 2 ≤ n
   pub after : PlainBoard
   pub move : IsMove b t.first after
   pub no_key : Wins goal b n t.first → ⊥

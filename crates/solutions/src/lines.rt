@@ -44,7 +44,8 @@ fn extend_line<D: Decider, A: Allocator>(
     requires plies { plies ≤ 63 }
     requires fewest { IsFewest goal board.now plies }
     ensures goes { D.goes decider.old decider.new }
-    ensures line { OnOk result ((rest : List Ply) × (line.new.items ≡ line.old.items ++ rest) × IsBestLine goal board.now plies rest) }
+    ensures line { OnOk result ((rest : List Ply)
+        × (line.new.items ≡ line.old.items ++ rest) × IsBestLine goal board.now plies rest) }
     ensures halt { IfErr result (λ halt. halt ≡ Stopped → D.told decider.new) }
 {
     let Some(attack) = least_move(decider, board, goal, plies) else {

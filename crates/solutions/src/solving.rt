@@ -101,7 +101,8 @@ fn tries_if<D: Decider, A: Allocator>(
     requires root { IsRoot root.now }
     requires plies { plies ≤ 63 }
     ensures goes { D.goes decider.old decider.new }
-    ensures tries { IfOk result (IsWhereAsked (λ list. ListsTries root.now.goal root.now.board plies list.items) asked) }
+    ensures tries { IfOk result (IsWhereAsked
+        (λ list. ListsTries root.now.goal root.now.board plies list.items) asked) }
     ensures halt { IfErr result (λ halt. halt ≡ Stopped → D.told decider.new) }
 {
     if !asked {

@@ -37,7 +37,7 @@ fn refutation_of<D: Decider>(
     Some(found)
 }
 
-/// The tries, where the keys take so many plies.
+/// The tries, where the keys take so many plies: none where they end the game at once.
 pub(crate) fn tries_of<D: Decider, A: Allocator>(
     alloc: A,
     decider: &mut D,
@@ -51,6 +51,9 @@ pub(crate) fn tries_of<D: Decider, A: Allocator>(
     ensures halt { IfErr result (λ halt. halt ≡ Stopped → D.told decider.new) }
 {
     let mut tries = Vec::new(alloc);
+    if plies < 2 {
+        return Ok(tries);
+    }
     for first in root.moves.as_slice() {
         let next = after(&root.board, *first);
         let Some(found) = refutation_of(decider, &next, root.goal, plies.saturating_sub(2)) else {

@@ -45,7 +45,8 @@ impl Stop for Listener {
 
     fn is_set(&mut self) -> bool
         ensures told { IsTrue result ↔ WantsStop self.new.seat }
-        ensures stays { (arc_value self.new.shared ≡ arc_value self.old.shared) × (requests self.old.seat ≤ requests self.new.seat) }
+        ensures stays { (arc_value self.new.shared ≡ arc_value self.old.shared)
+            × (requests self.old.seat ≤ requests self.new.seat) }
     {
         self.shared.requests.is_stopped(&mut self.seat)
     }

@@ -1,6 +1,8 @@
-//! Tests of a solver that lives, and of what stops it.
+//! Tests of a solver that lives, of what stops it, and of the word by which it is asked to.
 #![tactic(auto)]
 
+#[cfg(test)]
+mod requests;
 #[cfg(test)]
 mod stopped;
 #[cfg(test)]

@@ -1,0 +1,86 @@
+//! Solves and keys by one thread. Of the 17 lawful moves of the position the rook b1 has ten and the king c4 seven; fifteen come before
+//! c4c5, which alone mates in three plies: a6a5 is then the one reply, and b1a1 mates.
+
+use crate::tables::{last_seat, position};
+use decision::{Answer, Memory, Never, Scout};
+use entry::MateLore;
+use moves::{Board, Goal, Move, Square};
+use searcher::{
+    Key, Problem, Root, Searcher, keys_alone, least_win, plies_of, solve_alone, solve_board_alone,
+};
+use slots::Slots;
+
+const ROOK_MATES_IN_THREE: &str = "k5/6/2K3/6/6/1R4 w";
+
+const KEY: Move = Move {
+    from: Square { file: 2, rank: 3 },
+    to: Square { file: 2, rank: 4 },
+    promotion: None,
+};
+
+#[test]
+fn a_problem_has_a_limit_of_1_to_63(rt: HostRuntime) {
+    let third = position(&rt, ROOK_MATES_IN_THREE);
+    for (limit, is_one) in [(0, false), (1, true), (63, true), (64, false), (255, false)] {
+        let made = Problem::of(&third, Goal::Mate, limit);
+        assert!(rt; made.is_some() == is_one);
+    }
+}
+
+#[test]
+fn solves_a_problem_and_finds_its_keys(rt: HostRuntime) {
+    let (table, mut seats) = Slots::<MateLore>::make(rt.alloc(), 64, 1).expect(&rt, "a table");
+    let Some(mut seat) = last_seat(&table, &mut seats) else {
+        panic!(rt; "no seat")
+    };
+    let third = position(&rt, ROOK_MATES_IN_THREE);
+    let mate = Answer::Mate {
+        plies: 3,
+        first: KEY,
+    };
+    for (limit, answer) in [
+        (1, Answer::NoneWithin(1)),
+        (2, Answer::NoneWithin(2)),
+        (3, mate),
+        (5, mate),
+    ] {
+        let problem = Problem::of(&third, Goal::Mate, limit).expect(&rt, "a problem");
+        assert!(rt; solve_alone(&table, &mut seat, &problem) == answer);
+        let board = Board::of(&third);
+        assert!(rt; solve_board_alone(&table, &mut seat, &board, Goal::Mate, limit) == answer);
+    }
+    let board = Board::of(&third);
+    let none = solve_board_alone(&table, &mut seat, &board, Goal::Mate, 0);
+    assert!(rt; none == Answer::NoneWithin(0));
+    let problem = Problem::of(&third, Goal::Mate, 3).expect(&rt, "a problem");
+    let keys = keys_alone(rt.alloc(), &table, &mut seat, &problem).expect(&rt, "memory");
+    let expected = [Key {
+        first: KEY,
+        plies: 3,
+    }];
+    assert!(rt; keys.as_slice() == expected.as_slice());
+}
+
+#[test]
+fn the_sixteenth_job_wins(rt: HostRuntime) {
+    let (table, mut seats) = Slots::<MateLore>::make(rt.alloc(), 64, 1).expect(&rt, "a table");
+    let Some(mut seat) = last_seat(&table, &mut seats) else {
+        panic!(rt; "no seat")
+    };
+    let mut scout = Scout {
+        stop: Never,
+        memory: Memory::new(),
+    };
+    let mut searcher = Searcher {
+        slots: &table,
+        seat: &mut seat,
+        scout: &mut scout,
+    };
+    let root = Root::of(&position(&rt, ROOK_MATES_IN_THREE), Goal::Mate);
+    assert_eq!(rt; root.jobs(), 17);
+    assert!(rt; least_win(&mut searcher, &root, 1) == Some(None));
+    assert!(rt; least_win(&mut searcher, &root, 3) == Some(Some(15)));
+    assert!(rt; plies_of(&mut searcher, &root, 15, 5) == Some(Some(3)));
+    assert!(rt; plies_of(&mut searcher, &root, 15, 2) == Some(None));
+    assert!(rt; plies_of(&mut searcher, &root, 0, 3) == Some(None));
+}
