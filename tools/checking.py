@@ -137,7 +137,8 @@ class BenchLine(NamedTuple):
 
 
 def bench_lines():
-    """The lines of all tables, numbered through as bench/mates/run does."""
+    """The lines of cases.tsv, hard.tsv and rook.tsv, numbered through as bench/mates/run does, which has harder.tsv behind them: its 24 lines
+    take too long for the checks."""
     rows = [(name, *row) for name in ("cases", "hard", "rook") for row in rows_of(name)]
     for number, (name, limit, goal, fen, answer, _) in enumerate(rows, 1):
         found = re.match(r"(?:mate|goal) (\d+) (\w+)$", answer)
