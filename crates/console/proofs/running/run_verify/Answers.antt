@@ -1,4 +1,4 @@
-use Rattle.std.proofs.Common.{inl, inr, refl, arith}
+use Rattle.std.proofs.Common.{inl, inr, arith}
 use Rattle.std.proofs.KnownBytes.{Appends-nil}
 use Rattle.refusals.specs.Reply.{answered}
 use Rattle.replies.proofs.ReplyLemmas.{of_input_then}
@@ -11,7 +11,7 @@ returns-in-Ok-clause-runs g c =
     inl (
       omega (arith, verdict.counts),
       of_input_then _ _ _ verdict.given (λ input is.
-          (answered c.in-Ok.text.items, is, rw (← c.as_slice.ensures.value) c.finish.ensures)),
+          (answered c.in-Ok.text.items, is, rw (← c.as_slice.ensures.value) c.finish.ensures.written)),
     )
 
 pub returns-in-Err-Refused-clause-runs : goal.returns-in-Err-Refused-clause-runs
@@ -23,4 +23,4 @@ returns-in-Err-Refused-clause-runs g c =
 pub returns-in-Err-ReadFailed-clause-runs : goal.returns-in-Err-ReadFailed-clause-runs
 returns-in-Err-ReadFailed-clause-runs g c =
     let failed = c.in-Err-ReadFailed in
-    inr (inr (omega (arith, rw failed.field-0-is at failed.ensures.counts), omega arith, refl, Appends-nil _))
+    inr (inr (omega (arith, rw failed.field-0-is at failed.ensures.counts), omega arith, c.fail_to_read.ensures, Appends-nil _))
