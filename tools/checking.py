@@ -121,6 +121,32 @@ def executable(path):
     return os.path.abspath(path) if os.access(path, os.X_OK) and os.path.isfile(path) else stop(f"no program at {path}")
 
 
+class Command(NamedTuple):
+    """A command as the program's help has it: the options that it takes, and whether it searches or reads its input."""
+
+    options: set
+    searches: bool
+    reads: bool
+
+
+def commands(program):
+    """The commands by name, in the order of the help, which is the list of them that all others are held against."""
+    lines = help_of(program).split("\nCommands:\n")[1].split("\n\n")[0]
+    return {name: command_of(program, name) for name in re.findall(r"^  (\w+) ", lines, re.M) if name != "help"}
+
+
+def command_of(program, name):
+    text = help_of(program, name)
+    options = set(re.findall(r"^ {2,6}(?:-\w, )?--([\w-]+)", text, re.M)) - {"help"}
+    about = next(line for line in text.split("\n") if line and not line.startswith("Example: "))
+    return Command(options, "workers" in options, "read from the input" in about)
+
+
+def help_of(program, *words):
+    ran = run([program, *words, "--help"])
+    return ran.error.decode() if ran.status == 2 else stop(f"no help of {' '.join(words)}")
+
+
 # The bench
 
 
