@@ -120,6 +120,17 @@ fn search_refused(fen: &[u8], refusal: Refusal) -> Refused<'_>
     }
 }
 
+/// What was refused to a certificate that begins so.
+fn proof_refused<'a>(subject: &Subject<'a>, beginning: &'a [u8], refusal: Refusal) -> Refused<'a>
+    ensures { result.refusal ≡ refusal }
+{
+    Refused {
+        refusal,
+        fen: subject.fen,
+        asking: Asking::Proof(subject.goal, beginning),
+    }
+}
+
 /// Answers the lines of a batch, or refuses its limits.
 pub fn run_batch<
     R: Threads + Wait + Eprint + Clock + Sync + AllocGlobal,
@@ -165,11 +176,7 @@ fn run_verify<R: AllocGlobal, S: Source + Input, K: Sink, E: Write>(
     match verified(rt.alloc(), subject, reader) {
         Ok(text) => finish(writer, errors, text.as_slice(), ANSWERED),
         Err(Trouble::Refused(refusal)) => {
-            let refused = Refused {
-                refusal,
-                fen: subject.fen,
-                asking: Asking::Proof(subject.goal, reader.beginning()),
-            };
+            let refused = proof_refused(subject, reader.beginning(), refusal);
             refuse_and_tell(rt, writer, errors, &refused)
         }
         Err(Trouble::ReadFailed) => fail_to_read(errors),

@@ -16,13 +16,13 @@ loop-preserved g c = record {
   bounds = c.next_line.ensures.bounds;
   reads = omega (arith, c.in_ok-taken.ensures.counts, c.loop.invariant.reads);
   passed = passed_more c.loop.counter (left_of c.args.unread.now (g.S.Source.remaining c.args.reader.now)) _ _ c.in_ok-taken.taken
-      c.if-is_last.false c.loop.invariant.passed c.in_ok-taken.ensures.takes;
+      c.if-taken.false c.loop.invariant.passed c.in_ok-taken.ensures.takes;
 }
 
-pub returns-then-is_last-clause-passes : goal.returns-then-is_last-clause-passes
-returns-then-is_last-clause-passes g c =
+pub returns-then-taken-clause-passes : goal.returns-then-taken-clause-passes
+returns-then-taken-clause-passes g c =
     passed_all c.args.count c.loop.counter (left_of c.args.unread.now (g.S.Source.remaining c.args.reader.now)) _ _ c.in_ok-taken.taken
-    c.loop-test.true c.if-is_last.true c.loop.invariant.passed c.in_ok-taken.ensures.takes
+    c.loop-test.true c.if-taken.true c.loop.invariant.passed c.in_ok-taken.ensures.takes
 
 pub returns-clause-passes : goal.returns-clause-passes
 returns-clause-passes g c =

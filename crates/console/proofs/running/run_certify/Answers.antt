@@ -14,5 +14,7 @@ returns-in-Ok-clause-silent g c = elim c.write_begun.ensures.silent [
   ]
 ]
 
-pub returns-clause-runs : goal.returns-clause-runs
-returns-clause-runs g c = certificate_refused c.args.subject.now c.args.limits _ c.in-Err.refusal c.in-Err.ensures c.refuse_and_tell.ensures.refuses
+pub returns-in-Err-clause-runs : goal.returns-in-Err-clause-runs
+returns-in-Err-clause-runs g c =
+    certificate_refused c.args.subject.now c.args.limits _ c.in-Err.refusal c.in-Err.ensures
+    (rw c.search_refused-refused.ensures at c.refuse_and_tell.ensures.refuses)

@@ -17,6 +17,7 @@ returns-in-Ok-clause-silent g c = elim c.finish.ensures.silent [
   ]
 ]
 
-pub returns-clause-runs : goal.returns-clause-runs
-returns-clause-runs g c =
-    reply_ran (IsSolutionReply c.args.subject.now c.args.asked.1 c.args.asked.0) _ (Err c.in-Err.refusal) c.in-Err.ensures c.refuse_and_tell.ensures.refuses
+pub returns-in-Err-clause-runs : goal.returns-in-Err-clause-runs
+returns-in-Err-clause-runs g c =
+    reply_ran (IsSolutionReply c.args.subject.now c.args.asked.1 c.args.asked.0) _ (Err c.in-Err.refusal) c.in-Err.ensures
+    (rw c.search_refused-refused.ensures at c.refuse_and_tell.ensures.refuses)

@@ -18,7 +18,7 @@ pub returns-in-Err-Refused-clause-runs : goal.returns-in-Err-Refused-clause-runs
 returns-in-Err-Refused-clause-runs g c =
     let refused = c.in-Err-Refused in
     verify_refused c.args.subject.now _ refused.refusal (omega (arith, rw refused.field-0-is at refused.ensures.counts))
-    (rw refused.field-0-is at refused.ensures.given) c.refuse_and_tell.ensures.refuses
+    (rw refused.field-0-is at refused.ensures.given) (rw c.proof_refused-refused.ensures at c.refuse_and_tell.ensures.refuses)
 
 pub returns-in-Err-ReadFailed-clause-runs : goal.returns-in-Err-ReadFailed-clause-runs
 returns-in-Err-ReadFailed-clause-runs g c =

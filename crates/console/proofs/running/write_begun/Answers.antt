@@ -24,6 +24,6 @@ returns-in-Ok-clause-writes g c =
 
 pub returns-clause-writes : goal.returns-clause-writes
 returns-clause-writes g c =
-    first_cut c.args.begun.line.items _ _ (g.K.Sink.contents c.write_all.new.writer) _ _ 0 _ c.fail_to_write-2.ensures
+    first_cut c.args.begun.line.items _ _ (g.K.Sink.contents c.write_all.new.writer) _ _ 0 _ c.fail_to_write-in-Err.ensures
     (subst (λ (l : List ℕ). AppendsBeginning (g.K.Sink.contents c.args.writer.now) (g.K.Sink.contents c.write_all.new.writer) l) c.as_slice.ensures.value c.in-Err.ensures.beginning)
     c.in-Err.ensures.err
