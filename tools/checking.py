@@ -121,6 +121,32 @@ def executable(path):
     return os.path.abspath(path) if os.access(path, os.X_OK) and os.path.isfile(path) else stop(f"no program at {path}")
 
 
+class Command(NamedTuple):
+    """A command as the program's help has it: the options that it takes, and whether it searches or reads its input."""
+
+    options: set
+    searches: bool
+    reads: bool
+
+
+def commands(program):
+    """The commands by name, in the order of the help, which is the list of them that all others are held against."""
+    lines = help_of(program).split("\nCommands:\n")[1].split("\n\n")[0]
+    return {name: command_of(program, name) for name in re.findall(r"^  (\w+) ", lines, re.M) if name != "help"}
+
+
+def command_of(program, name):
+    text = help_of(program, name)
+    options = set(re.findall(r"^ {2,6}(?:-\w, )?--([\w-]+)", text, re.M)) - {"help"}
+    about = next(line for line in text.split("\n") if line and not line.startswith("Example: "))
+    return Command(options, "workers" in options, "read from the input" in about)
+
+
+def help_of(program, *words):
+    ran = run([program, *words, "--help"])
+    return ran.error.decode() if ran.status == 2 else stop(f"no help of {' '.join(words)}")
+
+
 # The bench
 
 
@@ -137,7 +163,8 @@ class BenchLine(NamedTuple):
 
 
 def bench_lines():
-    """The lines of all tables, numbered through as bench/mates/run does."""
+    """The lines of cases.tsv, hard.tsv and rook.tsv, numbered through as bench/mates/run does, which has harder.tsv behind them: its 24 lines
+    take too long for the checks."""
     rows = [(name, *row) for name in ("cases", "hard", "rook") for row in rows_of(name)]
     for number, (name, limit, goal, fen, answer, _) in enumerate(rows, 1):
         found = re.match(r"(?:mate|goal) (\d+) (\w+)$", answer)

@@ -1,7 +1,7 @@
 """The program's commands by the library: `python -m minimate solve --limit 3 'k5/6/2K3/6/6/1R4 w'`.
 
 They print what `minimate` prints, with its statuses: 0 an answer, 1 a refusal, 2 words that are no command, 3 want of memory, 4 a read or
-a write that failed, and 125 that there is no library. There is no `batch`, and no `--workers`: one thread searches.
+a write that failed, and 125 that there is no library. There is no `solution`, `certify` or `batch`, and no `--workers`: one thread searches.
 """
 
 import argparse
@@ -43,7 +43,7 @@ def reader() -> argparse.ArgumentParser:
     words.formatter_class = argparse.RawDescriptionHelpFormatter
     words.add_argument("--version", action="version", version=f"minimate {minimate.__version__}")
     words.add_argument("command", choices=list(COMMANDS), help="what is asked; `check` reads a tree on its input, `verify` a certificate")
-    words.add_argument("fen", metavar="FEN", help="the position, as one word")
+    words.add_argument("fen", metavar="FEN", nargs="+", help="the position, as one word; behind `after` a move too")
     words.add_argument("--limit", metavar="N", type=number, action=Once, help="of a search: the most plies, 1 to 63")
     words.add_argument("--slots", metavar="S", type=number, action=Once, help="of a search: slots of the table, 1 to 1048576")
     words.add_argument("--goal", choices=["mate", "stale"], action=Once, help="of a search, a check or a certificate: stale is mate or stalemate")
@@ -62,6 +62,10 @@ def read_words(words: List[str]) -> argparse.Namespace:
     for option in asked.given:
         if option not in takes:
             parser.error(f"{asked.command} takes no {option}")
+    fen, *more = asked.fen
+    if len(more) != (asked.command == "after"):
+        parser.error(f"{asked.command} takes {'a position and a move' if asked.command == 'after' else 'one position'}")
+    asked.fen, asked.move = fen, more[0] if more else None
     if asked.command in SEARCHES and asked.limit is None:
         parser.error(f"{asked.command} needs --limit N")
     return asked
@@ -128,6 +132,10 @@ def shown(_: argparse.Namespace, position: Position) -> str:
     return str(position)
 
 
+def played(asked: argparse.Namespace, position: Position) -> str:
+    return position.after(asked.move).fen()
+
+
 COMMANDS: Dict[str, Callable[[argparse.Namespace, Position], str]] = {
     "solve": searched,
     "keys": searched,
@@ -136,6 +144,7 @@ COMMANDS: Dict[str, Callable[[argparse.Namespace, Position], str]] = {
     "verify": verified,
     "moves": listed,
     "show": shown,
+    "after": played,
 }
 
 

@@ -5,7 +5,7 @@ from typing import Union
 from . import _calls
 from .answers import Answer, read_answer
 from .positions import Position
-from .refusals import answered
+from .refusals import Refused, answered, first_line_sentence
 from .solver import counts_stale
 
 
@@ -16,4 +16,9 @@ def verify(position: Union[Position, str], certificate: Union[bytes, str], goal:
     """
     asked = position if isinstance(position, Position) else Position(position)
     text = certificate.encode("utf-8", "surrogateescape") if isinstance(certificate, str) else bytes(certificate)
-    return read_answer(answered(_calls.calls().ask("verify", asked.text.encode(), counts_stale(goal), text)))
+    try:
+        return read_answer(answered(_calls.calls().ask("verify", asked.text.encode(), counts_stale(goal), text)))
+    except Refused as why:
+        if why.name == "Answer":
+            raise Refused(why.name, first_line_sentence(text, counts_stale(goal))) from None
+        raise

@@ -14,6 +14,8 @@ SENTENCES = {
     "Move": "no lawful move has this name: a move is two squares and what a pawn becomes, as c4c5q",
     "NoMemory": "memory is wanting: a search takes less with fewer --slots or --workers",
 }
+# How many bytes of a certificate are looked at for what is wrong with its first line.
+MOST_KNOWN = 64
 NO_TREE = "the input begins with no move: where `tree` wrote no tree, there is none to check"
 BROKEN_TREE = (
     "after its first {} bytes the input is no tree: a tree is a move with # or =, or with replies, as c4c5{{a6a5:b1a1#}}"
@@ -52,6 +54,19 @@ class NoMemory(MemoryError):
 
     def __str__(self) -> str:
         return self.sentence
+
+
+def first_line_sentence(certificate: bytes, counts_stale: bool) -> str:
+    """What is wrong with the first line of a certificate, as the program says it."""
+    known = certificate[:MOST_KNOWN]
+    line = known[: known.find(b"\n") + 1] or known
+    if line.startswith(b"mate " if counts_stale else b"goal "):
+        return f"the first line is an answer for the other goal: {'leave out' if counts_stale else 'add'} --goal stale"
+    if line.endswith(b"\r\n"):
+        return "the first line ends with a carriage return: end each line with a line feed alone"
+    if line and len(line) < MOST_KNOWN and not line.endswith(b"\n"):
+        return "the first line has no line feed: write one behind it"
+    return SENTENCES["Answer"].replace("mate 3 c4c5", "goal 1 b1b5") if counts_stale else SENTENCES["Answer"]
 
 
 def named(name: str, offset: Optional[int] = None) -> Refused:

@@ -35,9 +35,9 @@ def bench_lines():
 
 
 def told_refusals():
-    """The rows of the table of refusals: the name, what was given, in which bytes stand as \\xff, and the sentence."""
+    """The rows of the table of refusals but those of a batch: the name, what was given, in which bytes stand as \\xff, and the sentence."""
     with open(os.path.join(TOP, "tools", "sentences.tsv"), encoding="utf-8") as table:
-        rows = re.findall(r"^([\w ]+)\t`(.+)`\t(.+)$", table.read(), flags=re.M)
+        rows = [row for row in re.findall(r"^([\w ]+)\t`(.+)`\t(.+)$", table.read(), flags=re.M) if not row[1].startswith("batch`")]
     return [(name, given.encode().decode("unicode_escape").encode("latin-1").decode(), sentence) for name, given, sentence in rows]
 
 
@@ -142,7 +142,9 @@ class Refusals(unittest.TestCase):
             value = int(given.split()[1])
             return lambda: Solver(slots=value if name == "Slots" else 64).solve(ROOK, value if name == "Limit" else 3)
         if name in ("Answer", "Claim at line"):
-            return lambda: verify(ROOK, given.split("`")[-1] + "\n")
+            found = re.fullmatch("verify((?: --goal stale)?)`(, without its line feed)?: `(.*)", given, flags=re.S)
+            assert found
+            return lambda: verify(ROOK, found[3] + ("" if found[2] else "\n"), "stale" if found[1] else "mate")
         if name.startswith("Grammar"):
             return lambda: Solver().check(ROOK, given)
         return lambda: Position(given)

@@ -72,4 +72,5 @@ complete -c minimate -n '__fish_seen_subcommand_from batch' -l echo -d 'Writes t
 complete -c minimate -n '__fish_seen_subcommand_from batch' -l keys -d 'Writes the keys of each position'
 complete -c minimate -n '__fish_seen_subcommand_from batch' -l json -d 'Writes each reply as a JSON object on a line of its own'
 complete -c minimate -n '__fish_seen_subcommand_from batch' -l lines -x -a '' -d 'How many lines the input has'
+complete -c minimate -n '__fish_seen_subcommand_from batch' -l skip -x -a '' -d 'How many lines at the beginning of the input are left out'
 complete -c minimate -n '__fish_seen_subcommand_from batch' -l help -d 'Print help (see a summary with -h)'

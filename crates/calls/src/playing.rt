@@ -6,7 +6,7 @@ ghost use Rattle.refusals.specs.declared.refusal.Refusal.TheVariants.{NoMemory a
 ghost use Rattle.calls.specs.Playing.{IsFaultReply};
 
 use moves::read_sound;
-use refusals::{Refusal, Refused, advise, refused_text};
+use refusals::{Asking, Refusal, Refused, advise, refused_text};
 use std::alloc::Allocator;
 
 /// What standard error would be told of the refusal of this text.
@@ -17,7 +17,7 @@ fn sentence_of<A: Allocator>(alloc: A, refusal: Refusal, fen: &[u8]) -> Result<V
     let refused = Refused {
         refusal,
         fen,
-        line: None,
+        asking: Asking::Plain,
     };
     match advise(&mut sentence, &refused) {
         Ok(()) => Ok(sentence),

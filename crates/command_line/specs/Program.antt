@@ -115,10 +115,14 @@ echo_rule = flag_rule (codes "echo")
 abbrev pub lines_rule : Rule
 lines_rule = number_rule (codes "lines")
 
--- `batch [--echo] [--keys] [--json] [--lines L]`, and the options of a search
+-- the lines at the beginning of the input that are left out
+abbrev pub skip_rule : Rule
+skip_rule = number_rule (codes "skip")
+
+-- `batch [--echo] [--keys] [--json] [--lines L] [--skip L]`, and the options of a search
 abbrev pub batch_app : App
-batch_app =
-    with_rule (with_rule (with_rule (with_rule (limits_app (new_app (codes "batch"))) echo_rule) (flag_rule (codes "keys"))) (flag_rule (codes "json"))) lines_rule
+batch_app = with_rule (with_rule (with_rule (with_rule (with_rule (limits_app (new_app (codes "batch")))
+    echo_rule) (flag_rule (codes "keys"))) (flag_rule (codes "json"))) lines_rule) skip_rule
 
 -- the program without its commands
 abbrev pub bare_app : App

@@ -73,12 +73,17 @@ MeansAction name rows (Show drawing) = (name ≡ codes "show") × HasDrawing row
 abbrev pub HasLine : Text → List Row → Line → Type 0
 HasLine name rows line = (first_of (codes "FEN") rows ≡ Some line.fen.now) × MeansAction name rows line.action
 
--- what was found for the manner of a batch: whether the positions are written too, whether keys are, and as JSON, and a number of lines, where one is given
+-- what was found for the option of that name: its number, or that none is given
+abbrev pub HasNumberIfGiven : Text → List Row → Option ℕ → Type 0
+HasNumberIfGiven id rows given = MatchOption given ((n : ℕ) → HasNumber id rows n → ⊥) (HasNumber id rows)
+
+-- what was found for the manner of a batch: whether the positions are written too, whether keys are, and as JSON, how many lines there are, and are left out
 pub record HasManner (rows : List Row) (manner : Manner) : Type 0 where
   pub echo : IsTrue manner.echo ↔ IsGiven (codes "echo") rows
   pub keys : IsTrue manner.keys ↔ IsGiven (codes "keys") rows
   pub json : IsTrue manner.json ↔ IsGiven (codes "json") rows
-  pub lines : MatchOption manner.lines ((n : ℕ) → HasNumber (codes "lines") rows n → ⊥) (HasNumber (codes "lines") rows)
+  pub lines : HasNumberIfGiven (codes "lines") rows manner.lines
+  pub skip : HasNumberIfGiven (codes "skip") rows manner.skip
 
 -- what was found of what a solution tells
 pub record HasTelling (rows : List Row) (telling : Telling) : Type 0 where

@@ -238,6 +238,13 @@ How many lines the input has, or 0: shows on standard error, at most
 once a second, how many are answered and how long the rest may take.
 The launcher gives it where standard error alone is a terminal.";
 
+pub const SKIP: &str = "How many lines at the beginning are left out";
+
+pub const SKIP_MORE: &str = "\
+How many lines at the beginning of the input are left out: they have
+no reply, and keep their numbers. So a batch that was interrupted goes
+on behind the lines that have their replies.";
+
 pub const FEN: &str = "The position as one word, as 'k5/6/1K4/6/6/5R w'";
 
 pub const FEN_MORE: &str = "\

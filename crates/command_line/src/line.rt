@@ -42,6 +42,8 @@ pub struct Manner {
     pub json: bool,
     /// How many lines the input has, which standard error is told; 0 where they aren't known.
     pub lines: Option<u32>,
+    /// How many lines at its beginning are left out, where some are.
+    pub skip: Option<u32>,
 }
 
 /// A move to be played at a position.

@@ -12,7 +12,7 @@ ghost use Rattle.command_line.specs.declared.line.Action.{Action as TheAction};
 ghost use Rattle.clap.specs.Words.{App, FailsBy, Row, fault_of, first_of, found_of, kind_of, new_app, rows_of, subcommand_of, subcommand_rows_of, with_subcommand};
 ghost use Rattle.command_line.specs.Words.{HasDrawing, HasGoal, HasLimit, HasLimits, HasLine, HasManner, HasNumber, HasOrder, HasPlayed, HasSubject, HasTelling, IsGiven, MeansAction, MeansFound, MeansOrder, MeansNoOrder, progress_word};
 ghost use Rattle.command_line.specs.Making.{IsLocal, IsLocalArg, NamesNoSearch, option_rule};
-ghost use Rattle.command_line.specs.Program.{after_app, fen_rule, move_rule, goal_rule, number_rule, limit_rule, mate_rule, workers_rule, slots_rule, first_rule, flag_rule, progress_rule, echo_rule, lines_rule, limits_app, search_app, checking_app, solve_app, keys_app, tree_app, check_app, verify_app, certify_app, solution_app, moves_app, show_app, batch_app, program};
+ghost use Rattle.command_line.specs.Program.{after_app, fen_rule, move_rule, goal_rule, number_rule, limit_rule, mate_rule, workers_rule, slots_rule, first_rule, flag_rule, progress_rule, echo_rule, lines_rule, skip_rule, limits_app, search_app, checking_app, solve_app, keys_app, tree_app, check_app, verify_app, certify_app, solution_app, moves_app, show_app, batch_app, program};
 
 use crate::help;
 use crate::line::{Action, Drawing, Limits, Line, Manner, Order, Played, Subject, Telling};
@@ -74,6 +74,12 @@ fn lines<'a>(alloc: Global) -> Arg<'a>
     ensures { IsLocalArg lines_rule result }
 {
     number(alloc, "lines", "L", help::LINES, help::LINES_MORE)
+}
+
+fn skip<'a>(alloc: Global) -> Arg<'a>
+    ensures { IsLocalArg skip_rule result }
+{
+    number(alloc, "skip", "L", help::SKIP, help::SKIP_MORE)
 }
 
 fn played_move<'a>(alloc: Global) -> Arg<'a>
@@ -272,7 +278,10 @@ fn batch_command<'a>(alloc: Global) -> Result<Command<'a>, AllocError>
     let Ok(telling) = finding.arg(flag(alloc, "json", help::OBJECTS, help::OBJECTS_MORE)) else {
         return Err(AllocError);
     };
-    telling.arg(lines(alloc))
+    let Ok(counting) = telling.arg(lines(alloc)) else {
+        return Err(AllocError);
+    };
+    counting.arg(skip(alloc))
 }
 
 fn moves_command<'a>(alloc: Global) -> Result<Command<'a>, AllocError>
@@ -607,6 +616,7 @@ fn manner_of(values: &ArgMatches<'_>) -> Manner
         keys: is_given(values, "keys"),
         json: is_given(values, "json"),
         lines: number_of(values, "lines"),
+        skip: number_of(values, "skip"),
     }
 }
 

@@ -1,7 +1,7 @@
 -- A batch, line by line.
-use Rattle.std.proofs.Common.{◌≡◌, ◌≢◌, ◌∙◌, ◌+◌, ◌-◌, ◌<◌, ◌⊎◌, ℕ, Bool, true, false, List, [], ◌∷◌, ◌++◌, Option, None, Some, Result, Ok, Err, IfSome, IsErr, IsErrAnd, Vec, vec_items, length, take, drop, ap, inl, inr, refl, sym, subst, append_assoc, append-nil, length-append, ne_eqb, not, arith, All, MatchBool}
+use Rattle.std.proofs.Common.{◌≡◌, ◌≢◌, ◌∙◌, ◌+◌, ◌-◌, ◌<◌, ◌⊎◌, ℕ, Bool, true, false, List, [], ◌∷◌, ◌++◌, Option, None, Some, Result, Ok, Err, IfSome, IsErr, IsErrAnd, Vec, vec_items, length, take, drop, ap, inl, inr, refl, sym, subst, append_assoc, append-nil, drop-drop, length-append, ne_eqb, not, arith, All, MatchBool, ◌≤◌}
 use Rattle.std.proofs.lemmas.Bool.{false≢true, le-ltb, lt-ltb}
-use Rattle.std.proofs.lemmas.List.{flat_map_more}
+use Rattle.std.proofs.lemmas.List.{drop_all, flat_map_more}
 use Rattle.std.proofs.lemmas.List.Elements.{AllZip-push, All-head, All-nil, All-push, All-tail}
 use Rattle.std.proofs.lemmas.Option.{IfSome_then}
 use Rattle.std.proofs.KnownBytes.{Appends-nil, Appends-trans, Consumes-nil, Consumes-trans}
@@ -22,13 +22,15 @@ use Rattle.console.specs.declared.asked.Found.{Found}
 use Rattle.rules.specs.Reading.{IsSoundFault}
 use Rattle.replies.proofs.ReplyLemmas.{of_any, of_input_then}
 use Rattle.devices.specs.Device.{AppendsBeginning}
-use Rattle.devices.specs.Input.{OfInput, without_line_feed}
+use Rattle.devices.specs.Input.{OfInput, failed_reads, without_line_feed}
+use Rattle.devices.specs.declared.transfer.InputFault.{InputFault}
+use Rattle.devices.specs.declared.transfer.InputFault.TheVariants as input
 use Rattle.replies.specs.Output.{IsSoundText, fault_of, refusal_of_solve}
 use Rattle.refusals.specs.Refusal.{refusal_of_fen}
 use Rattle.refusals.specs.declared.refusal.Refusal.{Refusal}
 use Rattle.refusals.specs.declared.refusal.Refusal.TheVariants.{TooLong}
-use Rattle.console.specs.Batch.{AnswersLines, EndsBatch, HasReplyText, IsAskedReply, IsFoundReply, IsLineReply, RunsBatch, joined, lines_of, onto, said_in}
-use Rattle.console.specs.Desk.{Fails, GivesAsked, GivesFound, GivesNext, IsFirstOf, IsRefusedFor, RepliesTo, SameSolver, Step, TakesLines, TakesStep, asked_limits}
+use Rattle.console.specs.Batch.{AnswersLines, EndsBatch, HasReplyText, IsAskedReply, IsFoundReply, IsLineReply, RunsBatch, answered_lines, joined, left_out, lines_of, onto, said_in}
+use Rattle.console.specs.Desk.{Fails, GivesAsked, GivesFound, GivesNext, IsFirstOf, IsFront, IsRefusedFor, PassesOver, RepliesTo, SameSolver, Step, TakesAnswered, TakesLines, TakesStep, asked_limits, stop_of}
 use Rattle.devices.specs.Lines.{HasNoFeed, IsFed, IsLastOf, IsReadAs, TakesLine, left_of}
 use Rattle.console.specs.Run.{Ending, Finishes, Refuses, Run, no_memory}
 use Rattle.rounds.specs.declared.task.SolveFault.{SolveFault}
@@ -146,7 +148,7 @@ nothing_more written mid after text grown none = subst (Appends written after) (
 
 -- the lines that are answered, where others may be left
 front_answered : (s : Solver) (status : ℕ) (left now : Option (List ℕ)) (front texts : List (List ℕ)) → (status ≡ 0 → ⊥) → All IsFed front
-    → AllZip (RepliesTo s) front texts → Consumes left now (joined front) → OfInput left (AnswersLines s.batch status texts)
+    → AllZip (RepliesTo s) front texts → Consumes left now (joined front) → OfInput left (λ input. AnswersLines s.batch status texts (lines_of input))
 front_answered s status None now front texts other fed zip gone =
     (joined front, tt, (front, [], ap lines_of (sym (append-nil (joined front))) ∙ fed_front front [] fed, zip, λ e. absurd (other e)))
 front_answered s status (Some xs) None front texts other fed zip gone = absurd gone
@@ -156,7 +158,7 @@ front_answered s status (Some xs) (Some ys) front texts other fed zip gone =
 -- the same with one line more
 one_answered : (s : Solver) (status : ℕ) (left now : Option (List ℕ)) (front texts : List (List ℕ)) (line text : List ℕ) → (status ≡ 0 → ⊥) → All IsFed front
     → AllZip (RepliesTo s) front texts → Consumes left now (joined front) → IsFirstOf now line → RepliesTo s line text
-    → OfInput left (AnswersLines s.batch status (texts ++ text ∷ []))
+    → OfInput left (λ input. AnswersLines s.batch status (texts ++ text ∷ []) (lines_of input))
 one_answered s status None now front texts line text other fed zip gone (one, first) reply = (
   joined front ++ line,
   tt,
@@ -317,6 +319,82 @@ step_unwritten s step (Err stop) taken text err (line, how, read) gives cut fail
     subst (λ x. TakesStep s step (Err x)) (sym err.1)
     (line, vec_items text, first_taken step.left step.left_after taken.is_last line some how, reply, cut, fails)
 
+-- ---- lines that are left out
+
+-- the texts are the replies to the first of the lines that are answered
+abbrev pub Answers : Batch → ℕ → List (List ℕ) → List ℕ → Type 0
+Answers batch status texts input = AnswersLines batch status texts (answered_lines batch input)
+
+pub passed_first : (left : Option (List ℕ)) → PassesOver 0 left left true
+passed_first left = ([], λ rest. refl, Consumes-nil left)
+
+pub passed_more : (count : ℕ) (left now after : Option (List ℕ)) (taken : Taken) → taken.is_last ≡ false → PassesOver count left now true → TakesLine now after taken
+    → PassesOver (count + 1) left after true
+passed_more count left now after taken not_last (bytes, front, gone) (line, how, read) =
+    let (fed, more) = subst (λ last. IsTaken now after last line) not_last how in (
+      bytes ++ line,
+      λ rest. ap (λ l. drop (count + 1) (lines_of l)) (append_assoc bytes line rest) ∙ sym (drop-drop 1 count (lines_of (bytes ++ (line ++ rest))))
+          ∙ ap (drop 1) (front (line ++ rest) ∙ fed_first line rest fed),
+      Consumes-trans left now after bytes line gone more,
+    )
+
+-- bytes without a feed are one line at most
+one_last : (line : List ℕ) → HasNoFeed line → length (lines_of line) ≤ 1
+one_last [] none = omega arith
+one_last (x ∷ xs) none = subst (λ (l : List (List ℕ)). length l ≤ 1) (sym (lines_last (x ∷ xs) (omega arith) none)) (omega arith)
+
+-- the last line is among those that are passed over
+pub passed_all : (count so_many : ℕ) (left now after : Option (List ℕ)) (taken : Taken) → so_many < count → taken.is_last ≡ true → PassesOver so_many left now true
+    → TakesLine now after taken → PassesOver count left after false
+passed_all count so_many left now after taken less is_last (bytes, front, gone) (line, how, read) =
+    let (none, last) = subst (λ l. IsTaken now after l line) is_last how in
+    let split : count ≡ so_many + (count - so_many) = omega (arith, less) in (
+      bytes ++ line,
+      gone_then_last left now bytes line gone last,
+      ap (λ k. drop k (lines_of (bytes ++ line))) split ∙ sym (drop-drop (count - so_many) so_many (lines_of (bytes ++ line)))
+          ∙ ap (drop (count - so_many)) (front line) ∙ drop_all (count - so_many) (lines_of line) (omega (arith, less, one_last line none)),
+    )
+
+-- the lines behind those that are passed over are those that are answered
+answered_behind : (s : Solver) (left now : Option (List ℕ)) (status : ℕ) (texts : List (List ℕ)) → PassesOver (left_out s.batch.manner.skip) left now true
+    → OfInput now (λ input. AnswersLines s.batch status texts (lines_of input)) → OfInput left (Answers s.batch status texts)
+answered_behind s left now status texts (bytes, front, gone) (input, same, answers) = (
+  bytes ++ input,
+  gone_then_last left now bytes input gone same,
+  subst (λ lines. AnswersLines s.batch status texts lines) (sym (front input)) answers,
+)
+
+pub batch_behind : (s : Solver) (left : Option (List ℕ)) (step : Step) (reads : ℕ) (stop : Option Stop) → PassesOver (left_out s.batch.manner.skip) left step.left true
+    → step.failed_reads ≡ reads → TakesLines s step stop → TakesAnswered s (whole_step step left step.written reads step.failed_writes) stop
+batch_behind s left step reads None passes r (texts, answers, (written, fails)) =
+    (texts, answered_behind s left step.left 0 texts passes answers, (written, fails_since step left step.written reads step.failed_writes 0 0 r refl fails))
+batch_behind s left step reads (Some ReadFailed) passes r (texts, answers, (written, fails)) =
+    (texts, answered_behind s left step.left 4 texts passes answers, (written, fails_since step left step.written reads step.failed_writes 1 0 r refl fails))
+batch_behind s left step reads (Some WriteFailed) passes r (texts, answers, (written, fails)) =
+    (texts, answered_behind s left step.left 4 texts passes answers, (written, fails_since step left step.written reads step.failed_writes 0 1 r refl fails))
+batch_behind s left step reads (Some NoMemory) passes r (texts, answers, (written, fails)) =
+    (texts, answered_behind s left step.left 3 texts passes answers, (written, fails_since step left step.written reads step.failed_writes 0 0 r refl fails))
+
+-- there are no lines but those that are left out
+pub batch_of_none : (s : Solver) (step : Step) → PassesOver (left_out s.batch.manner.skip) step.left step.left_after false → Appends step.written step.written_after []
+    → Fails step 0 0 → TakesAnswered s step None
+batch_of_none s step (input, same, none) grown fails = ([], (input, same, ([], [], none, tt, λ _. refl)), (grown, fails))
+
+-- none of the lines was answered
+unanswered : (s : Solver) (left : Option (List ℕ)) (status : ℕ) → (status ≡ 0 → ⊥) → OfInput left (Answers s.batch status [])
+unanswered s left status other = of_any left _ (λ input. ([], answered_lines s.batch input, refl, tt, λ e. absurd (other e)))
+
+-- a line that is left out can't be read
+pub batch_unread : (s : Solver) (step : Step) (fault : InputFault) → Appends step.written step.written_after []
+    → step.failed_reads_after ≡ step.failed_reads + failed_reads {T = Bool} (Err fault) → step.failed_writes_after ≡ step.failed_writes
+    → TakesAnswered s step (Some (stop_of fault))
+batch_unread s step input.ReadFailed grown reads writes =
+    ([], unanswered s step.left 4 (λ e. absurd (omega (arith, e))), (grown, (reads, omega (arith, writes))))
+batch_unread s step input.TooLong grown reads writes =
+    ([], unanswered s step.left 3 (λ e. absurd (omega (arith, e))), (grown, (reads, omega (arith, writes))))
+batch_unread s step input.NoMemory grown reads writes =
+    ([], unanswered s step.left 3 (λ e. absurd (omega (arith, e))), (grown, (reads, omega (arith, writes))))
+
 -- ---- a run
 
 -- of a desk at which nothing was read, all of the input is left
@@ -335,13 +413,13 @@ finishes_after a b c old mid new status asked text more written same (inr ((take
 
 -- the limits are searched, and lines were answered
 pub batch_ran : (s : Solver) (batch : Batch) (run : Run) (left : Option (List ℕ)) (texts : List (List ℕ)) → fault_of s.batch.limits ≡ None
-    → s.batch ≡ batch → left ≡ run.input → OfInput left (AnswersLines s.batch run.ending.status texts) → EndsBatch run (joined texts) → RunsBatch batch run
+    → s.batch ≡ batch → left ≡ run.input → OfInput left (Answers s.batch run.ending.status texts) → EndsBatch run (joined texts) → RunsBatch batch run
 batch_ran s batch run left texts searched same_batch same answers ends =
     let none : fault_of batch.limits ≡ None = subst (λ b. fault_of b.limits ≡ None) same_batch searched in
     rw none (
       texts,
-      subst (λ o. OfInput o (AnswersLines batch run.ending.status texts)) same
-          (subst (λ b. OfInput left (AnswersLines b run.ending.status texts)) same_batch answers),
+      subst (λ o. OfInput o (Answers batch run.ending.status texts)) same
+          (subst (λ b. OfInput left (Answers b run.ending.status texts)) same_batch answers),
       ends,
     )
 
@@ -351,7 +429,7 @@ pub batch_refused : (batch : Batch) (run : Run) (fault : SolveFault) → run.fai
 batch_refused batch run fault unread (inl is) refuses = rw is (unread, refuses)
 batch_refused batch run fault unread (inr (none, memory)) refuses =
     let wrote : Finishes run.ending no_memory 3 = elim (subst (λ f. Refuses run.ending (refusal_of_solve f)) memory refuses) [ inl a ↦ a | inr b ↦ b ] in
-    rw none ([], of_any run.input _ (λ input. ([], lines_of input, refl, tt, λ e. elim wrote [ inl w ↦ absurd (omega (arith, w.2, e)) | inr w ↦ absurd (omega (arith, w.2, e)) ])), inr (inr (unread, wrote)))
+    rw none ([], of_any run.input _ (λ input. ([], answered_lines batch input, refl, tt, λ e. elim wrote [ inl w ↦ absurd (omega (arith, w.2, e)) | inr w ↦ absurd (omega (arith, w.2, e)) ])), inr (inr (unread, wrote)))
 
 -- want of memory isn't the end of the input
 pub gave_up : (ending : Ending) (text : List ℕ) → Finishes ending text 3 → ending.status ≡ 0 → ⊥
@@ -360,7 +438,7 @@ gave_up ending text (inr cut) none = absurd (omega (arith, cut.2, none))
 
 -- where lines may be left, the status plays no part
 pub answers_with : (batch : Batch) (m status : ℕ) (left : Option (List ℕ)) (texts : List (List ℕ)) → (status ≡ 0 → ⊥)
-    → OfInput left (AnswersLines batch m texts) → OfInput left (AnswersLines batch status texts)
+    → OfInput left (Answers batch m texts) → OfInput left (Answers batch status texts)
 answers_with batch m status left texts other answers = of_input_then left _ _ answers (λ xs a.
     let (front, rest, split, zip, end) = a in (front, rest, split, zip, λ e. absurd (other e)))
 

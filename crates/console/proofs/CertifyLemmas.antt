@@ -17,7 +17,7 @@ use Rattle.refusals.specs.declared.refusal.Refusal.TheVariants as refusal
 use Rattle.replies.specs.Outcome.{Gives}
 use Rattle.replies.specs.Output.{IsSoundText, ShowsAnswer}
 use Rattle.console.specs.Batch.{ShowsPosition}
-use Rattle.console.specs.Certifying.{WritesCertificate}
+use Rattle.console.specs.Certifying.{WritesCertificate, WritesClaims}
 use Rattle.console.specs.Claims.{AddsClaims, CutsClaims, StopsClaims, EndsWriting, Writing, line_text}
 use Rattle.console.specs.Run.{Ending, Finishes, Refuses, no_memory}
 use Rattle.console.proofs.BatchLemmas.{finishes_after}
@@ -85,26 +85,23 @@ pub certificate_refused : (subject : Subject) (limits : Limits) (ending : Ending
 certificate_refused subject limits ending why (inl none) refuses = inr (inr (gives_up ending (subst (λ (w : Refusal). Refuses ending w) none refuses)))
 certificate_refused subject limits ending why (inr shows) refuses = inr (inl (why, shows, refuses))
 
-module _ (subject : Subject) (limits : Limits) (answer : List ℕ) (shows : ShowsPosition subject.goal limits subject.fen.now (answered answer)) (a b c : Option (List ℕ)) (p q r : ℕ) where
-  pub first_cut : AppendsBeginning a b answer → q ≡ p + 1 → WritesCertificate subject limits (record { before = a; after = b; failed_writes = q - p; status = 4 })
-  first_cut (taken, rest, cut, grown) one = inl (answer, shows, ([], inl (inr ((taken, rest, append-nil answer ∙ cut, grown), omega (arith, one), refl))))
+module _ (answer : List ℕ) (a b c : Option (List ℕ)) (p q r : ℕ) where
+  pub first_cut : (status : ℕ) → status ≡ 4 → AppendsBeginning a b answer → q ≡ p + 1
+      → WritesClaims answer (record { before = a; after = b; failed_writes = q - p; status = status })
+  first_cut status four (taken, rest, cut, grown) one = ([], inl (inr ((taken, rest, append-nil answer ∙ cut, grown), omega (arith, one), four)))
 
   module _ (first : Appends a b answer) (none : q ≡ p) where
     pub whole_certificate : AddsClaims (record { before = b; after = c; failed_before = q; failed_after = r })
-        → WritesCertificate subject limits (record { before = a; after = c; failed_writes = r - p; status = 0 })
-    whole_certificate (lines, written, same) = inl (answer, shows, (lines, inl (inl (Appends-trans a b c answer (claim_lines lines) first written, omega (arith, none, same), refl))))
+        → WritesClaims answer (record { before = a; after = c; failed_writes = r - p; status = 0 })
+    whole_certificate (lines, written, same) = (lines, inl (inl (Appends-trans a b c answer (claim_lines lines) first written, omega (arith, none, same), refl)))
 
-    pub claims_cut : CutsClaims (record { before = b; after = c; failed_before = q; failed_after = r })
-        → WritesCertificate subject limits (record { before = a; after = c; failed_writes = r - p; status = 4 })
-    claims_cut (lines, (taken, rest, cut, grown), one) =
-        inl (
-          answer,
-          shows,
-          (lines, inl (inr ((answer ++ taken, rest, ap (λ (l : List ℕ). answer ++ l) cut ∙ sym (append_assoc answer taken rest), Appends-trans a b c answer taken first grown), omega (arith, none, one), refl))),
-        )
+    pub claims_cut : (status : ℕ) → status ≡ 4 → CutsClaims (record { before = b; after = c; failed_before = q; failed_after = r })
+        → WritesClaims answer (record { before = a; after = c; failed_writes = r - p; status = status })
+    claims_cut status four (lines, (taken, rest, cut, grown), one) =
+        (lines, inl (inr ((answer ++ taken, rest, ap (λ (l : List ℕ). answer ++ l) cut ∙ sym (append_assoc answer taken rest), Appends-trans a b c answer taken first grown), omega (arith, none, one), four)))
 
     pub no_room : (d : Option (List ℕ)) (s status : ℕ) → AddsClaims (record { before = b; after = c; failed_before = q; failed_after = r })
         → Finishes (record { before = c; after = d; failed_writes = s - r; status = status }) no_memory 3
-        → WritesCertificate subject limits (record { before = a; after = d; failed_writes = s - p; status = status })
+        → WritesClaims answer (record { before = a; after = d; failed_writes = s - p; status = status })
     no_room d s status (lines, written, same) last =
-        inl (answer, shows, (lines, inr (finishes_after a c d p r s status 3 (answer ++ claim_lines lines) no_memory (Appends-trans a b c answer (claim_lines lines) first written) (omega (arith, none, same)) last)))
+        (lines, inr (finishes_after a c d p r s status 3 (answer ++ claim_lines lines) no_memory (Appends-trans a b c answer (claim_lines lines) first written) (omega (arith, none, same)) last))

@@ -1,5 +1,5 @@
 -- A batch: what is written for the lines of an input.
-use Rattle.std.specs.Prelude.{◌≡◌, ◌⊎◌, ◌-◌, ◌==◌, ◌&&◌, ◌||◌, ℕ, Bool, None, Some, true, not, List, [], ◌∷◌, ◌++◌, length, take, slice_index, nat_lt, if◌then◌else◌, MatchBool, MatchOption}
+use Rattle.std.specs.Prelude.{◌≡◌, ◌⊎◌, ◌-◌, ◌==◌, ◌&&◌, ◌||◌, ℕ, Bool, Option, None, Some, true, not, List, [], ◌∷◌, ◌++◌, length, take, drop, slice_index, nat_lt, if◌then◌else◌, MatchBool, MatchOption}
 use Rattle.std.specs.List.{AllZip, flat_map}
 use Rattle.board.specs.Board.{PlainBoard}
 use Rattle.board.specs.declared.fault.FenFault.{FenFault}
@@ -93,10 +93,19 @@ joined texts = flat_map (λ text. text) texts
 
 -- ---- a run
 
--- the texts are the replies to the first lines of the input, one each, and to all of them where the status is 0
-abbrev pub AnswersLines : Batch → ℕ → List (List ℕ) → List ℕ → Type 0
-AnswersLines batch status texts input =
-    (front : List (List ℕ)) × (rest : List (List ℕ)) × (lines_of input ≡ front ++ rest) × AllZip (IsLineReply batch) front texts
+-- how many lines at the beginning of the input are left out
+abbrev pub left_out : Option ℕ → ℕ
+left_out None = 0
+left_out (Some count) = count
+
+-- the lines of the input that are answered: all but those at its beginning that are left out
+abbrev pub answered_lines : Batch → List ℕ → List (List ℕ)
+answered_lines batch input = drop (left_out batch.manner.skip) (lines_of input)
+
+-- the texts are the replies to the first of the lines, one each, and to all of them where the status is 0
+abbrev pub AnswersLines : Batch → ℕ → List (List ℕ) → List (List ℕ) → Type 0
+AnswersLines batch status texts lines =
+    (front : List (List ℕ)) × (rest : List (List ℕ)) × (lines ≡ front ++ rest) × AllZip (IsLineReply batch) front texts
     × (status ≡ 0 → rest ≡ [])
 
 -- a read failed, after all of the text was written
@@ -111,5 +120,6 @@ EndsBatch run text =
 -- the run is one of the batch: the limits are refused, or its lines are answered as far as it came
 abbrev pub RunsBatch : Batch → Run → Type 0
 RunsBatch batch run = MatchOption (fault_of batch.limits)
-    ((texts : List (List ℕ)) × OfInput run.input (AnswersLines batch run.ending.status texts) × EndsBatch run (joined texts))
+    ((texts : List (List ℕ))
+    × OfInput run.input (λ input. AnswersLines batch run.ending.status texts (answered_lines batch input)) × EndsBatch run (joined texts))
     (λ fault. (run.failed_reads ≡ 0) × Refuses run.ending (refusal_of_solve fault))

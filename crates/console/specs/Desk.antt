@@ -1,5 +1,5 @@
 -- The steps of a batch.
-use Rattle.std.specs.Prelude.{◌≡◌, ◌⊎◌, ◌+◌, ◌<◌, ℕ, Bool, true, false, List, [], ◌∷◌, length, Option, None, Some, IfSome, Result, Ok, Err, vec_items, Vec}
+use Rattle.std.specs.Prelude.{◌≡◌, ◌⊎◌, ◌+◌, ◌<◌, ℕ, Bool, true, false, List, [], ◌∷◌, ◌++◌, length, drop, Option, None, Some, IfSome, Result, Ok, Err, vec_items, Vec}
 use Rattle.std.specs.Io.KnownBytes.{Appends, Consumes}
 use Rattle.std.specs.List.{AllZip}
 use Rattle.std.specs.declared.alloc.Global.{Global}
@@ -20,7 +20,7 @@ use Rattle.refusals.specs.declared.refusal.Refusal.TheVariants as refusal
 use Rattle.devices.specs.declared.transfer.InputFault.{InputFault}
 use Rattle.devices.specs.declared.transfer.InputFault.TheVariants as input
 use Rattle.console.specs.Asking.{IsFound, limit_of, with_plies}
-use Rattle.console.specs.Batch.{AnswersLines, IsAskedReply, IsFoundReply, IsLineReply, joined, lines_of}
+use Rattle.console.specs.Batch.{AnswersLines, IsAskedReply, IsFoundReply, IsLineReply, answered_lines, joined, lines_of}
 use Rattle.devices.specs.Lines.{IsFed, IsLastOf, IsReadAs, IsUnread, left_of}
 use Rattle.console.specs.declared.asked.Asked.{Asked}
 use Rattle.console.specs.declared.asked.Batch.{Batch}
@@ -148,8 +148,22 @@ WritesUntil step (Some NoMemory) text = Appends step.written step.written_after 
 
 -- lines are taken and answered
 abbrev pub TakesLines : Solver → Step → Option Stop → Type 0
-TakesLines s step stop =
-    (texts : List (List ℕ)) × OfInput step.left (AnswersLines s.batch (stop_status stop) texts) × WritesUntil step stop (joined texts)
+TakesLines s step stop = (texts : List (List ℕ))
+    × OfInput step.left (λ input. AnswersLines s.batch (stop_status stop) texts (lines_of input)) × WritesUntil step stop (joined texts)
+
+-- these bytes are the first so many lines of what begins with them
+abbrev pub IsFront : ℕ → List ℕ → Type 0
+IsFront count bytes = (rest : List ℕ) → drop count (lines_of (bytes ++ rest)) ≡ lines_of rest
+
+-- so many lines are passed over, and more may come; or there are no more lines than these
+abbrev pub PassesOver : ℕ → Option (List ℕ) → Option (List ℕ) → Bool → Type 0
+PassesOver count before after true = (bytes : List ℕ) × IsFront count bytes × Consumes before after bytes
+PassesOver count before after false = OfInput before (λ input. drop count (lines_of input) ≡ [])
+
+-- the lines that are left out are passed over, and those behind them are taken and answered
+abbrev pub TakesAnswered : Solver → Step → Option Stop → Type 0
+TakesAnswered s step stop = (texts : List (List ℕ))
+    × OfInput step.left (λ input. AnswersLines s.batch (stop_status stop) texts (answered_lines s.batch input)) × WritesUntil step stop (joined texts)
 
 -- what stops a batch at each fault of the input
 abbrev pub stop_of : InputFault → Stop

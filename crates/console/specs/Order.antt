@@ -1,5 +1,5 @@
 -- What a run of the words does: what they ask for, if they mean an order.
-use Rattle.std.specs.Prelude.{◌≡◌, ◌⊎◌, ⊤, List, [], None}
+use Rattle.std.specs.Prelude.{◌≡◌, ◌⊎◌, ⊤, ℕ, List, [], None}
 use Rattle.clap.specs.Words.{Text}
 use Rattle.rules.specs.declared.goal.Goal.{Goal}
 use Rattle.command_line.specs.Words.{MeansOrder, MeansNoOrder}
@@ -57,17 +57,28 @@ Searches (Keys goal limits) = ⊤
 Searches (Tree goal limits) = ⊤
 Searches _ = ⊥
 
--- the line searches where the side to move has no lawful move: it is mated already, or stalemated
-abbrev pub IsOver : Line → Type 0
-IsOver line = Searches line.action × ((b : PlainBoard) × IsSoundText line.fen.now b × ((m : Ply) → IsLawful b m → ⊥))
+-- at the position of this text the side to move has no lawful move: it is mated already, or stalemated
+abbrev pub IsOver : List ℕ → Type 0
+IsOver fen = (b : PlainBoard) × IsSoundText fen b × ((m : Ply) → IsLawful b m → ⊥)
 
--- the words mean a batch, which tells why it refuses a line
+-- the line searches where it is over
+abbrev pub SearchesOver : Line → Type 0
+SearchesOver line = Searches line.action × IsOver line.fen.now
+
+-- the order searches at one position, where it is over
+abbrev pub IsOfOver : Order → Type 0
+IsOfOver (One line) = SearchesOver line
+IsOfOver (Certify subject limits) = IsOver subject.fen.now
+IsOfOver (Solution subject limits telling) = IsOver subject.fen.now
+IsOfOver _ = ⊥
+
+-- the words mean a batch, which tells of each line why it is refused, or that it is over there
 abbrev pub MeansBatch : List Text → Type 0
 MeansBatch words = (goal : Goal) × (limits : Limits) × (manner : Manner) × MeansOrder words (Batch goal limits manner)
 
--- the words mean a batch, or a search where there is no lawful move: standard error may be told more than why a run refuses
+-- the words mean a batch, or a search where it is over: standard error may be told more than why a run has no answer
 abbrev pub TellsMore : List Text → Type 0
-TellsMore words = MeansBatch words ⊎ ((line : Line) × MeansOrder words (One line) × IsOver line)
+TellsMore words = MeansBatch words ⊎ ((order : Order) × MeansOrder words order × IsOfOver order)
 
 -- the words mean no order, or memory is wanting, or the run is one of the order that the words mean
 abbrev pub RunsWords : List Text → Run → Type 0

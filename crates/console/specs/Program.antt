@@ -34,7 +34,7 @@ abbrev pub MayReadIn : Result Words Error → Type 0
 MayReadIn (Ok words) = MayReadFor (texts_of words)
 MayReadIn (Err error) = ⊥
 
--- there are words, and they mean a batch, or a search where there is no lawful move
+-- there are words, and they mean a batch, or a search where it is over
 abbrev pub TellsMoreIn : Result Words Error → Type 0
 TellsMoreIn (Ok words) = TellsMore (texts_of words)
 TellsMoreIn (Err error) = ⊥

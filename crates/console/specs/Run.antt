@@ -1,5 +1,5 @@
 -- What a run of the program does: its status, and what it reads and writes.
-use Rattle.std.specs.Prelude.{◌≡◌, ◌⊎◌, ◌↔◌, ◌+◌, ◌-◌, ◌<◌, ◌≤◌, ℕ, List, [], Option}
+use Rattle.std.specs.Prelude.{◌≡◌, ◌⊎◌, ◌↔◌, ◌+◌, ◌-◌, ◌<◌, ◌≤◌, ℕ, List, [], Option, codes}
 use Rattle.std.specs.Io.KnownBytes.{Appends}
 use Rattle.devices.specs.Device.{AppendsBeginning}
 use Rattle.devices.specs.Input.{OfInput}
@@ -56,9 +56,25 @@ abbrev pub HasReply : Line → Run → (Reply → Type 0) → Type 0
 HasReply line run Is =
     OfInput (input_of line.action run.input) (λ input. (reply : Reply) × IsOutput line input reply × Is reply)
 
--- a run with this status tells why: its line was refused, or memory was
+-- a run with this status has no answer: its line was refused, or memory was
+abbrev pub HasNoAnswer : ℕ → Type 0
+HasNoAnswer status = (status ≡ 1) ⊎ (status ≡ 3)
+
+-- a run with this status failed: its input couldn't be read, or its output not be written
+abbrev pub HasFailed : ℕ → Type 0
+HasFailed status = status ≡ 4
+
+-- a run with this status tells why
 abbrev pub MayTell : ℕ → Type 0
-MayTell status = (status ≡ 1) ⊎ (status ≡ 3)
+MayTell status = HasNoAnswer status ⊎ HasFailed status
+
+-- what is said of an input that can't be read
+abbrev pub unread_sentence : List ℕ
+unread_sentence = codes "error: the input could not be read to its end\n"
+
+-- what is said of an output that can't be written
+abbrev pub unwritten_sentence : List ℕ
+unwritten_sentence = codes "error: the output could not be written to its end\n"
 
 -- the line that is written for want of memory
 abbrev pub no_memory : List ℕ

@@ -26,6 +26,7 @@ impl Batch {
             keys: false,
             json: false,
             lines: None,
+            skip: None,
         };
         Batch {
             goal,

@@ -1,11 +1,13 @@
 //! A batch: a solve of each position of the input, over one table.
-ghost use Rattle.std.specs.Prelude.{◌≡◌, ◌<◌, IfOk, false, option_map};
+ghost use Rattle.std.specs.Prelude.{◌≡◌, ◌+◌, ◌<◌, IfOk, false, option_map};
+ghost use Rattle.devices.specs.Input.{failed_reads};
+ghost use Rattle.devices.specs.Lines.{IsUnread, left_of};
 ghost use Rattle.replies.specs.Outcome.{Solves};
 ghost use Rattle.console.specs.Asking.{IsAnswerFound, with_plies};
 ghost use Rattle.console.specs.declared.asked.Found.TheVariants.{Answer as TheAnswer};
-ghost use Rattle.console.specs.Batch.{HasReplyText, IsAskedReply, IsReplyText, remark_text, said_in, with_position};
+ghost use Rattle.console.specs.Batch.{HasReplyText, IsAskedReply, IsReplyText, left_out, remark_text, said_in, with_position};
 ghost use Rattle.console.specs.Forms.{IsRefusalText};
-ghost use Rattle.console.specs.Desk.{Finds, GivesAsked, GivesFound, GivesNext, IsDesk, IsSolver, OpensDesk, SameSolver, TakesLines, TakesStep, step_of, stop_of};
+ghost use Rattle.console.specs.Desk.{Finds, GivesAsked, GivesFound, GivesNext, IsDesk, IsSolver, OpensDesk, PassesOver, SameSolver, TakesAnswered, TakesLines, TakesStep, step_of, stop_of};
 ghost use Rattle.console.specs.declared.batch.Stop.TheVariants.{NoMemory, WriteFailed};
 
 use crate::asked::{Asked, Batch, Found};
@@ -13,14 +15,15 @@ use crate::asking::{asked_in, limit_of};
 use crate::beside::{Host, find_beside, find_over};
 use crate::forms::found_text;
 use crate::objects::refused_object;
+use crate::over::tell_if_over;
 use crate::said::{is_remark, said_in};
 use board::Position;
-use command_line::Limits;
+use command_line::{Limits, Manner};
 use decision::Answer;
 use devices::{Failed, InputFault, Next, Sink, Source, Taken, Unread, write_all};
 use entry::MateLore;
 use moves::read_sound;
-use refusals::{Refusal, Refused, advise, refused_text, write_sentence};
+use refusals::{Asking, Refusal, Refused, advise, refused_text, write_sentence};
 use replies::{refusal_of, search_of};
 use rounds::{NoGate, SolveFault, Task, make_table};
 use slots::{Seat, Slots};
@@ -324,7 +327,10 @@ fn asked_text<R: Threads + Wait + Eprint + Clock + Sync + AllocGlobal, E: Write>
 {
     let json = solver.batch.manner.json;
     match answered_text(host, solver, asked) {
-        Ok(text) => Ok(text),
+        Ok(text) => {
+            tell_if_over(errors, asked.fen, Some(number));
+            Ok(text)
+        }
         Err(refusal) => {
             if refusal.status() == 3 {
                 return Err(AllocError);
@@ -332,7 +338,7 @@ fn asked_text<R: Threads + Wait + Eprint + Clock + Sync + AllocGlobal, E: Write>
             let why = Refused {
                 refusal,
                 fen: asked.fen,
-                line: Some(number),
+                asking: Asking::Line(number),
             };
             refusal_line(host.rt.alloc(), json, errors, Some(asked.fen), &why)
         }
@@ -358,7 +364,7 @@ fn next_text<R: Threads + Wait + Eprint + Clock + Sync + AllocGlobal, E: Write>(
             let refused = Refused {
                 refusal: Refusal::TooLong,
                 fen: b"",
-                line: Some(number),
+                asking: Asking::Line(number),
             };
             let json = solver.batch.manner.json;
             Ok(Some(refusal_line(host.rt.alloc(), json, errors, None, &refused)?))
@@ -401,7 +407,7 @@ fn answer_next<
 }
 
 /// Reads line after line and writes the replies, to the end of the input or until something stops it.
-pub fn answer_lines<
+fn answer_lines<
     R: Threads + Wait + Eprint + Clock + Sync + AllocGlobal,
     S: Source,
     K: Sink,
@@ -427,4 +433,64 @@ pub fn answer_lines<
         }
     }
     unreachable!()
+}
+
+/// How many lines at the beginning of the input are left out.
+pub fn left_out(manner: Manner) -> u32
+    ensures { result ≡ left_out manner.skip }
+{
+    manner.skip.unwrap_or(0)
+}
+
+/// Reads so many lines, and does nothing with them. Answers whether more may come.
+fn pass_over<R: Wait + AllocGlobal, S: Source>(
+    rt: &R,
+    unread: &mut Unread,
+    reader: &mut S,
+    count: u32,
+) -> Result<bool, InputFault>
+    requires bounds { IsUnread unread.old }
+    requires reads { S.failures reader.old < u64.MAX }
+    ensures bounds { IsUnread unread.new }
+    ensures passes { IfOk result (PassesOver count (left_of unread.old (S.remaining reader.old))
+        (left_of unread.new (S.remaining reader.new))) }
+    ensures counts { S.failures reader.new ≡ S.failures reader.old + failed_reads result }
+{
+    for _ in 0..count {
+        let taken = unread.next_line(rt, rt.alloc(), reader)?;
+        if taken.is_last {
+            return Ok(false);
+        }
+    }
+    Ok(true)
+}
+
+/// Passes over the lines that are left out, and answers those behind them, which keep their numbers.
+pub fn answer_batch<
+    R: Threads + Wait + Eprint + Clock + Sync + AllocGlobal,
+    S: Source,
+    K: Sink,
+    E: Write,
+>(
+    host: &Host<'_, R>,
+    desk: &mut Desk,
+    reader: &mut S,
+    writer: &mut K,
+    errors: &mut E,
+) -> Option<Stop>
+    requires desk { IsDesk desk.old }
+    requires reads { S.failures reader.old < u64.MAX }
+    requires writes { K.failures writer.old < u64.MAX }
+    ensures lines { TakesAnswered desk.old.solver (step_of desk.old desk.new S.remaining S.failures reader.old reader.new
+        K.contents K.failures writer.old writer.new) result }
+{
+    let count = left_out(desk.solver.batch.manner);
+    match pass_over(host.rt, &mut desk.unread, reader, count) {
+        Ok(true) => {
+            desk.number = u64::from(count);
+            answer_lines(host, desk, reader, writer, errors)
+        }
+        Ok(false) => None,
+        Err(fault) => Some(Stop::from(fault)),
+    }
 }

@@ -4,16 +4,19 @@
 mod asked;
 mod asking;
 mod batch;
+mod beginning;
 mod beside;
 mod certificate;
 mod ending;
 mod forms;
 mod objects;
+mod over;
 mod problem;
 mod program;
 mod running;
 mod said;
 mod tally;
 
+pub use beginning::{Input, Keeping};
 pub use program::run_program;
 pub use running::{run, run_line};

@@ -4,6 +4,7 @@ ghost use Rattle.std.specs.Io.KnownBytes.{Appends};
 ghost use Rattle.console.specs.Run.{ending_of, run_of, MayTell};
 ghost use Rattle.console.specs.Program.{RunsProgram, MayReadIn, TellsMoreIn, no_text, no_goal};
 
+use crate::beginning::Input;
 use crate::ending::{REFUSED_WORDS, give_up_for_memory};
 use crate::running::run;
 use clap::ArgMatches;
@@ -63,7 +64,7 @@ fn explain<E: Write>(alloc: Global, words: &[String], errors: &mut E) -> io::Res
 /// `errors`, and why a line was refused; whether they take it changes nothing.
 pub fn run_program<
     R: Threads + Wait + Eprint + Clock + Sync + AllocGlobal,
-    S: Source,
+    S: Source + Input,
     K: Sink,
     E: Write,
 >(rt: &R, words: io::Result<Vec<String>>, reader: &mut S, writer: &mut K, errors: &mut E) -> u8
@@ -83,7 +84,9 @@ pub fn run_program<
             }
             status
         }
-        Err(error) if error.kind() == io::ErrorKind::OutOfMemory => give_up_for_memory(writer),
+        Err(error) if error.kind() == io::ErrorKind::OutOfMemory => give_up_for_memory(
+            writer, errors,
+        ),
         Err(_) => {
             let _ = say_no_text(errors);
             REFUSED_WORDS

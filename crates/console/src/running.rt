@@ -1,30 +1,32 @@
 //! A run of the program over any reader and writer.
-ghost use Rattle.std.specs.Prelude.{◌≡◌, ◌⊎◌, ◌↔◌, ◌<◌, IfSome, IsTrue, None, map};
+ghost use Rattle.std.specs.Prelude.{◌≡◌, ◌⊎◌, ◌<◌, None, map};
 ghost use Rattle.replies.specs.Output.{fault_of, MayRead};
 ghost use Rattle.console.specs.Batch.{RunsBatch};
-ghost use Rattle.console.specs.Order.{IsOver, MayReadFor, RunsWords, Searches, TellsMore};
+ghost use Rattle.console.specs.Order.{IsOver, MayReadFor, RunsWords, SearchesOver, TellsMore};
 ghost use Rattle.console.specs.Verifying.{RunsVerify, MayReadAbout};
-ghost use Rattle.console.specs.Certifying.{WritesCertificate};
+ghost use Rattle.console.specs.Certifying.{WritesCertificate, WritesClaims};
+ghost use Rattle.console.specs.Claims.{line_text};
 ghost use Rattle.console.specs.Playing.{WritesAfter};
-ghost use Rattle.console.specs.Solving.{EndsReply};
+ghost use Rattle.console.specs.Solving.{EndsReply, IsSolutionReply, WritesReply};
 ghost use Rattle.console.specs.Run.{ending_of, run_of, MayTell, Refuses, RunsLine};
 
 use crate::asked::Batch;
-use crate::batch::{Desk, Stop, answer_lines};
+use crate::batch::{Desk, Stop, answer_batch, left_out};
+use crate::beginning::Input;
 use crate::beside::{Host, reply_shown};
-use crate::certificate::{begin, write_claims};
+use crate::certificate::{Begun, begin, write_claims};
 use crate::ending::{
-    ANSWERED, FAILED, REFUSED_WORDS, finish, give_up_for_memory, may_tell, refuse,
+    ANSWERED, REFUSED_WORDS, fail_to_read, fail_to_write, finish, give_up_for_memory,
+    has_no_answer, refuse,
 };
+use crate::over::{asking_of, tell_if_line_is_over, tell_if_over};
 use crate::problem::solution_reply;
 use crate::tally::Tally;
-use board::Position;
 use command_line::{
-    Action, Limits, Line, LineFault, Order, Played, Subject, asks_progress, read_order,
+    Limits, Line, LineFault, Manner, Order, Played, Subject, Telling, asks_progress, read_order,
 };
 use devices::{Sink, Source, write_all};
-use moves::{Board, has_lawful_move, read_sound};
-use refusals::{Refusal, Refused, advise, advise_move, advise_over};
+use refusals::{Asking, Refusal, Refused, advise, advise_move};
 use replies::{Trouble, after_reply, first_reply, refusal_of, verified};
 use std::convert::AsStr;
 use std::io::{self, Write, sink};
@@ -56,41 +58,6 @@ pub fn run_line<R: Threads + Wait + Eprint + Clock + Sync + AllocGlobal, S: Sour
     run_line_on(&host, line, reader, writer, &mut sink())
 }
 
-/// The position of a line that searches, where the side to move has no lawful move.
-fn over_at(line: &Line<'_>) -> Option<Position>
-    ensures { IfSome result (λ _. IsOver line.now) }
-{
-    if !searches(line.action) {
-        return None;
-    }
-    let Ok(position) = read_sound(line.fen) else {
-        return None;
-    };
-    if has_lawful_move(&Board::of(&position)) {
-        None
-    } else {
-        Some(position)
-    }
-}
-
-fn searches(action: Action) -> bool
-    ensures { IsTrue result ↔ Searches action }
-{
-    matches!(
-        action,
-        Action::Solve(..) | Action::Keys(..) | Action::Tree(..)
-    )
-}
-
-/// Tells where a search is for a side that is mated or stalemated already.
-fn tell_if_over<E: Write>(errors: &mut E, line: &Line<'_>)
-    ensures { IsOver line.now ⊎ (errors.new ≡ errors.old) }
-{
-    if let Some(position) = over_at(line) {
-        let _ = advise_over(errors, &position);
-    }
-}
-
 /// Answers a line for a host that may show how far a search is. `errors` is told why a line was refused;
 /// whether it takes that changes nothing.
 fn run_line_on<
@@ -104,17 +71,23 @@ fn run_line_on<
     ensures unread { MayRead line.now ⊎ (reader.new ≡ reader.old) }
     ensures runs { RunsLine line.now (run_of S.remaining S.failures reader.old reader.new
         (ending_of K.contents K.failures writer.old writer.new result)) }
-    ensures silent { MayTell result ⊎ IsOver line.now ⊎ (errors.new ≡ errors.old) }
+    ensures silent { MayTell result ⊎ SearchesOver line.now ⊎ (errors.new ≡ errors.old) }
 {
     match reply_shown(host, line, reader) {
         Ok(text) => {
-            tell_if_over(errors, line);
-            finish(writer, text.as_slice(), ANSWERED)
+            tell_if_line_is_over(errors, line);
+            finish(writer, errors, text.as_slice(), ANSWERED)
         }
         Err(Trouble::Refused(refusal)) => {
-            refuse_and_tell(host.rt, writer, errors, line.fen, refusal)
+            let asking = asking_of(line.action);
+            let refused = Refused {
+                refusal,
+                fen: line.fen,
+                asking,
+            };
+            refuse_and_tell(host.rt, writer, errors, &refused)
         }
-        Err(Trouble::ReadFailed) => FAILED,
+        Err(Trouble::ReadFailed) => fail_to_read(errors),
     }
 }
 
@@ -123,23 +96,39 @@ fn refuse_and_tell<R: AllocGlobal, K: Sink, E: Write>(
     rt: &R,
     writer: &mut K,
     errors: &mut E,
-    fen: &[u8],
-    refusal: Refusal,
+    refused: &Refused<'_>,
 ) -> u8
     requires { K.failures writer.old < u64.MAX }
-    ensures refuses { Refuses (ending_of K.contents K.failures writer.old writer.new result) refusal }
+    ensures refuses { Refuses (ending_of K.contents K.failures writer.old writer.new result) refused.now.refusal }
     ensures silent { MayTell result ⊎ (errors.new ≡ errors.old) }
 {
-    let status = refuse(rt.alloc(), writer, refusal);
-    if may_tell(status) {
-        let refused = Refused {
-            refusal,
-            fen,
-            line: None,
-        };
-        let _ = advise(errors, &refused);
+    let status = refuse(rt.alloc(), writer, errors, refused.refusal);
+    if has_no_answer(status) {
+        let _ = advise(errors, refused);
     }
     status
+}
+
+/// What was refused to a search at the position of this text.
+fn search_refused(fen: &[u8], refusal: Refusal) -> Refused<'_>
+    ensures { result.refusal ≡ refusal }
+{
+    Refused {
+        refusal,
+        fen,
+        asking: Asking::Search,
+    }
+}
+
+/// What was refused to a certificate that begins so.
+fn proof_refused<'a>(subject: &Subject<'a>, beginning: &'a [u8], refusal: Refusal) -> Refused<'a>
+    ensures { result.refusal ≡ refusal }
+{
+    Refused {
+        refusal,
+        fen: subject.fen,
+        asking: Asking::Proof(subject.goal, beginning),
+    }
 }
 
 /// Answers the lines of a batch, or refuses its limits.
@@ -156,18 +145,21 @@ pub fn run_batch<
         (ending_of K.contents K.failures writer.old writer.new result)) }
 {
     match Desk::open(host.rt.alloc(), batch) {
-        Ok(mut desk) => match answer_lines(host, &mut desk, reader, writer, errors) {
+        Ok(mut desk) => match answer_batch(host, &mut desk, reader, writer, errors) {
             None => ANSWERED,
-            Some(Stop::NoMemory) => give_up_for_memory(writer),
-            Some(Stop::ReadFailed) => FAILED,
-            Some(Stop::WriteFailed) => FAILED,
+            Some(Stop::NoMemory) => give_up_for_memory(writer, errors),
+            Some(Stop::ReadFailed) => fail_to_read(errors),
+            Some(Stop::WriteFailed) => fail_to_write(errors),
         },
-        Err(fault) => refuse_and_tell(host.rt, writer, errors, b"", refusal_of(fault)),
+        Err(fault) => {
+            let refused = search_refused(b"", refusal_of(fault));
+            refuse_and_tell(host.rt, writer, errors, &refused)
+        }
     }
 }
 
 /// Answers what the certificate of the input proves. `errors` is told why it was refused.
-fn run_verify<R: AllocGlobal, S: Source, K: Sink, E: Write>(
+fn run_verify<R: AllocGlobal, S: Source + Input, K: Sink, E: Write>(
     rt: &R,
     subject: &Subject<'_>,
     reader: &mut S,
@@ -182,11 +174,12 @@ fn run_verify<R: AllocGlobal, S: Source, K: Sink, E: Write>(
     ensures silent { MayTell result ⊎ (errors.new ≡ errors.old) }
 {
     match verified(rt.alloc(), subject, reader) {
-        Ok(text) => finish(writer, text.as_slice(), ANSWERED),
+        Ok(text) => finish(writer, errors, text.as_slice(), ANSWERED),
         Err(Trouble::Refused(refusal)) => {
-            refuse_and_tell(rt, writer, errors, subject.fen, refusal)
+            let refused = proof_refused(subject, reader.beginning(), refusal);
+            refuse_and_tell(rt, writer, errors, &refused)
         }
-        Err(Trouble::ReadFailed) => FAILED,
+        Err(Trouble::ReadFailed) => fail_to_read(errors),
     }
 }
 
@@ -200,19 +193,38 @@ fn run_certify<R: Threads + Wait + Eprint + Clock + Sync + AllocGlobal, K: Sink,
 ) -> u8
     requires { K.failures writer.old < u64.MAX }
     ensures runs { WritesCertificate subject.now limits (ending_of K.contents K.failures writer.old writer.new result) }
-    ensures silent { MayTell result ⊎ (errors.new ≡ errors.old) }
+    ensures silent { MayTell result ⊎ IsOver subject.now.fen.now ⊎ (errors.new ≡ errors.old) }
 {
     match begin(host, subject, limits) {
-        Ok(mut begun) => match write_all(writer, begun.line.as_slice()) {
-            Ok(()) => match write_claims(&mut begun.certificate, writer) {
-                None => ANSWERED,
-                Some(Stop::NoMemory) => give_up_for_memory(writer),
-                Some(Stop::ReadFailed) => FAILED,
-                Some(Stop::WriteFailed) => FAILED,
-            },
-            Err(_) => FAILED,
+        Ok(begun) => {
+            tell_if_over(errors, subject.fen, None);
+            write_begun(begun, writer, errors)
+        }
+        Err(refusal) => {
+            let refused = search_refused(subject.fen, refusal);
+            refuse_and_tell(host.rt, writer, errors, &refused)
+        }
+    }
+}
+
+/// Writes the answer's line and the lines of claims.
+fn write_begun<K: Sink, E: Write>(begun: Begun, writer: &mut K, errors: &mut E) -> u8
+    requires { K.failures writer.old < u64.MAX }
+    ensures writes { WritesClaims (line_text begun) (ending_of K.contents K.failures writer.old writer.new result) }
+    ensures silent { MayTell result ⊎ (errors.new ≡ errors.old) }
+{
+    let Begun {
+        line,
+        mut certificate,
+    } = begun;
+    match write_all(writer, line.as_slice()) {
+        Ok(()) => match write_claims(&mut certificate, writer) {
+            None => ANSWERED,
+            Some(Stop::NoMemory) => give_up_for_memory(writer, errors),
+            Some(Stop::ReadFailed) => fail_to_read(errors),
+            Some(Stop::WriteFailed) => fail_to_write(errors),
         },
-        Err(refusal) => refuse_and_tell(host.rt, writer, errors, subject.fen, refusal),
+        Err(_) => fail_to_write(errors),
     }
 }
 
@@ -224,7 +236,7 @@ fn tell_move<E: Write>(errors: &mut E, played: &Played<'_>, refusal: Refusal) ->
             let refused = Refused {
                 refusal,
                 fen: played.fen,
-                line: None,
+                asking: Asking::Plain,
             };
             advise(errors, &refused)
         }
@@ -243,29 +255,11 @@ fn refuse_move<R: AllocGlobal, K: Sink, E: Write>(
     ensures refuses { Refuses (ending_of K.contents K.failures writer.old writer.new result) refusal }
     ensures silent { MayTell result ⊎ (errors.new ≡ errors.old) }
 {
-    let status = refuse(rt.alloc(), writer, refusal);
-    if may_tell(status) {
+    let status = refuse(rt.alloc(), writer, errors, refusal);
+    if has_no_answer(status) {
         let _ = tell_move(errors, played, refusal);
     }
     status
-}
-
-/// Writes a reply, or why there is none, which `errors` is told too.
-fn write_reply<R: AllocGlobal, K: Sink, E: Write>(
-    rt: &R,
-    writer: &mut K,
-    errors: &mut E,
-    fen: &[u8],
-    reply: Result<Vec<u8>, Refusal>,
-) -> u8
-    requires { K.failures writer.old < u64.MAX }
-    ensures runs { EndsReply (ending_of K.contents K.failures writer.old writer.new result) reply }
-    ensures silent { MayTell result ⊎ (errors.new ≡ errors.old) }
-{
-    match reply {
-        Ok(text) => finish(writer, text.as_slice(), ANSWERED),
-        Err(refusal) => refuse_and_tell(rt, writer, errors, fen, refusal),
-    }
 }
 
 /// Writes a reply to a move that is named, or why there is none.
@@ -281,7 +275,7 @@ fn write_played<R: AllocGlobal, K: Sink, E: Write>(
     ensures silent { MayTell result ⊎ (errors.new ≡ errors.old) }
 {
     match reply {
-        Ok(text) => finish(writer, text.as_slice(), ANSWERED),
+        Ok(text) => finish(writer, errors, text.as_slice(), ANSWERED),
         Err(refusal) => refuse_move(rt, writer, errors, played, refusal),
     }
 }
@@ -301,13 +295,39 @@ fn run_after<R: AllocGlobal, K: Sink, E: Write>(
     write_played(rt, played, writer, errors, reply)
 }
 
-/// The host of a batch whose input has so many lines, and whether the words ask for a sign of life.
-fn batch_host<'a, R: Clock, W: AsStr>(rt: &'a R, words: &[W], lines: Option<u32>) -> Host<'a, R> {
+/// Answers the solution of a position. `errors` is told why it was refused.
+fn run_solution<R: Threads + Wait + Eprint + Clock + Sync + AllocGlobal, K: Sink, E: Write>(
+    host: &Host<'_, R>,
+    subject: &Subject<'_>,
+    asked: (Limits, Telling),
+    writer: &mut K,
+    errors: &mut E,
+) -> u8
+    requires { K.failures writer.old < u64.MAX }
+    ensures runs { WritesReply (IsSolutionReply subject.now asked.1 asked.0)
+        (ending_of K.contents K.failures writer.old writer.new result) }
+    ensures silent { MayTell result ⊎ IsOver subject.now.fen.now ⊎ (errors.new ≡ errors.old) }
+{
+    let (limits, telling) = asked;
+    match solution_reply(host, subject, limits, telling) {
+        Ok(text) => {
+            tell_if_over(errors, subject.fen, None);
+            finish(writer, errors, text.as_slice(), ANSWERED)
+        }
+        Err(refusal) => {
+            let refused = search_refused(subject.fen, refusal);
+            refuse_and_tell(host.rt, writer, errors, &refused)
+        }
+    }
+}
+
+/// The host of a batch of this manner, and whether the words ask for a sign of life.
+fn batch_host<'a, R: Clock, W: AsStr>(rt: &'a R, words: &[W], manner: Manner) -> Host<'a, R> {
     Host {
         rt,
         shows: asks_progress(words),
         line: AtomicU64::new(0),
-        tally: Tally::new(rt, lines),
+        tally: Tally::new(rt, manner.lines, left_out(manner)),
     }
 }
 
@@ -325,7 +345,7 @@ fn host_of<'a, R, W: AsStr>(rt: &'a R, words: &[W]) -> Host<'a, R> {
 pub fn run<
     R: Threads + Wait + Eprint + Clock + Sync + AllocGlobal,
     W: AsStr,
-    S: Source,
+    S: Source + Input,
     K: Sink,
     E: Write,
 >(rt: &R, words: &[W], reader: &mut S, writer: &mut K, errors: &mut E) -> u8
@@ -340,7 +360,7 @@ pub fn run<
         Ok(Order::One(line)) => run_line_on(&host_of(rt, words), &line, reader, writer, errors),
         Ok(Order::Batch(goal, limits, manner)) => {
             run_batch(
-                &batch_host(rt, words, manner.lines),
+                &batch_host(rt, words, manner),
                 Batch {
                     goal,
                     limits,
@@ -362,10 +382,9 @@ pub fn run<
         }
         Ok(Order::Solution(subject, limits, telling)) => {
             let host = host_of(rt, words);
-            let reply = solution_reply(&host, &subject, limits, telling);
-            write_reply(rt, writer, errors, subject.fen, reply)
+            run_solution(&host, &subject, (limits, telling), writer, errors)
         }
         Err(LineFault::Words) => REFUSED_WORDS,
-        Err(LineFault::NoMemory) => give_up_for_memory(writer),
+        Err(LineFault::NoMemory) => give_up_for_memory(writer, errors),
     }
 }

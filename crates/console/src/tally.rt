@@ -11,6 +11,8 @@ pub struct Tally {
     start: Option<Instant>,
     /// How many lines the input has, and 0 where that isn't known.
     lines: u64,
+    /// How many of them were left out.
+    skipped: u64,
     /// The seconds that were told last.
     told: AtomicU64,
 }
@@ -21,16 +23,18 @@ impl Tally {
         Tally {
             start: None,
             lines: 0,
+            skipped: 0,
             told: AtomicU64::new(0),
         }
     }
 
-    /// A tally of a batch that begins now, where a number of lines is given.
-    pub fn new<R: Clock>(rt: &R, lines: Option<u32>) -> Tally {
+    /// A tally of a batch that begins now behind so many lines, where a number of lines is given.
+    pub fn new<R: Clock>(rt: &R, lines: Option<u32>, skipped: u32) -> Tally {
         match lines {
             Some(lines) => Tally {
                 start: Instant::now(rt).ok(),
                 lines: u64::from(lines),
+                skipped: u64::from(skipped),
                 told: AtomicU64::new(0),
             },
             None => Tally::quiet(),
@@ -54,9 +58,10 @@ impl Tally {
         if lines < number {
             return write!(errors, "\r{number} lines, {seconds} s\u{1b}[K");
         }
+        let answered = number.saturating_sub(self.skipped);
         let rest = (lines - number)
             .saturating_mul(seconds)
-            .checked_div(number)
+            .checked_div(answered)
             .unwrap_or(0);
         if rest < 120 {
             write!(

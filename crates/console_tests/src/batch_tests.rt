@@ -37,6 +37,32 @@ minimate,batch,--limit,1,--echo|# one;;k5 w;x|# one;;k5 w\trefused: Shape;x\tref
     expect_with(&rt, &words, input.as_slice(), 0, "refused: TooLong\n#\n");
 }
 
+// Lines that are left out have no reply, whatever they say; the others have theirs, as without the option.
+#[test]
+fn leaves_lines_out(rt: HostRuntime) {
+    expect_runs(
+        &rt,
+        0,
+        "minimate,batch,--limit,3,--skip,0|k5/6/2K3/6/6/1R4 w;k5/6/1K4/6/6/5R w;5r/6/6/1k4/6/K5 b;|mate 3 c4c5;mate 1 f1f6;mate 1 f6f1;
+minimate,batch,--limit,3,--skip,1|k5/6/2K3/6/6/1R4 w;k5/6/1K4/6/6/5R w;5r/6/6/1k4/6/K5 b;|mate 1 f1f6;mate 1 f6f1;
+minimate,batch,--skip=2,--limit,3|k5/6/2K3/6/6/1R4 w;k5/6/1K4/6/6/5R w;5r/6/6/1k4/6/K5 b|mate 1 f6f1;
+minimate,batch,--limit,3,--skip,3|k5/6/2K3/6/6/1R4 w;k5/6/1K4/6/6/5R w;5r/6/6/1k4/6/K5 b;|
+minimate,batch,--limit,3,--skip,3|k5/6/2K3/6/6/1R4 w;k5/6/1K4/6/6/5R w;5r/6/6/1k4/6/K5 b|
+minimate,batch,--limit,3,--skip,4294967295|k5/6/2K3/6/6/1R4 w;k5/6/1K4/6/6/5R w|
+minimate,batch,--limit,3,--skip,4294967295||
+minimate,batch,--limit,1,--skip,2|k5 w;x;# three;;k5/6/1K4/6/6/5R w\r;|# three;;mate 1 f1f6;
+minimate,batch,--limit,1,--skip,1,--echo|# one;k5 w;|k5 w\trefused: Shape;",
+    );
+    expect_runs(
+        &rt,
+        1,
+        "minimate,batch,--limit,0,--skip,9|k5/6/2K3/6/6/1R4 w|refused: Limit;",
+    );
+    let words = ["minimate", "batch", "--limit", "1", "--skip", "1"];
+    let input = long_line(&rt, 9000, b'x', b"\nk5/6/1K4/6/6/5R w\n");
+    expect_with(&rt, &words, input.as_slice(), 0, "mate 1 f1f6\n");
+}
+
 // `c1c5 5,d3c5 5` is the bench's cook; the others are those of `keys`.
 #[test]
 fn writes_keys_of_a_batch(rt: HostRuntime) {

@@ -2,6 +2,7 @@
 ghost use Rattle.std.specs.Prelude.{◌≡◌, None, Some};
 
 use crate::whole_runs::{run_quietly, words_of};
+use console::{Input, run};
 use devices::{Counted, Failed, Sink, Source};
 use std::process::Abort;
 use std::sync::Wait;
@@ -34,6 +35,12 @@ impl Source for Breaking<'_> {
         self.bytes = rest;
         self.left -= most;
         Ok(most)
+    }
+}
+
+impl Input for Breaking<'_> {
+    fn beginning(&self) -> &[u8] {
+        b""
     }
 }
 
@@ -179,6 +186,69 @@ fn keeps_the_replies_before_a_failed_read(rt: HostRuntime) {
         (4, 1),
         "mate 1 f1f6\n",
     );
+    for (left, output) in [(10, ""), (30, ""), (36, "mate 1 f1f6\n")] {
+        let skipping = "minimate,batch,--limit,1,--skip,1";
+        expect_read(&rt, skipping, (two, left), (4, 1), output);
+    }
+}
+
+/// Runs the words between the commas over an input that breaks off behind so many bytes and an output that takes so many, and expects
+/// status 4 and what standard error is told.
+fn expect_told<R: Threads + Wait + Abort + AllocGlobal + Eprint + Clock + Sync>(
+    rt: &R,
+    words: &str,
+    (bytes, left): (&[u8], usize),
+    taken: usize,
+    sentence: &str,
+) {
+    let words = words_of(rt, words);
+    let mut reader = Breaking {
+        bytes,
+        left,
+        failures: 0,
+    };
+    let mut writer = Dripping::new(rt, 100, taken);
+    let mut errors = Vec::new(rt.alloc());
+    let status = run(rt, words.as_slice(), &mut reader, &mut writer, &mut errors);
+    assert_eq!(rt; status, 4);
+    assert_eq!(rt; errors.as_slice(), sentence.as_bytes());
+}
+
+const UNWRITTEN: &str = "error: the output could not be written to its end\n";
+
+const UNREAD: &str = "error: the input could not be read to its end\n";
+
+// Of a full disk one sentence is told, and none on what could not be written.
+#[test]
+fn tells_of_a_failed_write(rt: HostRuntime) {
+    for words in [
+        "minimate,solve,--limit,1,k5/6/1K4/6/6/5R w",
+        "minimate,solution,--limit,1,k5/6/1K4/6/6/5R w",
+        "minimate,certify,--limit,1,k5/6/1K4/6/6/5R w",
+        "minimate,tree,--limit,3,--first,f1f2,k5/6/1K4/6/6/5R w",
+        "minimate,after,k5/6/1K4/6/6/5R w,f1f6",
+        "minimate,moves,k5 w",
+        "minimate,after,k5/6/1K4/6/6/5R w,f1a2",
+    ] {
+        expect_told(&rt, words, (b"", 0), 4, UNWRITTEN);
+    }
+    let one = b"k5/6/1K4/6/6/5R w\n".as_slice();
+    expect_told(&rt, "minimate,batch,--limit,1", (one, 18), 4, UNWRITTEN);
+    let certificate = b"mate 1 f1f6\nj\n\n".as_slice();
+    let verify = "minimate,verify,k5/6/1K4/6/6/5R w";
+    expect_told(&rt, verify, (certificate, 16), 4, UNWRITTEN);
+}
+
+#[test]
+fn tells_of_a_failed_read(rt: HostRuntime) {
+    for words in [
+        "minimate,check,k5/6/1K4/6/6/5R w",
+        "minimate,verify,k5/6/1K4/6/6/5R w",
+        "minimate,batch,--limit,1",
+        "minimate,batch,--limit,1,--skip,2",
+    ] {
+        expect_told(&rt, words, (b"f1f", 2), 100, UNREAD);
+    }
 }
 
 #[test]

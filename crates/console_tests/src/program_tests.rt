@@ -116,6 +116,7 @@ fn explains_fields(rt: HostRuntime) {
         "k5/6/1K4/6/6/5R|a position has two fields, the board and the side: here is one; write ' w' or ' b' behind the board|k5/6/1K4/6/6/5R b
 k5/6/1K4/6/6/5R |a position has two fields, the board and the side: here is one; write ' w' or ' b' behind the board|k5/6/1K4/6/6/5R w
 k4/5/1K3/5/4b|a position has two fields, the board and the side: here is one; write ' w' or ' b' behind the board|k4/5/1K3/5/4b w
+k5/6/1K4/6/6/4R|a position has two fields, the board and the side: here is one; write ' w' or ' b' behind the board; the board has a fault too|
 |there is no position: write one, as k5/6/1K4/6/6/5R w|k5/6/1K4/6/6/5R w
  |there is no position: write one, as k5/6/1K4/6/6/5R w|k5/6/1K4/6/6/5R w
 \t  |there is no position: write one, as k5/6/1K4/6/6/5R w|k5/6/1K4/6/6/5R w";
@@ -152,6 +153,9 @@ k5/6/1K4/6/6/5R w\r|blanks stand around the position: write 'k5/6/1K4/6/6/5R w'|
 k5/6/1K4 /6/6/5R w|blanks stand inside the board: leave them out|k5/6/1K4/6/6/5R w
 k5 / 6 / 1K4 / 6 / 6 / 5R w|blanks stand inside the board: leave them out|k5/6/1K4/6/6/5R w
 k5/6/1K4/\t6/6/5R w|blanks stand inside the board: leave them out|k5/6/1K4/6/6/5R w
+k5/6/1K4/6/6/4R  w|several spaces stand behind the board: write 'k5/6/1K4/6/6/4R w'; the board has a fault too|
+k5/6/1K4/6/6 /4R w|blanks stand inside the board: leave them out; the board has a fault too|
+k5/6/1K4 /6/6/5R w - -|blanks stand inside the board: leave them out|k5/6/1K4/6/6/5R w
 k5/6/1K4/6/6/5R w;|the side to move is w or b: leave out ';' behind it|k5/6/1K4/6/6/5R w
 k5/6/1K4/6/6/5R b; dm 3|the side to move is w or b: leave out '; dm 3' behind it|k5/6/1K4/6/6/5R b
 k5/6/1K4/6/6/5R w'|the side to move is w or b: leave out '\\'' behind it|k5/6/1K4/6/6/5R w";
@@ -187,12 +191,15 @@ k4/5/1K3/5/5/4R w|here are 6 ranks of 5 squares: write 5 ranks, as Gardner minic
 k4/5/1K3/4R w|here are 4 ranks of 5 squares: write 5 ranks, as Gardner minichess has|k4/5/1K3/5/4R w
 k5 w|a board has six ranks of six squares or five of five, with / between them: here are 1|
 k5/6/1K4/6/6/5R/6/4 w|a board has six ranks of six squares or five of five, with / between them: here are 8|
-k5//6/1K4/6/6/5R w|a board has six ranks of six squares or five of five, with / between them: here are 7|k5/6/1K4/6/6/5R w";
+k5//6/1K4/6/6/5R w|a board has six ranks of six squares or five of five, with / between them: here are 7|k5/6/1K4/6/6/5R w
+k5/6/1K46/6/5R w|a board has six ranks of six squares or five of five, with / between them: here are 5, most of 6 squares|k5/6/1K4/6/6/5R w
+k4/5/1K1/2/5/4R w|a board has six ranks of six squares or five of five, with / between them: here are 6, most of 5 squares|k4/5/1K3/5/4R w
+k5/6/1K31/6/5R w|here are 5 ranks of 6 squares: write 6 ranks, as Los Alamos chess has; the board has a fault too|";
     expect_table(&rt, ranks);
     let widths =
         "k5/6/1K4/6/7/5R w|a board of 6 ranks has 6 squares in each: here rank 2 has 7|k5/6/1K4/6/6/5R w
 k5/6/1K4/6/6/4R w|a board of 6 ranks has 6 squares in each: here rank 1 has 5|k5/6/1K4/6/6/5R w
-k5/5/1K4/7/6/5R w|a board of 6 ranks has 6 squares in each: here rank 5 has 5|
+k5/5/1K4/7/6/5R w|a board of 6 ranks has 6 squares in each: here rank 5 has 5, and rank 3 has 7|
 k5/6/1K4/6/6/6b w|a board of 6 ranks has 6 squares in each: here rank 1 has 7|k5/6/1K4/6/6/6 w
 k5/6/1K4/9/6/5R w|a board of 6 ranks has 6 squares in each: here rank 3 has 9|k5/6/1K4/6/6/5R w
 k5/6/1K4/6/0k4/5R w|a board of 6 ranks has 6 squares in each: here rank 2 has 5|
@@ -277,6 +284,55 @@ error: line 7: White is in check, and Black is to move: write w for the side, or
 ";
     let words = owned(&rt, "minimate,batch,--limit", "1");
     let told = tell_of(&rt, Ok(words), input.as_slice());
+    expect(&rt, &told, 0, output, errors);
+}
+
+/// Expects a line of a batch to be told a sentence, and with the change that it names to have its own limit.
+fn expect_moves<R: Threads + Wait + Abort + AllocGlobal + Eprint + Clock + Sync>(
+    rt: &R,
+    line: &str,
+    sentence: &str,
+    changed: &str,
+) {
+    let words = owned(rt, "minimate,batch,--limit", "1");
+    let told = tell_of(rt, Ok(words), line.as_bytes());
+    let errors = format!(in rt.alloc(); "error: line 1: {sentence}\n").expect(rt, "memory");
+    assert_eq!(rt; told.status, 0);
+    assert_eq!(rt; told.errors.as_slice(), errors.as_bytes());
+    let words = owned(rt, "minimate,batch,--limit", "1");
+    let told = tell_of(rt, Ok(words), changed.as_bytes());
+    expect(rt, &told, 0, "mate 3 c4c5 ok\n", "");
+}
+
+// A line's moves that are written otherwise are advised, and not left out.
+#[test]
+fn explains_moves_of_a_line(rt: HostRuntime) {
+    let table =
+        "k5/6/2K3/6/6/1R4 w;dm 2|a line has its moves behind its position: write ' ; dm 2' in place of ';dm 2'|k5/6/2K3/6/6/1R4 w ; dm 2
+k5/6/2K3/6/6/1R4 w ; dm 2 |a line has its moves behind its position: write ' ; dm 2' in place of ' ; dm 2 '|k5/6/2K3/6/6/1R4 w ; dm 2
+k5/6/2K3/6/6/1R4 w ; dm 02|a line has its moves behind its position: write ' ; dm 2' in place of ' ; dm 02'|k5/6/2K3/6/6/1R4 w ; dm 2
+k5/6/2K3/6/6/1R4 w dm 2;|a line has its moves behind its position: write ' ; dm 2' in place of ' dm 2;'|k5/6/2K3/6/6/1R4 w ; dm 2
+k5/6/2K3/6/6/1R4 w - - dm 2;|a line has its moves behind its position: write ' ; dm 2' in place of ' - - dm 2;'|k5/6/2K3/6/6/1R4 w ; dm 2
+k5/6/2K3/6/6/1R4 w ; dm 33|behind ; dm a line has its moves, 1 to 32: write one of these|k5/6/2K3/6/6/1R4 w ; dm 2
+k5/6/2K3/6/6/1R4 w ; dm 0|behind ; dm a line has its moves, 1 to 32: write one of these|k5/6/2K3/6/6/1R4 w ; dm 2
+k5/6/2K3/6/6/1R4 w ; bm c4c5|a position has two fields, the board and the side: here are five; leave out ' ; bm c4c5'|k5/6/2K3/6/6/1R4 w ; dm 2";
+    for row in table.lines() {
+        let (line, rest) = row.split_once('|').expect(&rt, "a sentence");
+        let (sentence, changed) = rest.split_once('|').expect(&rt, "a change");
+        expect_moves(&rt, line, sentence, changed);
+    }
+}
+
+// Lines that are left out keep their numbers.
+#[test]
+fn explains_lines_behind_those_left_out(rt: HostRuntime) {
+    let words = owned(&rt, "minimate,batch,--skip,2,--limit", "1");
+    let input = b"k5 w\nk5 w\nk5/6/1K4/6/6/5R x\nk5/6/1K4/6/6/5R w\nk4R/6/1K4/6/6/6 b\n";
+    let told = tell_of(&rt, Ok(words), input);
+    let errors = "error: line 3: the side to move is w or b: here is 'x'
+line 5: Black is mated already
+";
+    let output = "refused: Side\nmate 1 f1f6\nnone within 1\n";
     expect(&rt, &told, 0, output, errors);
 }
 
@@ -385,15 +441,25 @@ fn explains_limits_of_words(rt: HostRuntime) {
     let limits =
         "minimate,solve,k5/6/2K3/6/6/1R4 w|a search has a limit: add --limit 3, in plies, or --mate 2, in moves|minimate,solve,--mate,2,k5/6/2K3/6/6/1R4 w
 minimate,keys,--limit=3,--mate=2,k5/6/2K3/6/6/1R4 w|--limit and --mate say the same: leave one of them out|minimate,keys,--limit=3,k5/6/2K3/6/6/1R4 w
-minimate,solve,--moves,2,k5/6/2K3/6/6/1R4 w|moves of the attacker are counted by --mate: write that in place of --moves|minimate,solve,--mate,2,k5/6/2K3/6/6/1R4 w
-minimate,solve,--threads,4,--limit,3,k5/6/2K3/6/6/1R4 w|threads are counted by --workers: write that in place of --threads|minimate,solve,--workers,4,--limit,3,k5/6/2K3/6/6/1R4 w
+minimate,solve,--moves,2,k5/6/2K3/6/6/1R4 w|moves of the attacker are counted by --mate: write --mate in place of --moves|minimate,solve,--mate,2,k5/6/2K3/6/6/1R4 w
+minimate,solve,--threads,4,--limit,3,k5/6/2K3/6/6/1R4 w|threads are counted by --workers: write --workers in place of --threads|minimate,solve,--workers,4,--limit,3,k5/6/2K3/6/6/1R4 w
 minimate,solve,--lim,3,k5/6/2K3/6/6/1R4 w|write --limit in place of --lim|minimate,solve,--limit,3,k5/6/2K3/6/6/1R4 w
-minimate,solve,3,k5/6/2K3/6/6/1R4 w|a limit stands behind its option: write '--limit 3' in place of '3'|minimate,solve,--limit,3,k5/6/2K3/6/6/1R4 w";
+minimate,solve,3,k5/6/2K3/6/6/1R4 w|a limit stands behind its option: write '--limit 3' in place of '3'|minimate,solve,--limit,3,k5/6/2K3/6/6/1R4 w
+minimate,solve,--limit,--limit,3,k5/6/2K3/6/6/1R4 w|--limit stands there already: leave out --limit|minimate,solve,--limit,3,k5/6/2K3/6/6/1R4 w
+minimate,solve,--limit,3,--limit,5,k5/6/2K3/6/6/1R4 w|--limit stands there already: leave out --limit 5|minimate,solve,--limit,3,k5/6/2K3/6/6/1R4 w
+minimate,keys,--workers=3,--threads,4,--limit,3,k5/6/2K3/6/6/1R4 w|--workers stands there already: leave out --threads 4|minimate,keys,--workers=3,--limit,3,k5/6/2K3/6/6/1R4 w
+minimate,solve,--moves,k5/6/2K3/6/6/1R4 w|moves of the attacker are counted by --mate: write --mate 2 in place of --moves|minimate,solve,--mate,2,k5/6/2K3/6/6/1R4 w
+minimate,solve,--lim,k5/6/2K3/6/6/1R4 w|write --limit 3 in place of --lim|minimate,solve,--limit,3,k5/6/2K3/6/6/1R4 w";
     expect_hints(&rt, limits);
     let numbers =
         "minimate,solve,--limit,1.5,k5/6/2K3/6/6/1R4 w|--limit is a number from 1 to 63: write 3 in place of '1.5'|minimate,solve,--limit,3,k5/6/2K3/6/6/1R4 w
+minimate,solve,--limit,k5/6/2K3/6/6/1R4 w|--limit is a number from 1 to 63: write 3 behind it|minimate,solve,--limit,3,k5/6/2K3/6/6/1R4 w
+minimate,solve,--slots,--limit,3,k5/6/2K3/6/6/1R4 w|--slots is a number from 1 to 1048576: write 1048573 behind it|minimate,solve,--slots,1048573,--limit,3,k5/6/2K3/6/6/1R4 w
+minimate,solve,--limit,-1,k5/6/2K3/6/6/1R4 w|--limit is a number from 1 to 63: write 3 in place of '-1'|minimate,solve,--limit,3,k5/6/2K3/6/6/1R4 w
 minimate,tree,--mate=two,k5/6/2K3/6/6/1R4 w|--mate is a number from 1 to 32: write 2 in place of 'two'|minimate,tree,--mate=2,k5/6/2K3/6/6/1R4 w
 minimate,batch,--limit,3,--lines,x|--lines is a number from 0 to 4294967295: write 100 in place of 'x'|minimate,batch,--limit,3,--lines,100
+minimate,batch,--limit,3,--skip,x|--skip is a number from 0 to 4294967295: write 100 in place of 'x'|minimate,batch,--limit,3,--skip,100
+minimate,batch,--limit,3,--skip=4294967296|--skip is a number from 0 to 4294967295: write 100 in place of '4294967296'|minimate,batch,--limit,3,--skip=100
 minimate,keys,--limit,3,--slots,64M,k5/6/2K3/6/6/1R4 w|--slots is a number from 1 to 1048576: write 1048573 in place of '64M'|minimate,keys,--limit,3,--slots,1048573,k5/6/2K3/6/6/1R4 w
 minimate,solve,--limit,3,--workers=4294967296,k5/6/2K3/6/6/1R4 w|--workers is a number from 1 to 16: write 2 in place of '4294967296'|minimate,solve,--limit,3,--workers=2,k5/6/2K3/6/6/1R4 w";
     expect_hints(&rt, numbers);
@@ -410,6 +476,7 @@ minimate,batch,--limit,3,k5/6/2K3/6/6/1R4 w|batch reads positions from its input
 minimate,--workers,4,solve,--limit,3,k5/6/2K3/6/6/1R4 w|options stand behind the command: write it before --workers|minimate,solve,--workers,4,--limit,3,k5/6/2K3/6/6/1R4 w
 minimate,show,--slots,k5/6/2K3/6/6/1R4 w|show makes no search: leave out --slots|minimate,show,k5/6/2K3/6/6/1R4 w
 minimate,check,--mate,2,k5/6/2K3/6/6/1R4 w|check makes no search: leave out --mate 2|minimate,check,k5/6/2K3/6/6/1R4 w
+minimate,moves,--limit,3,--slots=9,k5/6/2K3/6/6/1R4 w|moves makes no search: leave out --limit 3, and the other options of a search|minimate,moves,k5/6/2K3/6/6/1R4 w
 minimate,moves,--limit=3,k5/6/2K3/6/6/1R4 w|moves makes no search: leave out --limit=3|minimate,moves,k5/6/2K3/6/6/1R4 w
 minimate,show,--progress,k5/6/2K3/6/6/1R4 w|show makes no search: leave out --progress|minimate,show,k5/6/2K3/6/6/1R4 w";
     expect_hints(&rt, words);
@@ -493,6 +560,22 @@ fn tells_of_a_side_without_moves(rt: HostRuntime) {
     );
     let tree = tell(&rt, "minimate,tree,--limit,2", "K4r/6/1k4/6/6/6 w");
     expect(&rt, &tree, 0, "none within 2\n", "White is mated already\n");
+    let solution = tell(&rt, "minimate,solution,--limit,3", "K4r/6/1k4/6/6/6 w");
+    expect(
+        &rt,
+        &solution,
+        0,
+        "none within 3\n",
+        "White is mated already\n",
+    );
+    let certificate = tell(&rt, "minimate,certify,--limit,1", "k5/2Q3/6/6/6/5K b");
+    expect(
+        &rt,
+        &certificate,
+        0,
+        "none within 1\n\n",
+        "Black is stalemated already\n",
+    );
     expect(
         &rt,
         &tell(&rt, "minimate,moves", "k4R/6/1K4/6/6/6 b"),

@@ -1,5 +1,11 @@
 //! Certificates on the input, made by hand. Their letters are places among lawful moves.
 use crate::whole_runs::expect_with;
+use console::{Keeping, run};
+use devices::Counted;
+use std::process::Abort;
+use std::sync::Wait;
+use std::thread::Threads;
+use std::time::Clock;
 
 // White's king comes to c5, the move p; Black's has a5 alone, and the rook mates on a1. The moves before it are a to o; i, the rook's
 // to b5, stalemates, and each other has a first reply that escapes.
@@ -54,4 +60,64 @@ fn writes_certificates(rt: HostRuntime) {
     expect_with(&rt, &limit, b"", 1, "refused: Limit\n");
     let no_position = ["minimate", "certify", "--limit", "64", "k5 w"];
     expect_with(&rt, &no_position, b"", 1, "refused: Shape\n");
+}
+
+/// Expects a certificate to be refused for its first line, and what standard error is told.
+fn expect_sentence<R: Threads + Wait + Abort + AllocGlobal + Eprint + Clock + Sync>(
+    rt: &R,
+    words: &[&str],
+    text: &[u8],
+    sentence: &str,
+) {
+    let mut reader = Keeping::new(Counted::new(text));
+    let mut writer = Counted::new(Vec::new(rt.alloc()));
+    let mut errors = Vec::new(rt.alloc());
+    let status = run(rt, words, &mut reader, &mut writer, &mut errors);
+    assert_eq!(rt; status, 1);
+    assert_eq!(rt; writer.device.as_slice(), b"refused: Answer\n".as_slice());
+    let wanted = format!(in rt.alloc(); "error: {sentence}\n").expect(rt, "memory");
+    assert_eq!(rt; errors.as_slice(), wanted.as_bytes());
+}
+
+// What is to be changed is told of each first line that is none: the goal, the ends of the lines, or the line.
+#[test]
+fn explains_first_lines(rt: HostRuntime) {
+    let mate = ["minimate", "verify", ROOK];
+    for (text, sentence) in [
+        (
+            b"goal 1 b1b5\ni\n\n".as_slice(),
+            "the first line is an answer for the other goal: add --goal stale",
+        ),
+        (
+            b"mate 3 c4c5\r\np.\r\naaaaaaaa-aaaaaa\r\n\r\n",
+            "the first line ends with a carriage return: end each line with a line feed alone",
+        ),
+        (
+            b"mate 3 c4c5",
+            "the first line has no line feed: write one behind it",
+        ),
+        (
+            b"mate 2 c4c5\n",
+            "the first line is no answer: write it as `solve` prints it for this goal, as mate 3 c4c5",
+        ),
+        (
+            b"",
+            "the first line is no answer: write it as `solve` prints it for this goal, as mate 3 c4c5",
+        ),
+    ] {
+        expect_sentence(&rt, &mate, text, sentence);
+    }
+    let stale = ["minimate", "verify", "--goal", "stale", ROOK];
+    for (text, sentence) in [
+        (
+            MATE,
+            "the first line is an answer for the other goal: leave out --goal stale",
+        ),
+        (
+            b"goal 1\n",
+            "the first line is no answer: write it as `solve` prints it for this goal, as goal 1 b1b5",
+        ),
+    ] {
+        expect_sentence(&rt, &stale, text, sentence);
+    }
 }

@@ -1,7 +1,7 @@
 //! Whole runs over devices in memory, as the tests expect them, and tables of them.
 ghost use Rattle.std.specs.Prelude.{◌<◌};
 
-use console::run;
+use console::{Input, run};
 use devices::{Counted, Sink, Source};
 use std::process::Abort;
 use std::sync::Wait;
@@ -9,12 +9,11 @@ use std::thread::Threads;
 use std::time::Clock;
 
 /// Runs the words, whatever standard error is told.
-pub fn run_quietly<R: Threads + Wait + AllocGlobal + Eprint + Clock + Sync, S: Source, K: Sink>(
-    rt: &R,
-    words: &[&str],
-    reader: &mut S,
-    writer: &mut K,
-) -> u8
+pub fn run_quietly<
+    R: Threads + Wait + AllocGlobal + Eprint + Clock + Sync,
+    S: Source + Input,
+    K: Sink,
+>(rt: &R, words: &[&str], reader: &mut S, writer: &mut K) -> u8
     requires reads { S.failures reader.old < u64.MAX }
     requires writes { K.failures writer.old < u64.MAX }
 {

@@ -2,9 +2,26 @@
 use crate::board_text::{self, Board};
 use crate::kings::{Check, check_of};
 use crate::refusal::Refusal;
-use crate::spelling::{Parting, Slip, slip_of};
+use crate::spelling::{Parting, Slip, leaves_well, moves_of, slip_of};
 use board::Side;
+use moves::Goal;
 use std::io::{self, Write};
+
+/// How many bytes of what a certificate begins with are told at most.
+pub const MOST_KNOWN: usize = 64;
+
+/// What was asked where something was refused.
+#[derive(Clone, Copy)]
+pub enum Asking<'a> {
+    /// A search, with options of its own.
+    Search,
+    /// The line of a batch of this number.
+    Line(u64),
+    /// What a certificate proves of this goal, and the bytes that it begins with, as far as they are known.
+    Proof(Goal, &'a [u8]),
+    /// Anything else.
+    Plain,
+}
 
 /// What was refused.
 #[derive(Clone, Copy)]
@@ -12,15 +29,20 @@ pub struct Refused<'a> {
     pub refusal: Refusal,
     /// The text of the position.
     pub fen: &'a [u8],
-    /// The number of the line, in a batch.
-    pub line: Option<u64>,
+    pub asking: Asking<'a>,
+}
+
+impl Refused<'_> {
+    fn is_line(&self) -> bool {
+        matches!(self.asking, Asking::Line(_))
+    }
 }
 
 /// Tells in one sentence why something was refused, and what to write instead.
 pub fn advise<E: Write>(errors: &mut E, refused: &Refused<'_>) -> io::Result<()> {
-    match refused.line {
-        Some(number) => write!(errors, "error: line {number}: ")?,
-        None => errors.write_all(b"error: ")?,
+    match refused.asking {
+        Asking::Line(number) => write!(errors, "error: line {number}: ")?,
+        _ => errors.write_all(b"error: ")?,
     }
     write_sentence(errors, refused)?;
     errors.write_all(b"\n")
@@ -37,8 +59,13 @@ pub fn write_sentence<E: Write>(errors: &mut E, refused: &Refused<'_>) -> io::Re
         Refusal::Units => advise_units(errors, &Board::of(refused.fen)),
         Refusal::PawnRank => advise_pawn(errors, &Board::of(refused.fen)),
         Refusal::OtherInCheck => advise_check(errors, refused.fen),
-        Refusal::TooLong => errors.write_all(length_advice(refused.line)),
+        Refusal::TooLong => errors.write_all(length_advice(refused.is_line())),
         Refusal::Grammar(offset) => advise_grammar(errors, offset),
+        Refusal::Limit if refused.is_line() => errors.write_all(
+            b"behind ; dm a line has its moves, 1 to 32: write one of these",
+        ),
+        Refusal::Answer => errors.write_all(answer_advice(refused.asking).as_bytes()),
+        Refusal::NoMemory => errors.write_all(memory_advice(refused.asking).as_bytes()),
         other => errors.write_all(values_advice(other).as_bytes()),
     }
 }
@@ -54,19 +81,91 @@ fn values_advice(refusal: Refusal) -> &'static str {
         Refusal::Slots => "--slots is 1 to 1048576",
         Refusal::Deep =>
             "more than 32 moves of the attacker are nested: no tree of 63 plies needs so many",
-        Refusal::Answer =>
-            "the first line is no answer: write it as `solve` prints it for this goal, as mate 3 c4c5",
-        Refusal::Claim(_) =>
+        _ =>
             "this line isn't there, is no claim's, or says what isn't so of this position and goal",
-        _ => "memory is wanting: a search takes less with fewer --slots or --workers",
+    }
+}
+
+fn memory_advice(asking: Asking<'_>) -> &'static str {
+    match asking {
+        Asking::Search | Asking::Line(_) =>
+            "memory is wanting: a search takes less with fewer --slots or --workers",
+        Asking::Proof(..) =>
+            "memory is wanting: each claim of a certificate is kept, so give the process more",
+        Asking::Plain => "memory is wanting: give the process more",
+    }
+}
+
+/// The first line with its feed, or all that is known of it.
+fn first_line(text: &[u8]) -> &[u8] {
+    for (i, c) in text.iter().enumerate() {
+        if *c == b'\n' {
+            return &text[..i + 1];
+        }
+    }
+    text
+}
+
+/// What is wrong with the first line of a certificate.
+fn answer_advice(asking: Asking<'_>) -> &'static str {
+    let Asking::Proof(goal, text) = asking else {
+        return "the first line is no answer: write it as `solve` prints it for this goal, as mate 3 c4c5";
+    };
+    let line = first_line(text);
+    match goal {
+        Goal::Mate if line.starts_with(b"goal ") =>
+            "the first line is an answer for the other goal: add --goal stale",
+        Goal::MateOrStale if line.starts_with(b"mate ") =>
+            "the first line is an answer for the other goal: leave out --goal stale",
+        _ => line_advice(goal, line),
+    }
+}
+
+/// What is wrong with a first line that begins with no word of the other goal.
+fn line_advice(goal: Goal, line: &[u8]) -> &'static str {
+    if line.ends_with(b"\r\n") {
+        "the first line ends with a carriage return: end each line with a line feed alone"
+    } else if !line.is_empty() && line.len() < MOST_KNOWN && !line.ends_with(b"\n") {
+        "the first line has no line feed: write one behind it"
+    } else {
+        match goal {
+            Goal::Mate =>
+                "the first line is no answer: write it as `solve` prints it for this goal, as mate 3 c4c5",
+            Goal::MateOrStale =>
+                "the first line is no answer: write it as `solve` prints it for this goal, as goal 1 b1b5",
+        }
     }
 }
 
 /// How a text is to be written, or else what is wrong with its board or its side.
 fn advise_text<E: Write>(errors: &mut E, refused: &Refused<'_>) -> io::Result<()> {
     match slip_of(refused.fen) {
-        Some(slip) => advise_slip(errors, slip),
+        Some(Slip::Tail(tail) | Slip::Rest(_, tail))
+            if refused.is_line() && moves_of(tail).is_some() => { advise_moves(errors, tail) }
+        Some(slip) => {
+            advise_slip(errors, slip)?;
+            advise_rest_of_board(errors, leaves_well(refused.fen, slip))
+        }
         None => advise_part(errors, refused),
+    }
+}
+
+/// That a line's moves are written otherwise.
+fn advise_moves<E: Write>(errors: &mut E, tail: &[u8]) -> io::Result<()> {
+    let moves = moves_of(tail).unwrap_or(1);
+    write!(
+        errors,
+        "a line has its moves behind its position: write ' ; dm {moves}' in place of '{}'",
+        tail.escape_ascii()
+    )
+}
+
+/// Where another fault is left in the board, that there is one.
+fn advise_rest_of_board<E: Write>(errors: &mut E, is_well: bool) -> io::Result<()> {
+    if is_well {
+        Ok(())
+    } else {
+        errors.write_all(b"; the board has a fault too")
     }
 }
 
@@ -181,31 +280,53 @@ fn advise_part<E: Write>(errors: &mut E, refused: &Refused<'_>) -> io::Result<()
 
 fn advise_shape<E: Write>(errors: &mut E, board: &Board<'_>) -> io::Result<()> {
     match board.width() {
-        Some(width) => advise_ranks(errors, board.ranks, width),
+        Some(width) => advise_ranks(errors, board, width),
         None => advise_widths(errors, board),
     }
 }
 
 /// That there are too few ranks, or too many, of the squares that a game has.
-fn advise_ranks<E: Write>(errors: &mut E, ranks: usize, width: usize) -> io::Result<()> {
+fn advise_ranks<E: Write>(errors: &mut E, board: &Board<'_>, width: usize) -> io::Result<()> {
     write!(
         errors,
-        "here are {ranks} ranks of {width} squares: write {width} ranks, as {} has",
+        "here are {} ranks of {width} squares: write {width} ranks, as {} has",
+        board.ranks,
         game_of(width)
-    )
+    )?;
+    advise_rest_of_board(errors, board.has_letters_of(width))
 }
 
 fn advise_widths<E: Write>(errors: &mut E, board: &Board<'_>) -> io::Result<()> {
     let ranks = board.ranks;
-    match board.uneven_rank() {
-        Some((rank, width)) if ranks == 5 || ranks == 6 => write!(
-            errors,
-            "a board of {ranks} ranks has {ranks} squares in each: here rank {rank} has {width}"
-        ),
-        _ => write!(
-            errors,
-            "a board has six ranks of six squares or five of five, with / between them: here are {ranks}"
-        ),
+    match (board.other_width(), board.uneven_rank()) {
+        (None, Some(uneven)) if ranks == 5 || ranks == 6 => advise_uneven(errors, board, uneven),
+        (other, _) => {
+            write!(
+                errors,
+                "a board has six ranks of six squares or five of five, with / between them: here are {ranks}"
+            )?;
+            match other {
+                Some(width) => write!(errors, ", most of {width} squares"),
+                None => Ok(()),
+            }
+        }
+    }
+}
+
+/// Which ranks hadn't as many squares as there are ranks, two at most.
+fn advise_uneven<E: Write>(
+    errors: &mut E,
+    board: &Board<'_>,
+    (rank, width): (usize, usize),
+) -> io::Result<()> {
+    let ranks = board.ranks;
+    write!(
+        errors,
+        "a board of {ranks} ranks has {ranks} squares in each: here rank {rank} has {width}"
+    )?;
+    match board.uneven_below(rank) {
+        Some((below, width)) => write!(errors, ", and rank {below} has {width}"),
+        None => Ok(()),
     }
 }
 
@@ -328,11 +449,11 @@ fn advise_one<E: Write>(errors: &mut E, mover: Side) -> io::Result<()> {
     )
 }
 
-fn length_advice(line: Option<u64>) -> &'static [u8] {
-    match line {
-        Some(_) => b"a line has at most 256 bytes",
-        None =>
-            b"a tree has at most 1048576 bytes, its line feed counted, and a line of a certificate 8192",
+fn length_advice(is_line: bool) -> &'static [u8] {
+    if is_line {
+        b"a line has at most 256 bytes"
+    } else {
+        b"a tree has at most 1048576 bytes, its line feed counted, and a line of a certificate 8192"
     }
 }
 

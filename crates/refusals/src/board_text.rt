@@ -73,35 +73,88 @@ impl<'a> Board<'a> {
         Board { text, ranks }
     }
 
-    /// The first rank that hasn't so many squares, and its squares.
-    fn other_rank(&self, width: usize) -> Option<(usize, usize)> {
+    /// The first rank up to this one that hasn't so many squares, and its squares. Ranks stand from the last one down.
+    fn other_rank(&self, upto: usize, width: usize) -> Option<(usize, usize)> {
         let (mut rank, mut squares) = (self.ranks, 0usize);
         for c in self.text {
             if !is_slash(*c) {
                 squares = squares.saturating_add(squares_of(*c));
                 continue;
             }
-            if squares != width {
+            if squares != width && rank <= upto {
                 return Some((rank, squares));
             }
             rank = rank.saturating_sub(1);
             squares = 0;
         }
-        if squares == width {
+        if squares == width || rank > upto {
             None
         } else {
             Some((rank, squares))
         }
     }
 
+    /// How many ranks have so many squares.
+    fn count_ranks(&self, width: usize) -> usize {
+        let (mut count, mut squares) = (0usize, 0usize);
+        for c in self.text {
+            if !is_slash(*c) {
+                squares = squares.saturating_add(squares_of(*c));
+                continue;
+            }
+            if squares == width {
+                count = count.saturating_add(1);
+            }
+            squares = 0;
+        }
+        if squares == width {
+            count.saturating_add(1)
+        } else {
+            count
+        }
+    }
+
+    /// How many squares most ranks have, where these are of the other game than so many ranks.
+    pub fn other_width(&self) -> Option<usize> {
+        let other = match self.ranks {
+            5 => 6,
+            6 => 5,
+            _ => return None,
+        };
+        if self.count_ranks(other).saturating_mul(2) > self.ranks {
+            Some(other)
+        } else {
+            None
+        }
+    }
+
     /// The first rank that hasn't as many squares as there are ranks, and its squares.
     pub fn uneven_rank(&self) -> Option<(usize, usize)> {
-        self.other_rank(self.ranks)
+        self.other_rank(self.ranks, self.ranks)
+    }
+
+    /// The first such rank below this one.
+    pub fn uneven_below(&self, rank: usize) -> Option<(usize, usize)> {
+        self.other_rank(rank.saturating_sub(1), self.ranks)
     }
 
     /// Whether there are as many ranks as a game has, and as many squares in each.
     pub fn has_shape(&self) -> bool {
         matches!(self.ranks, 5 | 6) && self.uneven_rank().is_none()
+    }
+
+    /// Whether it has the letters of the game of so many ranks, and each run of empty squares is one digit.
+    pub fn has_letters_of(&self, ranks: usize) -> bool {
+        let board = Board {
+            text: self.text,
+            ranks,
+        };
+        board.foreign_letter().is_none() && board.split_run().is_none()
+    }
+
+    /// Whether it is a board of units, whatever these are.
+    pub fn is_well(&self) -> bool {
+        self.has_shape() && self.has_letters_of(self.ranks)
     }
 
     /// Whether it has eight ranks of eight squares.
@@ -113,9 +166,9 @@ impl<'a> Board<'a> {
     pub fn width(&self) -> Option<usize> {
         if self.ranks == 1 {
             None
-        } else if self.other_rank(6).is_none() {
+        } else if self.other_rank(self.ranks, 6).is_none() {
             Some(6)
-        } else if self.other_rank(5).is_none() {
+        } else if self.other_rank(self.ranks, 5).is_none() {
             Some(5)
         } else {
             None

@@ -9,7 +9,7 @@ mod refusal;
 mod spelling;
 mod words;
 
-pub use advice::{Refused, advise, write_sentence};
+pub use advice::{Asking, MOST_KNOWN, Refused, advise, write_sentence};
 pub use moving::{advise_move, advise_over};
 pub use refusal::{Refusal, refused_text};
 pub use words::{advise_limit, advise_words};

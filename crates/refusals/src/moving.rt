@@ -97,8 +97,15 @@ pub fn advise_move<E: Write>(errors: &mut E, fen: &[u8], name: &[u8]) -> io::Res
     errors.write_all(b"\n")
 }
 
-/// Tells that the side to move, which has no lawful move, is mated or stalemated already.
-pub fn advise_over<E: Write>(errors: &mut E, position: &Position) -> io::Result<()> {
+/// Tells that the side to move, which has no lawful move, is mated or stalemated already; in a batch behind the number of its line.
+pub fn advise_over<E: Write>(
+    errors: &mut E,
+    position: &Position,
+    line: Option<u64>,
+) -> io::Result<()> {
+    if let Some(number) = line {
+        write!(errors, "line {number}: ")?;
+    }
     let mover = position.mover();
     let what = if in_check(position, mover) {
         "mated"

@@ -217,6 +217,100 @@ impl<'a> Layout<'a> {
     }
 }
 
+/// The most bytes of a board, with some to spare.
+const MOST_BOARD: usize = 64;
+
+/// Puts what is no blank behind so many bytes, as far as there is room. Answers how many bytes there are then.
+fn put(room: &mut [u8; MOST_BOARD], count: usize, text: &[u8]) -> usize {
+    let mut count = count;
+    for c in text {
+        if !is_blank(*c) && count < MOST_BOARD {
+            room[count] = *c;
+            count += 1;
+        }
+    }
+    count
+}
+
+/// Whether it begins with a blank, and behind that a side alone.
+fn begins_with_side(text: &[u8]) -> bool {
+    match text {
+        [blank, b'w' | b'b'] => is_blank(*blank),
+        [blank, b'w' | b'b', next, ..] => is_blank(*blank) && is_blank(*next),
+        _ => false,
+    }
+}
+
+/// What stands before the first side.
+fn before_side(text: &[u8]) -> &[u8] {
+    for i in 0..text.len() {
+        if begins_with_side(&text[i..]) {
+            return &text[..i];
+        }
+    }
+    text
+}
+
+impl Layout<'_> {
+    /// Whether the board is well once the blanks in it are left out.
+    fn joins_well(self) -> bool {
+        let mut room = [0u8; MOST_BOARD];
+        let count = put(&mut room, 0, self.board);
+        let count = put(&mut room, count, self.side);
+        let count = put(&mut room, count, before_side(self.rest));
+        Board::of(&room[..count.min(MOST_BOARD)]).is_well()
+    }
+}
+
+/// Whether the board is well once the slip is mended, as far as can be seen.
+pub fn leaves_well(text: &[u8], slip: Slip<'_>) -> bool {
+    match slip {
+        Slip::Parted(_, board, _) => Board::of(board).is_well(),
+        Slip::NoSide | Slip::Tail(_) | Slip::Rest(..) => Board::of(layout_of(text).board).is_well(),
+        Slip::Inside => layout_of(text).joins_well(),
+        _ => true,
+    }
+}
+
+fn is_idle(c: u8) -> bool {
+    is_blank(c) || c == b';' || c == b'-'
+}
+
+/// How many blanks, semicolons and dashes the text begins with.
+fn idle_length(text: &[u8]) -> usize
+    ensures { result ≤ length text.now }
+{
+    for (i, c) in text.iter().enumerate() {
+        if !is_idle(*c) {
+            return i;
+        }
+    }
+    text.len()
+}
+
+/// The bytes without blanks, semicolons and dashes around them.
+fn trimmed(text: &[u8]) -> &[u8] {
+    let (_, rest) = text.split_at(idle_length(text));
+    let mut end: usize = 0;
+    for (i, c) in rest.iter().enumerate() {
+        if !is_idle(*c) {
+            end = i.saturating_add(1);
+        }
+    }
+    &rest[..end.min(rest.len())]
+}
+
+/// The moves that are said behind a side in another way than a batch reads them, as `;dm 2`, ` ; dm 02` or EPD's ` - - dm 2;`.
+pub fn moves_of(tail: &[u8]) -> Option<u32> {
+    match trimmed(tail) {
+        [b'd', b'm', number @ ..] => {
+            let (_, digits) = number.split_at(run_length(number, true));
+            str::from_utf8(digits).ok()?.parse::<u32>().ok()
+        }
+        _ => None,
+    }
+}
+
 /// What is to be mended first in how a text is written whose fields, board or side are refused.
 pub fn slip_of(text: &[u8]) -> Option<Slip<'_>> {
     if text.starts_with(b"\xef\xbb\xbf") {

@@ -2,7 +2,7 @@
 use crate::board_text;
 use std::io::{self, Write};
 
-/// A word that another kind of word is meant by.
+/// What is to be changed in words that are no line.
 #[derive(Clone, Copy)]
 enum Hint<'a> {
     /// The parts of a position, which are one word.
@@ -11,20 +11,22 @@ enum Hint<'a> {
     Dashes(&'a str),
     /// An option, and its value, which is no number.
     Number(&'a str, &'a str),
+    /// An option without its number.
+    Missing(&'a str),
     /// A name where a batch reads its input.
     Name(&'a str),
     /// A position where a batch reads its input.
     Position,
     /// An option before the command.
     Before(&'a str),
-    /// The beginning of an option's name, and the whole.
-    Short(&'a str, &'static str),
+    /// What an option is called here, and the option, whose value may be missing.
+    Called(&'static str, &'a str, bool),
     /// A number alone.
     Limit(&'a str),
-    Moves,
-    Threads,
-    /// A command that makes no search, with an option of one and the word behind it.
-    NoSearch(&'a str, &'a str, &'a str),
+    /// An option that stands there, and another that says the same, with its value.
+    Again(&'a str, &'a str, &'a str),
+    /// A command that makes no search, with an option of one and its value, and whether there are more.
+    NoSearch(&'a str, &'a str, &'a str, bool),
 }
 
 fn is_command(word: &str) -> bool {
@@ -39,15 +41,26 @@ fn searches(command: &str) -> bool {
     matches!(command, "solve" | "keys" | "tree" | "solution" | "certify")
 }
 
-fn is_number_option(word: &str) -> bool {
-    matches!(
-        word,
-        "--limit" | "--mate" | "--workers" | "--slots" | "--lines"
-    )
+fn takes_limits(command: &str) -> bool {
+    command == "batch" || searches(command)
+}
+
+/// Whether it is an option of a search that has a number.
+fn is_search_number(word: &str) -> bool {
+    matches!(word, "--limit" | "--mate" | "--workers" | "--slots")
+}
+
+fn is_number_option(command: &str, word: &str) -> bool {
+    is_search_number(word) || (command == "batch" && matches!(word, "--lines" | "--skip"))
 }
 
 fn is_number(word: &str) -> bool {
     word.parse::<u32>().is_ok()
+}
+
+/// Whether it is no value, but another word of a line.
+fn is_no_value(word: &str) -> bool {
+    word.is_empty() || word.starts_with("--") || word.contains("/")
 }
 
 /// The option and the value of one word, as `--limit=3`, or else the word and the one behind it.
@@ -56,6 +69,11 @@ fn option_of<'a>(word: &'a str, next: &'a str) -> (&'a str, &'a str) {
         Some(parts) => parts,
         None => (word, next),
     }
+}
+
+fn name_of(word: &str) -> &str {
+    let (name, _) = option_of(word, "");
+    name
 }
 
 /// The option of a search whose name begins so, if it is one alone and not the whole.
@@ -70,66 +88,51 @@ fn longer(word: &str) -> Option<&'static str> {
     }
 }
 
-/// Whether it is an option of a search that has no value.
+/// What an option of a search is called here: by its own name, a beginning of it or another word for it.
+fn whole(option: &str) -> Option<&'static str> {
+    match option {
+        "--limit" => Some("--limit"),
+        "--mate" | "--moves" => Some("--mate"),
+        "--workers" | "--threads" => Some("--workers"),
+        "--slots" => Some("--slots"),
+        "--goal" => Some("--goal"),
+        "--lines" => Some("--lines"),
+        "--skip" => Some("--skip"),
+        _ => longer(option),
+    }
+}
+
+/// Whether it is called so here.
+fn is_whole(option: &str) -> bool {
+    match whole(option) {
+        Some(name) => name == option,
+        None => false,
+    }
+}
+
+fn is_limit(option: &str) -> bool {
+    matches!(option, "--limit" | "--mate")
+}
+
+/// Whether the two options say the same.
+fn says_same(one: &str, other: &str) -> bool {
+    match (whole(one), whole(other)) {
+        (Some(one), Some(other)) => one == other || (is_limit(one) && is_limit(other)),
+        _ => false,
+    }
+}
+
+/// Whether it is an option that has no value.
 fn is_flag(word: &str) -> bool {
     matches!(
         word,
         "--progress" | "--echo" | "--keys" | "--json" | "--set" | "--tries" | "--figurines"
-    )
+    ) || matches!(word, "--svg" | "--unicode" | "--black")
 }
 
 /// Whether the word behind it is its value, as far as one can tell of an option that there isn't.
 fn has_value_behind(word: &str) -> bool {
     word.starts_with("-") && !word.contains("=") && !is_flag(word)
-}
-
-/// What a word means that is no option, behind this command and this word.
-fn lone_hint<'a>(command: &str, last: &str, word: &'a str) -> Option<Hint<'a>> {
-    if has_value_behind(last) || word.starts_with("-") {
-        None
-    } else if command == "batch" && word.contains("/") && word.contains(" ") {
-        Some(Hint::Position)
-    } else if command == "batch" {
-        Some(Hint::Name(word))
-    } else if searches(command) && is_number(word) {
-        Some(Hint::Limit(word))
-    } else {
-        None
-    }
-}
-
-/// What an option means behind a command that searches, with the word behind it.
-fn search_hint<'a>(word: &'a str, next: &'a str) -> Option<Hint<'a>> {
-    let (option, value) = option_of(word, next);
-    if let Some(whole) = longer(option) {
-        return Some(Hint::Short(option, whole));
-    }
-    match option {
-        "--moves" => Some(Hint::Moves),
-        "--threads" => Some(Hint::Threads),
-        _ if !is_number_option(option) || is_number(value) => None,
-        _ => Some(Hint::Number(option, value)),
-    }
-}
-
-/// What an option means behind a command that makes no search, with the word behind it.
-fn idle_hint<'a>(command: &'a str, word: &'a str, next: &'a str) -> Option<Hint<'a>> {
-    let (option, value) = option_of(word, next);
-    match option {
-        "--progress" => Some(Hint::NoSearch(command, option, "")),
-        _ if !is_number_option(option) => None,
-        _ if is_number(value) => Some(Hint::NoSearch(command, word, next)),
-        _ => Some(Hint::NoSearch(command, word, "")),
-    }
-}
-
-/// What an option means behind this command, with the word behind it.
-fn option_hint<'a>(command: &'a str, word: &'a str, next: &'a str) -> Option<Hint<'a>> {
-    if command == "batch" || searches(command) {
-        search_hint(word, next)
-    } else {
-        idle_hint(command, word, next)
-    }
 }
 
 /// The word at this place, and none behind the last.
@@ -140,16 +143,160 @@ fn word_at(words: &[String], place: usize) -> &str {
     }
 }
 
+/// The option at this place, and its value.
+fn option_at(words: &[String], place: usize) -> (&str, &str) {
+    option_of(
+        word_at(words, place),
+        word_at(words, place.saturating_add(1)),
+    )
+}
+
+/// The number behind an option, if one stands there as a word of its own.
+fn number_behind(words: &[String], place: usize) -> &str {
+    let next = word_at(words, place.saturating_add(1));
+    if is_number(next) && !word_at(words, place).contains("=") {
+        next
+    } else {
+        ""
+    }
+}
+
+/// Whether one of the words says how far to search.
+fn has_limit(words: &[String]) -> bool {
+    for word in words {
+        match whole(name_of(word.as_str())) {
+            Some(option) if is_limit(option) => return true,
+            _ => {}
+        }
+    }
+    false
+}
+
+/// What a word means that is no option.
+fn lone_hint(words: &[String], place: usize) -> Option<Hint<'_>> {
+    let (command, word) = (word_at(words, 1), word_at(words, place));
+    let last = word_at(words, place.saturating_sub(1));
+    if has_value_behind(last) || word.starts_with("-") || !takes_limits(command) {
+        return None;
+    }
+    if is_number(word) {
+        if has_limit(words) {
+            return None;
+        }
+        return Some(Hint::Limit(word));
+    }
+    match word {
+        _ if command != "batch" => None,
+        "mate" | "stale" => None,
+        _ if word.contains("/") && word.contains(" ") => Some(Hint::Position),
+        _ => Some(Hint::Name(word)),
+    }
+}
+
+/// What an option means behind a command that searches.
+fn search_hint(words: &[String], place: usize) -> Option<Hint<'_>> {
+    let (command, word) = (word_at(words, 1), word_at(words, place));
+    let (option, value) = option_at(words, place);
+    if !is_whole(option) {
+        let name = whole(option)?;
+        return Some(Hint::Called(name, option, is_no_value(value)));
+    }
+    if !is_number_option(command, option) || is_number(value) {
+        None
+    } else if is_no_value(value) && word == option {
+        Some(Hint::Missing(option))
+    } else {
+        Some(Hint::Number(option, value))
+    }
+}
+
+/// Whether an option of a search stands behind this place.
+fn has_more(words: &[String], place: usize) -> bool {
+    for i in place.saturating_add(1)..words.len() {
+        let option = name_of(word_at(words, i));
+        if is_search_number(option) || option == "--progress" {
+            return true;
+        }
+    }
+    false
+}
+
+/// What an option means behind a command that makes no search.
+fn idle_hint(words: &[String], place: usize) -> Option<Hint<'_>> {
+    let (command, word) = (word_at(words, 1), word_at(words, place));
+    let more = has_more(words, place);
+    if name_of(word) == "--progress" {
+        Some(Hint::NoSearch(command, word, "", more))
+    } else if is_search_number(name_of(word)) {
+        Some(Hint::NoSearch(command, word, number_behind(words, place), more))
+    } else {
+        None
+    }
+}
+
+/// What a word means behind its command.
+fn hint_at(words: &[String], place: usize) -> Option<Hint<'_>> {
+    let hint = if takes_limits(word_at(words, 1)) {
+        search_hint(words, place)
+    } else {
+        idle_hint(words, place)
+    };
+    match hint {
+        Some(hint) => Some(hint),
+        None => lone_hint(words, place),
+    }
+}
+
+/// Whether an option is called as it is here, and has its value.
+fn is_right(words: &[String], place: usize) -> bool {
+    let (option, value) = option_at(words, place);
+    is_whole(option) && (option == "--goal" || is_number(value))
+}
+
+/// Which of two options that say the same is to be left out: the one that is wrong, or else the second.
+fn surplus(words: &[String], first: usize, second: usize) -> Hint<'_> {
+    let is_second = is_right(words, first)
+        || (!is_right(words, second) && is_whole(name_of(word_at(words, first))));
+    let (stays, goes) = if is_second {
+        (first, second)
+    } else {
+        (second, first)
+    };
+    Hint::Again(
+        name_of(word_at(words, stays)),
+        word_at(words, goes),
+        number_behind(words, goes),
+    )
+}
+
+/// An option before this place that says the same as the one here.
+fn again_before(words: &[String], place: usize) -> Option<Hint<'_>> {
+    for i in 2..place {
+        if says_same(name_of(word_at(words, i)), name_of(word_at(words, place))) {
+            return Some(surplus(words, i, place));
+        }
+    }
+    None
+}
+
+/// Two options behind a command that searches which say the same.
+fn again_hint(words: &[String]) -> Option<Hint<'_>> {
+    if !takes_limits(word_at(words, 1)) {
+        return None;
+    }
+    for i in 2..words.len() {
+        let hint = again_before(words, i);
+        if hint.is_some() {
+            return hint;
+        }
+    }
+    None
+}
+
 /// What the words behind a command mean.
 fn hint_behind(words: &[String]) -> Option<Hint<'_>> {
-    let command = word_at(words, 1);
     for i in 2..words.len() {
-        let (last, word) = (word_at(words, i - 1), word_at(words, i));
-        let next = word_at(words, i.saturating_add(1));
-        let hint = match option_hint(command, word, next) {
-            Some(hint) => Some(hint),
-            None => lone_hint(command, last, word),
-        };
+        let hint = hint_at(words, i);
         if hint.is_some() {
             return hint;
         }
@@ -193,10 +340,12 @@ fn hint_of(words: &[String]) -> Option<Hint<'_>> {
     if let Some(hint) = cut_of(words) {
         return Some(hint);
     }
-    if is_command(word_at(words, 1)) {
-        hint_behind(words)
-    } else {
-        first_hint(words)
+    if !is_command(word_at(words, 1)) {
+        return first_hint(words);
+    }
+    match again_hint(words) {
+        Some(hint) => Some(hint),
+        None => hint_behind(words),
     }
 }
 
@@ -206,7 +355,7 @@ fn range_of(option: &str) -> (&'static str, &'static str) {
         "--limit" => ("1 to 63", "3"),
         "--mate" => ("1 to 32", "2"),
         "--workers" => ("1 to 16", "2"),
-        "--lines" => ("0 to 4294967295", "100"),
+        "--lines" | "--skip" => ("0 to 4294967295", "100"),
         _ => ("1 to 1048576", "1048573"),
     }
 }
@@ -219,22 +368,65 @@ fn write_number<E: Write>(errors: &mut E, option: &str, value: &str) -> io::Resu
     )
 }
 
+fn write_missing<E: Write>(errors: &mut E, option: &str) -> io::Result<()> {
+    let (range, number) = range_of(option);
+    write!(
+        errors,
+        "error: {option} is a number from {range}: write {number} behind it\n"
+    )
+}
+
+/// How an option is written that is called otherwise here.
+fn write_called<E: Write>(
+    errors: &mut E,
+    name: &str,
+    option: &str,
+    is_missing: bool,
+) -> io::Result<()> {
+    match option {
+        "--moves" => errors.write_all(b"error: moves of the attacker are counted by --mate: ")?,
+        "--threads" => errors.write_all(b"error: threads are counted by --workers: ")?,
+        _ => errors.write_all(b"error: ")?,
+    }
+    match name {
+        _ if !is_missing => write!(errors, "write {name} in place of {option}\n"),
+        "--goal" => write!(errors, "write {name} mate in place of {option}\n"),
+        _ => {
+            let (_, number) = range_of(name);
+            write!(errors, "write {name} {number} in place of {option}\n")
+        }
+    }
+}
+
+/// An option, with a number behind it where one is named.
+fn write_option<E: Write>(errors: &mut E, option: &str, value: &str) -> io::Result<()> {
+    write!(errors, "leave out {option}")?;
+    if value.is_empty() {
+        Ok(())
+    } else {
+        write!(errors, " {value}")
+    }
+}
+
 fn write_no_search<E: Write>(
     errors: &mut E,
     command: &str,
-    option: &str,
-    value: &str,
+    (option, value): (&str, &str),
+    more: bool,
 ) -> io::Result<()> {
-    if option.contains("=") || value.is_empty() {
-        return write!(
-            errors,
-            "error: {command} makes no search: leave out {option}\n"
-        );
+    write!(errors, "error: {command} makes no search: ")?;
+    write_option(errors, option, value)?;
+    if more {
+        errors.write_all(b", and the other options of a search\n")
+    } else {
+        errors.write_all(b"\n")
     }
-    write!(
-        errors,
-        "error: {command} makes no search: leave out {option} {value}\n"
-    )
+}
+
+fn write_again<E: Write>(errors: &mut E, stays: &str, option: &str, value: &str) -> io::Result<()> {
+    write!(errors, "error: {stays} stands there already: ")?;
+    write_option(errors, option, value)?;
+    errors.write_all(b"\n")
 }
 
 fn write_hint<E: Write>(errors: &mut E, hint: Hint<'_>) -> io::Result<()> {
@@ -248,6 +440,19 @@ fn write_hint<E: Write>(errors: &mut E, hint: Hint<'_>) -> io::Result<()> {
             "error: {name} is a command: write it without dashes\n"
         ),
         Hint::Number(option, value) => write_number(errors, option, value),
+        Hint::Missing(option) => write_missing(errors, option),
+        Hint::Called(name, option, is_missing) => write_called(errors, name, option, is_missing),
+        Hint::Again(stays, option, value) => write_again(errors, stays, option, value),
+        Hint::NoSearch(command, option, value, more) => {
+            write_no_search(errors, command, (option, value), more)
+        }
+        other => write_place(errors, other),
+    }
+}
+
+/// That a word stands where another kind of word does.
+fn write_place<E: Write>(errors: &mut E, hint: Hint<'_>) -> io::Result<()> {
+    match hint {
         Hint::Name(name) => write!(
             errors,
             "error: batch reads positions from its input: write '< {name}' in place of '{name}'\n"
@@ -256,21 +461,13 @@ fn write_hint<E: Write>(errors: &mut E, hint: Hint<'_>) -> io::Result<()> {
             errors,
             "error: a limit stands behind its option: write '--limit {number}' in place of '{number}'\n"
         ),
-        Hint::Position => errors.write_all(
-            b"error: batch reads positions from its input: write solve in place of batch for one position\n",
-        ),
         Hint::Before(option) => write!(
             errors,
             "error: options stand behind the command: write it before {option}\n"
         ),
-        Hint::Short(option, whole) => write!(errors, "error: write {whole} in place of {option}\n"),
-        Hint::Threads => errors.write_all(
-            b"error: threads are counted by --workers: write that in place of --threads\n",
+        _ => errors.write_all(
+            b"error: batch reads positions from its input: write solve in place of batch for one position\n",
         ),
-        Hint::Moves => errors.write_all(
-            b"error: moves of the attacker are counted by --mate: write that in place of --moves\n",
-        ),
-        Hint::NoSearch(command, option, value) => write_no_search(errors, command, option, value),
     }
 }
 

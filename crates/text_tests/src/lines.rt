@@ -88,18 +88,26 @@ fn reads_a_batch(rt: HostRuntime) {
             assert!(rt; goal == Goal::MateOrStale);
             assert_eq!(rt; limits.limit, 5);
             assert_eq!(rt; limits.slots, 64);
-            assert!(rt; !manner.echo && manner.lines.is_none());
+            assert!(rt; !manner.echo && manner.lines.is_none() && manner.skip.is_none());
         }
         _ => panic!(rt; "no batch"),
     }
     let told = [
-        "minimate", "batch", "--echo", "--mate", "3", "--lines", "1500",
+        "minimate",
+        "batch",
+        "--echo",
+        "--mate",
+        "3",
+        "--lines",
+        "1500",
+        "--skip=93",
     ];
     match read_order(rt.alloc(), &told) {
         Ok(Order::Batch(_, limits, manner)) => {
             assert_eq!(rt; limits.limit, 5);
             assert!(rt; manner.echo && !manner.keys && !manner.json);
             assert_eq!(rt; manner.lines, Some(1500));
+            assert_eq!(rt; manner.skip, Some(93));
         }
         _ => panic!(rt; "no batch"),
     }
@@ -115,6 +123,12 @@ fn reads_a_batch(rt: HostRuntime) {
         &rt,
         &["minimate", "batch", "--limit", "5", "--lines", "many"],
     );
+    for number in ["x", "", "-1", "4294967296"] {
+        let words = ["minimate", "batch", "--limit", "5", "--skip", number];
+        expect_none(&rt, &words);
+    }
+    let solve = ["minimate", "solve", "--skip", "1", "--limit", "5", FEN];
+    expect_none(&rt, &solve);
 }
 
 #[test]

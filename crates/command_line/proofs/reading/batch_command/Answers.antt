@@ -8,4 +8,5 @@ returns c =
     let echoing = one_argument _ _ _ _ _ limited c.echo.ensures c.in-Ok-arg.ensures in
     let finding = one_argument _ _ _ _ _ echoing c.flag.ensures c.in-Ok-arg-2.ensures in
     let telling = one_argument _ _ _ _ _ finding c.flag-2.ensures c.in-Ok-arg-3.ensures in
-    IfOk-weaker c.arg-4.result _ _ (λ made adds. one_argument _ _ _ made _ telling c.lines.ensures adds) c.arg-4.ensures
+    let counting = one_argument _ _ _ _ _ telling c.lines.ensures c.in-Ok-arg-4.ensures in
+    IfOk-weaker c.arg-5.result _ _ (λ made adds. one_argument _ _ _ made _ counting c.skip.ensures adds) c.arg-5.ensures

@@ -1,4 +1,4 @@
-use Rattle.std.proofs.Common.{inl, refl, arith}
+use Rattle.std.proofs.Common.{◌∙◌, inl, inr, refl, arith}
 use Rattle.std.proofs.KnownBytes.{Appends-nil}
 use Rattle.refusals.specs.Reply.{answered}
 use Rattle.console.proofs.RunLemmas.{run_of_reply, run_of_refusal, run_of_failed_read}
@@ -8,7 +8,16 @@ pub returns-in-Ok-clause-runs : goal.returns-in-Ok-clause-runs
 returns-in-Ok-clause-runs g c =
     let reply = c.in-Ok.ensures in
     run_of_reply c.args.line.now _ (answered c.in-Ok.text.items) (omega (arith, reply.counts)) (inl refl) reply.given
-    (rw (← c.as_slice.ensures.value) c.finish.ensures)
+    (rw (← c.as_slice.ensures.value) c.finish.ensures.written)
+
+pub returns-in-Ok-clause-silent : goal.returns-in-Ok-clause-silent
+returns-in-Ok-clause-silent g c = elim c.finish.ensures.silent [
+  | inl failed ↦ inl (inr failed)
+  | inr same ↦ elim c.tell_if_line_is_over.ensures [
+    | inl over ↦ inr (inl over)
+    | inr kept ↦ inr (inr (same ∙ kept))
+  ]
+]
 
 pub returns-in-Err-Refused-clause-runs : goal.returns-in-Err-Refused-clause-runs
 returns-in-Err-Refused-clause-runs g c =
@@ -19,4 +28,4 @@ returns-in-Err-Refused-clause-runs g c =
 pub returns-in-Err-ReadFailed-clause-runs : goal.returns-in-Err-ReadFailed-clause-runs
 returns-in-Err-ReadFailed-clause-runs g c =
     let failed = c.in-Err-ReadFailed in
-    run_of_failed_read c.args.line.now _ (omega (arith, rw failed.field-0-is at failed.ensures.counts)) (omega arith) refl (Appends-nil _)
+    run_of_failed_read c.args.line.now _ (omega (arith, rw failed.field-0-is at failed.ensures.counts)) (omega arith) c.fail_to_read.ensures (Appends-nil _)
