@@ -264,3 +264,81 @@ fn refuses_long_lines(rt: HostRuntime) {
     assert!(rt; verify(rt.alloc(), &kings, Goal::Mate, &long) == Err(Fault::TooLong));
     assert!(rt; verify(rt.alloc(), &kings, Goal::Mate, &long[..8192]) == Err(Fault::Answer));
 }
+
+// White's king on a1 is stalemated, so that no line of a claim has a word.
+const STUCK: &str = "k5/6/6/1q4/6/K5 w";
+
+#[test]
+fn takes_all_limits(rt: HostRuntime) {
+    let stuck = board(&rt, STUCK);
+    for (limit, text) in [
+        (1, "none within 1\n\n"),
+        (9, "none within 9\n\n"),
+        (10, "none within 10\n\n"),
+        (31, "none within 31\n\n"),
+        (32, "none within 32\n\n"),
+        (33, "none within 33\n\n"),
+        (63, "none within 63\n\n"),
+    ] {
+        let answer = verify(rt.alloc(), &stuck, Goal::Mate, text.as_bytes());
+        assert!(rt; answer == Ok(Answer::NoneWithin(limit)), "{text}");
+    }
+}
+
+// White's king on d1 has one move, to c1, and Black then 54: the last is Zd.
+const QUEENS: &str = "5q/qqk3/6/6/5q/3K2 w";
+
+#[test]
+fn reads_places_behind_a_z(rt: HostRuntime) {
+    let queens = board(&rt, QUEENS);
+    for text in [
+        "none within 3\nz\n",
+        "none within 3\nA\n",
+        "none within 3\nX\n",
+        "none within 3\nZa\n",
+        "none within 3\nZd\n",
+    ] {
+        let answer = verify(rt.alloc(), &queens, Goal::Mate, text.as_bytes());
+        assert!(rt; answer == Ok(Answer::NoneWithin(3)), "{text}");
+    }
+    for text in [
+        "none within 3\nZe\n",
+        "none within 3\nZZa\n",
+        "none within 3\nY\n",
+        "none within 3\naZ\n",
+        "none within 3\nZ\n",
+    ] {
+        let answer = verify(rt.alloc(), &queens, Goal::Mate, text.as_bytes());
+        assert!(rt; answer == Err(Fault::Claim(2)), "{text}");
+    }
+}
+
+// The rook, the move g, mates as well as the queen before it; the bishop h and the knight i don't.
+#[test]
+fn reads_what_a_pawn_becomes(rt: HostRuntime) {
+    let pawn = board(&rt, PAWN);
+    for (line, text) in [
+        (3, "mate 1 c4c5r\ng\n\n"),
+        (2, "mate 1 c4c5b\nh\n\n"),
+        (2, "mate 1 c4c5n\ni\n\n"),
+    ] {
+        let answer = verify(rt.alloc(), &pawn, Goal::Mate, text.as_bytes());
+        assert!(rt; answer == Err(Fault::Claim(line)), "{text}");
+    }
+}
+
+#[test]
+fn refuses_words_too_many(rt: HostRuntime) {
+    let pawn = board(&rt, PAWN);
+    for (line, text) in [
+        (2, "mate 1 c4c5q\nfa\n\n"),
+        (2, "mate 1 c4c5q\nf.\n\n"),
+        (2, "mate 1 c4c5q\nf-\n\n"),
+        (3, "mate 1 c4c5q\nf\na\n"),
+        (4, "mate 1 c4c5q\nf\n\n\n"),
+        (4, "mate 1 c4c5q\nf\n\na"),
+    ] {
+        let answer = verify(rt.alloc(), &pawn, Goal::Mate, text.as_bytes());
+        assert!(rt; answer == Err(Fault::Claim(line)), "{text}");
+    }
+}

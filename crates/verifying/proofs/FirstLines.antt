@@ -39,7 +39,7 @@ two_bytes (x ∷ y ∷ z ∷ rest) two = absurd (omega (arith, two))
 pub square_is : (s : Place) (file rank : ℕ) → file ≡ 97 + s.file → rank ≡ 49 + s.rank → square_text s ≡ file ∷ rank ∷ []
 square_is s file rank is also = ap (λ (x : ℕ). x ∷ (49 + s.rank) ∷ []) (sym is) ∙ ap (λ (x : ℕ). file ∷ x ∷ []) (sym also)
 
-four_bytes : (name : List ℕ) → 4 ≤ length name → take 4 name ≡ get_or name 0 0 ∷ get_or name 1 0 ∷ get_or name 2 0 ∷ get_or name 3 0 ∷ []
+pub four_bytes : (name : List ℕ) → 4 ≤ length name → take 4 name ≡ get_or name 0 0 ∷ get_or name 1 0 ∷ get_or name 2 0 ∷ get_or name 3 0 ∷ []
 four_bytes [] long = absurd (omega (arith, long))
 four_bytes (a ∷ []) long = absurd (omega (arith, long))
 four_bytes (a ∷ b ∷ []) long = absurd (omega (arith, long))

@@ -9,3 +9,16 @@ pub mod FirstLines
 pub mod Mates
 pub mod Standing
 pub mod Taken
+pub mod Index
+pub mod Turns
+pub mod Reading
+pub mod Telling
+pub mod Apart
+pub mod Refusing
+pub mod Spelling
+pub mod FirstTexts
+pub mod Feeds
+pub mod Once
+pub mod Missing
+pub mod OneAnswer
+pub mod Refused

@@ -1,12 +1,12 @@
 -- What was shown of a certificate, line after line.
-use Rattle.std.proofs.Common.{◌≡◌, ◌≢◌, ◌<◌, ◌≤◌, ℕ, ◌+◌, ◌*◌, ◌++◌, List, [], length, take, refl, sym, ap, ◌∙◌, arith, subst, length-append, All, Some, slice_get, Option}
+use Rattle.std.proofs.Common.{◌≡◌, ◌<◌, ◌≤◌, ℕ, ◌+◌, List, [], length, refl, ap, arith, length-append, Some, slice_get}
 use Rattle.board.specs.Board.{PlainBoard}
 use Rattle.rules.specs.declared.goal.Goal.{Goal}
 use Rattle.decision.specs.declared.answer.Answer.{Answer}
 use Rattle.decision.specs.declared.answer.Answer.TheVariants as answer
 use Rattle.certificates.specs.declared.claim.Claim.{Claim}
 use Rattle.certificates.specs.Claims.{Holds, IsWon}
-use Rattle.certificates.specs.Answers.{Certifies, IsOdd, ShowsNone}
+use Rattle.certificates.specs.Answers.{Certifies, IsOdd}
 use Rattle.verifying.specs.declared.fault.Fault.TheVariants.{Claim as NumberedFault}
 use Rattle.verifying.specs.declared.part.Mate.{Mate}
 use Rattle.verifying.specs.declared.part.Part.{Part}

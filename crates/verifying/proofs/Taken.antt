@@ -1,5 +1,5 @@
 -- The lines that were taken, and what they tell of the input.
-use Rattle.std.proofs.Common.{◌≡◌, ◌⊎◌, inl, inr, ℕ, ◌+◌, List, [], ◌∷◌, ◌++◌, Option, None, Some, IfSome, Bool, true, false, length, take, drop, refl, sym, ap, ◌∙◌, subst, arith, append_assoc, length-append, All, Result, Ok, Err, IfOk, IfErr, IsErr, IsErrAnd}
+use Rattle.std.proofs.Common.{◌≡◌, inl, inr, ℕ, ◌+◌, List, [], ◌∷◌, ◌++◌, Option, None, Some, true, refl, sym, ap, ◌∙◌, subst, append_assoc, length-append, Result, Ok, Err, IfOk, IfErr, IsErr, IsErrAnd}
 use Rattle.std.proofs.lemmas.Grind.{flat_map-append}
 use Rattle.std.proofs.lemmas.List.{append-nil}
 use Rattle.std.proofs.lemmas.List.Elements.{All-push, All-nil}
@@ -9,13 +9,13 @@ use Rattle.rules.specs.declared.goal.Goal.{Goal}
 use Rattle.decision.specs.declared.answer.Answer.{Answer}
 use Rattle.decision.specs.declared.answer.Answer.TheVariants as answer
 use Rattle.devices.specs.Input.{OfInput}
-use Rattle.devices.specs.Lines.{HasNoFeed, left_of}
+use Rattle.devices.specs.Lines.{left_of}
 use Rattle.devices.specs.declared.lines.Unread.{Unread}
 use Rattle.devices.specs.declared.transfer.InputFault.{InputFault}
 use Rattle.devices.specs.declared.transfer.InputFault.TheVariants as input
 use Rattle.devices.specs.Within.{BeginsLong, ReadsText}
 use Rattle.verifying.specs.declared.fault.Fault.{Fault}
-use Rattle.verifying.specs.declared.fault.Fault.TheVariants.{Answer as AnswerFault, Claim as NumberedFault, TooLong, NoMemory, ReadFailed}
+use Rattle.verifying.specs.declared.fault.Fault.TheVariants.{Answer as AnswerFault, Claim as NumberedFault, NoMemory, ReadFailed}
 use Rattle.verifying.specs.declared.part.Part.{Part}
 use Rattle.verifying.specs.declared.part.Part.TheVariants.{First, Win, Yes, Lesser, No}
 use Rattle.verifying.specs.FirstLine.{BeginsWith, IsInRange, answer_text}
@@ -60,7 +60,7 @@ one_taken goal first now after old new number line (lines, count, gone, are) (no
 -- ---- what they tell of the input
 
 -- some input has lost these bytes
-lost : (first now : Option (List ℕ)) (bytes : List ℕ) (P : List ℕ → Type 0) → Consumes first now bytes → ((rest : List ℕ) → P (bytes ++ rest)) → OfInput first P
+pub lost : (first now : Option (List ℕ)) (bytes : List ℕ) (P : List ℕ → Type 0) → Consumes first now bytes → ((rest : List ℕ) → P (bytes ++ rest)) → OfInput first P
 lost None now bytes P gone so = (bytes ++ [], tt, so [])
 lost (Some xs) None bytes P gone so = absurd gone
 lost (Some xs) (Some ys) bytes P gone so = (bytes ++ ys, gone, so ys)

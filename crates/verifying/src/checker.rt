@@ -1,12 +1,17 @@
 //! The checker, which takes a certificate line by line.
-ghost use Rattle.std.specs.Prelude.{◌≡◌, ◌+◌, ◌<◌, ◌≤◌, [], IfErr, IfOk, IfSome, OnOk, Some, length};
+ghost use Rattle.std.specs.Prelude.{◌≡◌, ◌+◌, ◌<◌, ◌≤◌, ◌⊎◌, ℕ, List, [], IfErr, IfNone, IfOk, IfSome, OnOk, Some, length};
+ghost use Rattle.certificates.specs.declared.claim.Claim.{Claim};
+ghost use Rattle.verifying.specs.Growing.{AreApart};
+ghost use Rattle.verifying.specs.declared.part.Part.{Part as ThePart};
 ghost use Rattle.board.specs.Board.{PlainBoard};
 ghost use Rattle.decision.specs.declared.answer.Answer.TheVariants.{Mate as TheMate};
 ghost use Rattle.certificates.specs.Answers.{Certifies, IsOdd};
 ghost use Rattle.verifying.specs.FirstLine.{IsInRange};
-ghost use Rattle.verifying.specs.declared.part.Part.TheVariants.{First};
+ghost use Rattle.verifying.specs.declared.part.Part.TheVariants.{First, No as TheNo};
+ghost use Rattle.verifying.specs.declared.fault.Fault.TheVariants.{NoMemory};
 ghost use Rattle.verifying.specs.Parts.{IsYesUpTo, Stands, answer_of};
 ghost use Rattle.verifying.specs.Taking.{Refuses, Takes, fault_at};
+ghost use Rattle.verifying.specs.Reading.{BeginsPart, IsBehindYes, IsNoLineOf, IsUnfinished, ReadsLine, TakesWords};
 
 use crate::claims::Claims;
 use crate::fault::Fault;
@@ -39,6 +44,7 @@ fn begun<A: Allocator + Copy>(
     requires range { IsInRange answer }
     ensures stands { IfOk result (λ part. (goal : Goal) → Stands goal board.now part claims.new) }
     ensures told { IfOk result (λ part. answer_of part ≡ Some answer) }
+    ensures begins { IfOk result (λ part. BeginsPart board.now answer part claims.new) }
 {
     match answer {
         Answer::Mate { plies, first } => Ok(Part::Win(Mate { plies, first })),
@@ -55,6 +61,7 @@ fn behind_yes<A: Allocator + Copy>(claims: &Claims<A>, mate: Mate, place: usize)
     ensures stands { (goal : Goal) (b : PlainBoard) → IsOdd mate.plies → IsYesUpTo goal claims.now b mate (place + 1)
         → Stands goal b result claims.now }
     ensures told { answer_of result ≡ Some (TheMate mate.plies mate.first) }
+    ensures behind { IsBehindYes mate (place + 1) (length claims.now) result }
 {
     let count = claims.len();
     if place + 1 < count {
@@ -76,6 +83,10 @@ fn shown<A: Allocator + Copy>(
     ensures stands { IfOk result (λ next. IfSome next (λ new. Stands goal board.now new claims.new)) }
     ensures told { IfOk result (λ next. IfSome next (λ new. answer_of new ≡ answer_of part)) }
     ensures later { IfOk result (λ next. IfSome next (λ new. part ≡ First → ⊥)) }
+    ensures takes { IfOk result (λ next. IfSome next (λ new.
+        TakesWords goal board.now part words.now claims.old new claims.new)) }
+    ensures refuses { IfOk result (λ next. IfNone next (AreApart claims.old → (new : ThePart) (more : List Claim)
+        → TakesWords goal board.now part words.now claims.old new more → ⊥)) }
 {
     match part {
         Part::First => Ok(None),
@@ -86,7 +97,10 @@ fn shown<A: Allocator + Copy>(
             Ok(Some(behind_yes(claims, mate, 0)))
         }
         Part::Yes(mate, place) => {
-            if place >= claims.len() || !shows_yes(claims, goal, place, words)? {
+            if place >= claims.len() {
+                return Ok(None);
+            }
+            if !shows_yes(claims, goal, place, words)? {
                 return Ok(None);
             }
             Ok(Some(behind_yes(claims, mate, place)))
@@ -99,7 +113,10 @@ fn shown<A: Allocator + Copy>(
             Ok(Some(Part::No(Answer::Mate { plies, first }, 0)))
         }
         Part::No(answer, place) => {
-            if place >= claims.len() || !shows_no(claims, goal, place, words)? {
+            if place >= claims.len() {
+                return Ok(None);
+            }
+            if !shows_no(claims, goal, place, words)? {
                 return Ok(None);
             }
             Ok(Some(Part::No(answer, place + 1)))
@@ -132,6 +149,10 @@ impl<A: Allocator + Copy> Checker<A> {
         ensures counts { self.new.number ≡ self.old.number }
         ensures stands { IfOk result (λ next. IfSome next (λ new. Stands self.new.goal self.new.board new self.new.claims)) }
         ensures takes { IfOk result (λ next. IfSome next (λ new. Takes self.new.goal First line.now new)) }
+        ensures reads { IfOk result (λ next. IfSome next (λ new.
+            ReadsLine self.old.goal self.old.board First line.now self.old.claims new self.new.claims)) }
+        ensures refuses { IfOk result (λ next. IfNone next
+            (IsNoLineOf self.old.goal self.old.board First line.now self.old.claims)) }
     {
         let Some(answer) = answer_of(line, self.goal) else {
             return Ok(None);
@@ -148,6 +169,10 @@ impl<A: Allocator + Copy> Checker<A> {
         ensures counts { self.new.number ≡ self.old.number }
         ensures stands { IfOk result (λ next. IfSome next (λ new. Stands self.new.goal self.new.board new self.new.claims)) }
         ensures takes { IfOk result (λ next. IfSome next (λ new. Takes self.new.goal self.old.part line.now new)) }
+        ensures reads { IfOk result (λ next. IfSome next (λ new.
+            ReadsLine self.old.goal self.old.board self.old.part line.now self.old.claims new self.new.claims)) }
+        ensures refuses { IfOk result (λ next. IfNone next (AreApart self.old.claims → (self.old.part ≡ First → ⊥)
+            → IsNoLineOf self.old.goal self.old.board self.old.part line.now self.old.claims)) }
     {
         if !read_words(line, &mut self.words)? {
             return Ok(None);
@@ -159,6 +184,25 @@ impl<A: Allocator + Copy> Checker<A> {
             self.part,
             self.words.as_slice(),
         )
+    }
+
+    /// What comes behind the line, if it is the one that comes next.
+    fn part_behind(&mut self, line: &[u8]) -> Result<Option<Part>, AllocError>
+        requires short { length line.now ≤ 8192 }
+        requires stands { Stands self.old.goal self.old.board self.old.part self.old.claims }
+        ensures about { (self.new.goal ≡ self.old.goal) × (self.new.board ≡ self.old.board) }
+        ensures counts { self.new.number ≡ self.old.number }
+        ensures stands { IfOk result (λ next. IfSome next (λ new. Stands self.new.goal self.new.board new self.new.claims)) }
+        ensures takes { IfOk result (λ next. IfSome next (λ new. Takes self.new.goal self.old.part line.now new)) }
+        ensures reads { IfOk result (λ next. IfSome next (λ new.
+            ReadsLine self.old.goal self.old.board self.old.part line.now self.old.claims new self.new.claims)) }
+        ensures refuses { IfOk result (λ next. IfNone next (AreApart self.old.claims
+            → IsNoLineOf self.old.goal self.old.board self.old.part line.now self.old.claims)) }
+    {
+        match self.part {
+            Part::First => self.first_part(line),
+            _ => self.next_part(line),
+        }
     }
 
     /// The fault of a line that isn't there, or isn't right.
@@ -182,13 +226,13 @@ impl<A: Allocator + Copy> Checker<A> {
         ensures takes { OnOk result (Takes self.old.goal self.old.part line.now self.new.part) }
         ensures counts { OnOk result (self.new.number ≡ self.old.number + 1) }
         ensures refuses { IfErr result (Refuses self.old.part self.old.number) }
+        ensures reads { OnOk result (ReadsLine self.old.goal self.old.board self.old.part line.now self.old.claims
+            self.new.part self.new.claims) }
+        ensures wrong { IfErr result (λ fault. (fault ≡ NoMemory) ⊎ (AreApart self.old.claims
+            → IsNoLineOf self.old.goal self.old.board self.old.part line.now self.old.claims)) }
     {
         let fault = self.fault();
-        let next = match self.part {
-            Part::First => self.first_part(line)?,
-            _ => self.next_part(line)?,
-        };
-        let Some(part) = next else {
+        let Some(part) = self.part_behind(line)? else {
             return Err(fault);
         };
         self.part = part;
@@ -201,6 +245,9 @@ impl<A: Allocator + Copy> Checker<A> {
         requires { Stands self.now.goal self.now.board self.now.part self.now.claims }
         ensures certified { IfSome result (Certifies self.now.goal self.now.board) }
         ensures told { IfSome result (λ answer. answer_of self.now.part ≡ Some answer) }
+        ensures whole { IfSome result (λ answer. (place : ℕ) × (self.now.part ≡ TheNo answer place)
+            × (length self.now.claims ≤ place)) }
+        ensures unfinished { IfNone result (IsUnfinished self.now.part self.now.claims) }
     {
         match self.part {
             Part::No(answer, place) if place >= self.claims.len() => Some(answer),
@@ -215,6 +262,9 @@ impl<A: Allocator + Copy> Checker<A> {
         ensures certified { IfOk result (Certifies self.now.goal self.now.board) }
         ensures told { IfOk result (λ answer. (answer_of self.now.part ≡ Some answer) × (rest.now ≡ [])) }
         ensures refuses { IfErr result (λ fault. fault ≡ fault_at self.now.part self.now.number) }
+        ensures whole { IfOk result (λ answer. (place : ℕ) × (self.now.part ≡ TheNo answer place)
+            × (length self.now.claims ≤ place)) }
+        ensures wrong { IfErr result (λ fault. rest.now ≡ [] → IsUnfinished self.now.part self.now.claims) }
     {
         if !rest.is_empty() {
             return Err(self.fault());

@@ -1,5 +1,7 @@
 //! The claims of a certificate, in the order of their lines.
-ghost use Rattle.std.specs.Prelude.{◌≡◌, ◌<◌, ◌++◌, ◌∷◌, [], Contains, IfOk, IfSome, IsTrue, OnErr, OnOk, length, slice_get, Some};
+ghost use Rattle.std.specs.Prelude.{◌≡◌, ◌≢◌, ℕ, ◌<◌, ◌++◌, ◌∷◌, [], Contains, IfOk, IfSome, IsTrue, MatchOption, OnErr, OnOk, false, length, slice_get, slice_index_or, Some};
+ghost use Rattle.verifying.specs.Index.{IsEntered, IsIndexed, start_of};
+ghost use Rattle.verifying.specs.Certificate.{NoneAbout};
 
 use crate::kept::Kept;
 use certificates::Claim;
@@ -10,8 +12,7 @@ use std::marker::Model;
 /// A place of the index where no claim's number stands.
 const FREE: u32 = u32::MAX;
 
-/// Claims, and an index from positions to the places of their claims. What it finds is compared, so nothing rests on the index but
-/// that a claim which is there is found.
+/// Claims, and an index from positions to the places of their claims.
 #[derive(Drop)]
 pub struct Claims<A: Allocator> {
     alloc: A,
@@ -20,18 +21,23 @@ pub struct Claims<A: Allocator> {
 }
 
 impl<A: Allocator> Model for Claims<A> {
-    ghost use Rattle.std.specs.Prelude.{List};
+    ghost use Rattle.std.specs.Prelude.{List, length};
     ghost use Rattle.certificates.specs.declared.claim.Claim.{Claim};
+    ghost use Rattle.verifying.specs.Index.{IsIndexed};
 
     ghost Value = { List Claim };
 
     ghost view = { λ claims. claims.list.items };
+
+    ghost invariant = { λ claims. IsIndexed claims.list.items claims.index.items (length claims.list.items) };
 }
 
 /// Where a search of the index begins: each bit of the words counts.
+#[tactic(auto, unfolding(crate::specs::Index::start_of))]
 fn first_place(words: &[u64; 3], places: usize) -> usize
     requires { 0 < places }
-    ensures { result < places }
+    ensures value { result ≡ start_of words.now places }
+    ensures below { result < places }
 {
     let first = words[0].wrapping_mul(0x9E37_79B9_7F4A_7C15);
     let second = words[1].wrapping_mul(0xC2B2_AE3D_27D4_EB4F).rotate_left(21);
@@ -40,32 +46,39 @@ fn first_place(words: &[u64; 3], places: usize) -> usize
     (mixed >> 32) as usize % places
 }
 
-/// Puts the number into the first free place for the words, if there is one.
-fn enter(index: &mut [u32], words: &[u64; 3], number: u32) {
+/// Puts the number into the first free place for the words. Answers whether there is one.
+fn enter(index: &mut [u32], words: &[u64; 3], number: u32) -> bool
+    ensures entered { IsTrue result → IsEntered (length index.old) index.old index.new
+        (start_of words.now (length index.old)) number }
+    ensures full { result ≡ false → index.new ≡ index.old }
+{
     let places = index.len();
     if places == 0 {
-        return;
+        return false;
     }
     let mut place = first_place(words, places);
     for _ in 0..places {
         if index[place] == FREE {
             index[place] = number;
-            return;
+            return true;
         }
         place = (place + 1) % places;
     }
+    false
 }
 
 /// An index with so many places, in which the claims stand.
-fn index_of<A: Allocator>(
-    alloc: A,
-    list: &[Kept],
-    places: usize,
-) -> Result<Vec<u32, A>, AllocError> {
+fn index_of<A: Allocator>(alloc: A, list: &[Kept], places: usize) -> Result<Vec<u32, A>, AllocError>
+    ensures { IfOk result (λ index. IsIndexed list.now index.items (length list.now)) }
+{
     let mut index = vec![in alloc; FREE; places]?;
     for number in 0..list.len() {
-        if number < FREE as usize {
-            enter(index.as_mut_slice(), &list[number].words(), number as u32);
+        if number >= FREE as usize {
+            return Err(AllocError);
+        }
+        let words = list[number].words();
+        if !enter(index.as_mut_slice(), &words, number as u32) {
+            return Err(AllocError);
         }
     }
     Ok(index)
@@ -98,9 +111,10 @@ impl<A: Allocator + Copy> Claims<A> {
         self.list[place].claim()
     }
 
-    /// The plies of a claim about the position, if the index finds one.
+    /// The plies of a claim about the position, if there is one.
     pub fn find(&self, position: &Board) -> Option<u8>
-        ensures { IfSome result (λ plies. Contains self.now (record { position = position.now; plies = plies })) }
+        ensures { MatchOption result (NoneAbout self.now position.now)
+            (λ plies. Contains self.now (record { position = position.now; plies = plies })) }
     {
         let words = position.words();
         let places = self.index.len();
@@ -109,7 +123,11 @@ impl<A: Allocator + Copy> Claims<A> {
         }
         let mut place = first_place(&words, places);
         for _ in 0..places {
-            let claim = self.list.get(self.index[place] as usize)?;
+            let number = self.index[place] as usize;
+            if number >= self.list.len() {
+                return None;
+            }
+            let claim = &self.list[number];
             if claim.is_about(position) {
                 return Some(claim.plies());
             }
@@ -139,10 +157,14 @@ impl<A: Allocator + Copy> Claims<A> {
         ensures err { OnErr result (self.new ≡ self.old) }
     {
         self.make_room()?;
-        let words = position.words();
-        let number = self.list.len() as u32;
-        self.list.push(Kept::of(position, plies))?;
-        enter(self.index.as_mut_slice(), &words, number);
+        let kept = Kept::of(position, plies);
+        let words = kept.words();
+        let number = self.list.len();
+        self.list.push(kept)?;
+        if !enter(self.index.as_mut_slice(), &words, number as u32) {
+            self.list.truncate(number);
+            return Err(AllocError);
+        }
         Ok(())
     }
 

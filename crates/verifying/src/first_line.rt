@@ -4,7 +4,10 @@ ghost use Rattle.std.specs.Fmt.{decimal};
 ghost use Rattle.rules.specs.MoveText.{square_text, promotion_text, move_text};
 ghost use Rattle.rules.specs.Moves.{IsPromoted};
 ghost use Rattle.certificates.specs.Answers.{IsOdd};
-ghost use Rattle.verifying.specs.FirstLine.{goal_text, answer_text, IsInRange};
+ghost use Rattle.verifying.specs.FirstLine.{goal_text, answer_text, HasName, IsInRange, IsNamed, IsNamedSquare};
+ghost use Rattle.board.specs.declared.game.Kind.{Kind as PlainKind};
+ghost use Rattle.decision.specs.declared.answer.Answer.{Answer as PlainAnswer};
+ghost use Rattle.rules.specs.Squares.{Place, Ply};
 
 use board::Kind;
 use decision::{Answer, MOST_LIMIT};
@@ -12,7 +15,8 @@ use moves::{Goal, Move, Square};
 
 /// The digit that the byte is.
 fn digit_of(byte: u8) -> Option<u8>
-    ensures { IfSome result (λ digit. (digit < 10) × (byte ≡ 48 + digit)) }
+    ensures { MatchOption result ((digit : ℕ) → digit < 10 → byte ≢ 48 + digit)
+        (λ digit. (digit < 10) × (byte ≡ 48 + digit)) }
 {
     if byte >= b'0' && byte <= b'9' {
         return Some(byte - b'0');
@@ -22,7 +26,8 @@ fn digit_of(byte: u8) -> Option<u8>
 
 /// The number from 1 to 9 that the digit writes.
 fn one_digit(units: u8) -> Option<u8>
-    ensures { IfSome result (λ number. (0 < number) × (number ≤ 63) × (decimal number ≡ units ∷ [])) }
+    ensures { MatchOption result ((n : ℕ) → 0 < n → n ≤ 63 → decimal n ≢ units ∷ [])
+        (λ number. (0 < number) × (number ≤ 63) × (decimal number ≡ units ∷ [])) }
 {
     let number = digit_of(units)?;
     if number == 0 {
@@ -33,12 +38,16 @@ fn one_digit(units: u8) -> Option<u8>
 
 /// The number from 10 to 63 that the digits write.
 fn two_digits(tens: u8, units: u8) -> Option<u8>
-    ensures { IfSome result (λ number. (0 < number) × (number ≤ 63) × (decimal number ≡ tens ∷ units ∷ [])) }
+    ensures { MatchOption result ((n : ℕ) → 0 < n → n ≤ 63 → decimal n ≢ tens ∷ units ∷ [])
+        (λ number. (0 < number) × (number ≤ 63) × (decimal number ≡ tens ∷ units ∷ [])) }
 {
     let ten = digit_of(tens)?;
     let unit = digit_of(units)?;
     let number = 10 * ten + unit;
-    if number < 10 || number > MOST_LIMIT {
+    if number < 10 {
+        return None;
+    }
+    if number > MOST_LIMIT {
         return None;
     }
     Some(number)
@@ -46,7 +55,8 @@ fn two_digits(tens: u8, units: u8) -> Option<u8>
 
 /// The number from 1 to 63 that the digits write.
 fn number_of(digits: &[u8]) -> Option<u8>
-    ensures { IfSome result (λ number. (0 < number) × (number ≤ 63) × (decimal number ≡ digits.now)) }
+    ensures { MatchOption result ((n : ℕ) → 0 < n → n ≤ 63 → decimal n ≢ digits.now)
+        (λ number. (0 < number) × (number ≤ 63) × (decimal number ≡ digits.now)) }
 {
     if digits.len() == 1 {
         return one_digit(digits[0]);
@@ -60,7 +70,8 @@ fn number_of(digits: &[u8]) -> Option<u8>
 /// The file or the rank that the byte names, where `first` names the first one.
 fn cell_of(byte: u8, first: u8) -> Option<u8>
     requires { first < 128 }
-    ensures { IfSome result (λ cell. (cell < 6) × (byte ≡ first + cell)) }
+    ensures { MatchOption result ((cell : ℕ) → cell < 6 → byte ≢ first + cell)
+        (λ cell. (cell < 6) × (byte ≡ first + cell)) }
 {
     if byte >= first && byte < first + 6 {
         return Some(byte - first);
@@ -70,7 +81,8 @@ fn cell_of(byte: u8, first: u8) -> Option<u8>
 
 /// The square of the larger board that the two bytes name.
 fn square_of(file: u8, rank: u8) -> Option<Square>
-    ensures { IfSome result (λ square. square_text square ≡ file ∷ rank ∷ []) }
+    ensures { MatchOption result ((square : Place) → IsNamedSquare square → square_text square ≢ file ∷ rank ∷ [])
+        (λ square. (square_text square ≡ file ∷ rank ∷ []) × IsNamedSquare square) }
 {
     let file = cell_of(file, b'a')?;
     let rank = cell_of(rank, b'1')?;
@@ -79,7 +91,8 @@ fn square_of(file: u8, rank: u8) -> Option<Square>
 
 /// What a pawn becomes by the letter.
 fn kind_of(letter: u8) -> Option<Kind>
-    ensures text { IfSome result (λ kind. promotion_text (Some kind) ≡ letter ∷ []) }
+    ensures text { MatchOption result ((kind : PlainKind) → IsPromoted kind → promotion_text (Some kind) ≢ letter ∷ [])
+        (λ kind. promotion_text (Some kind) ≡ letter ∷ []) }
     ensures promoted { IfSome result IsPromoted }
 {
     match letter {
@@ -95,7 +108,9 @@ fn kind_of(letter: u8) -> Option<Kind>
 fn move_to(name: &[u8], promotion: Option<Kind>) -> Option<Move>
     requires long { 4 ≤ length name.now }
     requires promoted { IfSome promotion IsPromoted }
-    ensures { IfSome result (λ m. move_text m ≡ take 4 name.now ++ promotion_text promotion) }
+    ensures { MatchOption result ((m : Ply) → HasName m → m.promotion ≡ promotion
+        → move_text m ≢ take 4 name.now ++ promotion_text promotion)
+        (λ m. (move_text m ≡ take 4 name.now ++ promotion_text promotion) × HasName m) }
 {
     let from = square_of(name[0], name[1])?;
     let to = square_of(name[2], name[3])?;
@@ -108,7 +123,8 @@ fn move_to(name: &[u8], promotion: Option<Kind>) -> Option<Move>
 
 /// The move of this name, on the larger board.
 fn move_of(name: &[u8]) -> Option<Move>
-    ensures { IfSome result (λ m. move_text m ≡ name.now) }
+    ensures { MatchOption result ((m : Ply) → HasName m → move_text m ≢ name.now)
+        (λ m. (move_text m ≡ name.now) × HasName m) }
 {
     if name.len() == 4 {
         return move_to(name, None);
@@ -138,7 +154,10 @@ fn first_place(bytes: &[u8], wanted: u8) -> Option<usize>
 /// The plies and the first move of a mate, as they stand on both sides of the first space.
 fn mate_of(text: &[u8]) -> Option<(u8, Move)>
     ensures plies { IfSome result (λ mate. IsOdd mate.0 × (mate.0 ≤ 63)) }
-    ensures text { IfSome result (λ mate. text.now ≡ decimal mate.0 ++ 32 ∷ move_text mate.1) }
+    ensures text { MatchOption result
+        ((n : ℕ) (m : Ply) → IsOdd n → n ≤ 63 → HasName m → text.now ≢ decimal n ++ 32 ∷ move_text m)
+        (λ mate. text.now ≡ decimal mate.0 ++ 32 ∷ move_text mate.1) }
+    ensures named { IfSome result (λ mate. HasName mate.1) }
 {
     let space = first_place(text, b' ')?;
     let plies = number_of(&text[..space])?;
@@ -162,7 +181,10 @@ fn word_of(goal: Goal) -> &'static [u8]
 /// The answer that the line tells.
 pub(crate) fn answer_of(line: &[u8], goal: Goal) -> Option<Answer>
     ensures range { IfSome result IsInRange }
-    ensures text { IfSome result (λ answer. line.now ≡ answer_text goal answer) }
+    ensures text { MatchOption result
+        ((answer : PlainAnswer) → IsInRange answer → IsNamed answer → line.now ≢ answer_text goal answer)
+        (λ answer. line.now ≡ answer_text goal answer) }
+    ensures named { IfSome result IsNamed }
 {
     if let Some(digits) = line.strip_prefix(b"none within ") {
         let limit = number_of(digits)?;

@@ -1,12 +1,13 @@
 //! No claims: that the attacker forces the goal within no number of plies up to the claim's.
-ghost use Rattle.std.specs.Prelude.{◌≡◌, ◌≤◌, ◌⊎◌, List, All, IfOk, IsTrue};
+ghost use Rattle.std.specs.Prelude.{◌≡◌, ◌≤◌, ◌⊎◌, List, All, IfOk, IsTrue, false};
 ghost use Rattle.rules.specs.Squares.{Ply};
 ghost use Rattle.rules.specs.Moves.{IsLawful};
 ghost use Rattle.rules.specs.Forces.{IsReached};
 ghost use Rattle.decision.specs.Answer.{ForcesNothing};
 ghost use Rattle.certificates.specs.declared.claim.Claim.{Claim};
 ghost use Rattle.certificates.specs.Claims.{ClaimsSoMany, EscapesBy, FailsBy};
-ghost use Rattle.verifying.specs.Growing.{Extends};
+ghost use Rattle.verifying.specs.Growing.{AreApart, Extends};
+ghost use Rattle.verifying.specs.Certificate.{ReachesNothing, Resists, ShowFailures, TellsFailure};
 
 use crate::claims::Claims;
 use crate::leaf::{LEAF, is_forced_within, is_reached};
@@ -26,6 +27,9 @@ fn resists<A: Allocator + Copy>(
     ensures more { Extends claims.old claims.new }
     ensures holds { IfOk result (λ yes. IsTrue yes
         → ForcesNothing goal position.now plies ⊎ ClaimsSoMany claims.new position.now plies) }
+    ensures tells { IfOk result (λ yes. IsTrue yes → Resists goal position.now plies claims.old claims.new) }
+    ensures refuses { IfOk result (λ yes. yes ≡ false → AreApart claims.old
+        → (new : List Claim) → Resists goal position.now plies claims.old new → ⊥) }
 {
     if plies <= LEAF {
         return Ok(!is_forced_within(position, goal, plies));
@@ -55,6 +59,9 @@ fn fails<A: Allocator + Copy>(
     ensures more { Extends claims.old claims.new }
     ensures fails { IfOk result (λ yes. IsTrue yes → (IsReached goal board.now → ⊥)
         × (((r : Ply) → IsLawful board.now r → ⊥) ⊎ EscapesBy goal claims.new board.now left)) }
+    ensures tells { IfOk result (λ yes. IsTrue yes → TellsFailure goal board.now left word claims.old claims.new) }
+    ensures refuses { IfOk result (λ yes. yes ≡ false → AreApart claims.old
+        → (new : List Claim) → TellsFailure goal board.now left word claims.old new → ⊥) }
 {
     let replies = lawful_on(board);
     match word {
@@ -73,7 +80,8 @@ fn fails<A: Allocator + Copy>(
 /// Whether none of the moves reaches the goal.
 fn none_reaches(goal: Goal, board: &Board, moves: &[Move]) -> bool
     requires { All (IsLawful board.now) moves.now }
-    ensures { IsTrue result → (claims : List Claim) → All (FailsBy goal claims board.now 1) moves.now }
+    ensures fail { IsTrue result → (claims : List Claim) → All (FailsBy goal claims board.now 1) moves.now }
+    ensures refuses { result ≡ false → All (ReachesNothing goal board.now) moves.now → ⊥ }
 {
     for m in moves {
         if is_reached(&after(board, *m), goal) {
@@ -95,6 +103,10 @@ pub(crate) fn all_fail<A: Allocator + Copy>(
     ensures more { Extends claims.old claims.new }
     ensures fail { IfOk result (λ yes. IsTrue yes
         → All (FailsBy goal claims.new claim.now.position claim.now.plies) moves.now) }
+    ensures tells { IfOk result (λ yes. IsTrue yes
+        → ShowFailures goal claim.now.position claim.now.plies moves.now words.now claims.old claims.new) }
+    ensures refuses { IfOk result (λ yes. yes ≡ false → AreApart claims.old → (new : List Claim)
+        → ShowFailures goal claim.now.position claim.now.plies moves.now words.now claims.old new → ⊥) }
 {
     if claim.plies == 1 {
         return Ok(words.is_empty() && none_reaches(goal, &claim.position, moves));

@@ -1,10 +1,12 @@
 //! One line of claims, and what it shows.
-ghost use Rattle.std.specs.Prelude.{◌≡◌, ◌<◌, ◌≤◌, [], All, Some, IfOk, IsTrue, length, slice_get, slice_index_or, take};
+ghost use Rattle.std.specs.Prelude.{◌≡◌, ◌≢◌, ◌↔◌, ◌<◌, ◌≤◌, ℕ, [], List, All, Some, IfOk, IsTrue, false, length, slice_get, slice_index_or, take};
 ghost use Rattle.certificates.specs.declared.claim.Claim.{Claim};
 ghost use Rattle.certificates.specs.Answers.{IsOdd};
 ghost use Rattle.certificates.specs.Claims.{Holds, IsWon, WinsBy};
-ghost use Rattle.verifying.specs.Growing.{Extends};
+ghost use Rattle.verifying.specs.Growing.{AreApart, Extends};
 ghost use Rattle.verifying.specs.Parts.{HasFewer, LesserFail, ShowsFewer};
+ghost use Rattle.verifying.specs.Certificate.{IsLesserLine, IsNoLine, IsSomeYesLine, IsYesLine, shorter_claim, with_claim};
+ghost use Rattle.rules.specs.Moves.{IsLawful};
 
 use crate::claims::Claims;
 use crate::no_claims::all_fail;
@@ -17,7 +19,7 @@ use std::alloc::{AllocError, Allocator};
 
 /// Whether the moves are one.
 fn is_same(one: Move, other: Move) -> bool
-    ensures { IsTrue result → one ≡ other }
+    ensures { IsTrue result ↔ (one ≡ other) }
 {
     one == other
 }
@@ -26,6 +28,7 @@ fn is_same(one: Move, other: Move) -> bool
 pub fn place_of(moves: &[Move], first: Move) -> usize
     ensures within { result ≤ length moves.now }
     ensures there { slice_index_or moves.now result first ≡ first }
+    ensures least { (k : ℕ) → k < result → slice_index_or moves.now k first ≢ first }
 {
     for at in 0..moves.len() {
         if is_same(moves[at], first) {
@@ -46,6 +49,10 @@ pub(crate) fn shows_no<A: Allocator + Copy>(
     ensures more { Extends claims.old claims.new }
     ensures holds { IfOk result (λ yes. IsTrue yes
         → (c : Claim) → slice_get claims.old place ≡ Some c → Holds goal claims.new c) }
+    ensures tells { IfOk result (λ yes. IsTrue yes → (c : Claim) × (slice_get claims.old place ≡ Some c)
+        × IsNoLine goal c words.now claims.old claims.new) }
+    ensures refuses { IfOk result (λ yes. yes ≡ false → AreApart claims.old → (c : Claim) (new : List Claim)
+        → slice_get claims.old place ≡ Some c → IsNoLine goal c words.now claims.old new → ⊥) }
 {
     let claim = claims.claim(place);
     let moves = lawful_on(&claim.position);
@@ -63,6 +70,10 @@ pub(crate) fn shows_yes<A: Allocator + Copy>(
     ensures more { Extends claims.old claims.new }
     ensures won { IfOk result (λ yes. IsTrue yes
         → (c : Claim) → slice_get claims.old place ≡ Some c → IsWon goal claims.new c) }
+    ensures tells { IfOk result (λ yes. IsTrue yes → (c : Claim) × (slice_get claims.old place ≡ Some c)
+        × IsSomeYesLine goal c words.now claims.old claims.new) }
+    ensures refuses { IfOk result (λ yes. yes ≡ false → AreApart claims.old → (c : Claim) (new : List Claim)
+        → slice_get claims.old place ≡ Some c → IsSomeYesLine goal c words.now claims.old new → ⊥) }
 {
     let claim = claims.claim(place);
     match winning_move(claims, goal, &claim, words)? {
@@ -83,6 +94,11 @@ pub(crate) fn shows_win<A: Allocator + Copy>(
     ensures wins { IfOk result (λ yes. IsTrue yes → WinsBy goal claims.new board.now mate.plies mate.first) }
     ensures won { IfOk result (λ yes. IsTrue yes → All (IsWon goal claims.new) (take 1 claims.new)) }
     ensures some { IfOk result (λ yes. 0 < length claims.new) }
+    ensures tells { IfOk result (λ yes. IsTrue yes → IsYesLine goal (record { position = board.now; plies = mate.plies })
+        mate.first words.now (with_claim [] board.now mate.plies) claims.new) }
+    ensures refuses { IfOk result (λ yes. yes ≡ false → (new : List Claim)
+        → IsYesLine goal (record { position = board.now; plies = mate.plies }) mate.first words.now
+        (with_claim [] board.now mate.plies) new → ⊥) }
 {
     claims.push(board, mate.plies)?;
     let claim = claims.claim(0);
@@ -99,7 +115,8 @@ fn begin_fewer<A: Allocator + Copy>(
     plies: u8,
 ) -> Result<(), AllocError>
     requires { IsOdd plies }
-    ensures { IfOk result (λ done. HasFewer claims.new board.now plies) }
+    ensures fewer { IfOk result (λ done. HasFewer claims.new board.now plies) }
+    ensures made { IfOk result (λ done. claims.new ≡ shorter_claim board.now plies) }
 {
     claims.clear();
     if plies > 2 {
@@ -119,6 +136,10 @@ fn shows_lesser_fail<A: Allocator + Copy>(
     ensures more { Extends claims.old claims.new }
     ensures fail { IfOk result (λ yes. IsTrue yes
         → LesserFail goal claims.new claim.now.position claim.now.plies first) }
+    ensures tells { IfOk result (λ yes. IsTrue yes → IsLawful claim.now.position first
+        → IsLesserLine goal claim.now.position claim.now.plies first words.now claims.old claims.new) }
+    ensures refuses { IfOk result (λ yes. yes ≡ false → AreApart claims.old → (new : List Claim)
+        → IsLesserLine goal claim.now.position claim.now.plies first words.now claims.old new → ⊥) }
 {
     let moves = lawful_on(&claim.position);
     let lesser = place_of(moves.as_slice(), first);
@@ -134,7 +155,11 @@ pub(crate) fn shows_lesser<A: Allocator + Copy>(
     words: &[Word],
 ) -> Result<bool, AllocError>
     requires { IsOdd mate.plies }
-    ensures { IfOk result (λ yes. IsTrue yes → ShowsFewer goal claims.new board.now mate.plies mate.first) }
+    ensures fewer { IfOk result (λ yes. IsTrue yes → ShowsFewer goal claims.new board.now mate.plies mate.first) }
+    ensures tells { IfOk result (λ yes. IsTrue yes → IsLawful board.now mate.first
+        → IsLesserLine goal board.now mate.plies mate.first words.now (shorter_claim board.now mate.plies) claims.new) }
+    ensures refuses { IfOk result (λ yes. yes ≡ false → (new : List Claim)
+        → IsLesserLine goal board.now mate.plies mate.first words.now (shorter_claim board.now mate.plies) new → ⊥) }
 {
     begin_fewer(claims, board, mate.plies)?;
     let claim = Claim {

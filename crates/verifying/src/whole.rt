@@ -1,9 +1,11 @@
 //! Whole certificates.
-ghost use Rattle.std.specs.Prelude.{◌≡◌, ◌+◌, ◌<◌, ℕ, IfOk};
+ghost use Rattle.std.specs.Prelude.{◌≡◌, ◌+◌, ◌<◌, ℕ, IfErr, IfOk};
+ghost use Rattle.verifying.specs.declared.fault.Fault.TheVariants.{NoMemory, ReadFailed};
 ghost use Rattle.decision.specs.Answer.{IsAnswer};
 ghost use Rattle.devices.specs.Input.{OfInput};
 ghost use Rattle.certificates.specs.Answers.{IsUpTo};
 ghost use Rattle.verifying.specs.Refusals.{TellsOf, reads_failed};
+ghost use Rattle.verifying.specs.Certificate.{IsCertificate, IsNoCertificate};
 
 use crate::checker::Checker;
 use crate::fault::Fault;
@@ -30,6 +32,13 @@ pub fn verify_input<S: Source, A: Allocator + Copy>(
     // It is what the text says, or the fault is one of the text.
     ensures text { OfInput (S.remaining reader.old) (λ input. TellsOf goal input result) }
     ensures counts { S.failures reader.new ≡ S.failures reader.old + reads_failed result }
+
+    // It is the answer of which the text is a certificate.
+    ensures certificate { IfOk result (λ answer. OfInput (S.remaining reader.old) (IsCertificate goal board.now answer)) }
+
+    // But for want of memory and a failed read no certificate is refused.
+    ensures refused { IfErr result (λ fault. (fault ≡ NoMemory → ⊥) → (fault ≡ ReadFailed → ⊥)
+        → OfInput (S.remaining reader.old) (IsNoCertificate goal board.now)) }
 {
     let mut checker = Checker::new(alloc, board, goal);
     let mut unread = Unread::new();
@@ -52,6 +61,9 @@ pub fn verify<A: Allocator + Copy>(
 ) -> Result<Answer, Fault>
     ensures answer { IfOk result (λ answer. (limit : ℕ) → IsUpTo limit answer → IsAnswer goal board.now limit answer) }
     ensures text { TellsOf goal text.now result }
+    ensures certificate { IfOk result (λ answer. IsCertificate goal board.now answer text.now) }
+    ensures refused { IfErr result (λ fault. (fault ≡ NoMemory → ⊥) → (fault ≡ ReadFailed → ⊥)
+        → IsNoCertificate goal board.now text.now) }
 {
     let mut reader = Counted::new(text);
     verify_input(alloc, board, goal, &mut reader)

@@ -1,5 +1,5 @@
 //! The words of a claim's line.
-ghost use Rattle.std.specs.Prelude.{◌≡◌, ◌≢◌, ◌<◌, ◌≤◌, ◌∷◌, ◌++◌, [], ℕ, IfOk, IsTrue, MatchOption, length, replicate};
+ghost use Rattle.std.specs.Prelude.{◌≡◌, ◌≢◌, ◌<◌, ◌≤◌, ◌∷◌, ◌++◌, [], ℕ, List, IfOk, IsTrue, MatchOption, false, length, replicate};
 ghost use Rattle.verifying.specs.Words.{letter_of, word_text, line_text};
 
 use std::alloc::{AllocError, Allocator};
@@ -70,7 +70,8 @@ pub(crate) fn read_words<A: Allocator>(
     words: &mut Vec<Word, A>,
 ) -> Result<bool, AllocError>
     requires { length line.now ≤ 8192 }
-    ensures { IfOk result (λ all. IsTrue all → line.now ≡ line_text words.new.items) }
+    ensures read { IfOk result (λ all. IsTrue all → line.now ≡ line_text words.new.items) }
+    ensures refuses { IfOk result (λ all. all ≡ false → (other : List Word) → line.now ≡ line_text other → ⊥) }
 {
     words.clear();
     let mut fifties = 0;

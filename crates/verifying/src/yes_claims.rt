@@ -1,11 +1,15 @@
 //! Yes claims: that the attacker forces the goal within the claim's plies.
-ghost use Rattle.std.specs.Prelude.{◌≡◌, ◌≤◌, ◌<◌, IfOk, IfSome, IsTrue, length};
+ghost use Rattle.std.specs.Prelude.{◌≡◌, ◌≤◌, ◌<◌, ◌∷◌, ℕ, List, IfNone, IfOk, IfSome, IsTrue, Some, false, length, slice_get};
 ghost use Rattle.board.specs.Board.{PlainBoard};
 ghost use Rattle.rules.specs.Squares.{Ply};
 ghost use Rattle.rules.specs.Moves.{IsMove, IsLawful};
 ghost use Rattle.certificates.specs.Claims.{ClaimsSoFew, MetBy, WinsBy};
 ghost use Rattle.verifying.specs.Wins.{WinsAfter};
-ghost use Rattle.verifying.specs.Growing.{Extends};
+ghost use Rattle.verifying.specs.Growing.{AreApart, Extends};
+ghost use Rattle.verifying.specs.declared.words.Word.{Word as TheWord};
+ghost use Rattle.certificates.specs.declared.claim.Claim.{Claim};
+ghost use Rattle.verifying.specs.declared.words.Word.TheVariants.{Place as ThePlace};
+ghost use Rattle.verifying.specs.Certificate.{IsMoveAt, IsYesLine, MakesClaim, MeetReplies, Meets, ShowWin};
 
 use crate::claims::Claims;
 use crate::leaf::{LEAF, is_forced_within, is_reached};
@@ -14,8 +18,8 @@ use certificates::Claim;
 use moves::{Board, Goal, Move, after, lawful_on};
 use std::alloc::{AllocError, Allocator};
 
-/// The greatest place that tells a claim's plies: twice that and one more are 63.
-const MOST_PLACE: usize = 31;
+/// The greatest place whose plies, twice that and one more, a byte holds.
+const MOST_PLACE: usize = 127;
 
 /// Makes a claim about the position, which has none yet. The place tells its plies, at most those that are left.
 fn claim_anew<A: Allocator + Copy>(
@@ -26,8 +30,14 @@ fn claim_anew<A: Allocator + Copy>(
 ) -> Result<bool, AllocError>
     ensures more { Extends claims.old claims.new }
     ensures claimed { IfOk result (λ yes. IsTrue yes → ClaimsSoFew claims.new position.now left) }
+    ensures tells { IfOk result (λ yes. IsTrue yes → MakesClaim position.now left place claims.old claims.new) }
+    ensures refuses { IfOk result (λ yes. yes ≡ false
+        → (new : List Claim) → MakesClaim position.now left place claims.old new → ⊥) }
 {
-    if place > MOST_PLACE || claims.find(position).is_some() {
+    if place > MOST_PLACE {
+        return Ok(false);
+    }
+    if claims.find(position).is_some() {
         return Ok(false);
     }
     let plies = 2 * place as u8 + 1;
@@ -40,7 +50,8 @@ fn claim_anew<A: Allocator + Copy>(
 
 /// Whether a claim says that the goal is forced within the plies that are left.
 fn has_claim<A: Allocator + Copy>(claims: &Claims<A>, position: &Board, left: u8) -> bool
-    ensures { IsTrue result → ClaimsSoFew claims.now position.now left }
+    ensures few { IsTrue result → ClaimsSoFew claims.now position.now left }
+    ensures refuses { result ≡ false → AreApart claims.now → ClaimsSoFew claims.now position.now left → ⊥ }
 {
     match claims.find(position) {
         Some(plies) => plies <= left,
@@ -58,6 +69,9 @@ fn meets<A: Allocator + Copy>(
 ) -> Result<bool, AllocError>
     ensures more { Extends claims.old claims.new }
     ensures met { IfOk result (λ yes. IsTrue yes → MetBy goal claims.new position left) }
+    ensures tells { IfOk result (λ yes. IsTrue yes → Meets goal position left word claims.old claims.new) }
+    ensures refuses { IfOk result (λ yes. yes ≡ false → AreApart claims.old
+        → (new : List Claim) → Meets goal position left word claims.old new → ⊥) }
 {
     match word {
         Word::Seen => Ok(is_forced_within(&position, goal, left.min(LEAF))),
@@ -78,6 +92,9 @@ fn all_met<A: Allocator + Copy>(
     ensures more { Extends claims.old claims.new }
     ensures met { IfOk result (λ yes. IsTrue yes
         → (r : Ply) (p : PlainBoard) → IsMove board.now r p → MetBy goal claims.new p left) }
+    ensures tells { IfOk result (λ yes. IsTrue yes → MeetReplies goal board.now left words.now claims.old claims.new) }
+    ensures refuses { IfOk result (λ yes. yes ≡ false → AreApart claims.old
+        → (new : List Claim) → MeetReplies goal board.now left words.now claims.old new → ⊥) }
 {
     let replies = lawful_on(board);
     if words.len() != replies.len() {
@@ -102,6 +119,9 @@ fn wins_after<A: Allocator + Copy>(
 ) -> Result<bool, AllocError>
     ensures more { Extends claims.old claims.new }
     ensures wins { IfOk result (λ yes. IsTrue yes → WinsAfter goal claims.new board.now plies) }
+    ensures tells { IfOk result (λ yes. IsTrue yes → ShowWin goal board.now plies words.now claims.old claims.new) }
+    ensures refuses { IfOk result (λ yes. yes ≡ false → AreApart claims.old
+        → (new : List Claim) → ShowWin goal board.now plies words.now claims.old new → ⊥) }
 {
     let replies = lawful_on(board);
     if replies.is_empty() {
@@ -115,7 +135,11 @@ fn wins_after<A: Allocator + Copy>(
 
 /// The lawful move whose place the first of the words tells.
 fn named_move(board: &Board, words: &[Word]) -> Option<Move>
-    ensures { IfSome result (λ m. IsLawful board.now m × (0 < length words.now)) }
+    ensures lawful { IfSome result (λ m. IsLawful board.now m × (0 < length words.now)) }
+    ensures tells { IfSome result (λ m. (place : ℕ) × (slice_get words.now 0 ≡ Some (ThePlace place))
+        × IsMoveAt board.now place m) }
+    ensures refuses { IfNone result ((place : ℕ) (rest : List TheWord) (m : Ply) → words.now ≡ ThePlace place ∷ rest
+        → IsMoveAt board.now place m → ⊥) }
 {
     if words.is_empty() {
         return None;
@@ -139,6 +163,10 @@ pub(crate) fn winning_move<A: Allocator + Copy>(
 ) -> Result<Option<Move>, AllocError>
     ensures more { Extends claims.old claims.new }
     ensures wins { IfOk result (λ found. IfSome found (WinsBy goal claims.new claim.now.position claim.now.plies)) }
+    ensures tells { IfOk result (λ found. IfSome found (λ m.
+        IsYesLine goal claim.now m words.now claims.old claims.new)) }
+    ensures refuses { IfOk result (λ found. IfNone found (AreApart claims.old
+        → (m : Ply) (new : List Claim) → IsYesLine goal claim.now m words.now claims.old new → ⊥)) }
 {
     let Some(m) = named_move(&claim.position, words) else {
         return Ok(None);

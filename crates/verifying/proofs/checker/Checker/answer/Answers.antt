@@ -9,3 +9,6 @@ returns-in-No-clause-certified g c =
     let it = c.args.self.now in
     stands_whole it.goal it.board c.in-No.answer c.in-No.place it.claims (omega (arith, c.if-place-len.true, c.len.ensures))
     (subst (λ (part : Part). Stands it.goal it.board part it.claims) c.in-No.is c.requires)
+
+pub returns-in-No-clause-whole : goal.returns-in-No-clause-whole
+returns-in-No-clause-whole g c = (c.in-No.place, c.in-No.is, omega (arith, c.if-place-len.true, c.len.ensures))

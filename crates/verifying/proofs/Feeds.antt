@@ -1,0 +1,151 @@
+-- A text has one list of lines.
+use Rattle.std.proofs.Common.{◌≡◌, ◌≢◌, inl, inr, ◌<◌, ◌≤◌, ℕ, ◌+◌, ◌/◌, ◌%◌, List, [], ◌∷◌, ◌++◌, length, map, replicate, refl, sym, ap, ◌∙◌, subst, arith, append_assoc, All, Option, None, Some}
+use Rattle.std.proofs.lemmas.Bool.Decides.{nat_tests}
+use Rattle.std.proofs.lemmas.Bool.{cases_lt}
+use Rattle.std.proofs.lemmas.List.Elements.{All-nil, All-cons, All-head, All-tail, All-append, All-replicate}
+use Rattle.std.specs.Fmt.{decimal}
+use Rattle.board.specs.declared.game.Kind.{Kind}
+use Rattle.board.specs.declared.game.Kind.TheVariants.{King, Queen, Rook, Bishop, Knight, Pawn}
+use Rattle.rules.specs.declared.goal.Goal.{Goal}
+use Rattle.rules.specs.declared.goal.Goal.TheVariants as goal
+use Rattle.rules.specs.MoveText.{promotion_text, move_text}
+use Rattle.rules.specs.Squares.{Ply}
+use Rattle.decision.specs.declared.answer.Answer.{Answer}
+use Rattle.decision.specs.declared.answer.Answer.TheVariants.{Mate, NoneWithin}
+use Rattle.devices.specs.Lines.{HasNoFeed}
+use Rattle.verifying.specs.declared.words.Word.{Word}
+use Rattle.verifying.specs.declared.words.Word.TheVariants.{Seen, Claimed, Stalemated, Place}
+use Rattle.verifying.specs.FirstLine.{answer_text, goal_text, IsInRange}
+use Rattle.verifying.specs.Words.{letter_of, word_text, line_text}
+use Rattle.verifying.specs.Refusals.{fed}
+use Rattle.verifying.proofs.FirstTexts.{low_decimal, high_decimal}
+
+abbrev NoFeed : ℕ → Type 0
+NoFeed x = x ≢ 10
+
+-- ---- lines without a feed
+
+letter_no_feed : (n : ℕ) → n < 50 → letter_of n ≢ 10
+letter_no_feed n small = grind (arith, nat_tests)
+
+word_no_feed : (w : Word) → HasNoFeed (word_text w)
+word_no_feed Seen = All-cons NoFeed 46 [] (λ e. omega (arith, e)) (All-nil NoFeed)
+word_no_feed Claimed = All-cons NoFeed 61 [] (λ e. omega (arith, e)) (All-nil NoFeed)
+word_no_feed Stalemated = All-cons NoFeed 45 [] (λ e. omega (arith, e)) (All-nil NoFeed)
+word_no_feed (Place n) =
+    All-append NoFeed (replicate (n / 50) 90) (letter_of (n % 50) ∷ []) (All-replicate NoFeed (n / 50) 90 (λ e. omega (arith, e)))
+    (All-cons NoFeed (letter_of (n % 50)) [] (letter_no_feed (n % 50) (omega arith)) (All-nil NoFeed))
+
+pub line_no_feed : (words : List Word) → HasNoFeed (line_text words)
+line_no_feed [] = All-nil NoFeed
+line_no_feed (w ∷ words) = All-append NoFeed (word_text w) (line_text words) (word_no_feed w) (line_no_feed words)
+
+letter_no_feed_too : (p : Option Kind) → HasNoFeed (promotion_text p)
+letter_no_feed_too None = All-nil NoFeed
+letter_no_feed_too (Some King) = All-nil NoFeed
+letter_no_feed_too (Some Queen) = All-cons NoFeed 113 [] (λ e. omega (arith, e)) (All-nil NoFeed)
+letter_no_feed_too (Some Rook) = All-cons NoFeed 114 [] (λ e. omega (arith, e)) (All-nil NoFeed)
+letter_no_feed_too (Some Bishop) = All-cons NoFeed 98 [] (λ e. omega (arith, e)) (All-nil NoFeed)
+letter_no_feed_too (Some Knight) = All-cons NoFeed 110 [] (λ e. omega (arith, e)) (All-nil NoFeed)
+letter_no_feed_too (Some Pawn) = All-nil NoFeed
+
+move_no_feed : (m : Ply) → HasNoFeed (move_text m)
+move_no_feed m =
+    let p = promotion_text m.promotion in
+    All-cons NoFeed (97 + m.from.file) ((49 + m.from.rank) ∷ (97 + m.to.file) ∷ (49 + m.to.rank) ∷ p) (λ e. omega (arith, e))
+    (All-cons NoFeed (49 + m.from.rank) ((97 + m.to.file) ∷ (49 + m.to.rank) ∷ p) (λ e. omega (arith, e))
+    (All-cons NoFeed (97 + m.to.file) ((49 + m.to.rank) ∷ p) (λ e. omega (arith, e)) (All-cons NoFeed (49 + m.to.rank) p (λ e. omega (arith, e)) (letter_no_feed_too m.promotion))))
+
+decimal_no_feed : (n : ℕ) → n ≤ 63 → HasNoFeed (decimal n)
+decimal_no_feed n few = elim (cases_lt n 10) as (λ _. HasNoFeed (decimal n)) [
+  | inl low ↦ subst HasNoFeed (sym (low_decimal n low)) (All-cons NoFeed (48 + n) [] (λ e. omega (arith, e)) (All-nil NoFeed))
+  | inr large ↦ subst HasNoFeed (sym (high_decimal n large few)) (All-cons NoFeed (48 + n / 10) ((48 + n % 10) ∷ []) (λ e. omega (arith, e)) (All-cons NoFeed (48 + n % 10) [] (λ e. omega (arith, e)) (All-nil NoFeed)))
+]
+
+five_no_feed : (a b c d : ℕ) → a ≢ 10 → b ≢ 10 → c ≢ 10 → d ≢ 10 → HasNoFeed (a ∷ b ∷ c ∷ d ∷ 32 ∷ [])
+five_no_feed a b c d p q r s =
+    All-cons NoFeed a (b ∷ c ∷ d ∷ 32 ∷ []) p (All-cons NoFeed b (c ∷ d ∷ 32 ∷ []) q (All-cons NoFeed c (d ∷ 32 ∷ []) r (All-cons NoFeed d (32 ∷ []) s (All-cons NoFeed 32 [] (λ e. omega (arith, e)) (All-nil NoFeed)))))
+
+goal_no_feed : (goal : Goal) → HasNoFeed (goal_text goal)
+goal_no_feed goal.Mate = five_no_feed 109 97 116 101 (λ e. omega (arith, e)) (λ e. omega (arith, e)) (λ e. omega (arith, e)) (λ e. omega (arith, e))
+goal_no_feed goal.MateOrStale = five_no_feed 103 111 97 108 (λ e. omega (arith, e)) (λ e. omega (arith, e)) (λ e. omega (arith, e)) (λ e. omega (arith, e))
+
+pub answer_no_feed : (goal : Goal) (answer : Answer) → IsInRange answer → HasNoFeed (answer_text goal answer)
+answer_no_feed goal (Mate n first) range =
+    All-append NoFeed (goal_text goal) (decimal n ++ 32 ∷ move_text first) (goal_no_feed goal)
+    (All-append NoFeed (decimal n) (32 ∷ move_text first) (decimal_no_feed n range.1) (All-cons NoFeed 32 (move_text first) (λ e. omega (arith, e)) (move_no_feed first)))
+answer_no_feed goal (NoneWithin limit) range =
+    All-append NoFeed (110 ∷ 111 ∷ 110 ∷ 101 ∷ 32 ∷ []) (119 ∷ 105 ∷ 116 ∷ 104 ∷ 105 ∷ 110 ∷ 32 ∷ decimal limit)
+    (five_no_feed 110 111 110 101 (λ e. omega (arith, e)) (λ e. omega (arith, e)) (λ e. omega (arith, e)) (λ e. omega (arith, e)))
+    (All-cons NoFeed 119 (105 ∷ 116 ∷ 104 ∷ 105 ∷ 110 ∷ 32 ∷ decimal limit) (λ e. omega (arith, e)) (All-cons NoFeed 105 (116 ∷ 104 ∷ 105 ∷ 110 ∷ 32 ∷ decimal limit) (λ e. omega (arith, e)) (All-append NoFeed (116 ∷ 104 ∷ 105 ∷ 110 ∷ 32 ∷ []) (decimal limit)
+    (five_no_feed 116 104 105 110 (λ e. omega (arith, e)) (λ e. omega (arith, e)) (λ e. omega (arith, e)) (λ e. omega (arith, e))) (decimal_no_feed limit range.1))))
+
+pub lines_no_feed : (lines : List (List Word)) → All HasNoFeed (map line_text lines)
+lines_no_feed [] = All-nil HasNoFeed
+lines_no_feed (line ∷ lines) = All-cons HasNoFeed (line_text line) (map line_text lines) (line_no_feed line) (lines_no_feed lines)
+
+-- ---- where a line ends
+
+same_cons : (a b : ℕ) (x y : List ℕ) → a ∷ x ≡ b ∷ y → (a ≡ b) × (x ≡ y)
+same_cons a b x y e = (cc, cc)
+
+one_feed : (x y a b : List ℕ) → HasNoFeed x → HasNoFeed y → x ++ 10 ∷ a ≡ y ++ 10 ∷ b → (x ≡ y) × (a ≡ b)
+one_feed [] [] a b p q e = (refl, (same_cons 10 10 a b e).1)
+one_feed [] (d ∷ y) a b p q e = absurd (All-head NoFeed d y q (sym (same_cons 10 d a _ e).0))
+one_feed (c ∷ x) [] a b p q e = absurd (All-head NoFeed c x p (same_cons c 10 _ b e).0)
+one_feed (c ∷ x) (d ∷ y) a b p q e =
+    let both = same_cons c d _ _ e in
+    let rest = one_feed x y a b (All-tail NoFeed c x p) (All-tail NoFeed d y q) both.1 in
+    (ap (λ n. n ∷ x) both.0 ∙ ap (λ (l : List ℕ). d ∷ l) rest.0, rest.1)
+
+-- a line that is longer than what comes up to the next feed
+longer_line : (x a line rest : List ℕ) → HasNoFeed line → x ++ 10 ∷ a ≡ line ++ rest → length line ≤ length x
+longer_line x a [] rest none e = omega arith
+longer_line [] a (c ∷ line) rest none e = absurd (All-head NoFeed c line none (sym (same_cons 10 c a _ e).0))
+longer_line (d ∷ x) a (c ∷ line) rest none e =
+    let later = longer_line x a line rest (All-tail NoFeed c line none) (same_cons d c _ _ e).1 in
+    omega (arith, later)
+
+no_more : (c : ℕ) (x : List ℕ) → [] ≡ c ∷ x → ⊥
+no_more c x e = cc
+
+no_line_left : (line rest : List ℕ) → [] ≡ line ++ 10 ∷ rest → ⊥
+no_line_left [] rest e = cc
+no_line_left (c ∷ line) rest e = cc
+
+fed_cons : (x : List ℕ) (xs : List (List ℕ)) → fed (x ∷ xs) ≡ x ++ 10 ∷ fed xs
+fed_cons x xs = append_assoc x (10 ∷ []) (fed xs)
+
+-- behind the lines ys comes this rest, which holds the other lines
+pub left_over : (xs ys : List (List ℕ)) (rest : List ℕ) → All HasNoFeed xs → All HasNoFeed ys → fed xs ≡ fed ys ++ rest → (more : List (List ℕ)) × (xs ≡ ys ++ more) × (fed more ≡ rest)
+left_over xs [] rest p q e = (xs, refl, e)
+left_over [] (y ∷ ys) rest p q e = absurd (no_line_left y (fed ys ++ rest) (e ∙ (ap (λ (l : List ℕ). l ++ rest) (fed_cons y ys) ∙ append_assoc y (10 ∷ fed ys) rest)))
+left_over (x ∷ xs) (y ∷ ys) rest p q e =
+    let whole : x ++ 10 ∷ fed xs ≡ y ++ 10 ∷ (fed ys ++ rest) = sym (fed_cons x xs) ∙ (e ∙ (ap (λ (l : List ℕ). l ++ rest) (fed_cons y ys) ∙ append_assoc y (10 ∷ fed ys) rest)) in
+    let one = one_feed x y (fed xs) (fed ys ++ rest) (All-head HasNoFeed x xs p) (All-head HasNoFeed y ys q) whole in
+    let later = left_over xs ys rest (All-tail HasNoFeed x xs p) (All-tail HasNoFeed y ys q) one.1 in
+    (later.0, ap (λ (l : List ℕ). l ∷ xs) one.0 ∙ ap (λ (l : List (List ℕ)). y ∷ l) later.1, later.2)
+
+-- the next of them
+pub next_of : (more : List (List ℕ)) (line rest : List ℕ) → All HasNoFeed more → HasNoFeed line → fed more ≡ line ++ 10 ∷ rest → (others : List (List ℕ)) × (more ≡ line ∷ others)
+next_of [] line rest p none e = absurd (no_line_left line rest e)
+next_of (x ∷ xs) line rest p none e =
+    let one = one_feed x line (fed xs) rest (All-head HasNoFeed x xs p) none (sym (fed_cons x xs) ∙ e) in
+    (xs, ap (λ (l : List ℕ). l ∷ xs) one.0)
+
+-- none of them
+pub none_of : (more : List (List ℕ)) (rest : List ℕ) → HasNoFeed rest → fed more ≡ rest → (more ≡ []) × (rest ≡ [])
+none_of [] rest none e = (refl, sym e)
+none_of (x ∷ xs) rest none e = absurd (some_feed x (fed xs) rest none (sym (fed_cons x xs) ∙ e))
+  where
+    some_feed : (x a rest : List ℕ) → HasNoFeed rest → x ++ 10 ∷ a ≡ rest → ⊥
+    some_feed [] a [] none e = cc
+    some_feed [] a (c ∷ rest) none e = All-head NoFeed c rest none (sym (same_cons 10 c a rest e).0)
+    some_feed (d ∷ x) a [] none e = cc
+    some_feed (d ∷ x) a (c ∷ rest) none e = some_feed x a rest (All-tail NoFeed c rest none) (same_cons d c _ rest e).1
+
+-- a long one of them
+pub long_of : (more : List (List ℕ)) (line rest : List ℕ) → HasNoFeed line → 0 < length line → fed more ≡ line ++ rest → (x : List ℕ) × (others : List (List ℕ)) × (more ≡ x ∷ others) × (length line ≤ length x)
+long_of [] [] rest none some e = absurd (omega arith)
+long_of [] (c ∷ line) rest none some e = absurd (no_more c (line ++ rest) e)
+long_of (x ∷ xs) line rest none some e = (x, xs, refl, longer_line x (fed xs) line rest none (sym (fed_cons x xs) ∙ e))
