@@ -481,7 +481,8 @@ pub fn answer_batch<
     requires desk { IsDesk desk.old }
     requires reads { S.failures reader.old < u64.MAX }
     requires writes { K.failures writer.old < u64.MAX }
-    ensures lines { TakesAnswered desk.old.solver (step_of desk.old desk.new S.remaining S.failures reader.old reader.new
+    ensures lines { TakesAnswered desk.old.solver
+        (step_of desk.old desk.new S.remaining S.failures reader.old reader.new
         K.contents K.failures writer.old writer.new) result }
 {
     let count = left_out(desk.solver.batch.manner);

@@ -147,7 +147,8 @@ impl<A: Allocator + Copy> Checker<A> {
         requires { self.old.claims ≡ [] }
         ensures about { (self.new.goal ≡ self.old.goal) × (self.new.board ≡ self.old.board) }
         ensures counts { self.new.number ≡ self.old.number }
-        ensures stands { IfOk result (λ next. IfSome next (λ new. Stands self.new.goal self.new.board new self.new.claims)) }
+        ensures stands { IfOk result (λ next. IfSome next (λ new.
+            Stands self.new.goal self.new.board new self.new.claims)) }
         ensures takes { IfOk result (λ next. IfSome next (λ new. Takes self.new.goal First line.now new)) }
         ensures reads { IfOk result (λ next. IfSome next (λ new.
             ReadsLine self.old.goal self.old.board First line.now self.old.claims new self.new.claims)) }
@@ -167,7 +168,8 @@ impl<A: Allocator + Copy> Checker<A> {
         requires stands { Stands self.old.goal self.old.board self.old.part self.old.claims }
         ensures about { (self.new.goal ≡ self.old.goal) × (self.new.board ≡ self.old.board) }
         ensures counts { self.new.number ≡ self.old.number }
-        ensures stands { IfOk result (λ next. IfSome next (λ new. Stands self.new.goal self.new.board new self.new.claims)) }
+        ensures stands { IfOk result (λ next. IfSome next (λ new.
+            Stands self.new.goal self.new.board new self.new.claims)) }
         ensures takes { IfOk result (λ next. IfSome next (λ new. Takes self.new.goal self.old.part line.now new)) }
         ensures reads { IfOk result (λ next. IfSome next (λ new.
             ReadsLine self.old.goal self.old.board self.old.part line.now self.old.claims new self.new.claims)) }
@@ -192,7 +194,8 @@ impl<A: Allocator + Copy> Checker<A> {
         requires stands { Stands self.old.goal self.old.board self.old.part self.old.claims }
         ensures about { (self.new.goal ≡ self.old.goal) × (self.new.board ≡ self.old.board) }
         ensures counts { self.new.number ≡ self.old.number }
-        ensures stands { IfOk result (λ next. IfSome next (λ new. Stands self.new.goal self.new.board new self.new.claims)) }
+        ensures stands { IfOk result (λ next. IfSome next (λ new.
+            Stands self.new.goal self.new.board new self.new.claims)) }
         ensures takes { IfOk result (λ next. IfSome next (λ new. Takes self.new.goal self.old.part line.now new)) }
         ensures reads { IfOk result (λ next. IfSome next (λ new.
             ReadsLine self.old.goal self.old.board self.old.part line.now self.old.claims new self.new.claims)) }

@@ -94,7 +94,8 @@ pub(crate) fn shows_win<A: Allocator + Copy>(
     ensures wins { IfOk result (λ yes. IsTrue yes → WinsBy goal claims.new board.now mate.plies mate.first) }
     ensures won { IfOk result (λ yes. IsTrue yes → All (IsWon goal claims.new) (take 1 claims.new)) }
     ensures some { IfOk result (λ yes. 0 < length claims.new) }
-    ensures tells { IfOk result (λ yes. IsTrue yes → IsYesLine goal (record { position = board.now; plies = mate.plies })
+    ensures tells { IfOk result (λ yes.
+        IsTrue yes → IsYesLine goal (record { position = board.now; plies = mate.plies })
         mate.first words.now (with_claim [] board.now mate.plies) claims.new) }
     ensures refuses { IfOk result (λ yes. yes ≡ false → (new : List Claim)
         → IsYesLine goal (record { position = board.now; plies = mate.plies }) mate.first words.now

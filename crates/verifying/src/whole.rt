@@ -34,7 +34,8 @@ pub fn verify_input<S: Source, A: Allocator + Copy>(
     ensures counts { S.failures reader.new ≡ S.failures reader.old + reads_failed result }
 
     // It is the answer of which the text is a certificate.
-    ensures certificate { IfOk result (λ answer. OfInput (S.remaining reader.old) (IsCertificate goal board.now answer)) }
+    ensures certificate { IfOk result (λ answer.
+        OfInput (S.remaining reader.old) (IsCertificate goal board.now answer)) }
 
     // But for want of memory and a failed read no certificate is refused.
     ensures refused { IfErr result (λ fault. (fault ≡ NoMemory → ⊥) → (fault ≡ ReadFailed → ⊥)
