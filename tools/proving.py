@@ -2,7 +2,7 @@
 
 A command of `rt` looks through the whole repository that it is started in, and two of them there wait for each other. So a crate and those that
 it stands on are copied into a folder outside the clone, which is gone again when the work is done. What `rt ci` has proved the toolchain keeps
-beside itself, for any folder: so nothing is proved again there that hasn't changed.
+beside itself, for any folder, if it keeps anything (13f does, 13b doesn't): then nothing is proved again there that hasn't changed.
 """
 
 import contextlib

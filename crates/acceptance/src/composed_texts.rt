@@ -1,44 +1,37 @@
 //! Texts of solutions. The moves are those that tools/check_solution works out; their names are worked out by hand.
 
-use crate::tables::{last_seat, position};
+use crate::composing::{ALL, solution_in};
+use crate::tables::position;
 use algebraic::{Notation, Symbols};
-use decision::{Answer, Memory, Never, Scout};
-use entry::MateLore;
 use moves::Goal;
-use searcher::{Root, Searcher, solve_by};
-use slots::Slots;
+use searcher::Root;
 use solution_text::solution_text;
-use solutions::{Extras, solution_of};
+use solutions::Extras;
 use std::process::Abort;
 
 /// The text of the solution of a position whose side to move forces the goal within five plies.
-pub(crate) fn text_of<R: Abort + AllocGlobal>(
+fn text_of<R: Abort + AllocGlobal>(
     rt: &R,
     fen: &str,
     notation: Notation,
     extras: Extras,
 ) -> String {
-    let (table, mut seats) = Slots::<MateLore>::make(rt.alloc(), 4096, 1).expect(rt, "a table");
-    let Some(mut seat) = last_seat(&table, &mut seats) else {
-        panic!(rt; "no seat")
-    };
-    let mut scout = Scout {
-        stop: Never,
-        memory: Memory::new(),
-    };
-    let mut searcher = Searcher {
-        slots: &table,
-        seat: &mut seat,
-        scout: &mut scout,
-    };
     let root = Root::of(&position(rt, fen), notation.goal);
-    let Some(Answer::Mate { plies, .. }) = solve_by(&mut searcher, &root, 5) else {
-        panic!(rt; "no mate")
-    };
-    let Ok(solution) = solution_of(rt.alloc(), &mut searcher, &root, plies, extras) else {
+    let Ok(solution) = solution_in(rt, &root, extras) else {
         panic!(rt; "no solution")
     };
     solution_text(rt.alloc(), notation, &root.board, &solution).expect(rt, "memory")
+}
+
+/// A problem by its name, how moves are written and for which goal, what is asked for, the position, and the solution's text.
+pub(crate) type Composed = (&'static str, Notation, Extras, &'static str, &'static str);
+
+/// Checks that the text of each problem's solution is the expected one.
+pub(crate) fn expect_texts<R: Abort + AllocGlobal>(rt: &R, problems: &[Composed]) {
+    for (name, notation, extras, position, expected) in problems {
+        let text = text_of(rt, position, *notation, *extras);
+        assert_eq!(rt; text.as_str(), *expected, "{name}");
+    }
 }
 
 pub(crate) const LETTERS: Notation = Notation {
@@ -46,9 +39,9 @@ pub(crate) const LETTERS: Notation = Notation {
     goal: Goal::Mate,
 };
 
-pub(crate) const ALL: Extras = Extras {
-    set_play: true,
-    tries: true,
+pub(crate) const STALE: Notation = Notation {
+    symbols: Symbols::Letters,
+    goal: Goal::MateOrStale,
 };
 
 const NONE: Extras = Extras {
@@ -56,11 +49,17 @@ const NONE: Extras = Extras {
     tries: false,
 };
 
-#[test]
-fn a_threat_and_its_variation(rt: HostRuntime) {
-    let text = text_of(&rt, "k5/6/2K3/6/6/1R4 w", LETTERS, ALL);
-    assert_eq!(rt;
-        text.as_str(),
+const FIGURINES: Notation = Notation {
+    symbols: Symbols::Figurines,
+    goal: Goal::Mate,
+};
+
+const COMPOSED: [Composed; 6] = [
+    (
+        "a threat and its variation",
+        LETTERS,
+        ALL,
+        "k5/6/2K3/6/6/1R4 w",
         "\
 mate in 2\n\
 no set play\n\
@@ -74,34 +73,27 @@ tries\n\
 1.Kb4? Kb6!\n\
 1.Kd4? Ka5!\n\
 1.Kd5? Ka5!\n\
-1.Kc5! threat 2.Ra1#\n  1...Ka5 2.Ra1#\n"
-    );
-    let figurines = Notation {
-        symbols: Symbols::Figurines,
-        goal: Goal::Mate,
-    };
-    let text = text_of(&rt, "k5/6/2K3/6/6/1R4 w", figurines, NONE);
-    assert_eq!(rt;
-        text.as_str(),
-        "mate in 2\n1.\u{2654}c5! threat 2.\u{2656}a1#\n  1...\u{2654}a5 2.\u{2656}a1#\n"
-    );
-}
-
-#[test]
-fn a_stalemate_ends_the_game(rt: HostRuntime) {
-    let goal = Notation {
-        symbols: Symbols::Letters,
-        goal: Goal::MateOrStale,
-    };
-    let text = text_of(&rt, "k5/6/2K3/6/6/1R4 w", goal, NONE);
-    assert_eq!(rt; text.as_str(), "goal in 1\n1.Rb5=!\n");
-}
-
-#[test]
-fn zugzwangs_set_play_and_a_dual(rt: HostRuntime) {
-    let text = text_of(&rt, "1k4/5R/6/6/6/2R2K w", LETTERS, ALL);
-    assert_eq!(rt;
-        text.as_str(),
+1.Kc5! threat 2.Ra1#\n  1...Ka5 2.Ra1#\n",
+    ),
+    (
+        "a threat and its variation, by symbols",
+        FIGURINES,
+        NONE,
+        "k5/6/2K3/6/6/1R4 w",
+        "mate in 2\n1.\u{2654}c5! threat 2.\u{2656}a1#\n  1...\u{2654}a5 2.\u{2656}a1#\n",
+    ),
+    (
+        "a stalemate ends the game",
+        STALE,
+        NONE,
+        "k5/6/2K3/6/6/1R4 w",
+        "goal in 1\n1.Rb5=!\n",
+    ),
+    (
+        "zugzwangs, set play and a dual",
+        LETTERS,
+        ALL,
+        "1k4/5R/6/6/6/2R2K w",
         "\
 mate in 2, cooked by 10 keys\n\
 set play\n  1...Ka6 2.Rc6#\n\
@@ -120,29 +112,25 @@ tries\n\
 1.Ke2! zugzwang\n  1...Ka6 2.Rc6#\n\
 1.Kf2! zugzwang\n  1...Ka6 2.Rc6#\n\
 1.Rd5! zugzwang\n  1...Ka6 2.Rc6#\n\
-1.Re5! zugzwang\n  1...Ka6 2.Rc6#\n"
-    );
-}
-
-#[test]
-fn promotions_end_the_game(rt: HostRuntime) {
-    let text = text_of(&rt, "k4/2P2/1K3/5/5 w", LETTERS, ALL);
-    assert_eq!(rt;
-        text.as_str(),
+1.Re5! zugzwang\n  1...Ka6 2.Rc6#\n",
+    ),
+    (
+        "promotions end the game",
+        LETTERS,
+        ALL,
+        "k4/2P2/1K3/5/5 w",
         "\
 mate in 1, cooked by 1 key\n\
 no set play\n\
 no tries\n\
 1.c5=Q#!\n\
-1.c5=R#!\n"
-    );
-}
-
-#[test]
-fn lines_of_three_moves_by_black(rt: HostRuntime) {
-    let text = text_of(&rt, "1k3/5/1p2b/r4/4K b", LETTERS, ALL);
-    assert_eq!(rt;
-        text.as_str(),
+1.c5=R#!\n",
+    ),
+    (
+        "lines of three moves by Black",
+        LETTERS,
+        ALL,
+        "1k3/5/1p2b/r4/4K b",
         "\
 mate in 3, cooked by 1 key\n\
 no set play\n\
@@ -159,6 +147,11 @@ tries\n\
 1.Ka5? Kd1!\n\
 1.Kc5? Kd1!\n\
 1.Bd4! threat 2.b2\n  1...Kd1 2.Bc3 Kc1 3.Ra1#\n\
-1.Kc4! threat 2.Kd3\n  1...Kd1 2.Kd3 Ke1 3.Ra1#\n"
-    );
+1.Kc4! threat 2.Kd3\n  1...Kd1 2.Kd3 Ke1 3.Ra1#\n",
+    ),
+];
+
+#[test]
+fn texts_are_those_of_another_program_named_by_hand(rt: HostRuntime) {
+    expect_texts(&rt, &COMPOSED);
 }

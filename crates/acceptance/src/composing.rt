@@ -1,4 +1,7 @@
 //! Solutions of problems, as tools/check_solution works them out: its rules and its search share no line with the program.
+ghost use Rattle.std.specs.Prelude.{IfOk};
+ghost use Rattle.searcher.specs.Roots.{IsRoot};
+ghost use Rattle.solutions.specs.Solutions.{IsSolution};
 
 use crate::tables::{last_seat, position};
 use board::Side;
@@ -75,13 +78,15 @@ fn text_of(alloc: Global, solution: &Solution) -> Result<String, AllocError> {
     Ok(text)
 }
 
-/// The solution of a position whose side to move forces the goal within five plies.
-fn solution_in<R: Abort + AllocGlobal>(
+/// The solution of a root whose side to move forces the goal within five plies.
+pub(crate) fn solution_in<R: Abort + AllocGlobal>(
     rt: &R,
-    text: &str,
-    goal: Goal,
+    root: &Root,
     extras: Extras,
-) -> Result<Solution, Halt> {
+) -> Result<Solution, Halt>
+    requires { IsRoot root.now }
+    ensures { IfOk result (IsSolution root.now.goal root.now.board extras) }
+{
     let (table, mut seats) = Slots::<MateLore>::make(rt.alloc(), 4096, 1).expect(rt, "a table");
     let Some(mut seat) = last_seat(&table, &mut seats) else {
         panic!(rt; "no seat")
@@ -95,24 +100,23 @@ fn solution_in<R: Abort + AllocGlobal>(
         seat: &mut seat,
         scout: &mut scout,
     };
-    let root = Root::of(&position(rt, text), goal);
-    let Some(Answer::Mate { plies, .. }) = solve_by(&mut searcher, &root, 5) else {
+    let Some(Answer::Mate { plies, .. }) = solve_by(&mut searcher, root, 5) else {
         panic!(rt; "no mate")
     };
-    solution_of(rt.alloc(), &mut searcher, &root, plies, extras)
+    solution_of(rt.alloc(), &mut searcher, root, plies, extras)
 }
 
-#[test]
-fn solutions_are_those_of_another_program(rt: HostRuntime) -> Result<(), Fail> {
-    let extras = Extras {
-        set_play: true,
-        tries: true,
-    };
-    for (text, goal, expected) in [
-        (
-            "k5/6/2K3/6/6/1R4 w",
-            Goal::Mate,
-            "\
+pub(crate) const ALL: Extras = Extras {
+    set_play: true,
+    tries: true,
+};
+
+/// A position, the goal, and its solution, written out.
+const SOLVED: [(&str, Goal, &str); 6] = [
+    (
+        "k5/6/2K3/6/6/1R4 w",
+        Goal::Mate,
+        "\
 3\n\
 key c4c5 threat 1 b1a1\n\
 - a6a5 1 b1a1 / b1a1\n\
@@ -128,21 +132,21 @@ tries\n\
 - c4d4 a6a5\n\
 - c4d5 a6a5\n\
 ",
-        ),
-        (
-            "k5/6/2K3/6/6/1R4 w",
-            Goal::MateOrStale,
-            "\
+    ),
+    (
+        "k5/6/2K3/6/6/1R4 w",
+        Goal::MateOrStale,
+        "\
 1\n\
 key b1b5 end\n\
 set\n\
 tries\n\
 ",
-        ),
-        (
-            "1k4/5R/6/6/6/2R2K w",
-            Goal::Mate,
-            "\
+    ),
+    (
+        "1k4/5R/6/6/6/2R2K w",
+        Goal::Mate,
+        "\
 3\n\
 key c1a1 zugzwang\n\
 - b6c6 1 a1a6 / a1a6\n\
@@ -175,22 +179,22 @@ tries\n\
 - f5a5 b6a5\n\
 - f5c5 b6a6\n\
 ",
-        ),
-        (
-            "k4/2P2/1K3/5/5 w",
-            Goal::Mate,
-            "\
+    ),
+    (
+        "k4/2P2/1K3/5/5 w",
+        Goal::Mate,
+        "\
 1\n\
 key c4c5q end\n\
 key c4c5r end\n\
 set\n\
 tries\n\
 ",
-        ),
-        (
-            "2qK1/3B1/1k1NQ/3b1/r1Q2 w",
-            Goal::Mate,
-            "\
+    ),
+    (
+        "2qK1/3B1/1k1NQ/3b1/r1Q2 w",
+        Goal::Mate,
+        "\
 5\n\
 key c1c5 threat 3 d3c1 e3d2 c5c4\n\
 - a1b1 3 d3c1 / d3c1 b3a4 e3a3\n\
@@ -215,11 +219,11 @@ key d3c5 check\n\
 set\n\
 tries\n\
 ",
-        ),
-        (
-            "1k3/5/1p2b/r4/4K b",
-            Goal::Mate,
-            "\
+    ),
+    (
+        "1k3/5/1p2b/r4/4K b",
+        Goal::Mate,
+        "\
 5\n\
 key e3d4 threat 3 b3b2\n\
 - e1d1 3 d4c3 / d4c3 d1c1 a2a1\n\
@@ -239,11 +243,16 @@ tries\n\
 - b5a5 e1d1\n\
 - b5c5 e1d1\n\
 ",
-        ),
-    ] {
-        let solution = solution_in(&rt, text, goal, extras).expect(&rt, "a solution");
+    ),
+];
+
+#[test]
+fn solutions_are_those_of_another_program(rt: HostRuntime) -> Result<(), Fail> {
+    for (text, goal, expected) in &SOLVED {
+        let root = Root::of(&position(&rt, text), *goal);
+        let solution = solution_in(&rt, &root, ALL).expect(&rt, "a solution");
         let got = text_of(rt.alloc(), &solution)?;
-        assert_eq!(rt; got.as_str(), expected, "{text}");
+        assert_eq!(rt; got.as_str(), *expected, "{text}");
     }
     Ok(())
 }
@@ -251,10 +260,10 @@ tries\n\
 // c4c5 is the one key: what isn't asked for is left out.
 #[test]
 fn set_play_and_tries_are_there_where_asked_for(rt: HostRuntime) -> Result<(), Fail> {
-    let text = "k5/6/2K3/6/6/1R4 w";
+    let root = Root::of(&position(&rt, "k5/6/2K3/6/6/1R4 w"), Goal::Mate);
     for (set_play, tries) in [(false, false), (true, false), (false, true)] {
         let extras = Extras { set_play, tries };
-        let solution = solution_in(&rt, text, Goal::Mate, extras).expect(&rt, "a solution");
+        let solution = solution_in(&rt, &root, extras).expect(&rt, "a solution");
         assert_eq!(rt; solution.set_play.is_some(), set_play);
         assert_eq!(rt; solution.tries.is_some(), tries);
     }

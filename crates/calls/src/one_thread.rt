@@ -1,5 +1,5 @@
 //! The replies that one thread gives, from the text of a position: those of the program, for whoever can start no thread.
-ghost use Rattle.std.specs.Prelude.{◌≡◌, ◌≤◌, [], All, IfErr, IfOk, None, Ok, Err, vec_items};
+ghost use Rattle.std.specs.Prelude.{◌≡◌, ◌≤◌, [], IfErr, IfOk, None, Ok, Err, vec_items};
 ghost use Rattle.slots.specs.Promise.{IsSeatOf};
 ghost use Rattle.decision.specs.Answer.{IsFewest};
 ghost use Rattle.trees.specs.Best.{IsBest};
@@ -12,6 +12,7 @@ ghost use Rattle.searcher.specs.Problems.{IsProblemOf};
 ghost use Rattle.replies.specs.Output.{fault_of, IsOutput, ShowsAnswer, ShowsKeys, ShowsPlanFound, ShowsMoves, ShowsCheck};
 ghost use Rattle.refusals.specs.Reply.{answered, line_of};
 
+use answer_texts::{answer_text, keys_text, moves_text};
 use board::Position;
 use command_line::Limits;
 use decision::Answer;
@@ -19,10 +20,7 @@ use devices::without_line_feed;
 use entry::MateLore;
 use moves::{Goal, lawful, read_sound};
 use refusals::Refusal;
-use replies::{
-    MOST_INPUT, Search, answer_text, keys_text, moves_text, none_line, refusal_of, search_of,
-    tree_line, verdict_text,
-};
+use replies::{MOST_INPUT, Search, none_line, refusal_of, search_of, tree_line, verdict_text};
 use rounds::{SolveFault, make_table_in};
 use searcher::{Key, Problem, keys_alone, solve_alone};
 use slots::{Seat, Slots};

@@ -1,1 +1,2 @@
 pub mod Fifties
+pub mod Refusing

@@ -2,12 +2,13 @@
 ghost use Rattle.std.specs.Prelude.{◌≡◌, ◌<◌, ◌≤◌, ◌++◌, ◌∷◌, [], IfOk, IfSome, List};
 ghost use Rattle.rules.specs.Moves.{IsLawful};
 ghost use Rattle.slots.specs.Promise.{IsSeatOf};
+ghost use Rattle.verifying.specs.Words.{line_text};
 ghost use Rattle.certifying.specs.Lines.{claim_line};
 ghost use Rattle.verifying.specs.declared.words.Word.{Word as TheWord};
 
 use crate::choosing::Chooser;
 use crate::no_lines::no_words;
-use crate::text::text_of;
+use crate::text::{fed, text_of};
 use crate::yes_lines::yes_words;
 use certificates::Claim;
 use decision::{Answer, MOST_LIMIT, Memory, Question};
@@ -169,14 +170,24 @@ impl Certificate {
         Ok(Some(self.lesser(first)?))
     }
 
-    /// The next line, with its feed, or none where the certificate ends.
-    pub fn next_line(&mut self) -> Result<Option<Vec<u8>>, AllocError>
-        ensures { IfOk result (λ line. IfSome line (λ text. (words : List TheWord) × (text.items ≡ claim_line words))) }
+    /// The next line, without its feed, or none where the certificate ends.
+    pub(crate) fn next_text(&mut self) -> Result<Option<Vec<u8>>, AllocError>
+        ensures { IfOk result (λ line. IfSome line (λ text. (words : List TheWord) × (text.items ≡ line_text words))) }
     {
         let Some(words) = self.next_words()? else {
             return Ok(None);
         };
         Ok(Some(text_of(self.chooser.alloc, words.as_slice())?))
+    }
+
+    /// The next line, with its feed, or none where the certificate ends.
+    pub fn next_line(&mut self) -> Result<Option<Vec<u8>>, AllocError>
+        ensures { IfOk result (λ line. IfSome line (λ text. (words : List TheWord) × (text.items ≡ claim_line words))) }
+    {
+        let Some(line) = self.next_text()? else {
+            return Ok(None);
+        };
+        Ok(Some(fed(line)?))
     }
 }
 

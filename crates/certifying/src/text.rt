@@ -1,7 +1,6 @@
 //! The text of a line.
 ghost use Rattle.std.specs.Prelude.{◌≡◌, ◌<◌, ◌++◌, ◌∷◌, [], IfOk, OnOk};
-ghost use Rattle.verifying.specs.Words.{letter_of, word_text};
-ghost use Rattle.certifying.specs.Lines.{claim_line};
+ghost use Rattle.verifying.specs.Words.{letter_of, line_text, word_text};
 ghost use Rattle.verifying.specs.declared.words.Word.TheVariants.{Place as place};
 
 use std::alloc::{AllocError, Global};
@@ -43,14 +42,21 @@ fn put_word(text: &mut Vec<u8>, word: Word) -> Result<(), AllocError>
     Ok(())
 }
 
-/// The line of the words, with its feed.
+/// The line of the words, without its feed.
 pub(crate) fn text_of(alloc: Global, words: &[Word]) -> Result<Vec<u8>, AllocError>
-    ensures { IfOk result (λ text. text.items ≡ claim_line words.now) }
+    ensures { IfOk result (λ text. text.items ≡ line_text words.now) }
 {
     let mut text = Vec::new(alloc);
     for word in words {
         put_word(&mut text, *word)?;
     }
-    text.push(b'\n')?;
     Ok(text)
+}
+
+/// The line with its feed.
+pub(crate) fn fed(mut line: Vec<u8>) -> Result<Vec<u8>, AllocError>
+    ensures { IfOk result (λ text. text.items ≡ line.items ++ 10 ∷ []) }
+{
+    line.push(b'\n')?;
+    Ok(line)
 }

@@ -13,12 +13,12 @@ use Rattle.board.specs.declared.fault.FenFault.{FenFault}
 use Rattle.rules.specs.declared.goal.Goal.{Goal}
 use Rattle.decision.specs.declared.answer.Answer.{Answer as TheAnswer}
 use Rattle.decision.specs.Answer.{IsAnswer}
-use Rattle.console.specs.declared.asked.Found.TheVariants.{Answer, Keys}
-use Rattle.console.specs.Asking.{IsAnswerFound, IsFound, limit_of}
-use Rattle.console.specs.Forms.{IsFoundText, IsRefusalText}
-use Rattle.console.specs.declared.asked.Asked.{Asked}
-use Rattle.console.specs.declared.asked.Batch.{Batch}
-use Rattle.console.specs.declared.asked.Found.{Found}
+use Rattle.answer_texts.specs.declared.asked.Found.TheVariants.{Answer, Keys}
+use Rattle.answer_texts.specs.Asking.{IsAnswerFound, IsFound, limit_of}
+use Rattle.answer_texts.specs.Forms.{IsFoundText, IsRefusalText}
+use Rattle.answer_texts.specs.declared.asked.Asked.{Asked}
+use Rattle.answer_texts.specs.declared.asked.Batch.{Batch}
+use Rattle.answer_texts.specs.declared.asked.Found.{Found}
 use Rattle.rules.specs.Reading.{IsSoundFault}
 use Rattle.replies.proofs.ReplyLemmas.{of_any, of_input_then}
 use Rattle.devices.specs.Device.{AppendsBeginning}
@@ -29,7 +29,8 @@ use Rattle.replies.specs.Output.{IsSoundText, fault_of, refusal_of_solve}
 use Rattle.refusals.specs.Refusal.{refusal_of_fen}
 use Rattle.refusals.specs.declared.refusal.Refusal.{Refusal}
 use Rattle.refusals.specs.declared.refusal.Refusal.TheVariants.{TooLong}
-use Rattle.console.specs.Batch.{AnswersLines, EndsBatch, HasReplyText, IsAskedReply, IsFoundReply, IsLineReply, RunsBatch, answered_lines, joined, left_out, lines_of, onto, said_in}
+use Rattle.answer_texts.specs.Said.{said_in}
+use Rattle.console.specs.Batch.{AnswersLines, EndsBatch, HasReplyText, IsAskedReply, IsFoundReply, IsLineReply, RunsBatch, answered_lines, joined, left_out, lines_of, onto}
 use Rattle.console.specs.Desk.{Fails, GivesAsked, GivesFound, GivesNext, IsFirstOf, IsFront, IsRefusedFor, PassesOver, RepliesTo, SameSolver, Step, TakesAnswered, TakesLines, TakesStep, asked_limits, stop_of}
 use Rattle.devices.specs.Lines.{HasNoFeed, IsFed, IsLastOf, IsReadAs, TakesLine, left_of}
 use Rattle.console.specs.Run.{Ending, Finishes, Refuses, Run, no_memory}

@@ -10,7 +10,8 @@ use Rattle.command_line.specs.declared.line.Telling.{Telling}
 use Rattle.refusals.specs.Reply.{Reply, answered, refused}
 use Rattle.refusals.specs.declared.refusal.Refusal.{Refusal}
 use Rattle.replies.specs.Outcome.{Gives}
-use Rattle.replies.specs.Output.{IsSoundText, fault_of, none_text}
+use Rattle.answer_texts.specs.Answers.{none_text}
+use Rattle.replies.specs.Output.{IsSoundText, fault_of}
 use Rattle.algebraic.specs.declared.naming.Notation.{Notation}
 use Rattle.solutions.specs.declared.solution.Solution.{Solution}
 use Rattle.solutions.specs.Solutions.{IsSolution}

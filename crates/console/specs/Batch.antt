@@ -1,5 +1,5 @@
 -- A batch: what is written for the lines of an input.
-use Rattle.std.specs.Prelude.{◌≡◌, ◌⊎◌, ◌-◌, ◌==◌, ◌&&◌, ◌||◌, ℕ, Bool, Option, None, Some, true, not, List, [], ◌∷◌, ◌++◌, length, take, drop, slice_index, nat_lt, if◌then◌else◌, MatchBool, MatchOption}
+use Rattle.std.specs.Prelude.{◌≡◌, ◌⊎◌, ◌==◌, ◌&&◌, ◌||◌, ℕ, Option, None, Some, not, List, [], ◌∷◌, ◌++◌, length, drop, nat_lt, if◌then◌else◌, MatchBool, MatchOption}
 use Rattle.std.specs.List.{AllZip, flat_map}
 use Rattle.board.specs.Board.{PlainBoard}
 use Rattle.board.specs.declared.fault.FenFault.{FenFault}
@@ -11,11 +11,12 @@ use Rattle.replies.specs.Output.{IsSoundText, ShowsAnswer, fault_of, refusal_of_
 use Rattle.refusals.specs.Reply.{Reply, line_of, refused}
 use Rattle.refusals.specs.Refusal.{refusal_of_fen}
 use Rattle.refusals.specs.declared.refusal.Refusal.TheVariants.{TooLong}
-use Rattle.console.specs.Asking.{IsAsked, IsFound, limit_of, with_plies}
-use Rattle.console.specs.Forms.{IsFoundText, IsRefusalText}
-use Rattle.console.specs.declared.asked.Asked.{Asked}
-use Rattle.console.specs.declared.asked.Batch.{Batch}
-use Rattle.console.specs.declared.asked.Found.{Found}
+use Rattle.answer_texts.specs.Said.{is_remark, said_in}
+use Rattle.answer_texts.specs.Asking.{IsAsked, IsFound, limit_of, with_plies}
+use Rattle.answer_texts.specs.Forms.{IsFoundText, IsRefusalText}
+use Rattle.answer_texts.specs.declared.asked.Asked.{Asked}
+use Rattle.answer_texts.specs.declared.asked.Batch.{Batch}
+use Rattle.answer_texts.specs.declared.asked.Found.{Found}
 use Rattle.console.specs.Run.{Run, Writes, Finishes, Refuses, no_memory}
 
 -- ---- lines
@@ -29,19 +30,6 @@ onto x (line ∷ lines) = (x ∷ line) ∷ lines
 abbrev pub lines_of : List ℕ → List (List ℕ)
 lines_of [] = []
 lines_of (x ∷ xs) = if x == 10 then (x ∷ []) ∷ lines_of xs else onto x (lines_of xs)
-
--- the bytes without one carriage return at their end, if there is one
-abbrev pub without_return : List ℕ → List ℕ
-without_return bytes = if slice_index bytes (length bytes - 1) == 13 then take (length bytes - 1) bytes else bytes
-
--- what a line says: without its feed, and without one carriage return before that
-abbrev pub said_in : List ℕ → List ℕ
-said_in line = if slice_index line (length line - 1) == 10 then without_return (take (length line - 1) line) else line
-
--- it says nothing, or it is a comment
-abbrev pub is_remark : List ℕ → Bool
-is_remark [] = true
-is_remark (x ∷ xs) = x == 35
 
 -- ---- replies
 

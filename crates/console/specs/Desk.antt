@@ -19,12 +19,12 @@ use Rattle.refusals.specs.declared.refusal.Refusal.{Refusal}
 use Rattle.refusals.specs.declared.refusal.Refusal.TheVariants as refusal
 use Rattle.devices.specs.declared.transfer.InputFault.{InputFault}
 use Rattle.devices.specs.declared.transfer.InputFault.TheVariants as input
-use Rattle.console.specs.Asking.{IsFound, limit_of, with_plies}
+use Rattle.answer_texts.specs.Asking.{IsFound, limit_of, with_plies}
 use Rattle.console.specs.Batch.{AnswersLines, IsAskedReply, IsFoundReply, IsLineReply, answered_lines, joined, lines_of}
 use Rattle.devices.specs.Lines.{IsFed, IsLastOf, IsReadAs, IsUnread, left_of}
-use Rattle.console.specs.declared.asked.Asked.{Asked}
-use Rattle.console.specs.declared.asked.Batch.{Batch}
-use Rattle.console.specs.declared.asked.Found.{Found}
+use Rattle.answer_texts.specs.declared.asked.Asked.{Asked}
+use Rattle.answer_texts.specs.declared.asked.Batch.{Batch}
+use Rattle.answer_texts.specs.declared.asked.Found.{Found}
 use Rattle.console.specs.declared.batch.Desk.{Desk}
 use Rattle.console.specs.declared.batch.Solver.{Solver}
 use Rattle.console.specs.declared.batch.Stop.{Stop}

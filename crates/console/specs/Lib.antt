@@ -1,7 +1,5 @@
 -- to be believed
 pub mod Run
-pub mod Asking
-pub mod Forms
 pub mod Batch
 pub mod Verifying
 pub mod Certifying

@@ -20,7 +20,8 @@ use Rattle.command_line.specs.declared.line.Telling.{Telling}
 use Rattle.refusals.specs.Reply.{Reply, answered, refused}
 use Rattle.refusals.specs.Refusal.{refusal_of_fen}
 use Rattle.replies.specs.First.{IsFirstReply}
-use Rattle.replies.specs.Output.{IsSoundText, fault_of, none_text, refusal_of_solve}
+use Rattle.answer_texts.specs.Answers.{none_text}
+use Rattle.replies.specs.Output.{IsSoundText, fault_of, refusal_of_solve}
 use Rattle.refusals.specs.declared.refusal.Refusal.{Refusal}
 use Rattle.console.specs.Run.{Ending, Run, Finishes, Refuses, no_memory}
 

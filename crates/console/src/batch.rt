@@ -3,20 +3,19 @@ ghost use Rattle.std.specs.Prelude.{◌≡◌, ◌+◌, ◌<◌, IfOk, false, op
 ghost use Rattle.devices.specs.Input.{failed_reads};
 ghost use Rattle.devices.specs.Lines.{IsUnread, left_of};
 ghost use Rattle.replies.specs.Outcome.{Solves};
-ghost use Rattle.console.specs.Asking.{IsAnswerFound, with_plies};
-ghost use Rattle.console.specs.declared.asked.Found.TheVariants.{Answer as TheAnswer};
-ghost use Rattle.console.specs.Batch.{HasReplyText, IsAskedReply, IsReplyText, left_out, remark_text, said_in, with_position};
-ghost use Rattle.console.specs.Forms.{IsRefusalText};
+ghost use Rattle.answer_texts.specs.Asking.{IsAnswerFound, with_plies};
+ghost use Rattle.answer_texts.specs.declared.asked.Found.TheVariants.{Answer as TheAnswer};
+ghost use Rattle.answer_texts.specs.Said.{said_in};
+ghost use Rattle.console.specs.Batch.{HasReplyText, IsAskedReply, IsReplyText, left_out, remark_text, with_position};
+ghost use Rattle.answer_texts.specs.Forms.{IsRefusalText};
 ghost use Rattle.console.specs.Desk.{Finds, GivesAsked, GivesFound, GivesNext, IsDesk, IsSolver, OpensDesk, PassesOver, SameSolver, TakesAnswered, TakesLines, TakesStep, step_of, stop_of};
 ghost use Rattle.console.specs.declared.batch.Stop.TheVariants.{NoMemory, WriteFailed};
 
-use crate::asked::{Asked, Batch, Found};
-use crate::asking::{asked_in, limit_of};
 use crate::beside::{Host, find_beside, find_over};
-use crate::forms::found_text;
-use crate::objects::refused_object;
 use crate::over::tell_if_over;
-use crate::said::{is_remark, said_in};
+use answer_texts::{
+    Asked, Batch, Found, asked_in, found_text, is_remark, limit_of, refused_object, said_in,
+};
 use board::Position;
 use command_line::{Limits, Manner};
 use decision::Answer;

@@ -1,15 +1,15 @@
 //! Replies with a sign of life beside them.
 ghost use Rattle.std.specs.Prelude.{◌≡◌, ◌⊎◌, ◌+◌, ◌<◌, ℕ, All, List, [], IfErr, IfOk, IfSome, None, Option, Some, length, vec_items};
 ghost use Rattle.slots.specs.Promise.{IsSeatOf};
-ghost use Rattle.console.specs.Asking.{IsFound};
+ghost use Rattle.answer_texts.specs.Asking.{IsFound};
 ghost use Rattle.rounds.specs.Limits.{task_fault, IsTaskRefusal};
 ghost use Rattle.rounds.specs.Seats.{AreSeats};
 ghost use Rattle.replies.specs.Outcome.{GivesReply, reads_failed};
 ghost use Rattle.replies.specs.Output.{input_of, MayRead};
 ghost use Rattle.progress.specs.Signs.{IsLastRound};
 
-use crate::asked::Found;
 use crate::tally::Tally;
+use answer_texts::Found;
 use board::Position;
 use command_line::{Action, Limits, Line};
 use devices::{Failed, Source};

@@ -1,34 +1,64 @@
 //! A certificate: the answer of a solve, and then line after line as it is made.
-ghost use Rattle.std.specs.Prelude.{◌≡◌, ◌<◌, None};
-ghost use Rattle.replies.specs.Outcome.{Gives};
-ghost use Rattle.replies.specs.Output.{ShowsAnswer};
-ghost use Rattle.console.specs.Batch.{ShowsPosition};
+ghost use Rattle.std.specs.Prelude.{◌≡◌, ◌<◌};
 ghost use Rattle.slots.specs.Promise.{IsSeatOf};
-ghost use Rattle.console.specs.Claims.{EndsClaims, EndsWriting, line_text, writing_of};
+ghost use Rattle.verifying.specs.Checking.{HasTaken};
+ghost use Rattle.console.specs.Claims.{BeginsAt, BeginsCertificate, EndsClaims, EndsWriting, cut_of, writing_of};
 ghost use Rattle.console.specs.Desk.{IsSolver};
+ghost use Rattle.console.specs.declared.certificate.Cut.TheVariants.{WriteFailed};
 
-use crate::asked::Batch;
-use crate::batch::{Desk, Solver, Stop, position_answer};
+use crate::batch::{Desk, Solver, position_answer};
 use crate::beside::Host;
+use answer_texts::{Batch, answer_text};
 use board::Position;
-use certifying::Certificate;
+use certifying::{Certificate, Checked};
 use command_line::{Limits, Subject};
 use decision::Question;
-use devices::{Sink, write_all};
+use devices::{Failed, Sink, write_all};
 use entry::MateLore;
 use moves::{Board, Goal, read_sound};
 use refusals::Refusal;
-use replies::{answer_text, refusal_of};
+use replies::refusal_of;
 use slots::{Seat, Slots};
 use std::sync::Wait;
 use std::thread::Threads;
 use std::time::Clock;
+use verifying::{Checker, Fault};
 
 /// The answer's line, and the lines of claims as they are made.
 #[derive(Drop)]
 pub struct Begun {
     pub line: Vec<u8>,
-    pub certificate: Certificate,
+    pub certificate: Checked,
+}
+
+/// What ends a certificate before its last line.
+#[derive(Clone, Copy)]
+pub enum Cut {
+    WriteFailed,
+    NoMemory,
+    /// The checker doesn't take the next line.
+    Refused(Refusal),
+}
+
+impl From<Failed> for Cut {
+    ghost from_gives = { λ _ cut. cut ≡ WriteFailed };
+
+    fn from(_failed: Failed) -> Cut {
+        Cut::WriteFailed
+    }
+}
+
+impl From<Fault> for Cut {
+    ghost from_gives = { λ fault cut. cut ≡ cut_of fault };
+
+    fn from(fault: Fault) -> Cut {
+        match fault {
+            Fault::Answer => Cut::Refused(Refusal::Answer),
+            Fault::Claim(line) => Cut::Refused(Refusal::Claim(line)),
+            Fault::TooLong => Cut::Refused(Refusal::TooLong),
+            Fault::NoMemory | Fault::ReadFailed => Cut::NoMemory,
+        }
+    }
 }
 
 /// The table of what has solved, and a seat there.
@@ -52,7 +82,7 @@ fn begin_at<R: Threads + Wait + Eprint + Clock + Sync + AllocGlobal>(
     goal: Goal,
     limits: Limits,
 ) -> Result<Begun, Refusal>
-    ensures { Gives line_text (ShowsAnswer goal position.now limits) result }
+    ensures { BeginsAt goal position.now limits result }
 {
     let alloc = host.rt.alloc();
     let mut desk = match Desk::open(alloc, Batch::answers(goal, limits)) {
@@ -70,7 +100,11 @@ fn begin_at<R: Threads + Wait + Eprint + Clock + Sync + AllocGlobal>(
         attacker: position.mover(),
         goal,
     };
-    let certificate = Certificate::of(alloc, slots, seat, root, answer)?;
+    let checker = Checker::behind(alloc, &root.position, goal, answer)?;
+    let certificate = Checked {
+        certificate: Certificate::of(alloc, slots, seat, root, answer)?,
+        checker,
+    };
     Ok(Begun { line, certificate })
 }
 
@@ -80,16 +114,18 @@ pub fn begin<R: Threads + Wait + Eprint + Clock + Sync + AllocGlobal>(
     subject: &Subject<'_>,
     limits: Limits,
 ) -> Result<Begun, Refusal>
-    ensures { Gives line_text (ShowsPosition subject.now.goal limits subject.now.fen.now) result }
+    ensures { BeginsCertificate subject.now limits result }
 {
     let position = read_sound(subject.fen)?;
     begin_at(host, &position, subject.goal, limits)
 }
 
 /// Makes a line and writes it. Answers whether there was one.
-fn write_next<K: Sink>(certificate: &mut Certificate, writer: &mut K) -> Result<bool, Stop>
-    requires { K.failures writer.old < u64.MAX }
-    ensures { EndsWriting (writing_of K.contents K.failures writer.old writer.new) result }
+fn write_next<K: Sink>(certificate: &mut Checked, writer: &mut K) -> Result<bool, Cut>
+    requires begun { HasTaken certificate.old.checker }
+    requires writes { K.failures writer.old < u64.MAX }
+    ensures { EndsWriting certificate.old.checker certificate.new.checker
+        (writing_of K.contents K.failures writer.old writer.new) result }
 {
     let Some(line) = certificate.next_line()? else {
         return Ok(false);
@@ -98,17 +134,18 @@ fn write_next<K: Sink>(certificate: &mut Certificate, writer: &mut K) -> Result<
     Ok(true)
 }
 
-/// Makes and writes line after line, to the end or until something stops it.
-pub fn write_claims<K: Sink>(certificate: &mut Certificate, writer: &mut K) -> Option<Stop>
-    requires { K.failures writer.old < u64.MAX }
-    ensures { EndsClaims (writing_of K.contents K.failures writer.old writer.new) result }
+/// Makes and writes line after line, to the end or until something cuts them off.
+pub fn write_claims<K: Sink>(certificate: &mut Checked, writer: &mut K) -> Option<Cut>
+    requires begun { HasTaken certificate.old.checker }
+    requires writes { K.failures writer.old < u64.MAX }
+    ensures { EndsClaims certificate.old.checker (writing_of K.contents K.failures writer.old writer.new) result }
 {
     for _ in 0..u64::MAX {
         match write_next(certificate, writer) {
             Ok(true) => {}
             Ok(false) => return None,
-            Err(stop) => return Some(stop),
+            Err(cut) => return Some(cut),
         }
     }
-    Some(Stop::NoMemory)
+    Some(Cut::NoMemory)
 }

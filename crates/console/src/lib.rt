@@ -1,20 +1,15 @@
 //! The program over any words and streams: what it reads and writes, and with what status it ends.
 #![tactic(auto)]
 
-mod asked;
-mod asking;
 mod batch;
 mod beginning;
 mod beside;
 mod certificate;
 mod ending;
-mod forms;
-mod objects;
 mod over;
 mod problem;
 mod program;
 mod running;
-mod said;
 mod tally;
 
 pub use beginning::{Input, Keeping};

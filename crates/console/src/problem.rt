@@ -5,11 +5,11 @@ ghost use Rattle.replies.specs.Outcome.{Gives};
 ghost use Rattle.console.specs.Desk.{IsSolver};
 ghost use Rattle.console.specs.Solving.{IsPublished, IsSolutionReply, ShowsSolution, notation_of};
 
-use crate::asked::Batch;
 use crate::batch::{Desk, Solver, position_answer};
 use crate::beside::Host;
 use crate::certificate::table_of;
 use algebraic::{Notation, Symbols};
+use answer_texts::Batch;
 use board::Position;
 use command_line::{Limits, Subject, Telling};
 use decision::{Answer, Memory, Never, Scout};

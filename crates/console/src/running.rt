@@ -1,20 +1,22 @@
 //! A run of the program over any reader and writer.
 ghost use Rattle.std.specs.Prelude.{◌≡◌, ◌⊎◌, ◌<◌, None, map};
+ghost use Rattle.board.specs.Board.{PlainBoard};
+ghost use Rattle.decision.specs.declared.answer.Answer.{Answer};
+ghost use Rattle.verifying.specs.Checking.{HasTaken};
 ghost use Rattle.replies.specs.Output.{fault_of, MayRead};
 ghost use Rattle.console.specs.Batch.{RunsBatch};
 ghost use Rattle.console.specs.Order.{IsOver, MayReadFor, RunsWords, SearchesOver, TellsMore};
 ghost use Rattle.console.specs.Verifying.{RunsVerify, MayReadAbout};
 ghost use Rattle.console.specs.Certifying.{WritesCertificate, WritesClaims};
-ghost use Rattle.console.specs.Claims.{line_text};
+ghost use Rattle.console.specs.Claims.{BeginsWith};
 ghost use Rattle.console.specs.Playing.{WritesAfter};
 ghost use Rattle.console.specs.Solving.{EndsReply, IsSolutionReply, WritesReply};
 ghost use Rattle.console.specs.Run.{ending_of, run_of, MayTell, Refuses, RunsLine};
 
-use crate::asked::Batch;
 use crate::batch::{Desk, Stop, answer_batch, left_out};
 use crate::beginning::Input;
 use crate::beside::{Host, reply_shown};
-use crate::certificate::{Begun, begin, write_claims};
+use crate::certificate::{Begun, Cut, begin, write_claims};
 use crate::ending::{
     ANSWERED, REFUSED_WORDS, fail_to_read, fail_to_write, finish, give_up_for_memory,
     has_no_answer, refuse,
@@ -22,6 +24,7 @@ use crate::ending::{
 use crate::over::{asking_of, tell_if_line_is_over, tell_if_over};
 use crate::problem::solution_reply;
 use crate::tally::Tally;
+use answer_texts::Batch;
 use command_line::{
     Limits, Line, LineFault, Manner, Order, Played, Subject, Telling, asks_progress, read_order,
 };
@@ -198,7 +201,7 @@ fn run_certify<R: Threads + Wait + Eprint + Clock + Sync + AllocGlobal, K: Sink,
     match begin(host, subject, limits) {
         Ok(begun) => {
             tell_if_over(errors, subject.fen, None);
-            write_begun(begun, writer, errors)
+            write_begun(host.rt, subject, begun, writer, errors)
         }
         Err(refusal) => {
             let refused = search_refused(subject.fen, refusal);
@@ -207,10 +210,18 @@ fn run_certify<R: Threads + Wait + Eprint + Clock + Sync + AllocGlobal, K: Sink,
     }
 }
 
-/// Writes the answer's line and the lines of claims.
-fn write_begun<K: Sink, E: Write>(begun: Begun, writer: &mut K, errors: &mut E) -> u8
-    requires { K.failures writer.old < u64.MAX }
-    ensures writes { WritesClaims (line_text begun) (ending_of K.contents K.failures writer.old writer.new result) }
+/// Writes the answer's line and the lines of claims, and behind them why the next isn't taken, if it isn't.
+fn write_begun<R: AllocGlobal, K: Sink, E: Write>(
+    rt: &R,
+    subject: &Subject<'_>,
+    begun: Begun,
+    writer: &mut K,
+    errors: &mut E,
+) -> u8
+    requires begun { HasTaken begun.certificate.checker }
+    requires writes { K.failures writer.old < u64.MAX }
+    ensures writes { (b : PlainBoard) (answer : Answer) → BeginsWith subject.now.goal b answer begun
+        → WritesClaims subject.now.goal b answer (ending_of K.contents K.failures writer.old writer.new result) }
     ensures silent { MayTell result ⊎ (errors.new ≡ errors.old) }
 {
     let Begun {
@@ -220,9 +231,12 @@ fn write_begun<K: Sink, E: Write>(begun: Begun, writer: &mut K, errors: &mut E) 
     match write_all(writer, line.as_slice()) {
         Ok(()) => match write_claims(&mut certificate, writer) {
             None => ANSWERED,
-            Some(Stop::NoMemory) => give_up_for_memory(writer, errors),
-            Some(Stop::ReadFailed) => fail_to_read(errors),
-            Some(Stop::WriteFailed) => fail_to_write(errors),
+            Some(Cut::NoMemory) => give_up_for_memory(writer, errors),
+            Some(Cut::Refused(refusal)) => {
+                let why = proof_refused(subject, b"", refusal);
+                refuse_and_tell(rt, writer, errors, &why)
+            }
+            Some(Cut::WriteFailed) => fail_to_write(errors),
         },
         Err(_) => fail_to_write(errors),
     }

@@ -395,6 +395,8 @@ fn asks_for_quotes(rt: HostRuntime) {
     assert!(rt; second.as_slice().ends_with(quote));
     let quoted = explained(&rt, "minimate,moves,k5/6/2K3/6/6/1R4 w,w", "b");
     assert!(rt; !quoted.as_slice().ends_with(b"'\n"));
+    let lone = explained(&rt, "./minimate", "w");
+    assert!(rt; !lone.as_slice().ends_with(b"'\n"));
 }
 
 #[test]

@@ -49,9 +49,17 @@ abbrev pub row_drawn : Look → Side → PlainBoard → ℕ → List ℕ
 row_drawn look below b row =
     codes " " ++ decimal (row_of b.game below row + 1) ++ codes " " ++ flat_map (square_drawn look below b row) (range_with_len 0 (width_of b.game)) ++ codes "\n"
 
+-- the rows, as this side sees them
+abbrev pub rows_drawn : Look → Side → PlainBoard → List ℕ
+rows_drawn look below b = flat_map (row_drawn look below b) (range_with_len 0 (width_of b.game))
+
 -- the letter of a column's file, with a blank before it
 abbrev pub file_drawn : Game → Side → ℕ → List ℕ
 file_drawn g below column = 32 ∷ (97 + column_of g below column) ∷ []
+
+-- the letters of the files, from column to column
+abbrev pub files_drawn : Game → Side → List ℕ
+files_drawn g below = flat_map (file_drawn g below) (range_with_len 0 (width_of g))
 
 -- who moves
 abbrev pub mover_drawn : Side → List ℕ
@@ -61,5 +69,4 @@ mover_drawn Black = codes "Black to move"
 -- the rows as this side sees them, and below them the files and who moves
 abbrev pub board_drawn : Look → Side → PlainBoard → List ℕ
 board_drawn look below b =
-    flat_map (row_drawn look below b) (range_with_len 0 (width_of b.game)) ++ codes "   " ++ flat_map (file_drawn b.game below) (range_with_len 0 (width_of b.game))
-    ++ codes "      " ++ mover_drawn b.mover ++ codes "\n"
+    rows_drawn look below b ++ codes "   " ++ files_drawn b.game below ++ codes "      " ++ mover_drawn b.mover ++ codes "\n"

@@ -81,6 +81,10 @@ square_picture v row column =
 abbrev pub row_picture : View → ℕ → List ℕ
 row_picture v row = flat_map (square_picture v row) (range_with_len 0 (width v))
 
+-- the rows of squares
+abbrev pub rows_picture : View → List ℕ
+rows_picture v = flat_map (row_picture v) (range_with_len 0 (width v))
+
 -- a sign, its corner so many from the left and from above
 abbrev pub sign_picture : ℕ → ℕ → List ℕ → List ℕ
 sign_picture x y sign =
@@ -98,6 +102,10 @@ file_picture v column = sign_picture (79 + 100 * column) (9 + 100 * width v) (fi
 -- the signs of the n-th row and the n-th column
 abbrev pub signs_picture : View → ℕ → List ℕ
 signs_picture v n = rank_picture v n ++ file_picture v n
+
+-- the signs of all rows and columns
+abbrev pub all_signs_picture : View → List ℕ
+all_signs_picture v = flat_map (signs_picture v) (range_with_len 0 (width v))
 
 -- how far the middle of a square is from the left, and from above
 abbrev pub middle_x : View → Place → ℕ
@@ -139,5 +147,5 @@ frame side = codes "<path d=\"M44 4h" ++ (decimal side ++ (codes "v" ++ (decimal
 -- the squares row by row, the frame, the signs of ranks and files, and the arrow
 abbrev pub picture : View → Option Ply → List ℕ
 picture v arrow =
-    head (48 + 100 * width v) ++ (paper (48 + 100 * width v) (mover_drawn v.board.mover) ++ (flat_map (row_picture v) (range_with_len 0 (width v)) ++ (frame (100 * width v)
-    ++ (flat_map (signs_picture v) (range_with_len 0 (width v)) ++ (picture_of (arrow_picture v) arrow ++ codes "</svg>\n")))))
+    head (48 + 100 * width v) ++ (paper (48 + 100 * width v) (mover_drawn v.board.mover) ++ (rows_picture v ++ (frame (100 * width v)
+    ++ (all_signs_picture v ++ (picture_of (arrow_picture v) arrow ++ codes "</svg>\n")))))

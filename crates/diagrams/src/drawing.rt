@@ -1,9 +1,8 @@
 //! A diagram as text.
 ghost use Rattle.std.specs.Prelude.{◌≡◌, ◌++◌, ◌<◌, IfOk, OnOk, string_bytes};
-ghost use Rattle.std.specs.List.{flat_map, range_with_len};
 ghost use Rattle.board.specs.Games.{width_of};
 ghost use Rattle.diagrams.specs.declared.look.Look.TheVariants.{Symbols};
-ghost use Rattle.diagrams.specs.Drawing.{unit_drawn, sign_on, square_drawn, row_drawn, file_drawn, mover_drawn, board_drawn};
+ghost use Rattle.diagrams.specs.Drawing.{unit_drawn, sign_on, row_drawn, rows_drawn, files_drawn, mover_drawn, board_drawn};
 
 use crate::look::Look;
 use crate::place::{column_of, row_of};
@@ -54,8 +53,8 @@ struct View<'a> {
 /// Draws a row: its rank's number, and its squares.
 fn draw_row(text: &mut String, view: &View<'_>, row: u8) -> Result<(), AllocError>
     requires { row < width_of view.now.position.now.game }
-    ensures { OnOk result (string_bytes text.new
-        ≡ string_bytes text.old ++ row_drawn view.now.look view.now.below view.now.position.now row) }
+    ensures { let v = view.now in OnOk result
+        (string_bytes text.new ≡ string_bytes text.old ++ row_drawn v.look v.below v.position.now row) }
 {
     let game = view.position.game();
     let rank = row_of(game, view.below, row);
@@ -73,8 +72,8 @@ fn draw_row(text: &mut String, view: &View<'_>, row: u8) -> Result<(), AllocErro
 }
 
 fn draw_rows(text: &mut String, view: &View<'_>) -> Result<(), AllocError>
-    ensures { OnOk result (string_bytes text.new ≡ string_bytes text.old
-        ++ flat_map (row_drawn view.now.look view.now.below view.now.position.now) (range_with_len 0 (width_of view.now.position.now.game))) }
+    ensures { let v = view.now in OnOk result
+        (string_bytes text.new ≡ string_bytes text.old ++ rows_drawn v.look v.below v.position.now) }
 {
     for row in 0..view.position.game().width() {
         draw_row(text, view, row)?;
@@ -83,8 +82,7 @@ fn draw_rows(text: &mut String, view: &View<'_>) -> Result<(), AllocError>
 }
 
 fn draw_files(text: &mut String, game: Game, below: Side) -> Result<(), AllocError>
-    ensures { OnOk result (string_bytes text.new
-        ≡ string_bytes text.old ++ flat_map (file_drawn game below) (range_with_len 0 (width_of game))) }
+    ensures { OnOk result (string_bytes text.new ≡ string_bytes text.old ++ files_drawn game below) }
 {
     for column in 0..game.width() {
         text.push(' ')?;

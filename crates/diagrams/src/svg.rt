@@ -1,9 +1,8 @@
 //! A diagram as a picture in Scalable Vector Graphics.
 ghost use Rattle.std.specs.Prelude.{◌≡◌, ℕ, ◌++◌, ◌<◌, List, IfOk, OnOk, string_bytes};
-ghost use Rattle.std.specs.List.{flat_map, range_with_len};
 ghost use Rattle.board.specs.Games.{width_of};
 ghost use Rattle.rules.specs.Squares.{IsOnBoard};
-ghost use Rattle.diagrams.specs.Pictures.{view_of, width, row_picture, sign_picture, rank_picture, file_picture, signs_picture, middle_x, middle_y, AreOnBoard, arrow_between, arrow_picture, picture_of, head, paper, frame, picture};
+ghost use Rattle.diagrams.specs.Pictures.{view_of, width, row_picture, rows_picture, sign_picture, rank_picture, file_picture, all_signs_picture, middle_x, middle_y, AreOnBoard, arrow_between, arrow_picture, picture_of, head, paper, frame, picture};
 
 use crate::diagram::Diagram;
 use crate::drawing::mover_drawn;
@@ -25,9 +24,7 @@ fn draw_row(text: &mut String, diagram: &Diagram<'_>, row: u8) -> Result<(), All
 }
 
 fn draw_rows(text: &mut String, diagram: &Diagram<'_>) -> Result<(), AllocError>
-    ensures { OnOk result (string_bytes text.new
-        ≡ string_bytes text.old
-        ++ flat_map (row_picture (view_of diagram.now)) (range_with_len 0 (width (view_of diagram.now)))) }
+    ensures { OnOk result (string_bytes text.new ≡ string_bytes text.old ++ rows_picture (view_of diagram.now)) }
 {
     for row in 0..diagram.position.game().width() {
         draw_row(text, diagram, row)?;
@@ -65,9 +62,7 @@ fn draw_file(text: &mut String, diagram: &Diagram<'_>, column: u8) -> Result<(),
 }
 
 fn draw_signs(text: &mut String, diagram: &Diagram<'_>) -> Result<(), AllocError>
-    ensures { OnOk result (string_bytes text.new
-        ≡ string_bytes text.old
-        ++ flat_map (signs_picture (view_of diagram.now)) (range_with_len 0 (width (view_of diagram.now)))) }
+    ensures { OnOk result (string_bytes text.new ≡ string_bytes text.old ++ all_signs_picture (view_of diagram.now)) }
 {
     for n in 0..diagram.position.game().width() {
         draw_rank(text, diagram, n)?;

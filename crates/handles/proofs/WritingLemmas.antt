@@ -9,7 +9,7 @@ use Rattle.trees.specs.Best.{IsBest}
 use Rattle.wintree.specs.Plan.{Plan}
 use Rattle.wintree.specs.Text.{text as plan_text}
 use Rattle.refusals.specs.Reply.{line_of}
-use Rattle.replies.specs.Output.{none_text, keys_text}
+use Rattle.answer_texts.specs.Answers.{none_text, keys_text}
 use Rattle.searcher.specs.declared.halt.Halt.{Halt}
 use Rattle.searcher.specs.declared.halt.Halt.TheVariants.{Stopped, NoMemory}
 use Rattle.solver.specs.declared.solver.Solver.{Solver}

@@ -12,7 +12,7 @@ use Rattle.trees.specs.Best.{IsBest}
 use Rattle.wintree.specs.Plan.{Plan}
 use Rattle.wintree.specs.Text.{text as plan_text}
 use Rattle.refusals.specs.Reply.{line_of}
-use Rattle.replies.specs.Output.{none_text, keys_text}
+use Rattle.answer_texts.specs.Answers.{none_text, keys_text}
 use Rattle.solver.specs.declared.solver.Solver.{Solver}
 use Rattle.solver.specs.Stopping.{IsStopped, Hears}
 use Rattle.handles.specs.Asked.{goal_of, IsAt}

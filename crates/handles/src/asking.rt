@@ -1,5 +1,5 @@
 //! What such a program asks, and the number that it is answered.
-ghost use Rattle.std.specs.Prelude.{◌≡◌, ◌≤◌, Bool, false, true, MatchOption, Some, Option};
+ghost use Rattle.std.specs.Prelude.{◌≡◌, ◌⊎◌, ◌↔◌, false, true, IfErr, IfOk, IsErrOf, IsTrue, MatchOption, Some};
 ghost use Rattle.board.specs.declared.game.Kind.{Kind as AKind};
 ghost use Rattle.rules.specs.Squares.{Ply};
 ghost use Rattle.slots.specs.Promise.{IsSize};
@@ -112,28 +112,53 @@ fn replied(solver: &mut Solver, fen: &[u8], goal: Goal, limit: u32, found: &mut 
     }
 }
 
-/// Makes a solver over so many slots, and what stops it: 0 where there are both, else why there is neither.
-pub fn open(alloc: Global, solver: &mut SolverHandle, stop: &mut StopHandle, slots: u32) -> u32
-    ensures opened { (result ≡ 0) → IsOpened slots solver.new.held.value stop.new.held.value }
-    ensures slots { (result ≡ 6) → IsSize slots 1 → ⊥ }
+/// Whether one of them holds something already.
+fn is_held(solver: &SolverHandle, stop: &StopHandle) -> bool
+    ensures { IsTrue result ↔ ((solver.now.full ≡ true) ⊎ (stop.now.full ≡ true)) }
 {
-    if solver.full || stop.full {
-        return ANOTHER;
-    }
+    solver.full || stop.full
+}
+
+/// A solver over so many slots and what stops it, each in a box, or the number that says why there is neither.
+fn boxed(alloc: Global, slots: u32) -> Result<(Box<Solver>, Box<StopSource>), u32>
+    ensures opened { IfOk result (λ ends. IsOpened slots (Some ends.0.value) (Some ends.1.value)) }
+    ensures number { IfErr result (λ number. (number ≡ 6) ⊎ (number ≡ 7)) }
+    ensures size { IsErrOf result 6 ↔ (¬ IsSize slots 1) }
+{
     match Solver::make(alloc, slots as usize) {
         Ok((made, source)) => {
             let Ok(made) = Box::new(alloc, made) else {
-                return NO_MEMORY;
+                return Err(NO_MEMORY);
             };
             let Ok(source) = Box::new(alloc, source) else {
-                return NO_MEMORY;
+                return Err(NO_MEMORY);
             };
+            Ok((made, source))
+        }
+        Err(MakeFault::Size) => Err(SLOTS),
+        Err(MakeFault::NoMemory) => Err(NO_MEMORY),
+    }
+}
+
+/// Makes a solver over so many slots, and what stops it: 0 where there are both, else why there is neither. Memory may be refused anywhere.
+pub fn open(alloc: Global, solver: &mut SolverHandle, stop: &mut StopHandle, slots: u32) -> u32
+    ensures opened { (result ≡ 0) → IsOpened slots solver.new.held.value stop.new.held.value }
+    ensures slots { (result ≡ 6) → IsSize slots 1 → ⊥ }
+    ensures size { solver.old.full ≡ false → stop.old.full ≡ false → (¬ IsSize slots 1) → result ≡ 6 }
+    ensures another { (result ≡ 8) ↔ ((solver.old.full ≡ true) ⊎ (stop.old.full ≡ true)) }
+    ensures number { (result ≡ 0) ⊎ (result ≡ 6) ⊎ (result ≡ 7) ⊎ (result ≡ 8) }
+    ensures kept { (result ≡ 0) ⊎ ((solver.new ≡ solver.old) × (stop.new ≡ stop.old)) }
+{
+    if is_held(solver, stop) {
+        return ANOTHER;
+    }
+    match boxed(alloc, slots) {
+        Ok((made, source)) => {
             solver.put(made);
             stop.put(source);
             0
         }
-        Err(MakeFault::Size) => SLOTS,
-        Err(MakeFault::NoMemory) => NO_MEMORY,
+        Err(number) => number,
     }
 }
 

@@ -1,6 +1,6 @@
 //! What such a program asks and is answered by a text, in room that it lends.
-ghost use Rattle.std.specs.Prelude.{◌≡◌, ◌≤◌, IfErr, IfOk};
-ghost use Rattle.replies.specs.Output.{none_text, keys_text};
+ghost use Rattle.std.specs.Prelude.{◌≡◌, IfErr, IfOk};
+ghost use Rattle.answer_texts.specs.Answers.{none_text, keys_text};
 ghost use Rattle.searcher.specs.declared.halt.Halt.TheVariants.{Stopped as stopped, NoMemory as want};
 ghost use Rattle.solver.specs.Stopping.{IsStopped, Hears};
 ghost use Rattle.handles.specs.Asked.{goal_of};
@@ -11,9 +11,10 @@ use crate::asking::{
     FORCED, LIMIT, NO_MEMORY, NO_SOLVER, NONE_WITHIN, REFUSED, STOPPED, goal_of, problem_of,
 };
 use crate::handle::SolverHandle;
+use answer_texts::keys_text;
 use decision::Answer;
 use moves::read_sound;
-use replies::{keys_text, none_line, tree_line};
+use replies::{none_line, tree_line};
 use searcher::{Halt, Key, Problem};
 use solver::Solver;
 use std::alloc::Global;

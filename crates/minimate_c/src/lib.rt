@@ -2,7 +2,7 @@
 #![tactic(auto)]
 
 ghost use Rattle.command_line.specs.declared.line.Action.TheVariants.{Solve, Keys, Tree};
-ghost use Rattle.std.specs.Prelude.{◌≡◌, false};
+ghost use Rattle.std.specs.Prelude.{◌≡◌, ◌⊎◌, ◌↔◌, false, true};
 ghost use Rattle.slots.specs.Promise.{IsSize};
 ghost use Rattle.handles.specs.Asked.{Asks, IsOpened};
 ghost use Rattle.handles.specs.Stopping.{Sets, Looks};
@@ -140,6 +140,10 @@ pub extern "C" fn minimate_solver_open(
 ) -> u32
     ensures opened { (result ≡ 0) → IsOpened slots solver.new.held.value stop.new.held.value }
     ensures slots { (result ≡ 6) → IsSize slots 1 → ⊥ }
+    ensures size { solver.old.full ≡ false → stop.old.full ≡ false → (¬ IsSize slots 1) → result ≡ 6 }
+    ensures another { (result ≡ 8) ↔ ((solver.old.full ≡ true) ⊎ (stop.old.full ≡ true)) }
+    ensures number { (result ≡ 0) ⊎ (result ≡ 6) ⊎ (result ≡ 7) ⊎ (result ≡ 8) }
+    ensures kept { (result ≡ 0) ⊎ ((solver.new ≡ solver.old) × (stop.new ≡ stop.old)) }
 {
     handles::open(alloc, solver, stop, slots)
 }

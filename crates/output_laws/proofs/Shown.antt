@@ -22,7 +22,8 @@ use Rattle.command_line.specs.declared.line.Action.{Action}
 use Rattle.command_line.specs.declared.line.Action.TheVariants.{Solve, Keys, Moves, Show, Tree, Check}
 use Rattle.devices.specs.Input.{without_line_feed}
 use Rattle.refusals.specs.Refusal.{refusal_of_fen, refusal_of_tree}
-use Rattle.replies.specs.Output.{refusal_of_solve, answer_text, keys_text, moves_text, checked_text, fault_of, ShowsBest, ShowsPlan, ShowsTree, Shows, IsSoundText, IsOutput}
+use Rattle.answer_texts.specs.Answers.{answer_text, keys_text, moves_text, checked_text}
+use Rattle.replies.specs.Output.{refusal_of_solve, fault_of, ShowsBest, ShowsPlan, ShowsTree, Shows, IsSoundText, IsOutput}
 use Rattle.refusals.specs.Reply.{Reply, answered, refused, line_of}
 use Rattle.text_laws.proofs.Faults.{one_sound_fault, no_sound_fault, one_tree_fault, no_tree_fault}
 use Rattle.output_laws.specs.Outputs.{NamesAsMany, SearchesAlike}

@@ -1,5 +1,5 @@
 -- What the sign of life tells of a search.
-use Rattle.std.specs.Prelude.{◌≡◌, ◌↔◌, ◌+◌, ◌%◌, ◌<◌, ◌≤◌, ◌==◌, ℕ, Option, None, Some, length, slice_get, IsTrue, if◌then◌else◌}
+use Rattle.std.specs.Prelude.{◌≡◌, ◌↔◌, ◌+◌, ◌%◌, ◌<◌, ◌≤◌, ◌==◌, ℕ, List, Option, None, Some, length, slice_get, slice_index, vec_len, IsTrue, if◌then◌else◌}
 use Rattle.board.specs.Board.{PlainBoard}
 use Rattle.rules.specs.Order.{ListsLawful}
 use Rattle.rules.specs.Squares.{Ply}
@@ -10,12 +10,15 @@ use Rattle.progress.specs.declared.watch.Course.{Course}
 use Rattle.progress.specs.declared.watch.Course.TheVariants.{Rounds, Keys}
 use Rattle.progress.specs.declared.watch.Setting.{Setting}
 use Rattle.progress.specs.declared.watch.Watch.{Watch}
+use Rattle.progress.specs.Place.{StandsFirst}
+use Rattle.progress.specs.Text.{drawn_text, sign_text}
 
--- the watch is over the search at a position: its jobs are the lawful moves, in order
+-- the watch is over the search at a position: its jobs are the lawful moves, in order, and there is room for what is known of each
 pub record Watches (watch : Watch) (place : Setting) (b : PlainBoard) (way : Course) : Type 0 where
   pub setting : watch.setting ≡ place
   pub course : watch.course ≡ way
   pub moves : ListsLawful b watch.moves.items
+  pub known : vec_len watch.known ≡ vec_len watch.moves
 
 -- the plies of the round after one of so many: 1 after none, and then 2 more each time
 abbrev pub IsRoundAfter : ℕ → ℕ → Type 0
@@ -29,6 +32,11 @@ IsLastRound limit round = (round ≤ limit) × (limit ≤ round + 1) × (round %
 abbrev pub IsRoundOf : Course → ℕ → ℕ → ℕ → Type 0
 IsRoundOf Rounds none known round = IsRoundAfter none round
 IsRoundOf (Keys plies) none known round = IsRoundAfter known round
+
+-- within how many plies a job is to be decided: those of the round after the last that ended, or those of the search for keys
+abbrev pub IsTargetOf : Course → ℕ → ℕ → Type 0
+IsTargetOf Rounds none plies = IsRoundAfter none plies
+IsTargetOf (Keys limit) none plies = plies ≡ limit
 
 -- what a round that ended with nothing tells, once one has
 abbrev pub told_of : ℕ → Option ℕ
@@ -47,3 +55,16 @@ pub record IsSignOf (watch : Watch) (time job known none : ℕ) (sign : Sign) : 
   pub nothing : sign.none ≡ told_of none
   pub round : IsRoundOf watch.course none known sign.round
   pub work : (first : Ply) × (slice_get watch.moves.items job ≡ Some first) × (sign.work ≡ work_of watch job known first)
+
+-- the text is that of the sign, drawn, of the first job that wins or isn't known to lose, by what was known of each job
+pub record DrawsFirst (watch : Watch) (time : ℕ) (text : List ℕ) : Type 0 where
+  pub known : List ℕ
+  pub none : ℕ
+  pub plies : ℕ
+  pub job : ℕ
+  pub sign : Sign
+  pub all : length known ≡ vec_len watch.known
+  pub target : IsTargetOf watch.course none plies
+  pub first : StandsFirst known plies job
+  pub right : IsSignOf watch time job (slice_index known job) none sign
+  pub drawn : text ≡ drawn_text (sign_text sign)

@@ -1,10 +1,10 @@
 //! What is known of a search while it lasts, and the thread that shows it on standard error.
-ghost use Rattle.std.specs.Prelude.{◌≡◌, ◌↔◌, ◌<◌, ◌≤◌, ℕ, IfOk, IfSome, IsTrue, string_bytes};
+ghost use Rattle.std.specs.Prelude.{◌≡◌, ◌↔◌, ◌<◌, ◌≤◌, ℕ, IfOk, IfSome, IsTrue, string_bytes, vec_len};
 ghost use Rattle.atomic_table.specs.Seated.{TableId};
 ghost use Rattle.rounds.specs.Going.{KeepsOn};
 ghost use Rattle.progress.specs.Text.{drawn_text, sign_text};
 ghost use Rattle.progress.specs.declared.sign.Sign.{Sign};
-ghost use Rattle.progress.specs.Signs.{IsRoundAfter, IsSignOf, Watches};
+ghost use Rattle.progress.specs.Signs.{DrawsFirst, IsRoundAfter, IsSignOf, IsTargetOf, Watches};
 
 use crate::place::{WINS, first_named};
 use crate::sign::{CLEARED, Sign, Work, drawn, left_behind};
@@ -92,7 +92,7 @@ impl Watch {
         let mut moves = Vec::new(alloc);
         moves.extend_from_slice(lawful(position).as_slice())?;
         let mut known = Vec::new(alloc);
-        for _ in 0..moves.len() {
+        for job in 0..moves.len() {
             known.push(AtomicU64::new(0))?;
         }
         Ok(Watch {
@@ -123,21 +123,22 @@ impl Watch {
         }
     }
 
-    /// The plies within which a job is to be decided.
-    fn target(&self) -> u8 {
+    /// The plies within which a job is to be decided, where rounds of so many plies have ended with nothing.
+    fn target(&self, ended: u8) -> u8
+        ensures { IsTargetOf self.now.course ended result }
+    {
         match self.course {
-            Course::Rounds => next_round(byte_of(&self.none)),
+            Course::Rounds => next_round(ended),
             Course::Keys(plies) => plies,
         }
     }
 
-    /// The sign of a job of which this is known, drawn.
-    fn text_of(&self, seconds: u64, job: usize, known: u8) -> Option<String>
-        ensures { IfSome result (λ text. (none : ℕ) × (sign : Sign) × IsSignOf self.now seconds job known none sign
+    /// The sign of a job of which this is known, drawn, where rounds of so many plies have ended with nothing.
+    fn text_of(&self, seconds: u64, job: usize, known: u8, none: u8) -> Option<String>
+        ensures { IfSome result (λ text. (sign : Sign) × IsSignOf self.now seconds job known none sign
             × (string_bytes text ≡ drawn_text (sign_text sign))) }
     {
         let first = *self.moves.get(job)?;
-        let none = byte_of(&self.none);
         let work = if known == WINS {
             Work::Wins { first }
         } else {
@@ -163,7 +164,9 @@ impl Watch {
     }
 
     /// What is known of each job by now.
-    fn all_known(&self) -> Result<Vec<u8>, AllocError> {
+    fn all_known(&self) -> Result<Vec<u8>, AllocError>
+        ensures { IfOk result (λ all. vec_len all ≡ vec_len self.now.known) }
+    {
         let mut all = Vec::new(self.alloc);
         for known in &self.known {
             all.push(byte_of(known))?;
@@ -172,10 +175,13 @@ impl Watch {
     }
 
     /// The sign of this moment, where a job is to be named and there is memory for it.
-    fn text(&self, seconds: u64) -> Option<String> {
+    fn text(&self, seconds: u64) -> Option<String>
+        ensures { IfSome result (λ text. DrawsFirst self.now seconds (string_bytes text)) }
+    {
         let all = self.all_known().ok()?;
-        let job = first_named(all.as_slice(), self.target())?;
-        self.text_of(seconds, job, all[job])
+        let none = byte_of(&self.none);
+        let job = first_named(all.as_slice(), self.target(none))?;
+        self.text_of(seconds, job, all[job], none)
     }
 }
 

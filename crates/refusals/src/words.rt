@@ -304,9 +304,9 @@ fn hint_behind(words: &[String]) -> Option<Hint<'_>> {
     None
 }
 
-/// Two words that are the parts of a position.
+/// Two words that are the parts of a position. The first is the program's own name, and no part of one.
 fn cut_of(words: &[String]) -> Option<Hint<'_>> {
-    for i in 1..words.len() {
+    for i in 2..words.len() {
         let (board, side) = (word_at(words, i - 1), word_at(words, i));
         if board_text::is_cut(board.as_bytes(), side.as_bytes()) {
             return Some(Hint::Cut(board, side));

@@ -33,7 +33,8 @@ use Rattle.command_line.specs.declared.line.Played.{Played}
 use Rattle.refusals.specs.Reply.{Reply, answered, line_of, refused}
 use Rattle.refusals.specs.declared.refusal.Refusal.{Refusal}
 use Rattle.replies.specs.Outcome.{Gives}
-use Rattle.replies.specs.Output.{IsSoundText, fault_of, none_text}
+use Rattle.answer_texts.specs.Answers.{none_text}
+use Rattle.replies.specs.Output.{IsSoundText, fault_of}
 
 -- ---- depths
 

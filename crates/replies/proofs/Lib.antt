@@ -1,4 +1,4 @@
 pub mod ReplyLemmas
-mod VerdictLemmas
+pub mod VerdictLemmas
 mod PlayingLemmas
 mod FirstLemmas

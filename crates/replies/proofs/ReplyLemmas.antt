@@ -7,7 +7,8 @@ use Rattle.rules.specs.Reading.{IsSoundFault}
 use Rattle.rules.specs.declared.goal.Goal.{Goal}
 use Rattle.devices.specs.Input.{IsInput, IsTooLong, OfInput}
 use Rattle.replies.specs.Outcome.{Gives, GivesIfRead, GivesReply, trouble_of}
-use Rattle.replies.specs.Output.{fault_of, none_text, ShowsPlanFound, IsSoundText, IsOutput, Shows, input_of}
+use Rattle.answer_texts.specs.Answers.{none_text}
+use Rattle.replies.specs.Output.{fault_of, ShowsPlanFound, IsSoundText, IsOutput, Shows, input_of}
 use Rattle.refusals.specs.Reply.{Reply, answered, refused, line_of}
 use Rattle.decision.specs.Answer.{IsFewest, ForcesNothing}
 use Rattle.trees.specs.Best.{IsBest}

@@ -1,21 +1,28 @@
 -- The reply to a certificate.
-use Rattle.std.proofs.Common.{◌≡◌, List, ℕ, Option, Result, Ok, Err, IsErr, IsErrAnd, inl, inr, refl, ap, sym, subst}
+use Rattle.std.proofs.Common.{◌≡◌, ◌∙◌, List, ℕ, [], ◌∷◌, ◌++◌, codes, Option, Result, Ok, Err, IsErr, IsErrAnd, inl, inr, refl, ap, sym, subst, append_assoc}
+use Rattle.std.specs.Fmt.{decimal}
 use Rattle.board.specs.Board.{PlainBoard}
 use Rattle.board.specs.declared.fault.FenFault.{FenFault}
 use Rattle.rules.specs.Reading.{IsSoundFault}
 use Rattle.rules.specs.declared.goal.Goal.{Goal}
+use Rattle.rules.specs.declared.goal.Goal.TheVariants as goal
+use Rattle.rules.specs.MoveText.{move_text}
 use Rattle.decision.specs.declared.answer.Answer.{Answer}
+use Rattle.decision.specs.declared.answer.Answer.TheVariants.{Mate, NoneWithin}
 use Rattle.decision.specs.Answer.{IsAnswer}
 use Rattle.certificates.specs.Answers.{IsUpTo}
 use Rattle.verifying.specs.declared.fault.Fault.{Fault}
 use Rattle.verifying.specs.declared.fault.Fault.TheVariants as certificate
-use Rattle.verifying.specs.Refusals.{TellsOf}
+use Rattle.verifying.specs.Certificate.{IsCertificate, IsRefusedWith}
+use Rattle.verifying.specs.FirstLine.{answer_text as first_line}
+use Rattle.verifying.proofs.Refused.{certificate_begins}
 use Rattle.refusals.specs.declared.refusal.Refusal.TheVariants as refusal
 use Rattle.command_line.specs.declared.line.Subject.{Subject}
 use Rattle.devices.specs.Input.{OfInput}
 use Rattle.replies.specs.Outcome.{GivesIfRead}
 use Rattle.refusals.specs.Reply.{Reply, answered, refused}
-use Rattle.replies.specs.Output.{IsSoundText, answer_text}
+use Rattle.answer_texts.specs.Answers.{answer_text}
+use Rattle.replies.specs.Output.{IsSoundText}
 use Rattle.refusals.specs.Refusal.{refusal_of_fen}
 use Rattle.replies.specs.Verdict.{ShowsProved, IsVerdict, GivesVerdict, trouble_of_certificate}
 use Rattle.replies.specs.declared.trouble.Trouble.{Trouble}
@@ -42,23 +49,33 @@ pub verdict_fault : {B : Type 0} (bytes : B → List ℕ) (subject : Subject) (k
 verdict_fault bytes subject known r fault is err =
     of_any known _ (λ input. refusal_gives bytes (IsVerdict subject input) r (refusal_of_fen fault) (inr (inr (fault, is, refl))) err)
 
--- what the answer tells of the input is shown
+-- the answer of which the input is a certificate is shown
 pub answer_shown : {B : Type 0} (bytes : B → List ℕ) (goal : Goal) (b : PlainBoard) (known : Option (List ℕ)) (answer : Answer) (text : B) → ((limit : ℕ) → IsUpTo limit answer → IsAnswer goal b limit answer)
-    → OfInput known (λ input. TellsOf goal input (Ok answer)) → bytes text ≡ answer_text goal answer → OfInput known (λ input. GivesIfRead bytes (ShowsProved goal b input) (Ok text))
-answer_shown bytes goal b known answer text right tells is = of_input_then known _ _ tells (λ input one. inl (answer, (right, one), ap answered is))
+    → OfInput known (IsCertificate goal b answer) → bytes text ≡ answer_text goal answer → OfInput known (λ input. GivesIfRead bytes (ShowsProved goal b input) (Ok text))
+answer_shown bytes goal b known answer text right proves is = of_input_then known _ _ proves
+    (λ input one. inl (answer, (right, certificate_begins goal b answer input one, one), ap answered is))
 
 -- and so is what a fault tells
-pub fault_shown : {B : Type 0} (bytes : B → List ℕ) (goal : Goal) (b : PlainBoard) (known : Option (List ℕ)) (fault : Fault) (trouble : Trouble) → OfInput known (λ input. TellsOf goal input (Err fault)) → trouble ≡ trouble_of_certificate fault
+pub fault_shown : {B : Type 0} (bytes : B → List ℕ) (goal : Goal) (b : PlainBoard) (known : Option (List ℕ)) (fault : Fault) (trouble : Trouble) → ((fault ≡ certificate.NoMemory → ⊥) → (fault ≡ certificate.ReadFailed → ⊥) → OfInput known (IsRefusedWith goal b fault)) → trouble ≡ trouble_of_certificate fault
     → OfInput known (λ input. GivesIfRead bytes (ShowsProved goal b input) (Err trouble))
-fault_shown bytes goal b known fault trouble tells is = of_input_then known _ _ tells
-    (λ input one. subst (λ (t : Trouble). GivesIfRead bytes (ShowsProved goal b input) (Err t)) (sym is) (of_fault input fault one))
+fault_shown bytes goal b known fault trouble tells is = subst (λ (t : Trouble). OfInput known (λ input. GivesIfRead bytes (ShowsProved goal b input) (Err t))) (sym is) (of_fault fault tells)
   where
-    of_fault : (input : List ℕ) (fault : Fault) → TellsOf goal input (Err fault) → GivesIfRead bytes (ShowsProved goal b input) (Err (trouble_of_certificate fault))
-    of_fault input certificate.Answer one = inr (inr (refusal.Answer, one, refl))
-    of_fault input (certificate.Claim line) one = inr (inr (refusal.Claim line, one, refl))
-    of_fault input certificate.TooLong one = inr (inr (refusal.TooLong, one, refl))
-    of_fault input certificate.NoMemory one = inl refl
-    of_fault input certificate.ReadFailed one = tt
+    of_fault : (fault : Fault) → ((fault ≡ certificate.NoMemory → ⊥) → (fault ≡ certificate.ReadFailed → ⊥) → OfInput known (IsRefusedWith goal b fault)) → OfInput known (λ input. GivesIfRead bytes (ShowsProved goal b input) (Err (trouble_of_certificate fault)))
+    of_fault certificate.Answer tells = of_input_then known _ _ (tells (λ e. cc) (λ e. cc)) (λ input one. inr (inr (refusal.Answer, one, refl)))
+    of_fault (certificate.Claim line) tells = of_input_then known _ _ (tells (λ e. cc) (λ e. cc)) (λ input one. inr (inr (refusal.Claim line, one, refl)))
+    of_fault certificate.TooLong tells = of_input_then known _ _ (tells (λ e. cc) (λ e. cc)) (λ input one. inr (inr (refusal.TooLong, one, refl)))
+    of_fault certificate.NoMemory tells = of_any known _ (λ input. inl refl)
+    of_fault certificate.ReadFailed tells = of_any known _ (λ input. tt)
+
+mate_line : (word : List ℕ) (plies : ℕ) (name : List ℕ) → (word ++ (decimal plies ++ 32 ∷ name)) ++ 10 ∷ [] ≡ word ++ (decimal plies ++ (32 ∷ (name ++ 10 ∷ [])))
+mate_line word plies name = append_assoc word (decimal plies ++ 32 ∷ name) (10 ∷ []) ∙ ap (λ (l : List ℕ). word ++ l) (append_assoc (decimal plies) (32 ∷ name) (10 ∷ []))
+
+-- the answer as `solve` prints it is a certificate's first line, with its feed
+pub answer_line : (goal : Goal) (answer : Answer) → answer_text goal answer ≡ first_line goal answer ++ 10 ∷ []
+answer_line goal.Mate (Mate plies first) = sym (mate_line (codes "mate ") plies (move_text first))
+answer_line goal.MateOrStale (Mate plies first) = sym (mate_line (codes "goal ") plies (move_text first))
+answer_line goal.Mate (NoneWithin limit) = sym (append_assoc (codes "none within ") (decimal limit) (10 ∷ []))
+answer_line goal.MateOrStale (NoneWithin limit) = sym (append_assoc (codes "none within ") (decimal limit) (10 ∷ []))
 
 -- want of memory is a reply to each certificate
 pub memory_shown : {B : Type 0} (bytes : B → List ℕ) (goal : Goal) (b : PlainBoard) (known : Option (List ℕ)) (r : Result B Trouble) → IsErr r × IsErrAnd r (λ trouble. trouble ≡ Refused refusal.NoMemory)

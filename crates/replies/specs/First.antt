@@ -19,7 +19,8 @@ use Rattle.command_line.specs.declared.line.Played.{Played}
 use Rattle.refusals.specs.Reply.{Reply, answered, refused, line_of}
 use Rattle.refusals.specs.Refusal.{refusal_of_fen}
 use Rattle.refusals.specs.declared.refusal.Refusal.TheVariants.{Move}
-use Rattle.replies.specs.Output.{IsSoundText, fault_of, none_text, refusal_of_solve}
+use Rattle.answer_texts.specs.Answers.{none_text}
+use Rattle.replies.specs.Output.{IsSoundText, fault_of, refusal_of_solve}
 use Rattle.replies.specs.Playing.{NamesNone}
 
 -- the plan begins with the move, and there the line ends rightly, or it has exactly the lawful replies, in order, and each reply's plan is the best

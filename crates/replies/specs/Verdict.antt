@@ -1,5 +1,5 @@
 -- What `verify` writes for a certificate.
-use Rattle.std.specs.Prelude.{◌≡◌, ◌⊎◌, ℕ, List, Option, Result, Err}
+use Rattle.std.specs.Prelude.{◌≡◌, ◌⊎◌, ℕ, List, Option, Result}
 use Rattle.board.specs.declared.fault.FenFault.{FenFault}
 use Rattle.board.specs.Board.{PlainBoard}
 use Rattle.rules.specs.declared.goal.Goal.{Goal}
@@ -10,11 +10,12 @@ use Rattle.certificates.specs.Answers.{IsUpTo}
 use Rattle.verifying.specs.declared.fault.Fault.{Fault}
 use Rattle.verifying.specs.declared.fault.Fault.TheVariants as certificate
 use Rattle.verifying.specs.FirstLine.{BeginsWith}
-use Rattle.verifying.specs.Refusals.{TellsOf}
+use Rattle.verifying.specs.Certificate.{IsCertificate, IsRefusedWith}
 use Rattle.command_line.specs.declared.line.Subject.{Subject}
 use Rattle.devices.specs.Input.{OfInput}
 use Rattle.refusals.specs.Reply.{Reply, answered, refused}
-use Rattle.replies.specs.Output.{answer_text, IsSoundText}
+use Rattle.answer_texts.specs.Answers.{answer_text}
+use Rattle.replies.specs.Output.{IsSoundText}
 use Rattle.replies.specs.Outcome.{GivesIfRead}
 use Rattle.refusals.specs.Refusal.{refusal_of_fen}
 use Rattle.refusals.specs.declared.refusal.Refusal.{Refusal}
@@ -22,9 +23,9 @@ use Rattle.refusals.specs.declared.refusal.Refusal.TheVariants as refusal
 use Rattle.replies.specs.declared.trouble.Trouble.{Trouble}
 use Rattle.replies.specs.declared.trouble.Trouble.TheVariants.{Refused, ReadFailed}
 
--- it is the answer up to each limit that fits, and the text begins with it
+-- it is the answer up to each limit that fits, the text begins with it, and is a certificate of it
 abbrev pub IsProved : Goal → PlainBoard → List ℕ → Answer → Type 0
-IsProved goal b text answer = ((limit : ℕ) → IsUpTo limit answer → IsAnswer goal b limit answer) × BeginsWith goal answer text
+IsProved goal b text answer = ((limit : ℕ) → IsUpTo limit answer → IsAnswer goal b limit answer) × BeginsWith goal answer text × IsCertificate goal b answer text
 
 -- the trouble of each fault of a certificate
 abbrev pub trouble_of_certificate : Fault → Trouble
@@ -34,18 +35,18 @@ trouble_of_certificate certificate.TooLong = Refused refusal.TooLong
 trouble_of_certificate certificate.NoMemory = Refused refusal.NoMemory
 trouble_of_certificate certificate.ReadFailed = ReadFailed
 
--- the refusals of a certificate's text, and what each tells of it
-abbrev pub IsRefusedFor : Goal → List ℕ → Refusal → Type 0
-IsRefusedFor goal text refusal.Answer = TellsOf goal text (Err certificate.Answer)
-IsRefusedFor goal text (refusal.Claim line) = TellsOf goal text (Err (certificate.Claim line))
-IsRefusedFor goal text refusal.TooLong = TellsOf goal text (Err certificate.TooLong)
-IsRefusedFor goal text _ = ⊥
+-- the refusals of a certificate's text, and what each tells of it: it is a certificate of no answer
+abbrev pub IsRefusedFor : Goal → PlainBoard → List ℕ → Refusal → Type 0
+IsRefusedFor goal b text refusal.Answer = IsRefusedWith goal b certificate.Answer text
+IsRefusedFor goal b text (refusal.Claim line) = IsRefusedWith goal b (certificate.Claim line) text
+IsRefusedFor goal b text refusal.TooLong = IsRefusedWith goal b certificate.TooLong text
+IsRefusedFor goal b text _ = ⊥
 
 -- the answer that a text proves; or a refusal of it
 abbrev pub ShowsProved : Goal → PlainBoard → List ℕ → Reply → Type 0
 ShowsProved goal b text reply =
     ((answer : Answer) × IsProved goal b text answer × (reply ≡ answered (answer_text goal answer)))
-    ⊎ ((why : Refusal) × IsRefusedFor goal text why × (reply ≡ refused why))
+    ⊎ ((why : Refusal) × IsRefusedFor goal b text why × (reply ≡ refused why))
 
 -- the same at the sound position of the subject's text, or the refusal of the text's fault
 abbrev pub IsVerdict : Subject → List ℕ → Reply → Type 0

@@ -6,8 +6,8 @@ ghost use Rattle.replies.specs.Outcome.{GivesIfRead, reads_failed};
 ghost use Rattle.replies.specs.Output.{IsSoundText};
 ghost use Rattle.replies.specs.Verdict.{ShowsProved, GivesVerdict, trouble_of_certificate};
 
-use crate::replying::answer_text;
 use crate::trouble::Trouble;
+use answer_texts::answer_text;
 use board::Position;
 use command_line::Subject;
 use devices::Source;

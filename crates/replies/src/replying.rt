@@ -1,7 +1,6 @@
 //! The reply to a line: the text of its answer, or why there is none.
-ghost use Rattle.std.specs.Prelude.{◌≡◌, ◌⊎◌, ◌+◌, ◌<◌, ◌≤◌, All, Err, IfErr, IfOk, IfSome, None, Ok, length, min, string_bytes, vec_items};
+ghost use Rattle.std.specs.Prelude.{◌≡◌, ◌⊎◌, ◌+◌, ◌<◌, ◌≤◌, All, Err, IfErr, IfOk, None, Ok, length, min, vec_items};
 ghost use Rattle.slots.specs.Promise.{IsSeatOf};
-ghost use Rattle.std.specs.List.{flat_map};
 ghost use Rattle.rounds.specs.Limits.{IsRefusal};
 ghost use Rattle.rounds.specs.Seats.{AreSeats};
 ghost use Rattle.wintree.specs.Plan.{Plan, depth};
@@ -10,23 +9,24 @@ ghost use Rattle.decision.specs.Answer.{IsFewest};
 ghost use Rattle.trees.specs.Best.{IsBest};
 ghost use Rattle.devices.specs.Input.{OfInput};
 ghost use Rattle.replies.specs.Outcome.{Solves, FindsKeys, Gives, GivesIfRead, GivesReply, reads_failed};
-ghost use Rattle.replies.specs.Output.{answer_text, none_text, key_text, keys_text, moves_text, checked_text, ShowsAnswer, ShowsKeys, ShowsPlanFound, ShowsTree, ShowsCheck, MayRead, fault_of};
+ghost use Rattle.answer_texts.specs.Answers.{none_text};
+ghost use Rattle.replies.specs.Output.{ShowsAnswer, ShowsKeys, ShowsPlanFound, ShowsTree, ShowsCheck, MayRead, fault_of};
 ghost use Rattle.refusals.specs.Reply.{answered, line_of};
 
 use crate::drawn::drawn;
 use crate::trouble::{Trouble, refusal_of};
+use answer_texts::{answer_text, checked_text, keys_text, moves_text, none_text};
 use board::Position;
 use command_line::{Action, Limits, Line};
 use decision::Answer;
 use devices::{Source, read_all, without_line_feed};
 use entry::MateLore;
-use moves::{Goal, Move, lawful, read_sound};
+use moves::{Goal, lawful, read_sound};
 use refusals::Refusal;
 use rounds::{Gate, NoGate, SolveFault, Task, keys_over, make_table, solve, solve_over};
 use searcher::Key;
 use slots::{Seat, Slots};
 use std::alloc::{AllocError, Allocator, Global};
-use std::fmt::Write;
 use std::sync::Wait;
 use std::thread::Threads;
 use trees::{Wanted, build_tree_over};
@@ -163,70 +163,6 @@ fn keys_within<R: Threads + Wait + Sync, T: Gate>(
         mut seats,
     } = lend(told, position, goal, limits)?;
     keys_over(rt, told.alloc, &task, &table, &mut seats)
-}
-
-/// What is printed of an answer.
-pub fn answer_text<A: Allocator>(
-    alloc: A,
-    goal: Goal,
-    answer: Answer,
-) -> Result<String<A>, AllocError>
-    ensures { IfOk result (λ text. string_bytes text ≡ answer_text goal answer) }
-{
-    match answer {
-        Answer::Mate { plies, first } => match goal {
-            Goal::Mate => format!(in alloc; "mate {plies} {first}\n"),
-            Goal::MateOrStale => format!(in alloc; "goal {plies} {first}\n"),
-        },
-        Answer::NoneWithin(limit) => none_text(alloc, u32::from(limit)),
-    }
-}
-
-fn none_text<A: Allocator>(alloc: A, limit: u32) -> Result<String<A>, AllocError>
-    ensures { IfOk result (λ text. string_bytes text ≡ none_text limit) }
-{
-    format!(in alloc; "none within {limit}\n")
-}
-
-/// Each key with its plies, on a line of its own; or that nothing is forced within the limit.
-pub fn keys_text<A: Allocator>(alloc: A, limit: u32, keys: &[Key]) -> Result<String<A>, AllocError>
-    ensures { IfOk result (λ text. string_bytes text ≡ keys_text limit keys.now) }
-{
-    match keys {
-        [] => none_text(alloc, limit),
-        _ => key_lines(alloc, keys),
-    }
-}
-
-fn key_lines<A: Allocator>(alloc: A, keys: &[Key]) -> Result<String<A>, AllocError>
-    ensures { IfOk result (λ text. string_bytes text ≡ flat_map key_text keys.now) }
-{
-    let mut text = String::new(alloc);
-    for key in keys {
-        let Key { first, plies } = *key;
-        writeln!(text, "{first} {plies}")?;
-    }
-    Ok(text)
-}
-
-/// Each move by its name, on a line of its own.
-pub fn moves_text<A: Allocator>(alloc: A, moves: &[Move]) -> Result<String<A>, AllocError>
-    ensures { IfOk result (λ text. string_bytes text ≡ moves_text moves.now) }
-{
-    let mut text = String::new(alloc);
-    for m in moves {
-        writeln!(text, "{m}")?;
-    }
-    Ok(text)
-}
-
-fn checked_text<A: Allocator>(alloc: A, plies: Option<u8>) -> Result<String<A>, AllocError>
-    ensures { IfOk result (λ text. string_bytes text ≡ checked_text plies) }
-{
-    match plies {
-        Some(plies) => format!(in alloc; "yes {plies}\n"),
-        None => format!(in alloc; "no\n"),
-    }
 }
 
 /// The fewest plies to the goal and the first move.

@@ -2,6 +2,8 @@
 #![tactic(auto)]
 
 #[cfg(test)]
+mod midway;
+#[cfg(test)]
 mod requests;
 #[cfg(test)]
 mod stopped;

@@ -10,7 +10,7 @@ use std::test::*;
 use wintree::{Tree, tree_text};
 
 /// Of 17 lawful moves, of which the rook b1 has ten and the king c4 seven, fifteen come before c4c5, which mates.
-const ROOK_MATES_IN_THREE: &[u8] = b"k5/6/2K3/6/6/1R4 w";
+pub(crate) const ROOK_MATES_IN_THREE: &[u8] = b"k5/6/2K3/6/6/1R4 w";
 
 /// The king a1 has two lawful moves, to b1 and a2, since a pawn guards b2.
 const NONE_MATES: &[u8] = b"2k2/2p2/2p2/3pp/K4 w";
@@ -23,7 +23,7 @@ pub(crate) fn read<R: Abort>(rt: &R, text: &[u8]) -> Position {
 }
 
 /// Whether the side to move mates within so many plies.
-fn problem<R: Abort>(rt: &R, position: &Position, limit: u8) -> Problem {
+pub(crate) fn problem<R: Abort>(rt: &R, position: &Position, limit: u8) -> Problem {
     let Some(problem) = Problem::of(position, Goal::Mate, limit) else {
         panic!(rt; "no problem")
     };
@@ -55,14 +55,14 @@ fn tree_of<R: Abort>(rt: &R, alloc: Global, solver: &mut Solver, problem: &Probl
     text_of(rt, alloc, &tree)
 }
 
-const KEY: Move = Move {
+pub(crate) const KEY: Move = Move {
     from: Square { file: 2, rank: 3 },
     to: Square { file: 2, rank: 4 },
     promotion: None,
 };
 
 /// Of so many moves so many are tried, and nothing is forced within so many plies.
-fn at(none_within: u32, tried: u32, moves: u32) -> Place {
+pub(crate) fn at(none_within: u32, tried: u32, moves: u32) -> Place {
     Place {
         none_within,
         tried,

@@ -44,13 +44,13 @@ impl Stop for Watcher {
 }
 
 /// What listens in a solver that is given up.
-fn listener_of(solver: Solver) -> Listener {
+pub(crate) fn listener_of(solver: Solver) -> Listener {
     let scout = solver.scout;
     scout.stop
 }
 
 /// The last seat, taken out.
-fn last_seat(slots: &Slots<MateLore>, seats: &mut Vec<Seat>) -> Option<Seat>
+pub(crate) fn last_seat(slots: &Slots<MateLore>, seats: &mut Vec<Seat>) -> Option<Seat>
     requires { AllNew slots.now seats.old.items }
     ensures { IfSome result (λ seat. IsSeatOf slots.now seat) }
 {

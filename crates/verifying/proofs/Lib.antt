@@ -22,3 +22,5 @@ pub mod Once
 pub mod Missing
 pub mod OneAnswer
 pub mod Refused
+pub mod Checked
+pub mod Inputs

@@ -3,8 +3,6 @@ use Rattle.std.proofs.Common.{IfSome, IfNone, IfErr, ◌≡◌, ◌≤◌, inl, 
 use Rattle.std.proofs.lemmas.List.{append-nil}
 use Rattle.std.proofs.lemmas.List.Elements.{All-push, All-nil}
 use Rattle.std.proofs.lemmas.Grind.{flat_map-append}
-use Rattle.std.proofs.KnownBytes.{Consumes-trans}
-use Rattle.std.specs.Io.KnownBytes.{Consumes}
 use Rattle.board.specs.Board.{PlainBoard}
 use Rattle.rules.specs.declared.goal.Goal.{Goal}
 use Rattle.rules.specs.Squares.{Ply}
@@ -12,20 +10,18 @@ use Rattle.decision.specs.declared.answer.Answer.{Answer}
 use Rattle.decision.specs.declared.answer.Answer.TheVariants as answer
 use Rattle.certificates.specs.declared.claim.Claim.{Claim}
 use Rattle.devices.specs.Input.{OfInput}
-use Rattle.devices.specs.Lines.{left_of}
-use Rattle.devices.specs.declared.lines.Unread.{Unread}
 use Rattle.verifying.specs.declared.part.Mate.{Mate}
 use Rattle.verifying.specs.declared.part.Part.{Part}
 use Rattle.verifying.specs.declared.part.Part.TheVariants.{First, Win, Yes, Lesser, No}
 use Rattle.verifying.specs.declared.words.Word.{Word}
 use Rattle.verifying.specs.FirstLine.{answer_text, IsInRange}
 use Rattle.verifying.specs.Words.{line_text}
-use Rattle.verifying.specs.Refusals.{AreLines, fed}
-use Rattle.verifying.specs.Parts.{answer_of}
+use Rattle.verifying.specs.Refusals.{fed}
+use Rattle.verifying.specs.Parts.{Stands, answer_of}
 use Rattle.verifying.specs.Growing.{AreApart}
 use Rattle.verifying.specs.Certificate.{with_claim, shorter_claim, IsSomeYesLine, IsNoLine, IsLesserLine, YesLinesMake, NoLinesMake, ProveAnswer, IsCertificate}
-use Rattle.verifying.specs.Taking.{HasTaken}
 use Rattle.verifying.specs.Reading.{AreNoSoFar, IsReadTo, IsBehindYes, TakesWords, BeginsPart, ReadsLine, text_so_far, count_so_far, IsToldWell, HasRead, IsNoLineOf}
+use Rattle.verifying.proofs.Apart.{none_apart}
 use Rattle.verifying.proofs.Turns.{lines_more}
 use Rattle.verifying.proofs.Spelling.{one_line}
 
@@ -103,47 +99,55 @@ read_begun : (goal : Goal) (b : PlainBoard) (told : Answer) (next : Part) (new :
 read_begun goal b (answer.Mate n first) next new is = subst (λ (part : Part). IsReadTo goal b part [] new) (sym is) refl
 read_begun goal b (answer.NoneWithin limit) next new (is, made) = subst (λ (part : Part). IsReadTo goal b part [] new) (sym is) (made, refl)
 
--- ---- lines that were taken
+-- ---- lines that were read
 
-words_read : (goal : Goal) (b : PlainBoard) (first now after : Option (List ℕ)) (number : ℕ) (old : Part) (new : Part) (told : Answer) (before claims : List Claim) (line : List ℕ) → length line ≤ 8192 → answer_of old ≡ Some told → answer_of new ≡ Some told → ((words : List Word) × (line ≡ line_text words) × TakesWords goal b old words before new claims) → HasRead goal b first now number old before → Consumes now after (line ++ 10 ∷ []) → HasRead goal b first after (number + 1) new claims
-words_read goal b first now after number old new told before claims line small was is (words, spelled, takes) (lines, read, gone, short, count, well) next = (
-  lines ++ words ∷ [],
-  read_more goal b old lines words before new claims read takes,
-  subst (λ (o : Option Answer). Consumes first after (text_so_far goal o (lines ++ words ∷ []))) (sym is)
-      (subst (Consumes first after) (sym (text_more goal told lines words))
-      (Consumes-trans first now after (text_so_far goal (Some told) lines) (line_text words ++ 10 ∷ []) (subst (λ (o : Option Answer). Consumes first now (text_so_far goal o lines)) was gone) (subst (λ (l : List ℕ). Consumes now after (l ++ 10 ∷ [])) spelled next))),
-  All-push (λ (l : List Word). length (line_text l) ≤ 8192) lines words short (subst (λ (l : List ℕ). length l ≤ 8192) spelled small),
-  subst (λ (o : Option Answer). number + 1 ≡ count_so_far o (lines ++ words ∷ [])) (sym is)
-      (let before : number ≡ length lines + 1 = subst (λ (o : Option Answer). number ≡ count_so_far o lines) was count in omega (arith, before, one_more_line lines words)),
-  subst IsToldWell (was ∙ sym is) well,
-)
+words_read : (goal : Goal) (b : PlainBoard) (number : ℕ) (old new : Part) (told : Answer) (before claims : List Claim) (text line : List ℕ) → length line ≤ 8192 → answer_of old ≡ Some told → answer_of new ≡ Some told → ((words : List Word) × (line ≡ line_text words) × TakesWords goal b old words before new claims)
+    → AreApart claims → Stands goal b new claims → HasRead goal b number old before text → HasRead goal b (number + 1) new claims (text ++ (line ++ 10 ∷ []))
+words_read goal b number old new told before claims text line small was is (words, spelled, takes) apart stands so_far =
+    let mine : text ≡ text_so_far goal (Some told) so_far.lines = subst (λ (o : Option Answer). text ≡ text_so_far goal o so_far.lines) was so_far.spelled in
+    let counted : number ≡ length so_far.lines + 1 = subst (λ (o : Option Answer). number ≡ count_so_far o so_far.lines) was so_far.count in
+    record {
+      lines = so_far.lines ++ words ∷ [];
+      read = read_more goal b old so_far.lines words before new claims so_far.read takes;
+      short = All-push (λ (l : List Word). length (line_text l) ≤ 8192) so_far.lines words so_far.short (subst (λ (l : List ℕ). length l ≤ 8192) spelled small);
+      spelled = subst (λ (o : Option Answer). text ++ (line ++ 10 ∷ []) ≡ text_so_far goal o (so_far.lines ++ words ∷ [])) (sym is)
+          (ap (λ (l : List ℕ). l ++ (line ++ 10 ∷ [])) mine ∙ (ap (λ (l : List ℕ). text_so_far goal (Some told) so_far.lines ++ (l ++ 10 ∷ [])) spelled ∙ sym (text_more goal told so_far.lines words)));
+      count = subst (λ (o : Option Answer). number + 1 ≡ count_so_far o (so_far.lines ++ words ∷ [])) (sym is) (omega (arith, counted, one_more_line so_far.lines words));
+      well = subst IsToldWell (was ∙ sym is) so_far.well;
+      apart = apart;
+      stands = stands;
+    }
 
-first_read : (goal : Goal) (b : PlainBoard) (first now after : Option (List ℕ)) (number : ℕ) (new : Part) (before claims : List Claim) (line : List ℕ) → ReadsLine goal b First line before new claims → HasRead goal b first now number First before → Consumes now after (line ++ 10 ∷ []) → HasRead goal b first after (number + 1) new claims
-first_read goal b first now after number new before claims line (told, range, named, spelled, begins) (lines, read, gone, short, count, well) next = (
-  [],
-  read_begun goal b told new claims begins,
-  subst (λ (o : Option Answer). Consumes first after (text_so_far goal o [])) (sym (told_begun b told new claims begins))
-      (subst (Consumes first after) (sym (text_begun goal told)) (Consumes-trans first now after [] (answer_text goal told ++ 10 ∷ []) gone (subst (λ (l : List ℕ). Consumes now after (l ++ 10 ∷ [])) spelled next))),
-  All-nil (λ (l : List Word). length (line_text l) ≤ 8192),
-  subst (λ (o : Option Answer). number + 1 ≡ count_so_far o []) (sym (told_begun b told new claims begins)) (omega (arith, count)),
-  subst IsToldWell (sym (told_begun b told new claims begins)) (range, named),
-)
+pub first_read : (goal : Goal) (b : PlainBoard) (number : ℕ) (new : Part) (before claims : List Claim) (text line : List ℕ) → ReadsLine goal b First line before new claims → AreApart claims → Stands goal b new claims → HasRead goal b number First before text
+    → HasRead goal b (number + 1) new claims (text ++ (line ++ 10 ∷ []))
+first_read goal b number new before claims text line (told, range, named, spelled, begins) apart stands so_far = record {
+  lines = [];
+  read = read_begun goal b told new claims begins;
+  short = All-nil (λ (l : List Word). length (line_text l) ≤ 8192);
+  spelled = subst (λ (o : Option Answer). text ++ (line ++ 10 ∷ []) ≡ text_so_far goal o []) (sym (told_begun b told new claims begins))
+      (ap (λ (l : List ℕ). l ++ (line ++ 10 ∷ [])) so_far.spelled ∙ (ap (λ (l : List ℕ). l ++ 10 ∷ []) spelled ∙ sym (text_begun goal told)));
+  count = subst (λ (o : Option Answer). number + 1 ≡ count_so_far o []) (sym (told_begun b told new claims begins)) (omega (arith, so_far.count));
+  well = subst IsToldWell (sym (told_begun b told new claims begins)) (range, named);
+  apart = apart;
+  stands = stands;
+}
 
 -- the answer stays
 behind_answer : (mate : Mate) (place count : ℕ) (next : Part) → IsBehindYes mate place count next → answer_of next ≡ Some (answer.Mate mate.plies mate.first)
 behind_answer mate place count next (inl (less, is)) = ap answer_of is
 behind_answer mate place count next (inr (all, is)) = ap answer_of is
 
-pub line_read : (goal : Goal) (b : PlainBoard) (first now after : Option (List ℕ)) (number : ℕ) (old new : Part) (before claims : List Claim) (line : List ℕ) → length line ≤ 8192 → ReadsLine goal b old line before new claims → HasRead goal b first now number old before → Consumes now after (line ++ 10 ∷ []) → HasRead goal b first after (number + 1) new claims
-line_read goal b first now after number First new before claims line small reads so_far next = first_read goal b first now after number new before claims line reads so_far next
-line_read goal b first now after number (Win mate) new before claims line small (words, spelled, takes) so_far next =
-    words_read goal b first now after number (Win mate) new (answer.Mate mate.plies mate.first) before claims line small refl (behind_answer mate 1 (length claims) new takes.1) (words, spelled, takes) so_far next
-line_read goal b first now after number (Yes mate place) new before claims line small (words, spelled, takes) so_far next =
-    words_read goal b first now after number (Yes mate place) new (answer.Mate mate.plies mate.first) before claims line small refl (behind_answer mate (place + 1) (length claims) new takes.1) (words, spelled, takes) so_far next
-line_read goal b first now after number (Lesser mate) new before claims line small (words, spelled, takes) so_far next =
-    words_read goal b first now after number (Lesser mate) new (answer.Mate mate.plies mate.first) before claims line small refl (ap answer_of takes.1) (words, spelled, takes) so_far next
-line_read goal b first now after number (No told place) new before claims line small (words, spelled, takes) so_far next =
-    words_read goal b first now after number (No told place) new told before claims line small refl (ap answer_of takes.1) (words, spelled, takes) so_far next
+pub line_read : (goal : Goal) (b : PlainBoard) (number : ℕ) (old new : Part) (before claims : List Claim) (text line : List ℕ) → length line ≤ 8192 → ReadsLine goal b old line before new claims → AreApart claims → Stands goal b new claims → HasRead goal b number old before text
+    → HasRead goal b (number + 1) new claims (text ++ (line ++ 10 ∷ []))
+line_read goal b number First new before claims text line small reads apart stands so_far = first_read goal b number new before claims text line reads apart stands so_far
+line_read goal b number (Win mate) new before claims text line small (words, spelled, takes) apart stands so_far =
+    words_read goal b number (Win mate) new (answer.Mate mate.plies mate.first) before claims text line small refl (behind_answer mate 1 (length claims) new takes.1) (words, spelled, takes) apart stands so_far
+line_read goal b number (Yes mate place) new before claims text line small (words, spelled, takes) apart stands so_far =
+    words_read goal b number (Yes mate place) new (answer.Mate mate.plies mate.first) before claims text line small refl (behind_answer mate (place + 1) (length claims) new takes.1) (words, spelled, takes) apart stands so_far
+line_read goal b number (Lesser mate) new before claims text line small (words, spelled, takes) apart stands so_far =
+    words_read goal b number (Lesser mate) new (answer.Mate mate.plies mate.first) before claims text line small refl (ap answer_of takes.1) (words, spelled, takes) apart stands so_far
+line_read goal b number (No told place) new before claims text line small (words, spelled, takes) apart stands so_far =
+    words_read goal b number (No told place) new told before claims text line small refl (ap answer_of takes.1) (words, spelled, takes) apart stands so_far
 
 -- ---- the end
 
@@ -151,42 +155,27 @@ proved : (goal : Goal) (b : PlainBoard) (told : Answer) (place : ℕ) (lines : L
 proved goal b (answer.Mate n first) place lines claims whole (yeas, noes, is, won, make, count) = (yeas, noes, is, won, (claims, make, omega (arith, whole, count)))
 proved goal b (answer.NoneWithin limit) place lines claims whole (are, count) = (claims, are, omega (arith, whole, count))
 
--- nothing is left behind these bytes
-pub all_gone : (first now : Option (List ℕ)) (bytes : List ℕ) (P : List ℕ → Type 0) → Consumes first now bytes → ((rest : List ℕ) → now ≡ Some rest → rest ≡ []) → P bytes → OfInput first P
-all_gone None now bytes P gone nothing so = (bytes, tt, so)
-all_gone (Some xs) None bytes P gone nothing so = absurd gone
-all_gone (Some xs) (Some ys) bytes P gone nothing so =
-    let whole : bytes ≡ xs = sym (append-nil bytes) ∙ (ap (λ (l : List ℕ). bytes ++ l) (sym (nothing ys refl)) ∙ sym gone) in
-    (xs, refl, subst P whole so)
-
-pub whole_read : (goal : Goal) (b : PlainBoard) (first now : Option (List ℕ)) (told : Answer) (place : ℕ) (number : ℕ) (claims : List Claim) → IsInRange told → length claims ≤ place → HasRead goal b first now number (No told place) claims → ((rest : List ℕ) → now ≡ Some rest → rest ≡ []) → OfInput first (IsCertificate goal b told)
-whole_read goal b first now told place number claims range whole (lines, read, gone, short, count, well) nothing =
-    all_gone first now (text_so_far goal (Some told) lines) (IsCertificate goal b told) gone nothing (record {
-      range = range;
-      lines = lines;
-      prove = proved goal b told place lines claims whole read;
-      short = short;
-      spelled = refl;
-    })
-
-ranged : (goal : Goal) (told : Option Answer) (answer : Answer) (lines : List (List ℕ)) → told ≡ Some answer → AreLines goal told lines → IsInRange answer
-ranged goal told answer lines is are = (subst (λ (o : Option Answer). AreLines goal o lines) is are).0
-
-pub ended_certified : {E : Type 0} (goal : Goal) (b : PlainBoard) (first now : Option (List ℕ)) (number : ℕ) (part : Part) (claims : List Claim) (rest : List ℕ) (r : Result Answer E) → IfOk r (λ told. (answer_of part ≡ Some told) × (rest ≡ [])) → IfOk r (λ told. (place : ℕ) × (part ≡ No told place) × (length claims ≤ place))
-    → HasTaken goal first now number (answer_of part) → HasRead goal b first now number part claims → IfSome now (λ told. told ≡ rest) → IfOk r (λ told. OfInput first (IsCertificate goal b told))
-ended_certified goal b first now number part claims rest (Err e) told whole taken read left = tt
-ended_certified goal b first now number part claims rest (Ok answer) (is, none) (place, at, all) taken read left =
-    whole_read goal b first now answer place number claims (ranged goal (answer_of part) answer taken.0 is taken.3) all (subst (λ (p : Part). HasRead goal b first now number p claims) at read)
-    (λ ys same. subst (λ (o : Option (List ℕ)). IfSome o (λ told. told ≡ rest)) same left ∙ none)
+pub whole_read : (goal : Goal) (b : PlainBoard) (told : Answer) (place number : ℕ) (claims : List Claim) (text : List ℕ) → length claims ≤ place → HasRead goal b number (No told place) claims text → IsCertificate goal b told text
+whole_read goal b told place number claims text whole so_far = record {
+  range = so_far.well.0;
+  lines = so_far.lines;
+  prove = proved goal b told place so_far.lines claims whole so_far.read;
+  short = so_far.short;
+  spelled = so_far.spelled;
+}
 
 -- nothing was read yet
-pub nothing_read : (goal : Goal) (b : PlainBoard) (u : Unread) (known : Option (List ℕ)) (number : ℕ) (part : Part) (claims : List Claim) → u.from ≡ 0 → u.to ≡ 0 → number ≡ 0 → part ≡ First → HasRead goal b known (left_of u known) number part claims
-nothing_read goal b u known number part claims from to none is =
-    subst (λ (p : Part). HasRead goal b known (left_of u known) number p claims) (sym is) ([], refl, same known, All-nil (λ (l : List Word). length (line_text l) ≤ 8192), none, tt)
-  where
-    same : (known : Option (List ℕ)) → Consumes known (left_of u known) []
-    same None = tt
-    same (Some xs) = rw to (rw from refl)
+pub nothing_read : (goal : Goal) (b : PlainBoard) (number : ℕ) (part : Part) (claims : List Claim) → number ≡ 0 → part ≡ First → claims ≡ [] → HasRead goal b number part claims []
+nothing_read goal b number part claims none is empty = subst (λ (p : Part). HasRead goal b number p claims []) (sym is) (record {
+  lines = [];
+  read = refl;
+  short = All-nil (λ (l : List Word). length (line_text l) ≤ 8192);
+  spelled = refl;
+  count = none;
+  well = tt;
+  apart = subst AreApart (sym empty) none_apart;
+  stands = empty;
+})
 
 -- ---- steps
 
@@ -233,9 +222,9 @@ pub refuses_next : {E : Type 0} (goal : Goal) (b : PlainBoard) (part : Part) (r 
 refuses_next goal b part (Err e) line words old is none = tt
 refuses_next goal b part (Ok o) line words old is none = words_refused goal b part o line words old is none
 
-pub err_of_known : {E : Type 0} (xs : List ℕ) (P Q : E → Type 0) (R : List ℕ → Type 0) (known : Option (List ℕ)) (r : Result Answer E) → known ≡ Some xs → IfErr r (λ e. P e → Q e → OfInput known R) → IfErr r (λ e. P e → Q e → R xs)
+pub err_of_known : {E : Type 0} (xs : List ℕ) (P Q : E → Type 0) (R : E → List ℕ → Type 0) (known : Option (List ℕ)) (r : Result Answer E) → known ≡ Some xs → IfErr r (λ e. P e → Q e → OfInput known (R e)) → IfErr r (λ e. P e → Q e → R e xs)
 err_of_known xs P Q R known (Ok told) is none = tt
-err_of_known xs P Q R known (Err e) is none = λ p q. of_known xs R (subst (λ (o : Option (List ℕ)). OfInput o R) is (none p q))
+err_of_known xs P Q R known (Err e) is none = λ p q. of_known xs (R e) (subst (λ (o : Option (List ℕ)). OfInput o (R e)) is (none p q))
 
 later_refused : (A C : Type 0) (B : Type 0) (o : Option Part) → B → IfNone o (A → B → C) → IfNone o (A → C)
 later_refused A C B None b h = λ a. h a b

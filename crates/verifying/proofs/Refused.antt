@@ -1,9 +1,7 @@
 -- A text that is refused is no certificate.
-use Rattle.std.proofs.Common.{suc, codes, ◌≡◌, ◌⊎◌, inl, inr, ◌<◌, ◌≤◌, ℕ, ◌+◌, ◌-◌, ◌%◌, List, [], ◌∷◌, ◌++◌, length, map, refl, sym, ap, ◌∙◌, subst, arith, append_assoc, length-append, All, Option, None, Some, IfSome, Result, Ok, Err, IfErr, IsErr, IsErrAnd, true}
+use Rattle.std.proofs.Common.{suc, codes, ◌≡◌, ◌⊎◌, inl, inr, ◌<◌, ◌≤◌, ℕ, ◌+◌, ◌-◌, ◌%◌, List, [], ◌∷◌, ◌++◌, length, map, refl, sym, ap, ◌∙◌, subst, arith, append_assoc, length-append, All, Option, None, Some}
 use Rattle.std.proofs.lemmas.List.{append-nil}
 use Rattle.std.proofs.lemmas.List.Elements.{All-cons, All-head, All-tail}
-use Rattle.std.proofs.KnownBytes.{Consumes-trans}
-use Rattle.std.specs.Io.KnownBytes.{Consumes}
 use Rattle.std.specs.Fmt.{decimal}
 use Rattle.board.specs.Board.{PlainBoard}
 use Rattle.rules.specs.declared.goal.Goal.{Goal}
@@ -12,30 +10,27 @@ use Rattle.rules.specs.MoveText.{promotion_text, move_text}
 use Rattle.decision.specs.declared.answer.Answer.{Answer}
 use Rattle.decision.specs.declared.answer.Answer.TheVariants as answer
 use Rattle.certificates.specs.declared.claim.Claim.{Claim}
-use Rattle.devices.specs.Input.{OfInput}
 use Rattle.devices.specs.Lines.{HasNoFeed}
-use Rattle.devices.specs.Within.{BeginsLong, ReadsText}
-use Rattle.devices.specs.declared.transfer.InputFault.{InputFault}
-use Rattle.devices.specs.declared.transfer.InputFault.TheVariants as input
 use Rattle.verifying.specs.declared.fault.Fault.{Fault}
-use Rattle.verifying.specs.declared.fault.Fault.TheVariants.{NoMemory, ReadFailed}
+use Rattle.verifying.specs.declared.fault.Fault.TheVariants.{TooLong}
 use Rattle.verifying.specs.declared.part.Part.{Part}
 use Rattle.verifying.specs.declared.part.Part.TheVariants.{First, Win, Yes, Lesser, No}
 use Rattle.verifying.specs.declared.words.Word.{Word}
-use Rattle.verifying.specs.FirstLine.{answer_text, goal_text, IsInRange, IsNamed}
+use Rattle.verifying.specs.FirstLine.{answer_text, goal_text, BeginsWith, IsInRange, IsNamed}
 use Rattle.verifying.specs.Growing.{AreApart}
 use Rattle.verifying.specs.Words.{line_text}
-use Rattle.verifying.specs.Refusals.{fault_of_input, fed}
+use Rattle.verifying.specs.Refusals.{fed}
 use Rattle.verifying.specs.Parts.{Stands, answer_of}
-use Rattle.verifying.specs.Certificate.{ProveAnswer, IsCertificate, IsNoCertificate, with_claim}
+use Rattle.verifying.specs.Certificate.{ProveAnswer, IsCertificate, IsRefusedWith, with_claim}
 use Rattle.verifying.specs.Reading.{IsReadTo, BeginsPart, TakesWords, ReadsLine, IsNoLineOf, IsUnfinished, IsToldWell, text_so_far, HasRead}
+use Rattle.verifying.specs.Taking.{fault_at}
 use Rattle.verifying.proofs.Spelling.{one_line}
 use Rattle.verifying.proofs.Feeds.{answer_no_feed, lines_no_feed, left_over, next_of, none_of, long_of}
 use Rattle.verifying.proofs.FirstTexts.{digits_long, letter_long}
 use Rattle.verifying.proofs.OneAnswer.{one_answer, certificate_named}
 use Rattle.verifying.proofs.Missing.{next_taken, finished}
 use Rattle.verifying.proofs.Reading.{reads_words}
-use Rattle.verifying.proofs.Taken.{lost}
+use Rattle.verifying.proofs.Taken.{fault_told, long_told}
 use Rattle.verifying.proofs.Apart.{none_apart, one_apart, yes_apart, no_apart, lesser_apart}
 
 -- ---- lists of lines
@@ -203,53 +198,37 @@ long_line goal b part mine lines line rest claims well none long certificate = e
       omega (arith, few, x.3, long)
 ]
 
--- ---- of an input
+-- ---- behind what was read
 
-end_of : (first now : Option (List ℕ)) (bytes rest : List ℕ) (P : List ℕ → Type 0) → Consumes first now bytes → IfSome now (λ told. told ≡ rest) → P (bytes ++ rest) → OfInput first P
-end_of None now bytes rest P gone left so = (bytes ++ rest, tt, so)
-end_of (Some xs) None bytes rest P gone left so = absurd gone
-end_of (Some xs) (Some ys) bytes rest P gone left so = (xs, refl, subst P (sym (gone ∙ ap (λ (l : List ℕ). bytes ++ l) left)) so)
+pub line_refused : (goal : Goal) (b : PlainBoard) (number : ℕ) (part : Part) (claims : List Claim) (text line rest : List ℕ) (fault : Fault) → fault ≡ fault_at part number → HasNoFeed line → IsNoLineOf goal b part line claims → HasRead goal b number part claims text → IsRefusedWith goal b fault (text ++ (line ++ 10 ∷ rest))
+line_refused goal b number part claims text line rest fault is none wrong read = (
+  fault_told goal b number part claims text (line ++ 10 ∷ rest) fault is read,
+  λ mine certificate. wrong_line goal b part mine read.lines line rest claims read.well read.read none wrong (subst (λ (l : List ℕ). IsCertificate goal b mine (l ++ (line ++ 10 ∷ rest))) read.spelled certificate),
+)
 
-pub refused_here : (goal : Goal) (b : PlainBoard) (first now after : Option (List ℕ)) (number : ℕ) (part : Part) (claims : List Claim) (line : List ℕ) → HasRead goal b first now number part claims → ReadsText now after line true → IsNoLineOf goal b part line claims → OfInput first (IsNoCertificate goal b)
-refused_here goal b first now after number part claims line (lines, read, gone, short, count, well) (none, next) wrong =
-    let text = text_so_far goal (answer_of part) lines in
-    lost first after (text ++ (line ++ 10 ∷ [])) (IsNoCertificate goal b) (Consumes-trans first now after text (line ++ 10 ∷ []) gone next)
-    (λ rest mine certificate.
-    let same : (text ++ (line ++ 10 ∷ [])) ++ rest ≡ text ++ (line ++ 10 ∷ rest) = append_assoc text (line ++ 10 ∷ []) rest ∙ ap (λ (l : List ℕ). text ++ l) (append_assoc line (10 ∷ []) rest) in
-    wrong_line goal b part mine lines line rest claims well read none wrong (subst (λ (l : List ℕ). IsCertificate goal b mine l) same certificate))
+pub end_refused : (goal : Goal) (b : PlainBoard) (number : ℕ) (part : Part) (claims : List Claim) (text rest : List ℕ) (fault : Fault) → fault ≡ fault_at part number → HasNoFeed rest → (rest ≡ [] → IsUnfinished part claims) → HasRead goal b number part claims text → IsRefusedWith goal b fault (text ++ rest)
+end_refused goal b number part claims text rest fault is none wrong read = (
+  fault_told goal b number part claims text rest fault is read,
+  λ mine certificate. missing_line goal b part mine read.lines rest claims read.well read.read none wrong (subst (λ (l : List ℕ). IsCertificate goal b mine (l ++ rest)) read.spelled certificate),
+)
 
-refused_end : (goal : Goal) (b : PlainBoard) (first now : Option (List ℕ)) (number : ℕ) (part : Part) (claims : List Claim) (rest : List ℕ) → HasRead goal b first now number part claims → HasNoFeed rest → IfSome now (λ told. told ≡ rest) → (rest ≡ [] → IsUnfinished part claims) → OfInput first (IsNoCertificate goal b)
-refused_end goal b first now number part claims rest (lines, read, gone, short, count, well) none left wrong =
-    end_of first now (text_so_far goal (answer_of part) lines) rest (IsNoCertificate goal b) gone left
-    (λ mine certificate. missing_line goal b part mine lines rest claims well read none wrong certificate)
+pub long_refused : (goal : Goal) (b : PlainBoard) (number : ℕ) (part : Part) (claims : List Claim) (text line rest : List ℕ) (fault : Fault) → fault ≡ TooLong → HasNoFeed line → 8192 < length line → HasRead goal b number part claims text → IsRefusedWith goal b fault (text ++ (line ++ rest))
+long_refused goal b number part claims text line rest fault is none long read = subst (λ (f : Fault). IsRefusedWith goal b f (text ++ (line ++ rest))) (sym is) (
+  long_told goal b number part claims text line rest none long read,
+  λ mine certificate. long_line goal b part mine read.lines line rest claims read.well none long (subst (λ (l : List ℕ). IsCertificate goal b mine (l ++ (line ++ rest))) read.spelled certificate),
+)
 
-long_of_input : (goal : Goal) (b : PlainBoard) (first now : Option (List ℕ)) (part : Part) (lines : List (List Word)) (claims : List Claim) → IsToldWell (answer_of part) → Consumes first now (text_so_far goal (answer_of part) lines) → BeginsLong 8192 now → OfInput first (IsNoCertificate goal b)
-long_of_input goal b None now part lines claims well gone (input, known, (line, rest, none, long, is)) =
-    (text_so_far goal (answer_of part) lines ++ (line ++ rest), tt, λ mine certificate. long_line goal b part mine lines line rest claims well none long certificate)
-long_of_input goal b (Some xs) None part lines claims well gone begins = absurd gone
-long_of_input goal b (Some xs) (Some ys) part lines claims well gone (input, known, (line, rest, none, long, is)) =
-    let whole : xs ≡ text_so_far goal (answer_of part) lines ++ (line ++ rest) = gone ∙ ap (λ (l : List ℕ). text_so_far goal (answer_of part) lines ++ l) (known ∙ is) in
-    (xs, refl, λ mine certificate. long_line goal b part mine lines line rest claims well none long (subst (λ (l : List ℕ). IsCertificate goal b mine l) whole certificate))
+-- ---- the answer with which a certificate begins
 
--- ---- how the reading ends
+pub certificate_begins : (goal : Goal) (b : PlainBoard) (answer : Answer) (text : List ℕ) → IsCertificate goal b answer text → BeginsWith goal answer text
+certificate_begins goal b answer text certificate =
+    (certificate.range, (fed (map line_text certificate.lines), certificate.spelled ∙ append_assoc (answer_text goal answer) (10 ∷ []) (fed (map line_text certificate.lines))))
 
-pub ended_refused : (goal : Goal) (b : PlainBoard) (first now : Option (List ℕ)) (number : ℕ) (part : Part) (claims : List Claim) (rest : List ℕ) (r : Result Answer Fault) → HasRead goal b first now number part claims → HasNoFeed rest → IfSome now (λ told. told ≡ rest) → IfErr r (λ fault. rest ≡ [] → IsUnfinished part claims)
-    → IfErr r (λ fault. (fault ≡ NoMemory → ⊥) → (fault ≡ ReadFailed → ⊥) → OfInput first (IsNoCertificate goal b))
-ended_refused goal b first now number part claims rest (Ok told) read none left wrong = tt
-ended_refused goal b first now number part claims rest (Err fault) read none left wrong = λ memory device. refused_end goal b first now number part claims rest read none left wrong
-
-pub taken_refused : (goal : Goal) (b : PlainBoard) (first now after : Option (List ℕ)) (number : ℕ) (part : Part) (claims : List Claim) (line : List ℕ) (fault : Fault) (r : Result Answer Fault) → HasRead goal b first now number part claims → ReadsText now after line true → AreApart claims → (fault ≡ NoMemory) ⊎ (AreApart claims → IsNoLineOf goal b part line claims) → IsErr r × IsErrAnd r (λ f. f ≡ fault)
-    → IfErr r (λ f. (f ≡ NoMemory → ⊥) → (f ≡ ReadFailed → ⊥) → OfInput first (IsNoCertificate goal b))
-taken_refused goal b first now after number part claims line fault (Ok told) read next apart wrong err = tt
-taken_refused goal b first now after number part claims line fault (Err f) read next apart (inl none) err = λ memory device. absurd (memory (err.1 ∙ none))
-taken_refused goal b first now after number part claims line fault (Err f) read next apart (inr wrong) err = λ memory device. refused_here goal b first now after number part claims line read next (wrong apart)
-
-pub unread_refused : (goal : Goal) (b : PlainBoard) (first now : Option (List ℕ)) (number : ℕ) (part : Part) (claims : List Claim) (e : InputFault) (r : Result Answer Fault) → HasRead goal b first now number part claims → (e ≡ input.TooLong → BeginsLong 8192 now) → IsErr r × IsErrAnd r (λ f. f ≡ fault_of_input e)
-    → IfErr r (λ f. (f ≡ NoMemory → ⊥) → (f ≡ ReadFailed → ⊥) → OfInput first (IsNoCertificate goal b))
-unread_refused goal b first now number part claims e (Ok told) read long err = tt
-unread_refused goal b first now number part claims input.ReadFailed (Err f) read long err = λ memory device. absurd (device err.1)
-unread_refused goal b first now number part claims input.TooLong (Err f) read long err = λ memory device. long_of_input goal b first now part read.0 claims read.5 read.2 (long refl)
-unread_refused goal b first now number part claims input.NoMemory (Err f) read long err = λ memory device. absurd (memory err.1)
+pub begun_answer : (goal : Goal) (b : PlainBoard) (told answer : Answer) (rest : List ℕ) → IsInRange told → IsNamed told → IsCertificate goal b answer (answer_text goal told ++ 10 ∷ rest) → answer ≡ told
+begun_answer goal b told answer rest range named certificate =
+    let next = next_of (xs_of goal answer certificate.lines) (answer_text goal told) rest (xs_no_feed goal answer certificate.lines certificate.range) (answer_no_feed goal told range) (sym certificate.spelled) in
+    let is = (same_line (answer_text goal answer) (answer_text goal told) (map line_text certificate.lines) next.0 next.1).0 in
+    one_answer goal answer told certificate.range range (certificate_named goal b answer _ certificate) named is
 
 -- ---- no two claims are about one position
 

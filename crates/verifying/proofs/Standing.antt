@@ -12,9 +12,8 @@ use Rattle.verifying.specs.declared.part.Mate.{Mate}
 use Rattle.verifying.specs.declared.part.Part.{Part}
 use Rattle.verifying.specs.declared.part.Part.TheVariants.{First, Win, Yes, Lesser, No}
 use Rattle.verifying.specs.Growing.{Extends}
-use Rattle.verifying.specs.Parts.{Awaits, IsYesUpTo, ShowsFewer, ShowsWin, Stands, answer_of}
-use Rattle.verifying.specs.Refusals.{IsClaimLine}
-use Rattle.verifying.specs.Taking.{Takes, fault_at}
+use Rattle.verifying.specs.Parts.{Awaits, IsYesUpTo, ShowsFewer, ShowsWin, Stands}
+use Rattle.verifying.specs.Taking.{fault_at}
 use Rattle.verifying.proofs.Growing.{still_there, still_wins, still_won, still_holds}
 use Rattle.verifying.proofs.Mates.{still_shows_fewer}
 use Rattle.verifying.proofs.Places.{claim_more, each_claim}
@@ -72,13 +71,6 @@ stands_whole goal b (answer.NoneWithin limit) place claims whole (shown, held) =
 }
 
 -- ---- lines behind the first
-
-pub takes_words : (goal : Goal) (old new : Part) (line : List ℕ) → (old ≡ First → ⊥) → IsClaimLine line → answer_of new ≡ answer_of old → Takes goal old line new
-takes_words goal First new line other words told = absurd (other refl)
-takes_words goal (Win mate) new line other words told = (words, told)
-takes_words goal (Yes mate place) new line other words told = (words, told)
-takes_words goal (Lesser mate) new line other words told = (words, told)
-takes_words goal (No answer place) new line other words told = (words, told)
 
 pub numbered : (part : Part) (number : ℕ) → (part ≡ First → ⊥) → NumberedFault (number + 1) ≡ fault_at part number
 numbered First number other = absurd (other refl)

@@ -1,5 +1,5 @@
 -- Which texts are certificates of an answer: each line tells of one claim, over the claims that were made before it, and may make more.
-use Rattle.std.specs.Prelude.{ℕ, ◌≡◌, ◌+◌, ◌-◌, ◌*◌, ◌%◌, ◌<◌, ◌≤◌, ◌⊎◌, List, [], ◌∷◌, ◌++◌, length, map, min, nat_lt, if◌then◌else◌, slice_get, All, Contains, Some}
+use Rattle.std.specs.Prelude.{ℕ, ◌≡◌, ◌+◌, ◌-◌, ◌*◌, ◌%◌, ◌<◌, ◌≤◌, ◌⊎◌, List, [], ◌∷◌, ◌++◌, length, map, min, nat_lt, if◌then◌else◌, slice_get, All, Contains, Some, Err}
 use Rattle.board.specs.Board.{PlainBoard}
 use Rattle.rules.specs.declared.goal.Goal.{Goal}
 use Rattle.rules.specs.Squares.{Ply}
@@ -11,10 +11,11 @@ use Rattle.decision.specs.declared.answer.Answer.TheVariants.{Mate, NoneWithin}
 use Rattle.decision.specs.Answer.{ForcesNothing}
 use Rattle.certificates.specs.declared.claim.Claim.{Claim}
 use Rattle.certificates.specs.Claims.{ClaimsSoMany, ClaimsSoFew}
+use Rattle.verifying.specs.declared.fault.Fault.{Fault}
 use Rattle.verifying.specs.declared.words.Word.{Word}
 use Rattle.verifying.specs.declared.words.Word.TheVariants.{Seen, Claimed, Stalemated, Place}
 use Rattle.verifying.specs.FirstLine.{answer_text, IsInRange}
-use Rattle.verifying.specs.Refusals.{fed}
+use Rattle.verifying.specs.Refusals.{TellsOf, fed}
 use Rattle.verifying.specs.Words.{line_text}
 
 -- no claim is about the position
@@ -152,3 +153,7 @@ pub record IsCertificate (goal : Goal) (b : PlainBoard) (answer : Answer) (text 
 -- the text is a certificate of no answer
 abbrev pub IsNoCertificate : Goal → PlainBoard → List ℕ → Type 0
 IsNoCertificate goal b text = (answer : Answer) → IsCertificate goal b answer text → ⊥
+
+-- the fault is told of the text, which is a certificate of no answer
+abbrev pub IsRefusedWith : Goal → PlainBoard → Fault → List ℕ → Type 0
+IsRefusedWith goal b fault text = TellsOf goal text (Err fault) × IsNoCertificate goal b text

@@ -3,10 +3,11 @@ pub mod FirstLine
 pub mod Words
 pub mod Refusals
 pub mod Certificate
--- inside
+pub mod Checking
 pub mod Growing
-pub mod Wins
 pub mod Parts
-pub mod Taking
 pub mod Reading
+-- inside
+pub mod Wins
+pub mod Taking
 pub mod Index

@@ -1,6 +1,5 @@
 -- What was read of a certificate where a line comes next.
 use Rattle.std.specs.Prelude.{ℕ, ◌≡◌, ◌+◌, ◌-◌, ◌%◌, ◌<◌, ◌≤◌, ◌⊎◌, List, [], ◌∷◌, ◌++◌, length, map, slice_get, All, ⊤, Option, None, Some}
-use Rattle.std.specs.Io.KnownBytes.{Consumes}
 use Rattle.board.specs.Board.{PlainBoard}
 use Rattle.rules.specs.declared.goal.Goal.{Goal}
 use Rattle.decision.specs.declared.answer.Answer.{Answer}
@@ -13,7 +12,8 @@ use Rattle.verifying.specs.declared.words.Word.{Word}
 use Rattle.verifying.specs.FirstLine.{answer_text, IsInRange, IsNamed}
 use Rattle.verifying.specs.Words.{line_text}
 use Rattle.verifying.specs.Refusals.{fed}
-use Rattle.verifying.specs.Parts.{answer_of}
+use Rattle.verifying.specs.Growing.{AreApart}
+use Rattle.verifying.specs.Parts.{Stands, answer_of}
 use Rattle.verifying.specs.Certificate.{with_claim, shorter_claim, IsYesLine, IsSomeYesLine, IsNoLine, IsLesserLine, YesLinesMake, NoLinesMake, NoneLinesMake}
 
 -- the no lines so far, of an answer
@@ -74,10 +74,18 @@ abbrev pub IsToldWell : Option Answer → Type 0
 IsToldWell None = ⊤
 IsToldWell (Some answer) = IsInRange answer × IsNamed answer
 
--- so many lines were read, and are gone from the front
-abbrev pub HasRead : Goal → PlainBoard → Option (List ℕ) → Option (List ℕ) → ℕ → Part → List Claim → Type 0
-HasRead goal b first now number part claims = (lines : List (List Word)) × IsReadTo goal b part lines claims × Consumes first now (text_so_far goal (answer_of part) lines)
-    × All (λ line. length (line_text line) ≤ 8192) lines × (number ≡ count_so_far (answer_of part) lines) × IsToldWell (answer_of part)
+-- so many lines were read up to where this part comes next, and this is their text
+pub record HasRead (goal : Goal) (b : PlainBoard) (number : ℕ) (part : Part) (claims : List Claim) (text : List ℕ) : Type 0 where
+  -- those behind the answer's
+  pub lines : List (List Word)
+  pub read : IsReadTo goal b part lines claims
+  pub short : All (λ line. length (line_text line) ≤ 8192) lines
+  pub spelled : text ≡ text_so_far goal (answer_of part) lines
+  pub count : number ≡ count_so_far (answer_of part) lines
+  pub well : IsToldWell (answer_of part)
+  -- and what they show
+  pub apart : AreApart claims
+  pub stands : Stands goal b part claims
 
 -- the line is none of this part
 abbrev pub IsNoLineOf : Goal → PlainBoard → Part → List ℕ → List Claim → Type 0

@@ -1,16 +1,17 @@
 //! The checker, which takes a certificate line by line.
-ghost use Rattle.std.specs.Prelude.{◌≡◌, ◌+◌, ◌<◌, ◌≤◌, ◌⊎◌, ℕ, List, [], IfErr, IfNone, IfOk, IfSome, OnOk, Some, length};
+ghost use Rattle.std.specs.Prelude.{◌≡◌, ◌+◌, ◌<◌, ◌≤◌, ◌++◌, ◌∷◌, ℕ, List, [], IfErr, IfNone, IfOk, IfSome, OnOk, Some, length};
 ghost use Rattle.certificates.specs.declared.claim.Claim.{Claim};
 ghost use Rattle.verifying.specs.Growing.{AreApart};
 ghost use Rattle.verifying.specs.declared.part.Part.{Part as ThePart};
 ghost use Rattle.board.specs.Board.{PlainBoard};
-ghost use Rattle.decision.specs.declared.answer.Answer.TheVariants.{Mate as TheMate};
 ghost use Rattle.certificates.specs.Answers.{Certifies, IsOdd};
-ghost use Rattle.verifying.specs.FirstLine.{IsInRange};
+ghost use Rattle.devices.specs.Lines.{HasNoFeed};
+ghost use Rattle.verifying.specs.FirstLine.{answer_text, IsInRange, IsNamed};
 ghost use Rattle.verifying.specs.declared.part.Part.TheVariants.{First, No as TheNo};
-ghost use Rattle.verifying.specs.declared.fault.Fault.TheVariants.{NoMemory};
-ghost use Rattle.verifying.specs.Parts.{IsYesUpTo, Stands, answer_of};
-ghost use Rattle.verifying.specs.Taking.{Refuses, Takes, fault_at};
+ghost use Rattle.verifying.specs.declared.fault.Fault.TheVariants.{NoMemory, ReadFailed};
+ghost use Rattle.verifying.specs.Checking.{HasTaken, IsProvedBy, IsTaken, RefusesMore, TakesMore};
+ghost use Rattle.verifying.specs.Parts.{IsYesUpTo, Stands};
+ghost use Rattle.verifying.specs.Taking.{fault_at};
 ghost use Rattle.verifying.specs.Reading.{BeginsPart, IsBehindYes, IsNoLineOf, IsUnfinished, ReadsLine, TakesWords};
 
 use crate::claims::Claims;
@@ -23,9 +24,12 @@ use decision::Answer;
 use moves::{Board, Goal};
 use std::alloc::{AllocError, Allocator};
 
+/// The most bytes of a line, its feed not counted.
+pub const MOST_LINE: usize = 8192;
+
 /// What was taken of a certificate: how many lines, what the next one is, and the claims of the part that is under way.
 #[derive(Drop)]
-pub(crate) struct Checker<A: Allocator> {
+pub struct Checker<A: Allocator> {
     pub(crate) board: Board,
     pub(crate) goal: Goal,
     pub(crate) number: u64,
@@ -43,7 +47,6 @@ fn begun<A: Allocator + Copy>(
     requires none { claims.old ≡ [] }
     requires range { IsInRange answer }
     ensures stands { IfOk result (λ part. (goal : Goal) → Stands goal board.now part claims.new) }
-    ensures told { IfOk result (λ part. answer_of part ≡ Some answer) }
     ensures begins { IfOk result (λ part. BeginsPart board.now answer part claims.new) }
 {
     match answer {
@@ -60,7 +63,6 @@ fn behind_yes<A: Allocator + Copy>(claims: &Claims<A>, mate: Mate, place: usize)
     requires { place < length claims.now }
     ensures stands { (goal : Goal) (b : PlainBoard) → IsOdd mate.plies → IsYesUpTo goal claims.now b mate (place + 1)
         → Stands goal b result claims.now }
-    ensures told { answer_of result ≡ Some (TheMate mate.plies mate.first) }
     ensures behind { IsBehindYes mate (place + 1) (length claims.now) result }
 {
     let count = claims.len();
@@ -81,8 +83,6 @@ fn shown<A: Allocator + Copy>(
 ) -> Result<Option<Part>, AllocError>
     requires { Stands goal board.now part claims.old }
     ensures stands { IfOk result (λ next. IfSome next (λ new. Stands goal board.now new claims.new)) }
-    ensures told { IfOk result (λ next. IfSome next (λ new. answer_of new ≡ answer_of part)) }
-    ensures later { IfOk result (λ next. IfSome next (λ new. part ≡ First → ⊥)) }
     ensures takes { IfOk result (λ next. IfSome next (λ new.
         TakesWords goal board.now part words.now claims.old new claims.new)) }
     ensures refuses { IfOk result (λ next. IfNone next (AreApart claims.old → (new : ThePart) (more : List Claim)
@@ -126,11 +126,8 @@ fn shown<A: Allocator + Copy>(
 
 impl<A: Allocator + Copy> Checker<A> {
     /// Nothing was taken yet.
-    pub(crate) fn new(alloc: A, board: &Board, goal: Goal) -> Checker<A>
-        ensures stands { Stands result.goal result.board result.part result.claims }
-        ensures about { (result.goal ≡ goal) × (result.board ≡ board.now) }
-        ensures none { result.number ≡ 0 }
-        ensures first { result.part ≡ First }
+    pub fn new(alloc: A, board: &Board, goal: Goal) -> Checker<A>
+        ensures { IsTaken goal board.now result [] }
     {
         Checker {
             board: board.copied(),
@@ -142,6 +139,29 @@ impl<A: Allocator + Copy> Checker<A> {
         }
     }
 
+    /// The first line was taken, which is this answer's.
+    pub fn behind(
+        alloc: A,
+        board: &Board,
+        goal: Goal,
+        answer: Answer,
+    ) -> Result<Checker<A>, AllocError>
+        requires range { IsInRange answer }
+        requires named { IsNamed answer }
+        ensures { IfOk result (λ checker. IsTaken goal board.now checker (answer_text goal answer ++ 10 ∷ [])) }
+    {
+        let mut claims = Claims::new(alloc);
+        let part = begun(&mut claims, board, answer)?;
+        Ok(Checker {
+            board: board.copied(),
+            goal,
+            number: 1,
+            part,
+            claims,
+            words: Vec::new(alloc),
+        })
+    }
+
     /// What comes behind the first line, if it is an answer's.
     fn first_part(&mut self, line: &[u8]) -> Result<Option<Part>, AllocError>
         requires { self.old.claims ≡ [] }
@@ -149,7 +169,6 @@ impl<A: Allocator + Copy> Checker<A> {
         ensures counts { self.new.number ≡ self.old.number }
         ensures stands { IfOk result (λ next. IfSome next (λ new.
             Stands self.new.goal self.new.board new self.new.claims)) }
-        ensures takes { IfOk result (λ next. IfSome next (λ new. Takes self.new.goal First line.now new)) }
         ensures reads { IfOk result (λ next. IfSome next (λ new.
             ReadsLine self.old.goal self.old.board First line.now self.old.claims new self.new.claims)) }
         ensures refuses { IfOk result (λ next. IfNone next
@@ -170,7 +189,6 @@ impl<A: Allocator + Copy> Checker<A> {
         ensures counts { self.new.number ≡ self.old.number }
         ensures stands { IfOk result (λ next. IfSome next (λ new.
             Stands self.new.goal self.new.board new self.new.claims)) }
-        ensures takes { IfOk result (λ next. IfSome next (λ new. Takes self.new.goal self.old.part line.now new)) }
         ensures reads { IfOk result (λ next. IfSome next (λ new.
             ReadsLine self.old.goal self.old.board self.old.part line.now self.old.claims new self.new.claims)) }
         ensures refuses { IfOk result (λ next. IfNone next (AreApart self.old.claims → (self.old.part ≡ First → ⊥)
@@ -196,7 +214,6 @@ impl<A: Allocator + Copy> Checker<A> {
         ensures counts { self.new.number ≡ self.old.number }
         ensures stands { IfOk result (λ next. IfSome next (λ new.
             Stands self.new.goal self.new.board new self.new.claims)) }
-        ensures takes { IfOk result (λ next. IfSome next (λ new. Takes self.new.goal self.old.part line.now new)) }
         ensures reads { IfOk result (λ next. IfSome next (λ new.
             ReadsLine self.old.goal self.old.board self.old.part line.now self.old.claims new self.new.claims)) }
         ensures refuses { IfOk result (λ next. IfNone next (AreApart self.old.claims
@@ -220,20 +237,21 @@ impl<A: Allocator + Copy> Checker<A> {
     }
 
     /// Takes the next line, which stands without its feed.
-    pub(crate) fn take(&mut self, line: &[u8]) -> Result<(), Fault>
-        requires short { length line.now ≤ 8192 }
-        requires room { self.old.number < u64.MAX }
-        requires stands { Stands self.old.goal self.old.board self.old.part self.old.claims }
-        ensures about { (self.new.goal ≡ self.old.goal) × (self.new.board ≡ self.old.board) }
-        ensures stands { OnOk result (Stands self.new.goal self.new.board self.new.part self.new.claims) }
-        ensures takes { OnOk result (Takes self.old.goal self.old.part line.now self.new.part) }
-        ensures counts { OnOk result (self.new.number ≡ self.old.number + 1) }
-        ensures refuses { IfErr result (Refuses self.old.part self.old.number) }
-        ensures reads { OnOk result (ReadsLine self.old.goal self.old.board self.old.part line.now self.old.claims
-            self.new.part self.new.claims) }
-        ensures wrong { IfErr result (λ fault. (fault ≡ NoMemory) ⊎ (AreApart self.old.claims
-            → IsNoLineOf self.old.goal self.old.board self.old.part line.now self.old.claims)) }
+    pub fn take(&mut self, line: &[u8]) -> Result<(), Fault>
+        requires { HasTaken self.old }
+        ensures takes { OnOk result (TakesMore self.old self.new (line.now ++ 10 ∷ [])) }
+
+        // But for want of memory no line of a certificate is refused.
+        ensures refuses { IfErr result (λ fault. (fault ≡ NoMemory → ⊥) → HasNoFeed line.now
+            → (rest : List ℕ) → RefusesMore self.old (line.now ++ 10 ∷ rest) fault) }
+        ensures unread { IfErr result (λ fault. fault ≡ ReadFailed → ⊥) }
     {
+        if line.len() > MOST_LINE {
+            return Err(Fault::TooLong);
+        }
+        if self.number == u64::MAX {
+            return Err(Fault::NoMemory);
+        }
         let fault = self.fault();
         let Some(part) = self.part_behind(line)? else {
             return Err(fault);
@@ -244,10 +262,9 @@ impl<A: Allocator + Copy> Checker<A> {
     }
 
     /// The answer, where no line is left out.
-    pub(crate) fn answer(&self) -> Option<Answer>
+    fn answer(&self) -> Option<Answer>
         requires { Stands self.now.goal self.now.board self.now.part self.now.claims }
         ensures certified { IfSome result (Certifies self.now.goal self.now.board) }
-        ensures told { IfSome result (λ answer. answer_of self.now.part ≡ Some answer) }
         ensures whole { IfSome result (λ answer. (place : ℕ) × (self.now.part ≡ TheNo answer place)
             × (length self.now.claims ≤ place)) }
         ensures unfinished { IfNone result (IsUnfinished self.now.part self.now.claims) }
@@ -258,17 +275,18 @@ impl<A: Allocator + Copy> Checker<A> {
         }
     }
 
-    /// The answer, where the input ends behind this rest of a line.
-    pub(crate) fn ended(&self, rest: &[u8]) -> Result<Answer, Fault>
-        requires room { self.now.number < u64.MAX }
-        requires stands { Stands self.now.goal self.now.board self.now.part self.now.claims }
-        ensures certified { IfOk result (Certifies self.now.goal self.now.board) }
-        ensures told { IfOk result (λ answer. (answer_of self.now.part ≡ Some answer) × (rest.now ≡ [])) }
-        ensures refuses { IfErr result (λ fault. fault ≡ fault_at self.now.part self.now.number) }
-        ensures whole { IfOk result (λ answer. (place : ℕ) × (self.now.part ≡ TheNo answer place)
-            × (length self.now.claims ≤ place)) }
-        ensures wrong { IfErr result (λ fault. rest.now ≡ [] → IsUnfinished self.now.part self.now.claims) }
+    /// The answer that is proved, where the text ends behind this rest of a line.
+    pub fn ended(&self, rest: &[u8]) -> Result<Answer, Fault>
+        requires { HasTaken self.now }
+        ensures proves { IfOk result (IsProvedBy self.now) }
+        ensures whole { IfOk result (λ answer. rest.now ≡ []) }
+        ensures refuses { IfErr result (λ fault. (fault ≡ NoMemory → ⊥) → HasNoFeed rest.now
+            → RefusesMore self.now rest.now fault) }
+        ensures unread { IfErr result (λ fault. fault ≡ ReadFailed → ⊥) }
     {
+        if self.number == u64::MAX {
+            return Err(Fault::NoMemory);
+        }
         if !rest.is_empty() {
             return Err(self.fault());
         }

@@ -14,6 +14,7 @@ mod whole;
 mod words;
 mod yes_claims;
 
+pub use checker::{Checker, MOST_LINE};
 pub use claims::Claims;
 pub use fault::Fault;
 pub use leaf::LEAF;

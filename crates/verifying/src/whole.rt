@@ -5,17 +5,14 @@ ghost use Rattle.decision.specs.Answer.{IsAnswer};
 ghost use Rattle.devices.specs.Input.{OfInput};
 ghost use Rattle.certificates.specs.Answers.{IsUpTo};
 ghost use Rattle.verifying.specs.Refusals.{TellsOf, reads_failed};
-ghost use Rattle.verifying.specs.Certificate.{IsCertificate, IsNoCertificate};
+ghost use Rattle.verifying.specs.Certificate.{IsCertificate, IsRefusedWith};
 
-use crate::checker::Checker;
+use crate::checker::{Checker, MOST_LINE};
 use crate::fault::Fault;
 use decision::Answer;
 use devices::{Counted, Source, Unread};
 use moves::{Board, Goal};
 use std::alloc::Allocator;
-
-/// The most bytes of a line, its feed not counted.
-const MOST_LINE: usize = 8192;
 
 /// The answer of the first line of the certificate that the reader gives, if the other lines prove it of the position. Nothing is read
 /// behind the first fault.
@@ -39,7 +36,7 @@ pub fn verify_input<S: Source, A: Allocator + Copy>(
 
     // But for want of memory and a failed read no certificate is refused.
     ensures refused { IfErr result (λ fault. (fault ≡ NoMemory → ⊥) → (fault ≡ ReadFailed → ⊥)
-        → OfInput (S.remaining reader.old) (IsNoCertificate goal board.now)) }
+        → OfInput (S.remaining reader.old) (IsRefusedWith goal board.now fault)) }
 {
     let mut checker = Checker::new(alloc, board, goal);
     let mut unread = Unread::new();
@@ -64,7 +61,7 @@ pub fn verify<A: Allocator + Copy>(
     ensures text { TellsOf goal text.now result }
     ensures certificate { IfOk result (λ answer. IsCertificate goal board.now answer text.now) }
     ensures refused { IfErr result (λ fault. (fault ≡ NoMemory → ⊥) → (fault ≡ ReadFailed → ⊥)
-        → IsNoCertificate goal board.now text.now) }
+        → IsRefusedWith goal board.now fault text.now) }
 {
     let mut reader = Counted::new(text);
     verify_input(alloc, board, goal, &mut reader)

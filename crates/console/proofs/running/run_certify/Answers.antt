@@ -2,8 +2,15 @@ use Rattle.std.proofs.Common.{◌∙◌, inl, inr}
 use Rattle.console.proofs.CertifyLemmas.{certificate_refused}
 use Rattle.console.proofs.running.run_certify.Goals as goal
 
+pub write_begun-requires-clause-begun : goal.write_begun-requires-clause-begun
+write_begun-requires-clause-begun g c =
+    let (b, sound, (accepted, (answer, is, begins))) = c.in-Ok.ensures in
+    (c.args.subject.now.goal, b, _, begins.taken)
+
 pub returns-in-Ok-clause-runs : goal.returns-in-Ok-clause-runs
-returns-in-Ok-clause-runs g c = inl (c.in-Ok.begun.line.items, c.in-Ok.ensures, c.write_begun.ensures.writes)
+returns-in-Ok-clause-runs g c =
+    let (b, sound, (accepted, (answer, is, begins))) = c.in-Ok.ensures in
+    inl (b, answer, sound, accepted, is, c.write_begun.ensures.writes b answer begins)
 
 pub returns-in-Ok-clause-silent : goal.returns-in-Ok-clause-silent
 returns-in-Ok-clause-silent g c = elim c.write_begun.ensures.silent [

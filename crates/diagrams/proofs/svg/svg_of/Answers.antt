@@ -1,4 +1,4 @@
-use Rattle.std.proofs.Common.{◌∙◌, ◌+◌, ◌*◌, ◌++◌, [], ap, codes, string_bytes}
+use Rattle.std.proofs.Common.{◌∙◌, ◌+◌, ◌*◌, ◌++◌, ap, codes, string_bytes}
 use Rattle.std.specs.List.{flat_map, range_with_len}
 use Rattle.board.specs.Games.{width_of}
 use Rattle.diagrams.specs.Drawing.{mover_drawn}

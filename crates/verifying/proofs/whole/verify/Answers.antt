@@ -1,6 +1,6 @@
 use Rattle.std.proofs.Common.{◌≡◌, Some, ap}
 use Rattle.verifying.specs.declared.fault.Fault.TheVariants.{NoMemory, ReadFailed}
-use Rattle.verifying.specs.Certificate.{IsCertificate, IsNoCertificate}
+use Rattle.verifying.specs.Certificate.{IsCertificate, IsRefusedWith}
 use Rattle.verifying.proofs.Reading.{ok_of_known, err_of_known}
 use Rattle.verifying.proofs.whole.verify.Goals as goal
 
@@ -10,4 +10,4 @@ returns-clause-certificate g c =
 
 pub returns-clause-refused : goal.returns-clause-refused
 returns-clause-refused g c =
-    err_of_known c.args.text.now (λ fault. fault ≡ NoMemory → ⊥) (λ fault. fault ≡ ReadFailed → ⊥) (IsNoCertificate c.args.goal c.args.board.now) (Some c.new-reader.result.device.now) c.verify_input.result (ap (λ x. Some x.now) c.new-reader.ensures.device) c.verify_input.ensures.refused
+    err_of_known c.args.text.now (λ fault. fault ≡ NoMemory → ⊥) (λ fault. fault ≡ ReadFailed → ⊥) (IsRefusedWith c.args.goal c.args.board.now) (Some c.new-reader.result.device.now) c.verify_input.result (ap (λ x. Some x.now) c.new-reader.ensures.device) c.verify_input.ensures.refused

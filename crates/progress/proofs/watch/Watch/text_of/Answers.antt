@@ -18,7 +18,7 @@ returns c =
     } in
     let first = c.in_ok-first.field-0.now in
     let found = rw c.deref.ensures.value at c.in_ok-first.ensures.lookup in
-    let is : IsSignOf c.args.self.now c.args.seconds c.args.job c.args.known c.byte_of-none.result sign = record {
+    let is : IsSignOf c.args.self.now c.args.seconds c.args.job c.args.known c.args.none sign = record {
       seconds = refl;
       line = refl;
       advice = c.is_advised.ensures;
@@ -26,4 +26,4 @@ returns c =
       round = elim c.match-self.branch [ in-Rounds w ↦ search rules | in-Keys w ↦ search rules ];
       work = (first, slice_get-get_or c.args.self.now.moves.items c.args.job first found.3.0 ∙ ap Some (sym found.1), elim c.if-known-eq-WINS.branch [ then-known-eq-WINS w ↦ search rules | else-known-eq-WINS w ↦ search rules ]);
     } in
-    rw c.ok.ensures.value (sign_drawn c.args.self.now c.args.seconds c.args.job c.args.known c.byte_of-none.result sign c.drawn.result is c.drawn.ensures)
+    rw c.ok.ensures.value (sign_drawn c.args.self.now c.args.seconds c.args.job c.args.known c.args.none sign c.drawn.result is c.drawn.ensures)

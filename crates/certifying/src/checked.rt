@@ -1,0 +1,42 @@
+//! A certificate of which nothing is handed out that the checker doesn't take.
+ghost use Rattle.std.specs.Prelude.{◌≡◌, IfErr, IfNone, IfOk, IfSome, List, ℕ};
+ghost use Rattle.certifying.specs.Lines.{claim_line};
+ghost use Rattle.decision.specs.declared.answer.Answer.{Answer as TheAnswer};
+ghost use Rattle.verifying.specs.Checking.{HasTaken, IsProvedBy, RefusesMore, TakesMore};
+ghost use Rattle.verifying.specs.declared.fault.Fault.TheVariants.{NoMemory};
+ghost use Rattle.verifying.specs.declared.words.Word.{Word as TheWord};
+
+use crate::certificate::Certificate;
+use crate::text::fed;
+use std::alloc::Global;
+use verifying::{Checker, Fault};
+
+/// A certificate as it is made, and a checker behind the line that was handed out last.
+#[derive(Drop)]
+pub struct Checked {
+    pub certificate: Certificate,
+    pub checker: Checker<Global>,
+}
+
+impl Checked {
+    /// The next line, with its feed, which the checker has taken, or none where the certificate ends, and is one. A line that the
+    /// checker doesn't take isn't handed out.
+    pub fn next_line(&mut self) -> Result<Option<Vec<u8>>, Fault>
+        requires { HasTaken self.old.checker }
+        ensures words { IfOk result (λ line. IfSome line (λ text.
+            (words : List TheWord) × (text.items ≡ claim_line words))) }
+        ensures takes { IfOk result (λ line. IfSome line (λ text.
+            TakesMore self.old.checker self.new.checker text.items)) }
+        ensures whole { IfOk result (λ line. IfNone line
+            ((answer : TheAnswer) × IsProvedBy self.old.checker answer)) }
+        ensures refuses { IfErr result (λ fault. (fault ≡ NoMemory → ⊥)
+            → (more : List ℕ) × RefusesMore self.old.checker more fault) }
+    {
+        let Some(line) = self.certificate.next_text()? else {
+            self.checker.ended(b"")?;
+            return Ok(None);
+        };
+        self.checker.take(line.as_slice())?;
+        Ok(Some(fed(line)?))
+    }
+}

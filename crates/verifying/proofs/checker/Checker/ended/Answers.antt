@@ -1,0 +1,18 @@
+use Rattle.std.proofs.Common.{arith, ap, length}
+use Rattle.std.proofs.lemmas.Grind.{common_steps}
+use Rattle.verifying.proofs.Checked.{end_wrong, no_read}
+use Rattle.verifying.proofs.checker.Checker.ended.Goals as goal
+
+pub returns-then-not-is_empty-clause-refuses : goal.returns-then-not-is_empty-clause-refuses
+returns-then-not-is_empty-clause-refuses g c = λ memory none.
+    end_wrong c.args.self.now c.args.rest.now c.fault.result c.fault.ensures (λ empty. absurd (grind (arith, common_steps, ap length empty))) none
+
+pub returns-in-None-clause-refuses : goal.returns-in-None-clause-refuses
+returns-in-None-clause-refuses g c = λ memory none.
+    end_wrong c.args.self.now c.args.rest.now c.fault-in-None.result c.fault-in-None.ensures (λ empty. c.in-None.ensures.unfinished) none
+
+pub returns-then-not-is_empty-clause-unread : goal.returns-then-not-is_empty-clause-unread
+returns-then-not-is_empty-clause-unread g c = no_read c.args.self.now.part c.args.self.now.number c.fault.result c.fault.ensures
+
+pub returns-in-None-clause-unread : goal.returns-in-None-clause-unread
+returns-in-None-clause-unread g c = no_read c.args.self.now.part c.args.self.now.number c.fault-in-None.result c.fault-in-None.ensures
