@@ -19,7 +19,8 @@ use Rattle.trees.specs.Best.{IsBestMove, IsBest}
 use Rattle.trees.proofs.Forcing.{fewest_most}
 use Rattle.trees.proofs.Fewest.{best_plan}
 use Rattle.answer_laws.specs.Plans.{first_move}
-use Rattle.answer_laws.proofs.OneAnswer.{one_fewest, one_least}
+use Rattle.answer_laws.proofs.OneAnswer.{one_fewest}
+use Rattle.trees.proofs.Unique.{one_least}
 
 -- ---- heights
 

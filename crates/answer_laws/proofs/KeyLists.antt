@@ -7,7 +7,7 @@ use Rattle.rules.specs.declared.goal.Goal.{Goal}
 use Rattle.rules.specs.Forces.{Forces}
 use Rattle.rules.specs.Order.{IsPlyBefore}
 use Rattle.rules.specs.Squares.{Ply}
-use Rattle.rules.proofs.Forcing.{on_own, same_side-self}
+use Rattle.rules.proofs.Forcing.{same_side-self}
 use Rattle.decision.specs.declared.answer.Answer.TheVariants.{Mate}
 use Rattle.decision.specs.Answer.{Wins, IsAnswer}
 use Rattle.decision.proofs.Winning.{forced_by}
@@ -17,6 +17,7 @@ use Rattle.wintree.proofs.Listings.{among_first, among_more}
 use Rattle.trees.proofs.Forcing.{fewest_most, some_ply}
 use Rattle.answer_laws.specs.Answers.{sooner, soonest, answer_of, IsNoBetter}
 use Rattle.answer_laws.proofs.Listings.{before_later, tail_ordered}
+use Rattle.board.proofs.RankText.{on_true as on_own}
 
 -- ---- the first of the keys with the fewest plies
 

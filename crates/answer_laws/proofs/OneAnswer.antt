@@ -1,9 +1,8 @@
 -- A question has one answer.
-use Rattle.std.proofs.Common.{◌≡◌, ℕ, List, sym, ap, ap₂, ◌∙◌, subst, inl, inr, arith}
+use Rattle.std.proofs.Common.{◌≡◌, ℕ, List, sym, ap, ap₂, ◌∙◌, subst, arith}
 use Rattle.board.specs.Board.{PlainBoard}
 use Rattle.rules.specs.declared.goal.Goal.{Goal}
 use Rattle.rules.specs.Order.{IsPlyBefore}
-use Rattle.rules.specs.Squares.{Ply}
 use Rattle.decision.specs.declared.answer.Answer.{Answer}
 use Rattle.decision.specs.declared.answer.Answer.TheVariants.{Mate, NoneWithin}
 use Rattle.decision.specs.Answer.{IsFewest, IsLeastWin, IsAnswer}
@@ -12,21 +11,13 @@ use Rattle.searcher.specs.Keys.{ListsKeys}
 use Rattle.wintree.proofs.Listings.{lower_once}
 use Rattle.trees.proofs.Forcing.{fewest_most}
 use Rattle.answer_laws.proofs.Listings.{one_listing}
+use Rattle.trees.proofs.Unique.{one_least}
 
 pub one_fewest : (goal : Goal) (b : PlainBoard) (n k : ℕ) → IsFewest goal b n → IsFewest goal b k → n ≡ k
 one_fewest goal b n k f g =
     let least = fewest_most goal b n k f g.forced in
     let most = fewest_most goal b k n g f.forced in
     omega (arith, least, most)
-
-pub one_least : (goal : Goal) (b : PlainBoard) (n : ℕ) (l m : Ply) → IsLeastWin goal b n l → IsLeastWin goal b n m → l ≡ m
-one_least goal b n l m a c = elim (c.least l a.wins) as (λ _. l ≡ m) [
-  | inl same ↦ same
-  | inr after ↦ elim (a.least m c.wins) as (λ _. l ≡ m) [
-    | inl same ↦ sym same
-    | inr before ↦ absurd (lower_once _ _ _ _ _ _ after before)
-  ]
-]
 
 pub one_answer : (goal : Goal) (b : PlainBoard) (limit : ℕ) (x y : Answer) → IsAnswer goal b limit x → IsAnswer goal b limit y → x ≡ y
 one_answer goal b limit (Mate n l) (Mate k m) x y =

@@ -16,8 +16,8 @@ abbrev pub SaysMoves : List ℕ → List ℕ → ℕ → Type 0
 SaysMoves said fen moves = (moves < 100) × (said ≡ fen ++ (codes " ; dm " ++ decimal moves))
 
 -- a line's position and the moves that it says; one that says none is a position as it is
-abbrev pub IsAsked : List ℕ → Asked → Type 0
-IsAsked said asked = MatchOption asked.moves
+abbrev pub IsAskedIn : List ℕ → Asked → Type 0
+IsAskedIn said asked = MatchOption asked.moves
     ((asked.fen.now ≡ said) × ((fen : List ℕ) (moves : ℕ) → SaysMoves said fen moves → ⊥))
     (SaysMoves said asked.fen.now)
 
@@ -31,10 +31,10 @@ abbrev pub with_plies : Limits → ℕ → Limits
 with_plies limits plies = record { limit = plies; workers = limits.workers; slots = limits.slots }
 
 -- the keys of a position where keys are asked for, and else its answer
-abbrev pub IsFound : Bool → Goal → PlainBoard → ℕ → Found → Type 0
-IsFound true goal b limit (Keys keys) = ListsKeys goal b limit keys.items
-IsFound false goal b limit (Answer answer) = IsAnswer goal b limit answer
-IsFound _ goal b limit _ = ⊥
+abbrev pub IsFoundAt : Bool → Goal → PlainBoard → ℕ → Found → Type 0
+IsFoundAt true goal b limit (Keys keys) = ListsKeys goal b limit keys.items
+IsFoundAt false goal b limit (Answer answer) = IsAnswer goal b limit answer
+IsFoundAt _ goal b limit _ = ⊥
 
 -- an answer was found
 abbrev pub IsAnswerFound : Found → Type 0
@@ -42,13 +42,13 @@ IsAnswerFound (Answer answer) = ⊤
 IsAnswerFound (Keys keys) = ⊥
 
 -- the fewest plies of what was found are these; all keys within them take them
-abbrev pub Takes : Found → ℕ → Type 0
-Takes (Answer (Mate fewest first)) plies = fewest ≡ plies
-Takes (Answer (NoneWithin limit)) plies = ⊥
-Takes (Keys keys) plies = (0 < length keys.items) × All (λ key. key.plies ≡ plies) keys.items
+abbrev pub TakesPlies : Found → ℕ → Type 0
+TakesPlies (Answer (Mate fewest first)) plies = fewest ≡ plies
+TakesPlies (Answer (NoneWithin limit)) plies = ⊥
+TakesPlies (Keys keys) plies = (0 < length keys.items) × All (λ key. key.plies ≡ plies) keys.items
 
 -- whether what was found takes the moves that a line says, where it says some
 abbrev pub IsJudged : Option ℕ → Found → Option Bool → Type 0
 IsJudged None found agrees = agrees ≡ None
 IsJudged (Some moves) found None = ⊥
-IsJudged (Some moves) found (Some agrees) = IsTrue agrees ↔ Takes found (2 * moves - 1)
+IsJudged (Some moves) found (Some agrees) = IsTrue agrees ↔ TakesPlies found (2 * moves - 1)

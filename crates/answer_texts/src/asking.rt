@@ -1,6 +1,6 @@
 //! What a line of a batch asks: a position, and perhaps in how many moves there is a mate.
 ghost use Rattle.std.specs.Prelude.{◌≡◌, ◌↔◌, ◌<◌, All, IfOk, IsTrue, length};
-ghost use Rattle.answer_texts.specs.Asking.{IsAsked, IsJudged, Takes, limit_of};
+ghost use Rattle.answer_texts.specs.Asking.{IsAskedIn, IsJudged, TakesPlies, limit_of};
 
 use crate::asked::{Asked, Found};
 use decision::Answer;
@@ -9,7 +9,7 @@ use std::alloc::{AllocError, Global};
 
 /// What a line that is no remark asks.
 pub fn asked_in<'a>(alloc: Global, said: &'a [u8]) -> Result<Asked<'a>, AllocError>
-    ensures { IfOk result (IsAsked said.entry.now) }
+    ensures { IfOk result (IsAskedIn said.entry.now) }
 {
     let plain = Asked {
         fen: said,
@@ -53,7 +53,7 @@ fn all_take(keys: &[Key], plies: u32) -> bool
 
 /// Whether the fewest plies of what was found are these.
 fn takes(found: &Found, plies: u32) -> bool
-    ensures { IsTrue result ↔ Takes found.now plies }
+    ensures { IsTrue result ↔ TakesPlies found.now plies }
 {
     match found {
         Found::Answer(Answer::Mate { plies: fewest, .. }) => u32::from(*fewest) == plies,

@@ -18,7 +18,8 @@ use Rattle.board.specs.Fen.{letter_of, side_letter, IsFenText}
 use Rattle.board.specs.FenFaults.{board_part, side_part, rows, first_of, last_of, is_digit, IsShape, IsBoardByte, HasAdjacentRuns, is_case_of, has_pawn, fen_fault_number, FenFaultHolds, IsFenFault}
 use Rattle.board.specs.FenFaults.IsBoardByte.{separator, digit, letter}
 use Rattle.board.proofs.RankText.{letter_above, one_unit}
-use Rattle.board.proofs.FenLaw.{letter_no_digit, heads, law}
+use Rattle.board.proofs.FenLaw.{heads, law}
+use Rattle.board.proofs.RowBytes.{letter_no_digit, weight}
 
 -- ---- a letter of a unit
 
@@ -78,21 +79,17 @@ none_more text f none not e lt h = elim (split3 (fen_fault_number e) (fen_fault_
     split3 : (i j : ℕ) → (i < j) ⊎ ((i ≡ j) ⊎ (j < i))
     split3 i j = grind arith
 
-one_shape : (g h : Game) (board : List ℕ) → IsShape g board → IsShape h board → g ≡ h
+pub one_shape : (g h : Game) (board : List ℕ) → IsShape g board → IsShape h board → g ≡ h
 one_shape LosAlamos LosAlamos board s t = refl
 one_shape LosAlamos Gardner board s t = let e = (heads _ _ _ _ (sym s ∙ t)).0 in absurd (omega arith)
 one_shape Gardner LosAlamos board s t = let e = (heads _ _ _ _ (sym s ∙ t)).0 in absurd (omega arith)
 one_shape Gardner Gardner board s t = refl
-
-weight : Bool → ℕ
-weight b = cond b 1 0
 
 pub both_sides : (P : Side → Type 0) → P White → P Black → (side : Side) → P side
 both_sides P w b White = w
 both_sides P w b Black = b
 
 pub no_space : (text : List ℕ) → All (λ c. c ≢ 32) text → count_by (λ c. eqb c 32) text ≡ 0
-unfolding weight
 no_space [] none = refl
 no_space (c ∷ text) none =
     let e = ap weight (ne_eqb c 32 (All-head (λ x. x ≢ 32) c text none)) in

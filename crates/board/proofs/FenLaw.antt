@@ -4,9 +4,7 @@ use Rattle.std.specs.Option.{IfSome}
 use Rattle.std.specs.List.{onto_first, join_with_byte, count_by}
 use Rattle.std.proofs.Math.ListN.{length-replicate}
 use Rattle.std.proofs.lemmas.Bool.{eq-eqb, ne_eqb, or_parts, cases_lt, false≢true}
-use Rattle.std.proofs.lemmas.Bool.Decides.{nat_tests}
 use Rattle.std.proofs.lemmas.List.{get_or_append_left, get_or-append_right}
-use Rattle.std.proofs.lemmas.List.Sums.{sum_by-cons, sum_by-append}
 use Rattle.std.proofs.lemmas.List.Splits.{slice_split-cons_yes, slice_split-cons_no, length-slice_split, join_with_byte-slice_split}
 use Rattle.std.proofs.lemmas.List.Elements.{All-nil, All-cons, All-head, All-tail, All-append, All-replicate, All-get_or}
 use Rattle.board.specs.declared.game.Game.{Game}
@@ -14,7 +12,7 @@ use Rattle.board.specs.declared.game.Game.TheVariants.{LosAlamos, Gardner}
 use Rattle.board.specs.declared.game.Side.{Side}
 use Rattle.board.specs.declared.game.Side.TheVariants.{White, Black}
 use Rattle.board.specs.declared.game.Kind.{Kind}
-use Rattle.board.specs.declared.game.Kind.TheVariants.{King, Queen, Rook, Bishop, Knight, Pawn}
+use Rattle.board.specs.declared.game.Kind.TheVariants.{King, Pawn}
 use Rattle.board.specs.declared.game.Unit.{Unit as Man}
 use Rattle.board.specs.Games.{width_of, squares_of, most_units, IsPlayed}
 use Rattle.board.specs.Board.{PlainBoard, board_of, is_king_of, is_of_side, MayStandOn, IsPosition}
@@ -24,6 +22,7 @@ use Rattle.board.specs.Fen.IsTextFrom.{first, above}
 use Rattle.board.specs.FenFaults.{rows, first_of, last_of, is_digit, row_width, IsShape, IsBoardByte, HasAdjacentRuns, is_case_of, has_pawn}
 use Rattle.board.specs.FenFaults.IsBoardByte.{separator, digit, letter}
 use Rattle.board.proofs.RankText.{letter_above}
+use Rattle.board.proofs.RowBytes.{IsPlayedAt, IsNoPawn, width_more, is_digit-from, digit_bounds, letter_no_digit, Agrees, count_more, count_append, weight, count_empty, row_count, kings_agree, sides_agree}
 
 -- ---- each row is the text of a rank
 
@@ -35,38 +34,8 @@ pub data AreRanks (g : Game) : List (List ℕ) → List (List (Option Man)) → 
 abbrev empty_square : Option Man
 empty_square = None
 
--- what stands there is played
-abbrev IsPlayedAt : Game → Option Man → Type 0
-IsPlayedAt g x = IfSome x (λ u. IsPlayed g u.kind)
-
 abbrev Ranks : Game → List (List ℕ) → Type 0
 Ranks g parts = (ranks : List (List (Option Man))) × AreRanks g parts ranks
-
-width_more : (c : ℕ) (row : List ℕ) → row_width (c ∷ row) ≡ cond (is_digit c) (c - 48) 1 + row_width row
-width_more c row = sum_by-cons (λ x. cond (is_digit x) (x - 48) 1) c row
-
-digit_bounds : (c : ℕ) → is_digit c ≡ true → (48 ≤ c) × (c ≤ 57)
-digit_bounds c h = (grind (arith, nat_tests), grind (arith, nat_tests))
-
-is_digit-from : (d : ℕ) → d < 10 → is_digit (48 + d) ≡ true
-is_digit-from d h = grind (arith, nat_tests)
-
-letter_bounds : (s : Side) (k : Kind) → 57 < letter_of s k
-letter_bounds White King = omega arith
-letter_bounds White Queen = omega arith
-letter_bounds White Rook = omega arith
-letter_bounds White Bishop = omega arith
-letter_bounds White Knight = omega arith
-letter_bounds White Pawn = omega arith
-letter_bounds Black King = omega arith
-letter_bounds Black Queen = omega arith
-letter_bounds Black Rook = omega arith
-letter_bounds Black Bishop = omega arith
-letter_bounds Black Knight = omega arith
-letter_bounds Black Pawn = omega arith
-
-pub letter_no_digit : (u : Man) → is_digit (letter_of u.side u.kind) ≡ false
-letter_no_digit u = let h = letter_bounds u.side u.kind in grind (arith, nat_tests)
 
 onto_run : (g : Game) (c : ℕ) (parts : List (List ℕ)) → 0 < length parts → is_digit c ≡ true → c ≢ 48 → StartsNoRun (first_of parts) → (ranks : List (List (Option Man))) → AreRanks g parts ranks → Ranks g (onto_first c parts)
 onto_run g c [] h d z s old r = absurd (omega arith)
@@ -105,7 +74,7 @@ starts : (c : ℕ) (board : List ℕ) → is_digit c ≡ true → (HasAdjacentRu
 starts c [] d apart = tt
 starts c (b ∷ board) d apart = row_starts b board (λ k lt e. apart (0, omega arith, d, ap is_digit e ∙ is_digit-from k lt))
 
-some_rows : (board : List ℕ) → 0 < length (rows board)
+pub some_rows : (board : List ℕ) → 0 < length (rows board)
 some_rows board = omega (arith, length-slice_split (λ x. eqb x 47) board)
 
 onto_byte : (g : Game) (c : ℕ) (board : List ℕ) → IsBoardByte g c → c ≢ 48 → (HasAdjacentRuns (c ∷ board) → ⊥) → Ranks g (rows board) → Ranks g (rows (c ∷ board))
@@ -162,97 +131,20 @@ played_of g (row ∷ rest) old (next {units = units} {ranks = ranks} r l p more)
 
 -- ---- counting units is counting letters
 
--- the test of a byte says of a letter what the test of a place says of its unit
-record Agrees (p : ℕ → Bool) (q : Option Man → Bool) : Type 0 where
-  separator_no : p 47 ≡ false
-  digits_no : (d : ℕ) → d < 10 → p (48 + d) ≡ false
-  empty_no : q None ≡ false
-  same : (u : Man) → p (letter_of u.side u.kind) ≡ q (Some u)
-
-count_more : {X : Type 0} (p : X → Bool) (x : X) (xs : List X) → count_by p (x ∷ xs) ≡ cond (p x) 1 0 + count_by p xs
-count_more p x xs = sum_by-cons (λ y. cond (p y) 1 0) x xs
-
-weight : Bool → ℕ
-weight b = cond b 1 0
-
-count_append : {X : Type 0} (p : X → Bool) (xs ys : List X) → count_by p (xs ++ ys) ≡ count_by p xs + count_by p ys
-count_append p xs ys = sum_by-append (λ y. cond (p y) 1 0) xs ys
-
-count_empty : (q : Option Man → Bool) (d : ℕ) → q None ≡ false → count_by q (replicate d None) ≡ 0
-unfolding weight
-count_empty q zero e = refl
-count_empty q (suc d) e = omega (arith, count_more q None (replicate d None), ap weight e, count_empty q d e)
-
-count_rank : (p : ℕ → Bool) (q : Option Man → Bool) → Agrees p q → (row : List ℕ) (units : List (Option Man)) → IsRankText row units → count_by q units ≡ count_by p row
-unfolding weight
-count_rank p q a [] units end = refl
-count_rank p q a (c ∷ row) old (unit {units = units} u e r) =
-    omega (arith, count_more q (Some u) units, count_more p c row, ap weight (ap p e ∙ a.same u), count_rank p q a row units r)
-count_rank p q a (c ∷ row) units (run {units = rest} d h k e s r) =
-    omega (arith, count_append q (replicate d None) rest, count_empty q d a.empty_no, count_more p c row, ap weight (ap p e ∙ a.digits_no d k), count_rank p q a row rest r)
-
 count_ranks : (g : Game) (p : ℕ → Bool) (q : Option Man → Bool) → Agrees p q → (parts : List (List ℕ)) (ranks : List (List (Option Man))) → AreRanks g parts ranks → count_by q (flat ranks) ≡ count_by p (join_with_byte 47 parts)
-unfolding weight
 count_ranks g p q a [] ranks done = refl
-count_ranks g p q a (row ∷ []) ranks (next {units = units} r l k done) = count_rank p q a row units r
+count_ranks g p q a (row ∷ []) ranks (next {units = units} r l k done) = row_count p q a row units r
 count_ranks g p q a (row ∷ second ∷ rest) old (next {units = units} {ranks = ranks} r l k more) =
     let below = join_with_byte 47 (second ∷ rest) in
-    omega (arith, count_append q (flat ranks) units, count_append p row (47 ∷ below), count_more p 47 below, ap weight a.separator_no, count_rank p q a row units r, count_ranks g p q a (second ∷ rest) ranks more)
-
--- what holds of each side and kind
-by_men : (P : Side → Kind → Type 0) → P White King → P White Queen → P White Rook → P White Bishop → P White Knight → P White Pawn → P Black King → P Black Queen → P Black Rook → P Black Bishop → P Black Knight → P Black Pawn → (s : Side) (k : Kind) → P s k
-by_men P a b c d e f g h i j k l White King = a
-by_men P a b c d e f g h i j k l White Queen = b
-by_men P a b c d e f g h i j k l White Rook = c
-by_men P a b c d e f g h i j k l White Bishop = d
-by_men P a b c d e f g h i j k l White Knight = e
-by_men P a b c d e f g h i j k l White Pawn = f
-by_men P a b c d e f g h i j k l Black King = g
-by_men P a b c d e f g h i j k l Black Queen = h
-by_men P a b c d e f g h i j k l Black Rook = i
-by_men P a b c d e f g h i j k l Black Bishop = j
-by_men P a b c d e f g h i j k l Black Knight = k
-by_men P a b c d e f g h i j k l Black Pawn = l
-
-kings_agree : (side : Side) → Agrees (λ c. eqb c (letter_of side King)) (is_king_of side)
-kings_agree White = record {
-  separator_no = refl;
-  digits_no = λ d h. ne_eqb _ _ (λ e. omega arith);
-  empty_no = refl;
-  same = λ u. by_men (λ s k. eqb (letter_of s k) 75 ≡ is_king_of White (Some (record { side = s; kind = k }))) refl refl refl refl refl refl refl refl refl refl refl refl u.side u.kind;
-}
-kings_agree Black = record {
-  separator_no = refl;
-  digits_no = λ d h. ne_eqb _ _ (λ e. omega arith);
-  empty_no = refl;
-  same = λ u. by_men (λ s k. eqb (letter_of s k) 107 ≡ is_king_of Black (Some (record { side = s; kind = k }))) refl refl refl refl refl refl refl refl refl refl refl refl u.side u.kind;
-}
-
-sides_agree : (side : Side) → Agrees (is_case_of side) (is_of_side side)
-sides_agree White = record {
-  separator_no = refl;
-  digits_no = λ d h. grind (arith, nat_tests);
-  empty_no = refl;
-  same = λ u. by_men (λ s k. is_case_of White (letter_of s k) ≡ is_of_side White (Some (record { side = s; kind = k }))) refl refl refl refl refl refl refl refl refl refl refl refl u.side u.kind;
-}
-sides_agree Black = record {
-  separator_no = refl;
-  digits_no = λ d h. grind (arith, nat_tests);
-  empty_no = refl;
-  same = λ u. by_men (λ s k. is_case_of Black (letter_of s k) ≡ is_of_side Black (Some (record { side = s; kind = k }))) refl refl refl refl refl refl refl refl refl refl refl refl u.side u.kind;
-}
+    omega (arith, count_append q (flat ranks) units, count_append p row (47 ∷ below), count_more p 47 below, ap weight a.separator_no, row_count p q a row units r, count_ranks g p q a (second ∷ rest) ranks more)
 
 -- ---- pawns
-
-IsNoPawn : Option Man → Type 0
-IsNoPawn x = IfSome x (λ u. u.kind ≡ Pawn → ⊥)
 
 pawn_letter : (s : Side) (k : Kind) → k ≡ Pawn → (eqb (letter_of s k) 80 || eqb (letter_of s k) 112) ≡ true
 pawn_letter White k e = ap (λ x. eqb (letter_of White x) 80 || eqb (letter_of White x) 112) e
 pawn_letter Black k e = ap (λ x. eqb (letter_of Black x) 80 || eqb (letter_of Black x) 112) e
 
 no_pawns : (row : List ℕ) (units : List (Option Man)) → IsRankText row units → has_pawn row ≡ false → All IsNoPawn units
-unfolding IsNoPawn
 no_pawns [] units end h = All-nil _
 no_pawns (c ∷ row) old (unit {units = units} u e r) h =
     let t = or_parts (eqb c 80 || eqb c 112) (has_pawn row) h in
@@ -285,7 +177,6 @@ high g w n (row ∷ rest) old (next {units = units} {ranks = ranks} r l p more) 
 -- ---- the position
 
 stands : (g : Game) (k : ℕ) (x : Option Man) → k < squares_of g → IsPlayedAt g x → (k < width_of g → IsNoPawn x) → (squares_of g ≤ k + width_of g → IsNoPawn x) → IfSome x (MayStandOn g k)
-unfolding IsNoPawn
 stands g k None lt played not_low not_high = tt
 stands g k (Some u) lt played not_low not_high = record {
   on_board = lt;
@@ -308,7 +199,6 @@ last_below Gardner = (omega arith, omega arith)
 
 -- a board and a side to move with no fault are the text of a position
 pub law : (g : Game) (s : Side) (board : List ℕ) → IsShape g board → All (IsBoardByte g) board → (Contains board 48 → ⊥) → (HasAdjacentRuns board → ⊥) → ((side : Side) → count_by (λ c. eqb c (letter_of side King)) board ≡ 1) → ((side : Side) → count_by (is_case_of side) board ≤ most_units g) → has_pawn (first_of (rows board)) ≡ false → has_pawn (last_of (rows board)) ≡ false → (b : PlainBoard) × IsPosition b × IsFenText (board ++ 32 ∷ side_letter s ∷ []) b
-unfolding IsNoPawn
 law g s board shape own nought apart kings armies no_first no_last =
     let w = width_of g in
     let n = last_rank g in

@@ -50,8 +50,8 @@ AnswersSearch Command fen terms =
     Answers (record { fen = fen; action = Command (goal_of terms.stale) (limits_of terms.limit terms.slots) }) []
 
 -- the reply is the position after the move of this name, at the position of a text
-abbrev pub AnswersAfter : List ℕ → List ℕ → List ℕ → List ℕ → ℕ → Type 0
-AnswersAfter fen name = Puts (IsAfterReply fen name)
+abbrev pub AnswersPlayed : List ℕ → List ℕ → List ℕ → List ℕ → ℕ → Type 0
+AnswersPlayed fen name = Puts (IsAfterReply fen name)
 
 -- the reply is the fault of a text, or nothing
 abbrev pub AnswersFault : List ℕ → List ℕ → List ℕ → ℕ → Type 0

@@ -1,6 +1,6 @@
 //! The seven calls that solve, check and play. Each puts its reply into the room, or why there is none, and answers the length of what it puts.
 ghost use Rattle.command_line.specs.declared.line.Action.TheVariants.{Solve, Keys, Tree};
-ghost use Rattle.calls.specs.Calls.{AnswersAfter, AnswersCheck, AnswersFault, AnswersMoves, AnswersSearch};
+ghost use Rattle.calls.specs.Calls.{AnswersPlayed, AnswersCheck, AnswersFault, AnswersMoves, AnswersSearch};
 
 use crate::answering::{Terms, goal_of, limits_of, put_reply};
 use crate::one_thread::{check_reply, keys_reply, moves_reply, solve_reply, tree_reply};
@@ -24,7 +24,7 @@ pub fn fault<A: Allocator + Copy>(alloc: A, fen: &[u8], room: &mut [u8]) -> usiz
 
 /// The position after the lawful move that `minimate moves` writes by this name.
 pub fn after<A: Allocator + Copy>(alloc: A, fen: &[u8], name: &[u8], room: &mut [u8]) -> usize
-    ensures { AnswersAfter fen.now name.now room.old room.new result }
+    ensures { AnswersPlayed fen.now name.now room.old room.new result }
 {
     put_reply(alloc, after_reply(alloc, fen, name), room)
 }

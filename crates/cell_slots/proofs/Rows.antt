@@ -12,7 +12,7 @@ use Rattle.slots.specs.declared.calls.Act.{Act}
 use Rattle.cell_slots.specs.declared.views.View.{View}
 use Rattle.crossbeam_utils.specs.Seq.{cell_view}
 use Rattle.cell_slots.specs.Cell.{part_by, told, Token, token_table, token_part, tokens_part, IsSeated, IsFresh, Fresh}
-use Rattle.cell_slots.specs.Table.{Part, Adds, Name, Seated, nobody_yet, told_part, Calls}
+use Rattle.cell_slots.specs.Table.{Part, AddsCall, Name, Seated, nobody_yet, told_part, Calls}
 
 module _ {A B C : Type 0} (f : A → C) (g : B → C) where
   pub same_at : (xs : List A) (ys : List B) (i : ℕ) (a : A) (b : B) → map f xs ≡ map g ys → i < length xs → a ≡ get_or xs i a → b ≡ get_or ys i b → f a ≡ g b
@@ -44,13 +44,13 @@ abbrev pub seat_of : Name → List Token → Seated
 seat_of name tokens = record { table = name; parts = map token_part tokens }
 
 pub calls_of : (key : List ℕ → List ℕ) (tokens : List Token) (slot : ℕ) (t u : Token) (act : Act) (a b : Name) → slot < length tokens → t ≡ get_or tokens slot t → u.id ≡ t.id
-    → Adds key slot act (part_by t.id (cell_view t)) (part_by t.id (cell_view u)) → Calls key slot act (seat_of a tokens) (seat_of b (set tokens slot u))
+    → AddsCall key slot act (part_by t.id (cell_view t)) (part_by t.id (cell_view u)) → Calls key slot act (seat_of a tokens) (seat_of b (set tokens slot u))
 calls_of key tokens slot t u act a b inside is same made =
-    let adds : Adds key slot act (token_part t) (token_part u) = subst (λ (n : ℕ). Adds key slot act (token_part t) (part_by n (cell_view u))) (sym same) made in
+    let adds : AddsCall key slot act (token_part t) (token_part u) = subst (λ (n : ℕ). AddsCall key slot act (token_part t) (part_by n (cell_view u))) (sym same) made in
     let was : tokens_part tokens slot ≡ token_part t = map_at token_part token_part tokens slot t nobody_yet inside is in
     let now : tokens_part (set tokens slot u) slot ≡ token_part u = set_part tokens slot u inside in
     record {
-      here = subst (λ (v : Part). Adds key slot act v (tokens_part (set tokens slot u) slot)) (sym was) (subst (Adds key slot act (token_part t)) (sym now) adds);
+      here = subst (λ (v : Part). AddsCall key slot act v (tokens_part (set tokens slot u) slot)) (sym was) (subst (AddsCall key slot act (token_part t)) (sym now) adds);
       others = λ i apart. set_part_else tokens slot i u apart;
     }
 

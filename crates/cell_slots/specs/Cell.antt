@@ -16,7 +16,7 @@ use Rattle.slots.specs.Rule.{words_of, longer}
 use Rattle.slots.specs.Steps.{HitFits}
 use Rattle.cell_slots.specs.declared.views.View.{View}
 use Rattle.cell_slots.specs.OneHistory.{OneHistory}
-use Rattle.cell_slots.specs.Table.{Part, Adds, nobody_yet}
+use Rattle.cell_slots.specs.Table.{Part, AddsCall, nobody_yet}
 
 -- a caller that has seen nothing yet
 abbrev pub newcomer : View
@@ -80,7 +80,7 @@ reply key k x = if pointwise nat_eq x (0 ∷ 0 ∷ 0 ∷ []) then Vacant else (i
 
 -- the caller made this one call more
 abbrev pub Makes : (List ℕ → List ℕ) → ℕ → ℕ → Act → View → View → Type 0
-Makes key slot by act v w = (w.seated ≡ true) × Adds key slot act (part_by by v) (part_by by w)
+Makes key slot by act v w = (w.seated ≡ true) × AddsCall key slot act (part_by by v) (part_by by w)
 
 -- the words are read, and the probe is answered by them
 abbrev pub Probes : (List ℕ → List ℕ) → (List ℕ → Type 0) → ℕ → ℕ → List ℕ → View → List ℕ → List ℕ → View → Type 0

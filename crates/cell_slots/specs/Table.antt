@@ -36,13 +36,13 @@ abbrev pub part_at : Seated → ℕ → Part
 part_at s i = slice_index_or s.parts i nobody_yet
 
 -- the caller made this one call more
-pub record Adds (key : List ℕ → List ℕ) (slot : ℕ) (act : Act) (v w : Part) : Type 0 where
+pub record AddsCall (key : List ℕ → List ℕ) (slot : ℕ) (act : Act) (v w : Part) : Type 0 where
   pub same : w.by ≡ v.by
   pub call : AddsHere (taking key) slot v.by act v.seen v.mine w.seen w.mine
 
 -- the caller made this one call more at this slot, and none at another
 pub record Calls (key : List ℕ → List ℕ) (slot : ℕ) (act : Act) (old new : Seated) : Type 0 where
-  pub here : Adds key slot act (part_at old slot) (part_at new slot)
+  pub here : AddsCall key slot act (part_at old slot) (part_at new slot)
   pub others : (i : ℕ) → i ≢ slot → part_at new i ≡ part_at old i
 
 -- the caller has then seen the longer of the two
@@ -50,8 +50,8 @@ abbrev pub told_part : Part → Part → Part
 told_part v w = record { by = v.by; seen = longer v.seen w.seen; mine = v.mine }
 
 -- a caller is told of each slot what another has seen, and makes no call
-abbrev pub Hears : Seated → Seated → Seated → Type 0
-Hears old other new = (i : ℕ) → part_at new i ≡ told_part (part_at old i) (part_at other i)
+abbrev pub IsToldOf : Seated → Seated → Seated → Type 0
+IsToldOf old other new = (i : ℕ) → part_at new i ≡ told_part (part_at old i) (part_at other i)
 
 -- a caller of this table that has seen nothing and made no call
 abbrev pub IsNewSeat : Slotted → Seated → Type 0

@@ -2,7 +2,7 @@
 ghost use Rattle.std.specs.Prelude.{◌≡◌, ℕ, ◌<◌, ◌≢◌, ◌↔◌, length, map, All, IfOk, MatchResult};
 ghost use Rattle.slots.specs.declared.calls.Act.TheVariants.{Asked, Offered};
 ghost use Rattle.slots.specs.Steps.{HitFits};
-ghost use Rattle.cell_slots.specs.Table.{Calls, Hears, IsNewSeat, IsPlainSize, told_part};
+ghost use Rattle.cell_slots.specs.Table.{Calls, IsToldOf, IsNewSeat, IsPlainSize, told_part};
 ghost use Rattle.cell_slots.specs.Cell.{token_table, token_part, tokens_part, IsSeated};
 
 use crate::cell;
@@ -151,7 +151,7 @@ impl<L: Lore> CellSlots<L> {
         requires seat { seat.old.table ≡ self.now.table }
         requires other { other.table ≡ self.now.table }
         ensures seat { seat.new.table ≡ seat.old.table }
-        ensures told { Hears seat.old other seat.new }
+        ensures told { IsToldOf seat.old other seat.new }
     {
         let CellSeat { tokens: mut others } = other;
         tell_all(&self.cells, &mut seat.tokens, &mut others);

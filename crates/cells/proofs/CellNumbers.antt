@@ -9,11 +9,7 @@ use Rattle.board.specs.Games.{width_of}
 use Rattle.rules.specs.Squares.{Place, IsOnBoard}
 use Rattle.rules.specs.Reach.{IsShift}
 use Rattle.cells.specs.Mailbox.{cell_of, place_in, IsAway, IsCell}
-use Rattle.rules.proofs.Rides.{same_place}
-
-pub six : (g : Game) (n : ℕ) → n < width_of g → n < 6
-six LosAlamos n h = h
-six Gardner n h = omega arith
+use Rattle.rules.proofs.Rides.{same_place, within_six as six}
 
 -- a square stands in its cell
 pub place_in-cell_of : (g : Game) (s : Place) → IsOnBoard g s → place_in (cell_of s) ≡ s
@@ -61,10 +57,6 @@ pub cell_of-shift : (g : Game) (dx dy : ℤ) (i j : ℕ) (t : Place) → IsCell 
 cell_of-shift g dx dy i j t from away on e =
     let a : i ≡ 17 + (8 * (place_in i).rank + (place_in i).file) = let h = from.above in omega arith in
     omega (arith, ints, a, away, e.file, e.rank)
-
-pub small_width : (g : Game) → width_of g ≤ 6
-small_width LosAlamos = omega arith
-small_width Gardner = omega arith
 
 pub small_squares : (g : Game) → width_of g * width_of g ≤ 36
 small_squares LosAlamos = omega arith

@@ -6,7 +6,7 @@ use Rattle.rules.specs.Squares.{Ply, square_number}
 use Rattle.rules.specs.Moves.{IsLawful}
 use Rattle.rules.specs.Order.{promotion_number, IsPlyBefore}
 use Rattle.rules.specs.Forces.{Forces}
-use Rattle.rules.proofs.Lists.{IsNumbered-lawful, same_ply}
+use Rattle.rules.proofs.Lists.{IsNumbered-lawful, same_ply, split3}
 use Rattle.rules.proofs.Forcing.{same_side-self, Forces-even, twice, twice-double}
 use Rattle.decision.specs.declared.answer.Answer.{Answer}
 use Rattle.decision.specs.declared.answer.Answer.TheVariants.{Mate, NoneWithin}
@@ -18,9 +18,6 @@ use Rattle.certificates.specs.Answers.{IsOdd, HasClaim, ShowsMate, ShowsNone, Is
 use Rattle.certificates.proofs.Claimed.{no_claims, fails_to_win, wins_within}
 
 -- ---- of two lawful moves one is before the other, or they are one
-
-split3 : (i j : ℕ) → (i < j) ⊎ ((i ≡ j) ⊎ (j < i))
-split3 i j = grind arith
 
 same_numbers : (b : PlainBoard) (l m : Ply) → IsLawful b l → IsLawful b m → square_number b.game l.from ≡ square_number b.game m.from → square_number b.game l.to ≡ square_number b.game m.to → promotion_number l.promotion ≡ promotion_number m.promotion → l ≡ m
 same_numbers b l m x y from to promotion = same_ply b l m (IsNumbered-lawful b l x) (IsNumbered-lawful b m y) (omega (arith, from, to, promotion))

@@ -33,9 +33,9 @@ pub record ShowsNone (b : PlainBoard) (no_claims : List Claim) (limit : ℕ) : T
   pub claimed : HasClaim no_claims b plies
 
 -- The claims show the answer
-abbrev pub Shows : Goal → PlainBoard → List Claim → List Claim → Answer → Type 0
-Shows goal b yes_claims no_claims (Mate plies first) = ShowsMate goal b yes_claims no_claims plies first
-Shows goal b yes_claims no_claims (NoneWithin limit) = ShowsNone b no_claims limit
+abbrev pub ClaimsShow : Goal → PlainBoard → List Claim → List Claim → Answer → Type 0
+ClaimsShow goal b yes_claims no_claims (Mate plies first) = ShowsMate goal b yes_claims no_claims plies first
+ClaimsShow goal b yes_claims no_claims (NoneWithin limit) = ShowsNone b no_claims limit
 
 -- an answer is one up to this limit: of a mate up to its plies and any more, of none within a limit up to that limit alone
 abbrev pub IsUpTo : ℕ → Answer → Type 0
@@ -48,7 +48,7 @@ pub record Certifies (goal : Goal) (b : PlainBoard) (answer : Answer) : Type 0 w
   pub no_claims : List Claim
   pub won : AllWon goal yes_claims
   pub held : AllHold goal no_claims
-  pub shown : Shows goal b yes_claims no_claims answer
+  pub shown : ClaimsShow goal b yes_claims no_claims answer
 
 -- what a certificate shows is the answer
 abbrev pub CertifiedAnswers : Type 0

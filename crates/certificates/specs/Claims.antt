@@ -23,12 +23,12 @@ abbrev pub FailsBy : Goal → List Claim → PlainBoard → ℕ → Ply → Type
 FailsBy goal claims b n m = (q : PlainBoard) → IsMove b m q → (IsReached goal q → ⊥) × ((n ≡ 1) ⊎ ((r : Ply) → IsLawful q r → ⊥) ⊎ EscapesBy goal claims q (n - 2))
 
 -- a no claim holds over the claims: each of the attacker's moves fails within its plies
-abbrev pub Holds : Goal → List Claim → Claim → Type 0
-Holds goal claims c = (m : Ply) → FailsBy goal claims c.position c.plies m
+abbrev pub HoldsOver : Goal → List Claim → Claim → Type 0
+HoldsOver goal claims c = (m : Ply) → FailsBy goal claims c.position c.plies m
 
 -- each no claim holds over all of them
 abbrev pub AllHold : Goal → List Claim → Type 0
-AllHold goal claims = (c : Claim) → Contains claims c → Holds goal claims c
+AllHold goal claims = (c : Claim) → Contains claims c → HoldsOver goal claims c
 
 -- ---- yes claims: the attacker forces the goal within the claim's plies
 

@@ -1,5 +1,5 @@
 -- Fifties behind a text.
-use Rattle.std.proofs.Common.{◌≡◌, ℕ, ◌+◌, List, [], ◌∷◌, ◌++◌, refl, sym, ap, ◌∙◌, append_assoc, replicate}
+use Rattle.std.proofs.Common.{◌≡◌, ℕ, ◌+◌, List, [], ◌∷◌, ◌++◌, sym, ap, ◌∙◌, append_assoc, replicate}
 use Rattle.std.proofs.lemmas.List.{append-nil, replicate-append-replicate}
 
 pub no_fifty : (old : List ℕ) → old ≡ old ++ replicate 0 90

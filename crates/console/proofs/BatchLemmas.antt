@@ -14,13 +14,12 @@ use Rattle.rules.specs.declared.goal.Goal.{Goal}
 use Rattle.decision.specs.declared.answer.Answer.{Answer as TheAnswer}
 use Rattle.decision.specs.Answer.{IsAnswer}
 use Rattle.answer_texts.specs.declared.asked.Found.TheVariants.{Answer, Keys}
-use Rattle.answer_texts.specs.Asking.{IsAnswerFound, IsFound, limit_of}
+use Rattle.answer_texts.specs.Asking.{IsAnswerFound, IsFoundAt, limit_of}
 use Rattle.answer_texts.specs.Forms.{IsFoundText, IsRefusalText}
 use Rattle.answer_texts.specs.declared.asked.Asked.{Asked}
 use Rattle.answer_texts.specs.declared.asked.Batch.{Batch}
 use Rattle.answer_texts.specs.declared.asked.Found.{Found}
 use Rattle.rules.specs.Reading.{IsSoundFault}
-use Rattle.replies.proofs.ReplyLemmas.{of_any, of_input_then}
 use Rattle.devices.specs.Device.{AppendsBeginning}
 use Rattle.devices.specs.Input.{OfInput, failed_reads, without_line_feed}
 use Rattle.devices.specs.declared.transfer.InputFault.{InputFault}
@@ -31,7 +30,7 @@ use Rattle.refusals.specs.declared.refusal.Refusal.{Refusal}
 use Rattle.refusals.specs.declared.refusal.Refusal.TheVariants.{TooLong}
 use Rattle.answer_texts.specs.Said.{said_in}
 use Rattle.console.specs.Batch.{AnswersLines, EndsBatch, HasReplyText, IsAskedReply, IsFoundReply, IsLineReply, RunsBatch, answered_lines, joined, left_out, lines_of, onto}
-use Rattle.console.specs.Desk.{Fails, GivesAsked, GivesFound, GivesNext, IsFirstOf, IsFront, IsRefusedFor, PassesOver, RepliesTo, SameSolver, Step, TakesAnswered, TakesLines, TakesStep, asked_limits, stop_of}
+use Rattle.console.specs.Desk.{Fails, GivesAsked, GivesFound, GivesNext, IsFirstOf, IsAskedRefusal, PassesOver, RepliesTo, SameSolver, Step, TakesAnswered, TakesLines, TakesStep, asked_limits, stop_of}
 use Rattle.devices.specs.Lines.{HasNoFeed, IsFed, IsLastOf, IsReadAs, TakesLine, left_of}
 use Rattle.console.specs.Run.{Ending, Finishes, Refuses, Run, no_memory}
 use Rattle.rounds.specs.declared.task.SolveFault.{SolveFault}
@@ -43,6 +42,7 @@ use Rattle.devices.specs.declared.lines.Taken.{Taken}
 use Rattle.devices.specs.declared.lines.Next.{Next}
 use Rattle.devices.specs.declared.lines.Next.TheVariants.{Line}
 use Rattle.devices.specs.declared.lines.Unread.{Unread}
+use Rattle.devices.proofs.InputLemmas.{of_any, of_input_then}
 
 -- ---- what a line says
 
@@ -61,11 +61,11 @@ asked_gives batch asked b (Err why) sound (inr refused) = inr (inl (b, sound, re
 
 -- what is found within the limits is a reply
 pub found_reply : (batch : Batch) (asked : Asked) (b : PlainBoard) (found : Found) (text : List ℕ) → fault_of (asked_limits batch asked) ≡ None
-    → IsFound batch.manner.keys batch.goal b (limit_of batch.limits.limit asked.moves) found → IsFoundText batch asked found text → IsFoundReply batch asked b text
+    → IsFoundAt batch.manner.keys batch.goal b (limit_of batch.limits.limit asked.moves) found → IsFoundText batch asked found text → IsFoundReply batch asked b text
 found_reply batch asked b found text none is written = rw none (found, is, written)
 
 -- the text of a refusal is a reply
-pub refusal_reply : (batch : Batch) (asked : Asked) (why : Refusal) (text : List ℕ) → IsRefusedFor batch asked why
+pub refusal_reply : (batch : Batch) (asked : Asked) (why : Refusal) (text : List ℕ) → IsAskedRefusal batch asked why
     → IsRefusalText batch.manner.json (Some asked.fen.now) why text → IsAskedReply batch asked text
 refusal_reply batch asked why text (inl (b, sound, (fault, is, same))) written =
     inl (b, sound, rw is (subst (λ w. IsRefusalText batch.manner.json (Some asked.fen.now) w text) same written))
@@ -446,13 +446,13 @@ answers_with batch m status left texts other answers = of_input_then left _ _ an
 -- ---- an answer
 
 -- what is found where no keys are asked for is an answer
-pub found_answer : (keys : Bool) (goal : Goal) (b : PlainBoard) (limit : ℕ) (found : Found) → keys ≡ false → IsFound keys goal b limit found → IsAnswerFound found
+pub found_answer : (keys : Bool) (goal : Goal) (b : PlainBoard) (limit : ℕ) (found : Found) → keys ≡ false → IsFoundAt keys goal b limit found → IsAnswerFound found
 found_answer true goal b limit found answers is = absurd (false≢true (sym answers))
 found_answer false goal b limit (Answer answer) answers is = tt
 found_answer false goal b limit (Keys keys) answers is = absurd is
 
 -- and it is the answer
-pub answer_found : (keys : Bool) (goal : Goal) (b : PlainBoard) (limit : ℕ) (found : Found) (answer : TheAnswer) → keys ≡ false → IsFound keys goal b limit found
+pub answer_found : (keys : Bool) (goal : Goal) (b : PlainBoard) (limit : ℕ) (found : Found) (answer : TheAnswer) → keys ≡ false → IsFoundAt keys goal b limit found
     → found ≡ Answer answer → IsAnswer goal b limit answer
 answer_found true goal b limit found answer answers is same = absurd (false≢true (sym answers))
-answer_found false goal b limit found answer answers is same = subst (IsFound false goal b limit) same is
+answer_found false goal b limit found answer answers is same = subst (IsFoundAt false goal b limit) same is

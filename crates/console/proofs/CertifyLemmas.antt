@@ -27,8 +27,8 @@ use Rattle.verifying.specs.declared.fault.Fault.{Fault}
 use Rattle.verifying.specs.declared.fault.Fault.TheVariants as certificate
 use Rattle.verifying.specs.declared.words.Word.{Word}
 use Rattle.verifying.specs.Certificate.{IsCertificate}
-use Rattle.verifying.specs.Checking.{IsTaken, HasTaken, IsProvedBy, TakesMore, RefusesMore}
-use Rattle.verifying.specs.FirstLine.{IsInRange, IsNamed, answer_text as first_line}
+use Rattle.verifying.specs.Checking.{HasTakenText, HasTaken, IsProvedBy, TakesMore, RefusesMore}
+use Rattle.verifying.specs.FirstLine.{IsInRange, HasNamedMove, answer_text as first_line}
 use Rattle.verifying.proofs.OneAnswer.{lawful_named}
 use Rattle.verifying.proofs.Refused.{begun_answer}
 use Rattle.certifying.specs.Lines.{claim_line, claim_lines}
@@ -43,7 +43,7 @@ use Rattle.answer_texts.specs.declared.asked.Batch.{Batch}
 use Rattle.replies.specs.Outcome.{Solves}
 use Rattle.console.specs.Batch.{ShowsPosition}
 use Rattle.console.specs.Certifying.{WritesCertificate, WritesClaims}
-use Rattle.console.specs.Claims.{AddsAll, AddsClaims, BeginsAt, BeginsCertificate, BeginsWith, CutsClaims, StopsClaims, EndsWriting, Writing, WritesLines, cut_of}
+use Rattle.console.specs.Claims.{AddsAll, AddsClaims, BeginsAt, BeginsCertificate, HasAnswerLine, CutsClaims, StopsClaims, EndsWriting, Writing, WritesLines, cut_of}
 use Rattle.console.specs.Run.{Ending, Finishes, Refuses, no_memory}
 use Rattle.console.proofs.BatchLemmas.{finishes_after}
 use Rattle.console.specs.declared.certificate.Begun.{Begun}
@@ -95,11 +95,11 @@ answer_ranged goal b limits (NoneWithin limit) taken (is, nothing) =
     let most = limit_within limits.limit limits.workers limits.slots taken in
     (omega (arith, is, most.0), omega (arith, is, most.1))
 
-pub answer_named : (goal : Goal) (b : PlainBoard) (limit : ℕ) (answer : Answer) → IsAnswer goal b limit answer → IsNamed answer
+pub answer_named : (goal : Goal) (b : PlainBoard) (limit : ℕ) (answer : Answer) → IsAnswer goal b limit answer → HasNamedMove answer
 answer_named goal b limit (Mate plies first) (within, fewest, least) = lawful_named b first (least.wins.0, least.wins.1)
 answer_named goal b limit (NoneWithin n) is = tt
 
-pub begun_at : (goal : Goal) (b : PlainBoard) (limits : Limits) (answer : Answer) (begun : Begun) → fault_of limits ≡ None → IsAnswer goal b limits.limit answer → vec_items begun.line ≡ answer_text goal answer → IsTaken goal b begun.certificate.checker (first_line goal answer ++ 10 ∷ []) → BeginsAt goal b limits (Ok begun)
+pub begun_at : (goal : Goal) (b : PlainBoard) (limits : Limits) (answer : Answer) (begun : Begun) → fault_of limits ≡ None → IsAnswer goal b limits.limit answer → vec_items begun.line ≡ answer_text goal answer → HasTakenText goal b begun.certificate.checker (first_line goal answer ++ 10 ∷ []) → BeginsAt goal b limits (Ok begun)
 begun_at goal b limits answer begun accepted is line taken = (
   accepted,
   (
@@ -109,7 +109,7 @@ begun_at goal b limits answer begun accepted is line taken = (
       range = answer_ranged goal b limits answer accepted is;
       named = answer_named goal b limits.limit answer is;
       line = line;
-      taken = subst (λ (l : List ℕ). IsTaken goal b begun.certificate.checker l) (sym (answer_line goal answer)) taken;
+      taken = subst (λ (l : List ℕ). HasTakenText goal b begun.certificate.checker l) (sym (answer_line goal answer)) taken;
     },
   ),
 )
@@ -134,7 +134,7 @@ one_line text words is = is ∙ sym (append-nil (claim_line words))
 pub adds_one : (old new : Checker Global) (w : Writing) (text : List ℕ) (words : List Word) → text ≡ claim_line words → TakesMore old new text → Appends w.before w.after text → w.failed_after ≡ w.failed_before → AddsClaims old new w
 adds_one old new w text words is takes written same =
     let one = one_line text words is in
-    (words ∷ [], (subst (λ (l : List ℕ). Appends w.before w.after l) one written, same), λ goal b before taken. subst (λ (l : List ℕ). IsTaken goal b new (before ++ l)) one (takes goal b before taken))
+    (words ∷ [], (subst (λ (l : List ℕ). Appends w.before w.after l) one written, same), λ goal b before taken. subst (λ (l : List ℕ). HasTakenText goal b new (before ++ l)) one (takes goal b before taken))
 
 pub ends_cut : (old new : Checker Global) (w : Writing) (r : Result Bool Cut) (text : List ℕ) (words : List Word) → text ≡ claim_line words → AppendsBeginning w.before w.after text
     → w.failed_after ≡ w.failed_before + 1 → IsErr r × IsErrAnd r (λ cut. cut ≡ WriteFailed) → EndsWriting old new w r
@@ -151,7 +151,7 @@ writes_none : (a : Option (List ℕ)) (n : ℕ) → WritesLines (idle a n) []
 writes_none a n = (Appends-nil a, refl)
 
 pub adds_none : (checker : Checker Global) (a : Option (List ℕ)) (n : ℕ) → AddsClaims checker checker (idle a n)
-adds_none checker a n = ([], writes_none a n, λ goal b text taken. subst (λ (l : List ℕ). IsTaken goal b checker l) (sym (append-nil text)) taken)
+adds_none checker a n = ([], writes_none a n, λ goal b text taken. subst (λ (l : List ℕ). HasTakenText goal b checker l) (sym (append-nil text)) taken)
 
 pub ends_whole : (old : Checker Global) (a : Option (List ℕ)) (n : ℕ) → ((answer : Answer) × IsProvedBy old answer) → AddsAll old (idle a n)
 ends_whole old a n (answer, proves) =
@@ -161,7 +161,7 @@ pub ends_refused : (old new : Checker Global) (a : Option (List ℕ)) (n : ℕ) 
 ends_refused old new a n fault (Ok more) refuses err = absurd err.1
 ends_refused old new a n fault (Err cut) refuses err = subst (StopsClaims old (idle a n)) (sym err.1) (by_fault fault refuses)
   where
-    refusing : (why : Refusal) (more : List ℕ) → ((goal : Goal) (b : PlainBoard) (text : List ℕ) → IsTaken goal b old text → IsRefusedFor goal b (text ++ more) why) → StopsClaims old (idle a n) (Refused why)
+    refusing : (why : Refusal) (more : List ℕ) → ((goal : Goal) (b : PlainBoard) (text : List ℕ) → HasTakenText goal b old text → IsRefusedFor goal b (text ++ more) why) → StopsClaims old (idle a n) (Refused why)
     refusing why more so = ([], writes_none a n, (more, λ goal b text taken. subst (λ (l : List ℕ). IsRefusedFor goal b (l ++ more) why) (sym (append-nil text)) (so goal b text taken)))
 
     by_fault : (fault : Fault) → ((fault ≡ certificate.NoMemory → ⊥) → (more : List ℕ) × RefusesMore old more fault) → StopsClaims old (idle a n) (cut_of fault)
@@ -191,7 +191,7 @@ module _ (a b c : Option (List ℕ)) (p q r : ℕ) where
       → AddsClaims mid new (record { before = b; after = c; failed_before = q; failed_after = r })
       → AddsClaims old new (record { before = a; after = c; failed_before = p; failed_after = r })
   adds_more old mid new (xs, first, takes) (ys, second, more) =
-      (xs ++ ys, writes_more xs ys first second, λ goal board text taken. subst (λ (l : List ℕ). IsTaken goal board new l) (behind text xs ys) (more goal board (text ++ claim_lines xs) (takes goal board text taken)))
+      (xs ++ ys, writes_more xs ys first second, λ goal board text taken. subst (λ (l : List ℕ). HasTakenText goal board new l) (behind text xs ys) (more goal board (text ++ claim_lines xs) (takes goal board text taken)))
 
   pub all_more : (old mid : Checker Global) → AddsClaims old mid (record { before = a; after = b; failed_before = p; failed_after = q })
       → AddsAll mid (record { before = b; after = c; failed_before = q; failed_after = r })
@@ -239,7 +239,7 @@ pub certificate_refused : (subject : Subject) (limits : Limits) (ending : Ending
 certificate_refused subject limits ending why (inl none) refuses = inr (inr (gives_up ending (subst (λ (w : Refusal). Refuses ending w) none refuses)))
 certificate_refused subject limits ending why (inr shows) refuses = inr (inl (why, shows, refuses))
 
-module _ (goal : Goal) (board : PlainBoard) (answer : Answer) (begun : Begun) (begins : BeginsWith goal board answer begun) (a b c : Option (List ℕ)) (p q r : ℕ) where
+module _ (goal : Goal) (board : PlainBoard) (answer : Answer) (begun : Begun) (begins : HasAnswerLine goal board answer begun) (a b c : Option (List ℕ)) (p q r : ℕ) where
   pub first_cut : (status : ℕ) → status ≡ 4 → AppendsBeginning a b (vec_items begun.line) → q ≡ p + 1
       → WritesClaims goal board answer (record { before = a; after = b; failed_writes = q - p; status = status })
   first_cut status four (taken, rest, cut, grown) one =

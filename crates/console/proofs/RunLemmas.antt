@@ -1,6 +1,5 @@
 -- A run, from how its text was written.
 use Rattle.std.proofs.Common.{◌≡◌, ◌≢◌, ◌⊎◌, [], inl, inr, refl, arith, subst, ◌∙◌}
-use Rattle.replies.proofs.ReplyLemmas.{of_input_then}
 use Rattle.devices.specs.Input.{OfInput}
 use Rattle.replies.specs.Output.{input_of, IsOutput}
 use Rattle.refusals.specs.Reply.{Reply, refused}
@@ -12,6 +11,7 @@ use Rattle.console.specs.Verifying.{RunsVerify}
 use Rattle.command_line.specs.declared.line.Subject.{Subject}
 use Rattle.replies.specs.Verdict.{IsVerdict}
 use Rattle.command_line.specs.declared.line.Line.{Line}
+use Rattle.devices.proofs.InputLemmas.{of_input_then}
 
 -- a run that wrote a reply of status 0 or 1
 pub run_of_reply : (line : Line) (run : Run) (reply : Reply) → run.failed_reads ≡ 0

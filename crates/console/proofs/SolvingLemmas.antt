@@ -18,12 +18,7 @@ use Rattle.solutions.specs.Solutions.{IsSolution}
 use Rattle.solution_text.specs.Text.{IsSolutionText}
 use Rattle.console.specs.Run.{Ending, Finishes}
 use Rattle.console.specs.Solving.{EndsReply, IsPublished, IsSolutionReply, ShowsSolution, WritesReply, extras_of, notation_of}
-
--- what is given is given for what follows of it
-gives_weaker : {B : Type 0} (bytes : B → List ℕ) (P Q : Reply → Type 0) (r : Result B Refusal) → ((reply : Reply) → P reply → Q reply) → Gives bytes P r → Gives bytes Q r
-gives_weaker bytes P Q (Ok text) so gives = so (answered (bytes text)) gives
-gives_weaker bytes P Q (Err refusal) so (inl none) = inl none
-gives_weaker bytes P Q (Err refusal) so (inr shows) = inr (so (refused refusal) shows)
+use Rattle.replies.proofs.ReplyLemmas.{gives_weaker}
 
 -- the text of the solution of the position's root is published
 pub published_text : (goal other : Goal) (b c d : PlainBoard) (telling : Telling) (notation : Notation) (solution : Solution Global) (text written : List ℕ) → other ≡ goal → c ≡ b

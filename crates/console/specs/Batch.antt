@@ -12,7 +12,7 @@ use Rattle.refusals.specs.Reply.{Reply, line_of, refused}
 use Rattle.refusals.specs.Refusal.{refusal_of_fen}
 use Rattle.refusals.specs.declared.refusal.Refusal.TheVariants.{TooLong}
 use Rattle.answer_texts.specs.Said.{is_remark, said_in}
-use Rattle.answer_texts.specs.Asking.{IsAsked, IsFound, limit_of, with_plies}
+use Rattle.answer_texts.specs.Asking.{IsAskedIn, IsFoundAt, limit_of, with_plies}
 use Rattle.answer_texts.specs.Forms.{IsFoundText, IsRefusalText}
 use Rattle.answer_texts.specs.declared.asked.Asked.{Asked}
 use Rattle.answer_texts.specs.declared.asked.Batch.{Batch}
@@ -44,7 +44,7 @@ abbrev pub IsFoundReply : Batch → Asked → PlainBoard → List ℕ → Type 0
 IsFoundReply batch asked b text =
     let limits = with_plies batch.limits (limit_of batch.limits.limit asked.moves) in
     MatchOption (fault_of limits)
-    ((found : Found) × IsFound batch.manner.keys batch.goal b limits.limit found × IsFoundText batch asked found text)
+    ((found : Found) × IsFoundAt batch.manner.keys batch.goal b limits.limit found × IsFoundText batch asked found text)
     (λ fault. IsRefusalText batch.manner.json (Some asked.fen.now) (refusal_of_solve fault) text)
 
 -- the same at the sound position of the text, or the refusal of the text's fault
@@ -60,7 +60,7 @@ remark_text batch said = if batch.manner.json then [] else line_of said
 -- what is written for what a line says: for a remark, or for what it asks
 abbrev pub IsReplyText : Batch → List ℕ → List ℕ → Type 0
 IsReplyText batch said text =
-    MatchBool (is_remark said) (text ≡ remark_text batch said) ((asked : Asked) × IsAsked said asked × IsAskedReply batch asked text)
+    MatchBool (is_remark said) (text ≡ remark_text batch said) ((asked : Asked) × IsAskedIn said asked × IsAskedReply batch asked text)
 
 -- a text with the position before it, and a tab, where that is asked for; a remark and JSON as they are
 abbrev pub with_position : Batch → List ℕ → List ℕ → List ℕ

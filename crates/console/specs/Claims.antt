@@ -3,8 +3,6 @@ use Rattle.std.specs.Prelude.{◌≡◌, ◌⊎◌, ◌+◌, ◌++◌, ℕ, List
 use Rattle.std.specs.declared.alloc.Global.{Global}
 use Rattle.std.specs.Io.KnownBytes.{Appends}
 use Rattle.board.specs.Board.{PlainBoard}
-use Rattle.board.specs.declared.fault.FenFault.{FenFault}
-use Rattle.rules.specs.Reading.{IsSoundFault}
 use Rattle.rules.specs.declared.goal.Goal.{Goal}
 use Rattle.decision.specs.declared.answer.Answer.{Answer}
 use Rattle.decision.specs.Answer.{IsAnswer}
@@ -17,8 +15,8 @@ use Rattle.verifying.specs.declared.fault.Fault.{Fault}
 use Rattle.verifying.specs.declared.fault.Fault.TheVariants as certificate
 use Rattle.verifying.specs.declared.words.Word.{Word}
 use Rattle.verifying.specs.Certificate.{IsCertificate}
-use Rattle.verifying.specs.Checking.{IsTaken, TakesMore}
-use Rattle.verifying.specs.FirstLine.{IsInRange, IsNamed}
+use Rattle.verifying.specs.Checking.{HasTakenText, TakesMore}
+use Rattle.verifying.specs.FirstLine.{IsInRange, HasNamedMove}
 use Rattle.refusals.specs.Reply.{refused}
 use Rattle.refusals.specs.declared.refusal.Refusal.{Refusal}
 use Rattle.refusals.specs.declared.refusal.Refusal.TheVariants as refusal
@@ -33,15 +31,15 @@ use Rattle.console.specs.declared.certificate.Cut.TheVariants.{WriteFailed, NoMe
 -- ---- the first line
 
 -- the answer's line is there, and the checker has taken it
-pub record BeginsWith (goal : Goal) (b : PlainBoard) (answer : Answer) (begun : Begun) : Type 0 where
+pub record HasAnswerLine (goal : Goal) (b : PlainBoard) (answer : Answer) (begun : Begun) : Type 0 where
   pub range : IsInRange answer
-  pub named : IsNamed answer
+  pub named : HasNamedMove answer
   pub line : vec_items begun.line ≡ answer_text goal answer
-  pub taken : IsTaken goal b begun.certificate.checker (answer_text goal answer)
+  pub taken : HasTakenText goal b begun.certificate.checker (answer_text goal answer)
 
 -- a certificate of the answer within the limit is begun, or the reply of `solve` is this refusal, or memory is wanting
 abbrev pub BeginsAt : Goal → PlainBoard → Limits → Result Begun Refusal → Type 0
-BeginsAt goal b limits (Ok begun) = (fault_of limits ≡ None) × ((answer : Answer) × IsAnswer goal b limits.limit answer × BeginsWith goal b answer begun)
+BeginsAt goal b limits (Ok begun) = (fault_of limits ≡ None) × ((answer : Answer) × IsAnswer goal b limits.limit answer × HasAnswerLine goal b answer begun)
 BeginsAt goal b limits (Err why) = (why ≡ refusal.NoMemory) ⊎ ShowsAnswer goal b limits (refused why)
 
 -- the same at the sound position of the subject's text
@@ -77,7 +75,7 @@ AddsClaims old new w = (lines : List (List Word)) × WritesLines w lines × Take
 -- lines of claims were written, and make a certificate of what the checker had taken
 abbrev pub AddsAll : Checker Global → Writing → Type 0
 AddsAll old w = (lines : List (List Word)) × WritesLines w lines
-    × ((goal : Goal) (b : PlainBoard) (text : List ℕ) → IsTaken goal b old text → (answer : Answer) × IsCertificate goal b answer (text ++ claim_lines lines))
+    × ((goal : Goal) (b : PlainBoard) (text : List ℕ) → HasTakenText goal b old text → (answer : Answer) × IsCertificate goal b answer (text ++ claim_lines lines))
 
 -- a beginning of lines of claims was written, and then a write failed
 abbrev pub CutsClaims : Writing → Type 0
@@ -88,7 +86,7 @@ abbrev pub StopsClaims : Checker Global → Writing → Cut → Type 0
 StopsClaims old w WriteFailed = CutsClaims w
 StopsClaims old w NoMemory = (lines : List (List Word)) × WritesLines w lines
 StopsClaims old w (Refused why) = (lines : List (List Word)) × WritesLines w lines
-    × ((more : List ℕ) × ((goal : Goal) (b : PlainBoard) (text : List ℕ) → IsTaken goal b old text → IsRefusedFor goal b ((text ++ claim_lines lines) ++ more) why))
+    × ((more : List ℕ) × ((goal : Goal) (b : PlainBoard) (text : List ℕ) → HasTakenText goal b old text → IsRefusedFor goal b ((text ++ claim_lines lines) ++ more) why))
 
 -- how each fault of the checker cuts them off
 abbrev pub cut_of : Fault → Cut

@@ -19,7 +19,7 @@ use Rattle.refusals.specs.declared.refusal.Refusal.{Refusal}
 use Rattle.refusals.specs.declared.refusal.Refusal.TheVariants as refusal
 use Rattle.devices.specs.declared.transfer.InputFault.{InputFault}
 use Rattle.devices.specs.declared.transfer.InputFault.TheVariants as input
-use Rattle.answer_texts.specs.Asking.{IsFound, limit_of, with_plies}
+use Rattle.answer_texts.specs.Asking.{IsFoundAt, limit_of, with_plies}
 use Rattle.console.specs.Batch.{AnswersLines, IsAskedReply, IsFoundReply, IsLineReply, answered_lines, joined, lines_of}
 use Rattle.devices.specs.Lines.{IsFed, IsLastOf, IsReadAs, IsUnread, left_of}
 use Rattle.answer_texts.specs.declared.asked.Asked.{Asked}
@@ -52,7 +52,7 @@ OpensDesk batch (Err fault) = (fault_of batch.limits ≡ Some fault) ⊎ ((fault
 
 -- what is asked of a position within the limits, for values of any size: it is found, or this is the first fault of the values, or memory is wanting
 abbrev pub Finds : Bool → Goal → PlainBoard → Limits → Result Found SolveFault → Type 0
-Finds keys goal b limits (Ok found) = (fault_of limits ≡ None) × IsFound keys goal b limits.limit found
+Finds keys goal b limits (Ok found) = (fault_of limits ≡ None) × IsFoundAt keys goal b limits.limit found
 Finds keys goal b limits (Err fault) = (fault_of limits ≡ Some fault) ⊎ ((fault_of limits ≡ None) × (fault ≡ solve.NoMemory))
 
 -- the limits within which a line is searched
@@ -66,15 +66,15 @@ GivesFound batch asked b (Err why) =
     (why ≡ refusal.NoMemory) ⊎ ((fault : SolveFault) × (fault_of (asked_limits batch asked) ≡ Some fault) × (why ≡ refusal_of_solve fault))
 
 -- what is asked is refused for this: the limits at a sound position, or the text's fault
-abbrev pub IsRefusedFor : Batch → Asked → Refusal → Type 0
-IsRefusedFor batch asked why =
+abbrev pub IsAskedRefusal : Batch → Asked → Refusal → Type 0
+IsAskedRefusal batch asked why =
     ((b : PlainBoard) × IsSoundText asked.fen.now b × ((fault : SolveFault) × (fault_of (asked_limits batch asked) ≡ Some fault) × (why ≡ refusal_of_solve fault)))
     ⊎ ((fault : FenFault) × IsSoundFault asked.fen.now fault × (why ≡ refusal_of_fen fault))
 
 -- a text is a reply to what is asked, and a refusal is one or is want of memory
 abbrev pub GivesAsked : Batch → Asked → Result (Vec ℕ Global) Refusal → Type 0
 GivesAsked batch asked (Ok text) = IsAskedReply batch asked (vec_items text)
-GivesAsked batch asked (Err why) = (why ≡ refusal.NoMemory) ⊎ IsRefusedFor batch asked why
+GivesAsked batch asked (Err why) = (why ≡ refusal.NoMemory) ⊎ IsAskedRefusal batch asked why
 
 -- ---- steps
 

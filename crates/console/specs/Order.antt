@@ -51,11 +51,11 @@ abbrev pub MayReadFor : List Text → Type 0
 MayReadFor words = (order : Order) × MeansOrder words order × MayReadOf order
 
 -- the action is a search at a position
-abbrev pub Searches : Action → Type 0
-Searches (Solve goal limits) = ⊤
-Searches (Keys goal limits) = ⊤
-Searches (Tree goal limits) = ⊤
-Searches _ = ⊥
+abbrev pub IsSearch : Action → Type 0
+IsSearch (Solve goal limits) = ⊤
+IsSearch (Keys goal limits) = ⊤
+IsSearch (Tree goal limits) = ⊤
+IsSearch _ = ⊥
 
 -- at the position of this text the side to move has no lawful move: it is mated already, or stalemated
 abbrev pub IsOver : List ℕ → Type 0
@@ -63,7 +63,7 @@ IsOver fen = (b : PlainBoard) × IsSoundText fen b × ((m : Ply) → IsLawful b 
 
 -- the line searches where it is over
 abbrev pub SearchesOver : Line → Type 0
-SearchesOver line = Searches line.action × IsOver line.fen.now
+SearchesOver line = IsSearch line.action × IsOver line.fen.now
 
 -- the order searches at one position, where it is over
 abbrev pub IsOfOver : Order → Type 0

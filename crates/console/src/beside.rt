@@ -1,7 +1,7 @@
 //! Replies with a sign of life beside them.
 ghost use Rattle.std.specs.Prelude.{◌≡◌, ◌⊎◌, ◌+◌, ◌<◌, ℕ, All, List, [], IfErr, IfOk, IfSome, None, Option, Some, length, vec_items};
 ghost use Rattle.slots.specs.Promise.{IsSeatOf};
-ghost use Rattle.answer_texts.specs.Asking.{IsFound};
+ghost use Rattle.answer_texts.specs.Asking.{IsFoundAt};
 ghost use Rattle.rounds.specs.Limits.{task_fault, IsTaskRefusal};
 ghost use Rattle.rounds.specs.Seats.{AreSeats};
 ghost use Rattle.replies.specs.Outcome.{GivesReply, reads_failed};
@@ -168,7 +168,7 @@ pub fn find_over<R: Threads + Wait + Sync + AllocGlobal, T: Gate>(
     seats: &mut Vec<Seat>,
 ) -> Result<Found, SolveFault>
     requires { All (IsSeatOf slots.now) seats.old.items }
-    ensures found { IfOk result (IsFound keys task.now.goal task.now.position.now task.now.limit) }
+    ensures found { IfOk result (IsFoundAt keys task.now.goal task.now.position.now task.now.limit) }
     ensures accepted { IfOk result (λ _. task_fault task.now.limit (length seats.old.items) ≡ None) }
     ensures refused { IfErr result (IsTaskRefusal task.now.limit (length seats.old.items)) }
     ensures seats { AreSeats slots.now (length seats.old.items) seats.new.items }
@@ -190,7 +190,7 @@ fn find_watched<R: Threads + Wait + Sync + AllocGlobal>(
     mut seats: Vec<Seat>,
 ) -> (Result<Found, SolveFault>, Vec<Seat>)
     requires { All (IsSeatOf slots.now) seats.items }
-    ensures found { IfOk result.0 (IsFound keys task.now.goal task.now.position.now task.now.limit) }
+    ensures found { IfOk result.0 (IsFoundAt keys task.now.goal task.now.position.now task.now.limit) }
     ensures accepted { IfOk result.0 (λ _. task_fault task.now.limit (length seats.items) ≡ None) }
     ensures refused { IfErr result.0 (IsTaskRefusal task.now.limit (length seats.items)) }
     ensures seats { AreSeats slots.now (length seats.items) result.1.items }
@@ -209,7 +209,7 @@ pub fn find_beside<R: Threads + Wait + Eprint + Clock + Sync + AllocGlobal>(
     seats: Vec<Seat>,
 ) -> (Result<Found, SolveFault>, Vec<Seat>)
     requires { All (IsSeatOf slots.now) seats.items }
-    ensures found { IfOk result.0 (IsFound keys task.now.goal task.now.position.now task.now.limit) }
+    ensures found { IfOk result.0 (IsFoundAt keys task.now.goal task.now.position.now task.now.limit) }
     ensures accepted { IfOk result.0 (λ _. task_fault task.now.limit (length seats.items) ≡ None) }
     ensures refused { IfErr result.0 (IsTaskRefusal task.now.limit (length seats.items)) }
     ensures seats { AreSeats slots.now (length seats.items) result.1.items }
@@ -225,7 +225,7 @@ pub fn find_beside<R: Threads + Wait + Eprint + Clock + Sync + AllocGlobal>(
         || show(rt, gate),
         move || -> (Result<Found, SolveFault>, Vec<Seat>)
             requires { All (IsSeatOf slots.now) seats.items }
-            ensures { IfOk result.0 (IsFound keys goal position.entry.now limit)
+            ensures { IfOk result.0 (IsFoundAt keys goal position.entry.now limit)
                 × IfOk result.0 (λ _. task_fault limit (length seats.items) ≡ None)
                 × IfErr result.0 (IsTaskRefusal limit (length seats.items))
                 × AreSeats slots.entry.now (length seats.items) result.1.items }

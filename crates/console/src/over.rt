@@ -1,6 +1,6 @@
 //! What is told of a search for a side that is mated or stalemated already.
 ghost use Rattle.std.specs.Prelude.{◌≡◌, ◌⊎◌, ◌↔◌, IfSome, IsTrue};
-ghost use Rattle.console.specs.Order.{IsOver, Searches, SearchesOver};
+ghost use Rattle.console.specs.Order.{IsOver, IsSearch, SearchesOver};
 
 use board::Position;
 use command_line::{Action, Line};
@@ -23,7 +23,7 @@ fn over_at(fen: &[u8]) -> Option<Position>
 }
 
 fn searches(action: Action) -> bool
-    ensures { IsTrue result ↔ Searches action }
+    ensures { IsTrue result ↔ IsSearch action }
 {
     matches!(
         action,

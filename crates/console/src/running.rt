@@ -8,7 +8,7 @@ ghost use Rattle.console.specs.Batch.{RunsBatch};
 ghost use Rattle.console.specs.Order.{IsOver, MayReadFor, RunsWords, SearchesOver, TellsMore};
 ghost use Rattle.console.specs.Verifying.{RunsVerify, MayReadAbout};
 ghost use Rattle.console.specs.Certifying.{WritesCertificate, WritesClaims};
-ghost use Rattle.console.specs.Claims.{BeginsWith};
+ghost use Rattle.console.specs.Claims.{HasAnswerLine};
 ghost use Rattle.console.specs.Playing.{WritesAfter};
 ghost use Rattle.console.specs.Solving.{EndsReply, IsSolutionReply, WritesReply};
 ghost use Rattle.console.specs.Run.{ending_of, run_of, MayTell, Refuses, RunsLine};
@@ -220,7 +220,7 @@ fn write_begun<R: AllocGlobal, K: Sink, E: Write>(
 ) -> u8
     requires begun { HasTaken begun.certificate.checker }
     requires writes { K.failures writer.old < u64.MAX }
-    ensures writes { (b : PlainBoard) (answer : Answer) → BeginsWith subject.now.goal b answer begun
+    ensures writes { (b : PlainBoard) (answer : Answer) → HasAnswerLine subject.now.goal b answer begun
         → WritesClaims subject.now.goal b answer (ending_of K.contents K.failures writer.old writer.new result) }
     ensures silent { MayTell result ⊎ (errors.new ≡ errors.old) }
 {

@@ -18,7 +18,7 @@ use Rattle.rules.specs.Squares.{Ply}
 use Rattle.rules.specs.Moves.{IsMove, IsLawful}
 use Rattle.rules.specs.Forces.{IsReached, Forces}
 use Rattle.rules.proofs.Keeps.{one_after}
-use Rattle.rules.proofs.Forcing.{on_own, to_own, on_other, to_other, turn-own, turn-other}
+use Rattle.rules.proofs.Forcing.{to_own, to_other, turn-own, turn-other}
 use Rattle.slots.specs.declared.calls.Call.{Call}
 use Rattle.slots.specs.declared.calls.Act.{Act}
 use Rattle.slots.specs.declared.calls.Act.TheVariants.{Asked}
@@ -30,7 +30,8 @@ use Rattle.decision.specs.Questions.{question, IsForced, LeadsTo}
 use Rattle.decision.specs.Decisions.{Asks, IsAsked, RestsOnOne, AsksBelow}
 use Rattle.decision.specs.Decisions.Asks.{first_decides, one_slot, second_decides, neither_decides}
 use Rattle.decision.specs.Orders.{ListsAll}
-use Rattle.decision.specs.Below.{is_own, Goes, IsAsSaid, IsPassed, IsCut, Tells, IsAskedAfter, Asked as AskedBelow}
+use Rattle.decision.specs.Below.{is_own, Goes, IsAsSaid, IsPassed, IsCut, TellsOfTried, IsAskedAfter, Asked as AskedBelow}
+use Rattle.board.proofs.RankText.{on_true as on_own, on_false as on_other}
 
 -- ---- an answer below
 
@@ -156,7 +157,7 @@ module _ (q : Question) where
 
 module _ (q : Question) (n : ℕ) (answer : Bool) (plies : 0 < n) (some : (m : Ply) × IsLawful q.position m) (moves : List Ply) (lists : ListsAll q.position moves) where
   -- what the lawful moves tell is the answer
-  pub answer_of : Tells q n moves answer → IsTrue answer ↔ IsForced q n
+  pub answer_of : TellsOfTried q n moves answer → IsTrue answer ↔ IsForced q n
   answer_of tells = elim (same_or_not answer (is_own q)) [
     | inl same ↦ let (m, b, move, end) = tells.cut same in ended_answer q n answer same plies m b move end
     | inr apart ↦ subst (λ (r : Bool). IsTrue r ↔ IsForced q n) (other_of answer (is_own q) apart)
@@ -290,7 +291,7 @@ pub now_for : (q : Question) (n : ℕ) (answer : Bool) → ((m : Ply) → IsLawf
 now_for q n answer none h = now_answer q.goal q.attacker q.position n answer none h
 
 -- what the moves tell, if they were all tried, is the answer
-pub tells_answer : (q : Question) (n : ℕ) (told : Type 0) (found : Option Bool) → 0 < n → (m : Ply) × IsLawful q.position m → (moves : List Ply) → ListsAll q.position moves → MatchOption found told (Tells q n moves) → MatchOption found told (λ yes. IsTrue yes ↔ IsForced q n)
+pub tells_answer : (q : Question) (n : ℕ) (told : Type 0) (found : Option Bool) → 0 < n → (m : Ply) × IsLawful q.position m → (moves : List Ply) → ListsAll q.position moves → MatchOption found told (TellsOfTried q n moves) → MatchOption found told (λ yes. IsTrue yes ↔ IsForced q n)
 tells_answer q n told None plies some moves lists h = h
 tells_answer q n told (Some answer) plies some moves lists h = answer_of q n answer plies some moves lists h
 

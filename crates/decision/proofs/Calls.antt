@@ -14,7 +14,7 @@ use Rattle.slots.proofs.Grows.{grew_none, grew_by, grew_more}
 use Rattle.entry.specs.Keys.{key_words}
 use Rattle.entry.specs.Truth.{IsTruePacking}
 use Rattle.decision.proofs.Slots.{all_one}
-use Rattle.decision.specs.Calls.{mate_way, added, AreHitsTrue, KnowsHistory, Continues}
+use Rattle.decision.specs.Calls.{mate_way, added, AreHitsTrue, KnowsCalls, Continues}
 
 -- what a seat has added, by its calls after and before
 pub added_is : (a b : Seat ℕ View) (calls : List Call) → all_mine b ≡ all_mine a ++ calls → added a b ≡ calls
@@ -32,7 +32,7 @@ added_more a b c g h =
 pub one_added : (slot : ℕ) (act : Act) (a b : Seat ℕ View) → Called mate_way slot act a b → added a b ≡ call slot (number a) act ∷ []
 one_added slot act a b d = added_is a b (call slot (number a) act ∷ []) d.whole.own
 
-pub one_history : (slot : ℕ) (act : Act) (a b : Seat ℕ View) → Called mate_way slot act a b → KnowsHistory b
+pub one_history : (slot : ℕ) (act : Act) (a b : Seat ℕ View) → Called mate_way slot act a b → KnowsCalls b
 one_history slot act a b d = record {
   legal = d.whole.legal;
   once = subst (λ n. calls_by n (all_seen b) ≡ all_mine b) (sym d.same) d.whole.once;

@@ -4,11 +4,12 @@ use Rattle.board.specs.declared.game.Side.{Side}
 use Rattle.rules.specs.Moves.{IsLawful}
 use Rattle.rules.specs.Squares.{Ply}
 use Rattle.rules.specs.Forces.{IsReached, Forces}
-use Rattle.rules.proofs.Forcing.{on_own, on_other, to_other, turn-other, Forces-more, Forces-even}
+use Rattle.rules.proofs.Forcing.{to_other, turn-other, Forces-more, Forces-even}
 use Rattle.decision.specs.declared.question.Question.{Question}
 use Rattle.decision.specs.Questions.{IsForced}
 use Rattle.decision.specs.Below.{is_own}
 use Rattle.decision.proofs.Winning.{same_mover}
+use Rattle.board.proofs.RankText.{on_true as on_own, on_false as on_other}
 
 -- the mover is the attacker
 pub at_once_for : (q : Question) (answer : Bool) → is_own q ≡ true → (IsTrue answer ↔ Forces q.goal q.position.mover q.position 1) → IsTrue answer ↔ IsForced q 1

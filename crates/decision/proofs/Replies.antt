@@ -18,10 +18,10 @@ use Rattle.entry.proofs.Questions.{one_entry}
 use Rattle.entry.proofs.Truths.{hit_right, yes_right, no_right, raise}
 use Rattle.decision.specs.declared.question.Question.{Question}
 use Rattle.decision.specs.Turned.{HaveOneAnswer}
-use Rattle.decision.specs.Questions.{IsForced, IsKnownOf, entry_for, entry_words, key_for, EndsBy, Says, RepliesThat, Settles, said, IsMetWith, IsWhole, Tells}
+use Rattle.decision.specs.Questions.{IsForced, IsKnownOf, entry_for, entry_words, key_for, EndsBy, Says, RepliesThat, Settles, said, IsMetWith, IsTrueHit, Tells}
 
 -- a hit with the key is whole
-pub whole_of : (key : List ℕ) (reply : Probe) → HitFits key_words IsTruePacking (Asked key reply) → IsWhole reply
+pub whole_of : (key : List ℕ) (reply : Probe) → HitFits key_words IsTruePacking (Asked key reply) → IsTrueHit reply
 whole_of key (Hit words) h = h.1
 whole_of key Vacant h = tt
 whole_of key Other h = tt

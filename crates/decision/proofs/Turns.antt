@@ -1,10 +1,8 @@
 -- Boards that are turned about, unit by unit, and what is forced on them.
-use Rattle.std.proofs.Common.{◌≡◌, ◌≢◌, ℕ, ◌+◌, ◌<◌, ◌≤◌, inl, inr, zero, suc, refl, sym, ap, subst, ◌∙◌, arith, List, length, get_or, set, replicate, Option, Some, None, take, All, ◌↔◌, Bool, true, false}
+use Rattle.std.proofs.Common.{◌≡◌, ◌≢◌, ℕ, ◌+◌, ◌<◌, ◌≤◌, inl, inr, refl, sym, ap, subst, ◌∙◌, arith, List, length, get_or, set, replicate, Option, Some, None, take, All, ◌↔◌, Bool, true, false}
 use Rattle.std.specs.Option.{IfSome}
 use Rattle.std.proofs.lemmas.Bool.{cases_eq}
 use Rattle.std.proofs.lemmas.List.{get_or-set_same, get_or-set_other, length-set}
-use Rattle.board.specs.declared.game.Game.{Game}
-use Rattle.board.specs.declared.game.Game.TheVariants.{LosAlamos, Gardner}
 use Rattle.board.specs.declared.game.Unit.{Unit as Man}
 use Rattle.board.specs.Games.{squares_of}
 use Rattle.board.specs.Board.{PlainBoard, board_of, unit_on, IsPosition, MayStandOn}
@@ -21,10 +19,7 @@ use Rattle.decision.specs.Turned.{way_of, IsTurnedWell, HaveOneAnswer, AnswersAf
 use Rattle.decision.specs.Below.{Goes, IsAsSaid, IsPassed, IsCut}
 use Rattle.decision.proofs.Below.{passed_next}
 use Rattle.rules.specs.Squares.{Ply}
-
-pub within_36 : (g : Game) (n : ℕ) → n < squares_of g → n < 36
-within_36 LosAlamos n h = omega (arith, h)
-within_36 Gardner n h = omega (arith, h)
+use Rattle.moves.proofs.Packing.{within_36, replicate_none}
 
 -- the units of the squares below n stand where their squares come to lie, and none past the board
 pub record IsTurnedUpTo (t : Way) (b : PlainBoard) (units : List (Option Man)) (n : ℕ) : Type 0 where
@@ -34,11 +29,6 @@ pub record IsTurnedUpTo (t : Way) (b : PlainBoard) (units : List (Option Man)) (
 
 abbrev nothing : Option Man
 nothing = None
-
-replicate_none : (n k : ℕ) → get_or (replicate n nothing) k nothing ≡ nothing
-replicate_none zero k = refl
-replicate_none (suc n) zero = refl
-replicate_none (suc n) (suc k) = replicate_none n k
 
 pub turned_none : (t : Way) (b : PlainBoard) → IsTurnedUpTo t b (replicate 36 nothing) 0
 turned_none t b = record { long = refl; done = λ s on less. absurd (omega (arith, less)); past = λ k far. replicate_none 36 k }

@@ -14,8 +14,10 @@ use Rattle.rules.specs.Moves.{IsMove}
 use Rattle.rules.specs.Order.{IsPlyBefore, ListsLawful}
 use Rattle.rules.specs.Forces.{IsReached, Forces}
 use Rattle.rules.proofs.Keeps.{one_after}
-use Rattle.rules.proofs.Forcing.{on_own, to_own, on_other, to_other, turn-own, same_side-self, twice, twice-double, Forces-even}
+use Rattle.rules.proofs.Forcing.{to_own, to_other, turn-own, same_side-self, twice, twice-double, Forces-even}
 use Rattle.decision.specs.Answer.{Wins, IsLeastWin, ForcesNothing}
+use Rattle.rules.proofs.Lists.{split3}
+use Rattle.board.proofs.RankText.{on_true as on_own, on_false as on_other}
 
 -- ---- one move
 
@@ -71,11 +73,8 @@ next_round goal b r before none k h f = elim (split (2 * r) k (omega (arith, h))
     split : (n k : ℕ) → k ≤ suc (suc n) → (k ≤ n) ⊎ ((k ≡ n + 1) ⊎ (k ≡ suc (suc n)))
     split n k h = grind arith
 
-split3 : (i j : ℕ) → (i < j) ⊎ ((i ≡ j) ⊎ (j < i))
-split3 i j = grind arith
-
 -- within a list no default is read
-same_default : (xs : List Ply) (i : ℕ) (d m : Ply) → i < length xs → get_or xs i m ≡ m → get_or xs i d ≡ m
+pub same_default : (xs : List Ply) (i : ℕ) (d m : Ply) → i < length xs → get_or xs i m ≡ m → get_or xs i d ≡ m
 same_default xs i d m h e = grind (arith, common_steps, elements)
 
 module _ (goal : Goal) (b : PlainBoard) (n : ℕ) (xs : List Ply) (lists : ListsLawful b xs) where

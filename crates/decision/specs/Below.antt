@@ -34,7 +34,7 @@ abbrev pub IsCut : Question → ℕ → Bool → Type 0
 IsCut q n own = (m : Ply) × (b : PlainBoard) × IsMove q.position m b × IsAsSaid own (IsForced (question b q.attacker q.goal) n)
 
 -- what the moves that were tried tell of n plies: one ended the search, or none did
-pub record Tells (q : Question) (n : ℕ) (moves : List Ply) (answer : Bool) : Type 0 where
+pub record TellsOfTried (q : Question) (n : ℕ) (moves : List Ply) (answer : Bool) : Type 0 where
   pub cut : answer ≡ is_own q → IsCut q (n - 1) answer
   pub passed : answer ≢ is_own q → All (IsPassed q (n - 1) (is_own q)) moves
 

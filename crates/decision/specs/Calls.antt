@@ -1,5 +1,6 @@
 -- A caller of the table, and the calls that it adds to the history.
 use Rattle.std.specs.Prelude.{◌≡◌, ℕ, List, ◌∷◌, [], ◌++◌, length, drop, All}
+use Rattle.std.specs.List.{AllZip}
 use Rattle.atomic_table.specs.Seated.{TableId}
 use Rattle.atomic_table.specs.declared.shared.Seat.{Seat}
 use Rattle.slots.specs.declared.views.View.{View}
@@ -34,7 +35,7 @@ abbrev pub AreHitsTrue : List Call → Type 0
 AreHitsTrue calls = All (λ c. HitFits key_words IsTruePacking c.act) calls
 
 -- The history as the caller knows it: at each slot it is legal, and of the caller's own calls it has all, each once and in their order
-pub record KnowsHistory (seat : Seat ℕ View) : Type 0 where
+pub record KnowsCalls (seat : Seat ℕ View) : Type 0 where
   pub legal : (slot : ℕ) → IsLegal (way_at slot mate_way) (seen slot seat)
   pub once : calls_by (number seat) (all_seen seat) ≡ all_mine seat
 
@@ -45,4 +46,8 @@ pub record Continues (table : TableId) (before after : Seat ℕ View) : Type 0 w
   pub number : number after ≡ number before
   pub grew : Grew before after
   pub hits : AreHitsTrue (added before after)
-  pub history : KnowsHistory before → KnowsHistory after
+  pub history : KnowsCalls before → KnowsCalls after
+
+-- each of these seats continues, from the one with its number
+abbrev pub SeatsContinue : TableId → List (Seat ℕ View) → List (Seat ℕ View) → Type 0
+SeatsContinue table before after = AllZip (Continues table) before after

@@ -77,9 +77,9 @@ IsMetWith (Hit words) i met = (e : Entry) × Packing e words × (met ≡ meeting
 IsMetWith _ i met = met ≡ i
 
 -- the words of a hit are a true entry's
-abbrev pub IsWhole : Probe → Type 0
-IsWhole (Hit words) = IsTruePacking words
-IsWhole _ = Unit {0}
+abbrev pub IsTrueHit : Probe → Type 0
+IsTrueHit (Hit words) = IsTruePacking words
+IsTrueHit _ = Unit {0}
 
 -- what a reply tells: the interval of a hit, and nothing else
 abbrev pub Tells : Probe → Option Bounds → Type 0

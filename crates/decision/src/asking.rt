@@ -6,9 +6,9 @@ ghost use Rattle.slots.specs.Steps.{HitFits};
 ghost use Rattle.slots.specs.declared.calls.Act.TheVariants.{Asked};
 ghost use Rattle.entry.specs.Keys.{key_words};
 ghost use Rattle.entry.specs.Truth.{IsTruePacking};
-ghost use Rattle.decision.specs.Calls.{KnowsHistory};
+ghost use Rattle.decision.specs.Calls.{KnowsCalls};
 ghost use Rattle.decision.specs.Callers.{GoesOn, adds};
-ghost use Rattle.decision.specs.Questions.{key_for, first_slot, RepliesThat, Settles, Says, IsWhole, Tells, IsKnownOf};
+ghost use Rattle.decision.specs.Questions.{key_for, first_slot, RepliesThat, Settles, Says, IsTrueHit, Tells, IsKnownOf};
 ghost use Rattle.decision.specs.Decisions.{Asks, IsAsked, IsProbeOf};
 
 use crate::caller::Caller;
@@ -40,7 +40,7 @@ pub(crate) fn far_slot<A: Allocator>(slots: &Slots<MateLore, A>, key: [u64; 3]) 
 
 /// The interval of a hit.
 pub(crate) fn known(reply: Probe) -> Option<Interval>
-    requires { IsWhole reply }
+    requires { IsTrueHit reply }
     ensures { Tells reply result }
 {
     match reply {
@@ -65,7 +65,7 @@ pub(crate) fn decided(interval: Interval, n: u8) -> Option<bool>
 
 /// What the reply says of n plies, if it decides them.
 pub(crate) fn settled(reply: Probe, n: u8) -> Option<bool>
-    requires { IsWhole reply }
+    requires { IsTrueHit reply }
     ensures { MatchOption result (Settles reply n → ⊥) (λ answer. RepliesThat reply n answer) }
 {
     decided(known(reply)?, n)
@@ -81,7 +81,7 @@ pub(crate) fn ask<A: Allocator>(
 ) -> Probe
     requires slot { slot < slots_of caller.old.slots.now }
     ensures goes_on { GoesOn caller.old caller.new }
-    ensures history { KnowsHistory caller.new.seat.now }
+    ensures history { KnowsCalls caller.new.seat.now }
     ensures asked { Asks key slot (slots_of caller.old.slots.now) n (number caller.old.seat.now) result
         (adds caller.old caller.new) }
     ensures probes { All (IsProbeOf key) (adds caller.old caller.new) }
@@ -118,7 +118,7 @@ fn told(q: &Question, reply: Probe) -> Interval
 /// Asks the question's own two slots, as `ask` does.
 pub(crate) fn ask_near<A: Allocator>(caller: &mut Caller<'_, A>, q: &Question, n: u8) -> Probe
     ensures goes_on { GoesOn caller.old caller.new }
-    ensures history { KnowsHistory caller.new.seat.now }
+    ensures history { KnowsCalls caller.new.seat.now }
     ensures asked { Asks (key_for q.now) (first_slot (key_for q.now) (slots_of caller.old.slots.now))
         (slots_of caller.old.slots.now) n (number caller.old.seat.now) result (adds caller.old caller.new) }
     ensures probes { All (IsProbeOf (key_for q.now)) (adds caller.old caller.new) }

@@ -21,14 +21,14 @@ impl<A: Allocator> Caller<'_, A> {
     ghost use Rattle.slots.specs.declared.calls.Act.TheVariants.{Asked, Offered};
     ghost use Rattle.entry.specs.Keys.{key_words};
     ghost use Rattle.entry.specs.Truth.{IsTruePacking};
-    ghost use Rattle.decision.specs.Calls.{KnowsHistory};
+    ghost use Rattle.decision.specs.Calls.{KnowsCalls};
     ghost use Rattle.decision.specs.Callers.{GoesOn, adds};
 
     /// Asks a slot for the key.
     pub(crate) fn probe(&mut self, slot: usize, key: [u64; 3]) -> Probe
         requires slot { slot < slots_of self.old.slots.now }
         ensures goes_on { GoesOn self.old self.new }
-        ensures history { KnowsHistory self.new.seat.now }
+        ensures history { KnowsCalls self.new.seat.now }
         ensures one { adds self.old self.new ≡ call slot (number self.old.seat.now) (Asked key result) ∷ [] }
         ensures hit { HitFits key_words IsTruePacking (Asked key result) }
     {
@@ -40,7 +40,7 @@ impl<A: Allocator> Caller<'_, A> {
         requires slot { slot < slots_of self.old.slots.now }
         requires holds { IsTruePacking words }
         ensures goes_on { GoesOn self.old self.new }
-        ensures history { KnowsHistory self.new.seat.now }
+        ensures history { KnowsCalls self.new.seat.now }
         ensures one { adds self.old self.new ≡ call slot (number self.old.seat.now) (Offered words result) ∷ [] }
     {
         self.slots.store(self.seat, slot, words)

@@ -9,7 +9,7 @@ ghost use Rattle.slots.specs.Steps.{HitFits};
 ghost use Rattle.slots.specs.declared.calls.Act.TheVariants.{Asked};
 ghost use Rattle.entry.specs.Keys.{key_words};
 ghost use Rattle.entry.specs.Truth.{IsTruePacking};
-ghost use Rattle.decision.specs.Calls.{added, Continues, KnowsHistory};
+ghost use Rattle.decision.specs.Calls.{added, Continues, KnowsCalls};
 ghost use Rattle.decision.specs.Callers.{adds, GoesOn, Searches};
 ghost use Rattle.decision.specs.Questions.{question, key_for, IsForced, IsKnownOf};
 ghost use Rattle.decision.specs.Below.{IsFound};
@@ -126,7 +126,7 @@ fn decide_with<S: Stop, A: Allocator>(
     requires { n ≤ 63 }
     ensures goes_on { GoesOn caller.old caller.new }
     ensures stop { S.stays scout.old.stop scout.new.stop }
-    ensures history { KnowsHistory caller.new.seat.now }
+    ensures history { KnowsCalls caller.new.seat.now }
     ensures decided { MatchOption result (S.told scout.new.stop)
         (λ d. IsDecided q.now (slots_of caller.old.slots.now) n (number caller.old.seat.now) d (adds caller.old caller.new)) }
 {
@@ -145,7 +145,7 @@ fn decide_with<S: Stop, A: Allocator>(
 fn decide_alone<A: Allocator>(caller: &mut Caller<'_, A>, q: &Question, n: u8) -> Decision
     requires { n ≤ 63 }
     ensures goes_on { GoesOn caller.old caller.new }
-    ensures history { KnowsHistory caller.new.seat.now }
+    ensures history { KnowsCalls caller.new.seat.now }
     ensures decided { IsDecided q.now (slots_of caller.old.slots.now) n (number caller.old.seat.now) result
         (adds caller.old caller.new) }
 {
@@ -175,7 +175,7 @@ pub fn decide_until<S: Stop, A: Allocator>(
     requires seat { IsSeatOf slots.now seat.old }
     requires plies { n ≤ 63 }
     ensures continues { Continues slots.now seat.old seat.new }
-    ensures history { KnowsHistory seat.new }
+    ensures history { KnowsCalls seat.new }
     ensures stop { S.stays scout.old.stop scout.new.stop }
     ensures decided { MatchOption result (S.told scout.new.stop)
         (λ d. IsDecided q.now (slots_of slots.now) n (number seat.old) d (added seat.old seat.new)) }
@@ -194,7 +194,7 @@ pub fn decide_on<A: Allocator>(
     requires seat { IsSeatOf slots.now seat.old }
     requires plies { n ≤ 63 }
     ensures continues { Continues slots.now seat.old seat.new }
-    ensures history { KnowsHistory seat.new }
+    ensures history { KnowsCalls seat.new }
     ensures decided { IsDecided q.now (slots_of slots.now) n (number seat.old) result (added seat.old seat.new) }
 {
     let mut caller = Caller { slots, seat };
@@ -347,7 +347,7 @@ pub fn decide<A: Allocator>(
     requires seat { IsSeatOf slots.now seat.old }
     requires plies { n ≤ 63 }
     ensures continues { Continues slots.now seat.old seat.new }
-    ensures history { KnowsHistory seat.new }
+    ensures history { KnowsCalls seat.new }
     ensures answer { IsTrue result.yes ↔ Forces goal attacker position.now n }
     ensures calls { Decides (question position.now attacker goal) (slots_of slots.now) n (number seat.old) result
         (added seat.old seat.new) }

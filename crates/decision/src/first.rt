@@ -4,7 +4,7 @@ ghost use Rattle.rules.specs.Moves.{IsLawful};
 ghost use Rattle.slots.specs.Promise.{slots_of, number};
 ghost use Rattle.decision.specs.Callers.{adds, Searches};
 ghost use Rattle.decision.specs.Questions.{IsForced};
-ghost use Rattle.decision.specs.Below.{Tells, Asked};
+ghost use Rattle.decision.specs.Below.{TellsOfTried, Asked};
 ghost use Rattle.decision.specs.Decisions.{IsAsked};
 
 use crate::asking::{decided, look};
@@ -50,7 +50,7 @@ pub(crate) fn try_moves<S: Stop, A: Allocator>(
     requires plies { (0 < n) × (n ≤ 63) }
     requires lawful { All (IsLawful q.now.position) moves.now }
     ensures goes_on { Searches S.stays caller.old caller.new lead.old lead.new }
-    ensures tells { MatchOption result (S.told lead.new.scout.now.stop) (Tells q.now n moves.now) }
+    ensures tells { MatchOption result (S.told lead.new.scout.now.stop) (TellsOfTried q.now n moves.now) }
     ensures asked { IfSome result
         (λ yes. Asked q.now (slots_of caller.old.slots.now) (number caller.old.seat.now) moves.now yes (adds caller.old caller.new)) }
 {

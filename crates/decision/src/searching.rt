@@ -5,7 +5,7 @@ ghost use Rattle.arrayvec.specs.ArrayVec.{array_vec_len};
 ghost use Rattle.rules.specs.Moves.{IsLawful};
 ghost use Rattle.decision.specs.Callers.{GoesOn, Searches};
 ghost use Rattle.decision.specs.Questions.{IsForced, IsKnownOf};
-ghost use Rattle.decision.specs.Below.{is_own, IsCut, Tells};
+ghost use Rattle.decision.specs.Below.{is_own, IsCut, TellsOfTried};
 ghost use Rattle.decision.specs.Orders.{ListsAll};
 
 use crate::asking::{decided, look_far};
@@ -64,7 +64,7 @@ fn try_below<S: Stop, A: Allocator>(
     requires plies { (0 < n) × (n ≤ 63) }
     requires lawful { All (IsLawful q.now.position) moves.now }
     ensures goes_on { Searches S.stays caller.old caller.new lead.old lead.new }
-    ensures tells { MatchOption result (S.told lead.new.scout.now.stop) (Tells q.now n moves.now) }
+    ensures tells { MatchOption result (S.told lead.new.scout.now.stop) (TellsOfTried q.now n moves.now) }
 {
     let own = q.is_own_turn();
     for m in moves {

@@ -7,9 +7,9 @@ ghost use Rattle.slots.specs.declared.calls.Act.TheVariants.{Asked};
 ghost use Rattle.entry.specs.Bounds.{Bounds, AreConsistent};
 ghost use Rattle.entry.specs.Keys.{key_words};
 ghost use Rattle.entry.specs.Truth.{IsTruePacking};
-ghost use Rattle.decision.specs.Calls.{KnowsHistory};
+ghost use Rattle.decision.specs.Calls.{KnowsCalls};
 ghost use Rattle.decision.specs.Callers.{GoesOn, adds};
-ghost use Rattle.decision.specs.Questions.{key_for, entry_for, entry_words, first_slot, said, IsForced, IsMetWith, IsWhole, IsKnownOf, Says, Tells};
+ghost use Rattle.decision.specs.Questions.{key_for, entry_for, entry_words, first_slot, said, IsForced, IsMetWith, IsTrueHit, IsKnownOf, Says, Tells};
 ghost use Rattle.decision.specs.Decisions.{OffersBoth};
 
 use crate::asking::{far_slot, first_slot, known};
@@ -39,7 +39,7 @@ pub(crate) fn said(yes: bool, n: u8) -> Interval
 
 /// The interval, met with that of a hit.
 fn met_with(reply: Probe, interval: Interval) -> Interval
-    requires whole { IsWhole reply }
+    requires whole { IsTrueHit reply }
     requires consistent { (known : Bounds) → Tells reply (Some known) → AreConsistent interval known }
     ensures { IsMetWith reply interval result }
 {

@@ -1,3 +1,4 @@
 mod DeviceLemmas
 pub mod LineLemmas
 pub mod WithinLemmas
+pub mod InputLemmas

@@ -1,6 +1,7 @@
 //! An input, line by line.
-ghost use Rattle.std.specs.Prelude.{◌≡◌, ◌+◌, ◌<◌, ◌++◌, ◌∷◌, [], ℕ, IfOk, List, OnErr, OnOk};
+ghost use Rattle.std.specs.Prelude.{◌≡◌, ◌≢◌, ◌+◌, ◌<◌, ◌++◌, ◌∷◌, [], ℕ, IfErr, IfOk, List, OnErr, OnOk};
 ghost use Rattle.devices.specs.Input.{failed_reads};
+ghost use Rattle.devices.specs.declared.transfer.InputFault.TheVariants.{TooLong as too_long};
 ghost use Rattle.devices.specs.Lines.{Fills, HasNoFeed, HoldsLine, IsReadAs, IsUnread, TakesByte, TakesLine, left_of};
 
 use crate::device::{Failed, Source};
@@ -100,6 +101,7 @@ impl Unread {
         ensures takes { IfOk result (TakesLine (left_of self.old (S.remaining reader.old))
             (left_of self.new (S.remaining reader.new))) }
         ensures counts { S.failures reader.new ≡ S.failures reader.old + failed_reads result }
+        ensures passed { IfErr result (λ fault. fault ≢ too_long) }
     {
         let mut held = Held::new(alloc);
         for _ in rt.forever() {

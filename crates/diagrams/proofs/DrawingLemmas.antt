@@ -1,9 +1,6 @@
 -- A board, drawn square by square and rank by rank.
-use Rattle.std.proofs.Common.{◌≡◌, ◌∙◌, ℕ, zero, suc, ◌+◌, ◌≤◌, List, [], ◌++◌, ap, sym, append_assoc, append-nil, arith}
+use Rattle.std.proofs.Common.{◌≡◌, ◌∙◌, ℕ, zero, suc, ◌+◌, List, [], ◌++◌, ap, sym, append_assoc, append-nil, arith}
 use Rattle.std.specs.List.{flat_map, range_with_len}
-use Rattle.board.specs.declared.game.Game.{Game}
-use Rattle.board.specs.declared.game.Game.TheVariants.{LosAlamos, Gardner}
-use Rattle.board.specs.Games.{width_of}
 
 -- one more number from a on
 more_from : (f : ℕ → List ℕ) (a n : ℕ) → flat_map f (range_with_len a (suc n)) ≡ flat_map f (range_with_len a n) ++ f (a + n)
@@ -36,8 +33,3 @@ pub seven_drawn : (t u v w x y z end a b c d e f g : List ℕ) → t ≡ [] → 
 seven_drawn t u v w x y z end a b c d e f g none one two three four five six seven =
     two_drawn t u end a _ one (two_drawn u v end b _ two (two_drawn v w end c _ three (two_drawn w x end d _ four (two_drawn x y end e _ five
     (two_drawn y z end f g six seven))))) ∙ ap (λ l. l ++ (a ++ (b ++ (c ++ (d ++ (e ++ (f ++ g))))))) none
-
--- no board is wider than six files
-pub width_fits : (g : Game) → width_of g ≤ 6
-width_fits LosAlamos = omega arith
-width_fits Gardner = omega arith

@@ -1,5 +1,5 @@
 -- Which of two packings is preferred.
-use Rattle.std.proofs.Common.{◌≡◌, ℕ, ◌+◌, ◌*◌, ◌/◌, ◌%◌, ◌^◌, arith, ap, [], ◌∷◌, length, get_or, Some, unwrap_or, ◌<◌, ◌↔◌, Bool, true, false, ◌&&◌, if◌then◌else◌, nat_lt, List, IsTrue, inl, inr, refl, sym, ◌∙◌, subst}
+use Rattle.std.proofs.Common.{◌≡◌, ℕ, Some, ◌<◌, ◌↔◌, Bool, true, false, ◌&&◌, if◌then◌else◌, nat_lt, List, IsTrue, inl, inr, refl, sym, ◌∙◌, subst}
 use Rattle.std.specs.Bool.{Decides}
 use Rattle.std.specs.Str.{bytes_eq}
 use Rattle.std.proofs.lemmas.Bool.{false≢true}
@@ -7,13 +7,12 @@ use Rattle.std.proofs.lemmas.Option.{same_Some}
 use Rattle.std.proofs.lemmas.Bool.Decides.{Decides-and}
 use Rattle.std.proofs.lemmas.Slice.Eq.{bytes_eq-Decides}
 use Rattle.entry.specs.declared.entries.Entry.{Entry}
-use Rattle.entry.specs.Keys.{no_byte, key_words}
-use Rattle.entry.specs.Bounds.{Bounds, IsBounds}
-use Rattle.entry.specs.Packing.{upto_byte, entry_of, first_word, second_word, third_word, Packing}
+use Rattle.entry.specs.Keys.{key_words}
+use Rattle.entry.specs.Bounds.{Bounds}
+use Rattle.entry.specs.Packing.{upto_byte, Packing}
 use Rattle.entry.specs.Prefers.{weight, SaysAll, ArePreferred}
-use Rattle.entry.specs.Preference.{top_of, entry_in, is_packing, says_all, mate_prefers}
+use Rattle.entry.specs.Preference.{entry_in, is_packing, says_all, mate_prefers}
 use Rattle.entry.proofs.Questions.{one_entry, same_question, same_key}
-use Rattle.entry.proofs.Words.{fields_of}
 use Rattle.entry.proofs.Decided.{le_decides, lt_decides, of_decides, packing_decides}
 
 pub preferred_same : (b : Bool) (r e : Entry) (old new : List ℕ) → Packing r old → Packing e new → key_words old ≡ key_words new → (IsTrue b ↔ SaysAll r.interval e.interval) → IsTrue b ↔ ArePreferred old new

@@ -1,21 +1,20 @@
 -- The fields of an entry's words.
-use Rattle.std.proofs.Common.{◌≡◌, ℕ, ◌+◌, ◌-◌, ◌*◌, ◌/◌, ◌%◌, ◌^◌, ◌<◌, ◌≤◌, refl, ap, ◌∙◌, arith, List, [], ◌∷◌, get_or, take, drop, Option, Some, None}
+use Rattle.std.proofs.Common.{◌≡◌, ℕ, ◌+◌, ◌*◌, ◌/◌, ◌%◌, ◌^◌, ◌<◌, ◌≤◌, refl, ap, arith, List, get_or, Option, Some, None}
 use Rattle.std.specs.Option.{IfSome}
 use Rattle.board.specs.declared.game.Game.{Game}
 use Rattle.board.specs.declared.game.Game.TheVariants.{LosAlamos, Gardner}
 use Rattle.board.specs.declared.game.Side.{Side}
 use Rattle.board.specs.declared.game.Side.TheVariants.{White, Black}
-use Rattle.board.specs.Games.{width_of}
-use Rattle.board.specs.Board.{IsPosition}
 use Rattle.rules.specs.declared.goal.Goal.{Goal}
 use Rattle.rules.specs.declared.goal.Goal.TheVariants.{Mate, MateOrStale}
 use Rattle.entry.specs.Bounds.{Bounds, IsBounds}
 use Rattle.entry.specs.declared.entries.Entry.{Entry}
 use Rattle.entry.specs.declared.marks.Marks.{Marks}
-use Rattle.entry.specs.Packing.{side_bit, game_bit, goal_bit, upto_byte, squares_word, rank_pair, first_word, second_word, third_word, Packing}
+use Rattle.entry.specs.Packing.{side_bit, game_bit, goal_bit, upto_byte, squares_word, rank_pair, first_word, Packing}
 use Rattle.entry.specs.Marks.{marks_number}
 use Rattle.entry.proofs.Digits.{squares_small}
 use Rattle.entry.proofs.Ranks.{IsPacked, whole_position}
+use Rattle.rules.proofs.Room.{width_six as width_le}
 
 -- ---- marks
 
@@ -73,10 +72,6 @@ pub record Fields (e : Entry) (three : List ℕ) : Type 0 where
   pub below : get_or three 1 0 / 2 ^ 48 ≡ e.interval.below
   pub upto : get_or three 2 0 / 2 ^ 48 ≡ upto_byte e.interval.upto
   pub packed : IsPacked e.position (get_or three 0 0 % 2 ^ 48) (get_or three 1 0 % 2 ^ 48) (get_or three 2 0 % 2 ^ 48)
-
-pub width_le : (g : Game) → width_of g ≤ 6
-width_le LosAlamos = omega arith
-width_le Gardner = omega arith
 
 low_part : (word low high : ℕ) → low < 2 ^ 48 → word ≡ low + 2 ^ 48 * high → (word / 2 ^ 48 ≡ high) × (word % 2 ^ 48 ≡ low)
 low_part word low high h e = (omega arith, omega arith)

@@ -16,7 +16,7 @@ use Rattle.solver.specs.declared.solver.Solver.{Solver}
 use Rattle.solver.specs.Stopping.{IsStopped, Hears}
 use Rattle.handles.specs.declared.writing.Told.{Told}
 use Rattle.handles.specs.Putting.{PutsTold, number_of, keys_number}
-use Rattle.handles.specs.Written.{KeysTold, some_keys, no_keys, TreeTold, some_tree, no_tree, IsTold, IsWhy, stopped, no_memory, Writes, written, too_long, untold, no_solver}
+use Rattle.handles.specs.Written.{KeysTold, some_keys, no_keys, TreeTold, some_tree, no_tree, IsTold, IsWhy, stopped, no_memory, WritesTold, written, too_long, untold, no_solver}
 
 -- the keys are told by their number and their text
 told_keys : (goal : Goal) (b : PlainBoard) (limit : ℕ) (list : List Key) → ListsKeys goal b limit list → KeysTold goal b limit (keys_number list) (keys_text limit list)
@@ -51,19 +51,19 @@ halt_tells text limit S NoMemory number stops is = subst (IsWhy text limit S) (s
 pub are_written : (Is : Goal → PlainBoard → ℕ → ℕ → List ℕ → Type 0) (text : List ℕ) (stale : Bool) (limit : ℕ) (old : List ℕ) (was held : Option Solver) (before after : Solver)
     (found : Result Told ℕ) (number : ℕ) (new : List ℕ) (long : ℕ)
     → was ≡ Some before → held ≡ Some after → Hears before after → IfOk found (λ told. IsTold Is text stale limit told.number told.text.items)
-    → IfErr found (IsWhy text limit (IsStopped after)) → PutsTold found old number new long → Writes Is text stale limit old was held number new long
+    → IfErr found (IsWhy text limit (IsStopped after)) → PutsTold found old number new long → WritesTold Is text stale limit old was held number new long
 are_written Is text stale limit old was held before after (Ok told) number new long is_before is_after hears right why (inl fits, is_long) =
-    subst (λ (p : Option Solver × Option Solver × ℕ × List ℕ × ℕ). Writes Is text stale limit old p.0 p.1 p.2 p.3 p.4)
+    subst (λ (p : Option Solver × Option Solver × ℕ × List ℕ × ℕ). WritesTold Is text stale limit old p.0 p.1 p.2 p.3 p.4)
     (λ i. (sym is_before i, sym is_after i, sym fits.2 i, sym fits.1 i, sym is_long i)) (written hears right fits.0)
 are_written Is text stale limit old was held before after (Ok told) number new long is_before is_after hears right why (inr small, is_long) =
-    subst (λ (p : Option Solver × Option Solver × ℕ × List ℕ × ℕ). Writes Is text stale limit old p.0 p.1 p.2 p.3 p.4)
+    subst (λ (p : Option Solver × Option Solver × ℕ × List ℕ × ℕ). WritesTold Is text stale limit old p.0 p.1 p.2 p.3 p.4)
     (λ i. (sym is_before i, sym is_after i, sym small.2 i, sym small.1 i, sym is_long i)) (too_long hears right small.0)
 are_written Is text stale limit old was held before after (Err e) number new long is_before is_after hears right why puts =
-    subst (λ (p : Option Solver × Option Solver × ℕ × List ℕ × ℕ). Writes Is text stale limit old p.0 p.1 p.2 p.3 p.4)
+    subst (λ (p : Option Solver × Option Solver × ℕ × List ℕ × ℕ). WritesTold Is text stale limit old p.0 p.1 p.2 p.3 p.4)
     (λ i. (sym is_before i, sym is_after i, sym puts.1 i, sym puts.0 i, sym puts.2 i)) (untold hears why)
 
 -- there is no solver
 pub none_written : (Is : Goal → PlainBoard → ℕ → ℕ → List ℕ → Type 0) (text : List ℕ) (stale : Bool) (limit : ℕ) (old : List ℕ) (was held : Option Solver)
-    → was ≡ None → Writes Is text stale limit old was held 5 old 0
+    → was ≡ None → WritesTold Is text stale limit old was held 5 old 0
 none_written Is text stale limit old was held empty =
-    subst (λ (o : Option Solver). Writes Is text stale limit old o held 5 old 0) (sym empty) no_solver
+    subst (λ (o : Option Solver). WritesTold Is text stale limit old o held 5 old 0) (sym empty) no_solver

@@ -45,9 +45,9 @@ abbrev pub found_of : ℕ → Ply → Found
 found_of plies first = record { plies = plies; first = first_of first }
 
 -- the number and what was found tell of the answer; what was found before stays where nothing is forced
-abbrev pub Tells : Answer → Found → ℕ → Found → Type 0
-Tells (answer.Mate plies first) old number found = (number ≡ 0) × (found ≡ found_of plies first)
-Tells (answer.NoneWithin limit) old number found = (number ≡ 1) × (found ≡ old)
+abbrev pub TellsAnswer : Answer → Found → ℕ → Found → Type 0
+TellsAnswer (answer.Mate plies first) old number found = (number ≡ 0) × (found ≡ found_of plies first)
+TellsAnswer (answer.NoneWithin limit) old number found = (number ≡ 1) × (found ≡ old)
 
 -- the text is that of the position, in which the side that isn't to move is out of check
 abbrev pub IsAt : List ℕ → PlainBoard → Type 0
@@ -62,12 +62,12 @@ pub data Replies (text : List ℕ) (goal : Goal) (limit : ℕ) (Stopped : Type 0
   stopped : Stopped → Replies text goal limit Stopped old 4 old
 
 -- the reply of the solver that a handle holds, which it holds on, or that it holds none
-pub data Asks (text : List ℕ) (stale : Bool) (limit : ℕ) (old : Found) : Option Solver → Option Solver → ℕ → Found → Type 0 where
-  asked : {before after : Solver} {number : ℕ} {found : Found} → Hears before after → Replies text (goal_of stale) limit (IsStopped after) old number found → Asks text stale limit old (Some before) (Some after) number found
-  no_solver : {held : Option Solver} → Asks text stale limit old None held 5 old
+pub data AsksSolver (text : List ℕ) (stale : Bool) (limit : ℕ) (old : Found) : Option Solver → Option Solver → ℕ → Found → Type 0 where
+  asked : {before after : Solver} {number : ℕ} {found : Found} → Hears before after → Replies text (goal_of stale) limit (IsStopped after) old number found → AsksSolver text stale limit old (Some before) (Some after) number found
+  no_solver : {held : Option Solver} → AsksSolver text stale limit old None held 5 old
 
 -- a solver over so many slots, and what stops it, which nobody has asked for yet
-pub record IsOpened (slots : ℕ) (held : Option Solver) (stop : Option StopSource) : Type 0 where
+pub record IsOpenSolver (slots : ℕ) (held : Option Solver) (stop : Option StopSource) : Type 0 where
   pub solver : Solver
   pub source : StopSource
   pub is_solver : held ≡ Some solver

@@ -42,12 +42,12 @@ pub data IsWhy (text : List ℕ) (limit : ℕ) (Stopped : Type 0) : ℕ → Type
   no_memory : IsWhy text limit Stopped 7
 
 -- what is written into the room, with its length: what is told, or nothing where it is too long, or nothing where nothing is told; the solver is held on
-pub data Writes (Is : Goal → PlainBoard → ℕ → ℕ → List ℕ → Type 0) (text : List ℕ) (stale : Bool) (limit : ℕ) (old : List ℕ)
+pub data WritesTold (Is : Goal → PlainBoard → ℕ → ℕ → List ℕ → Type 0) (text : List ℕ) (stale : Bool) (limit : ℕ) (old : List ℕ)
     : Option Solver → Option Solver → ℕ → List ℕ → ℕ → Type 0 where
   written : {before after : Solver} {number : ℕ} {reply : List ℕ} → Hears before after → IsTold Is text stale limit number reply → length reply ≤ length old
-      → Writes Is text stale limit old (Some before) (Some after) number (reply ++ drop (length reply) old) (length reply)
+      → WritesTold Is text stale limit old (Some before) (Some after) number (reply ++ drop (length reply) old) (length reply)
   too_long : {before after : Solver} {number : ℕ} {reply : List ℕ} → Hears before after → IsTold Is text stale limit number reply → length old < length reply
-      → Writes Is text stale limit old (Some before) (Some after) 9 old (length reply)
+      → WritesTold Is text stale limit old (Some before) (Some after) 9 old (length reply)
   untold : {before after : Solver} {number : ℕ} → Hears before after → IsWhy text limit (IsStopped after) number
-      → Writes Is text stale limit old (Some before) (Some after) number old 0
-  no_solver : {held : Option Solver} → Writes Is text stale limit old None held 5 old 0
+      → WritesTold Is text stale limit old (Some before) (Some after) number old 0
+  no_solver : {held : Option Solver} → WritesTold Is text stale limit old None held 5 old 0

@@ -7,7 +7,7 @@ ghost use Rattle.searcher.specs.Roots.{IsLimit};
 ghost use Rattle.searcher.specs.Problems.{IsProblemOf};
 ghost use Rattle.std.specs.Arc.{arc_value};
 ghost use Rattle.solver.specs.Stopping.{IsStopped, Hears};
-ghost use Rattle.handles.specs.Asked.{goal_of, letter_of, first_of, Tells, Replies, Asks, IsOpened};
+ghost use Rattle.handles.specs.Asked.{goal_of, letter_of, first_of, TellsAnswer, Replies, AsksSolver, IsOpenSolver};
 ghost use Rattle.handles.specs.Stopping.{AsksFor, Sets, Looks};
 
 use crate::found::{First, Found};
@@ -81,7 +81,7 @@ fn first_of(m: Move) -> First
 
 /// An answer in plain numbers.
 fn told(answer: Answer, found: &mut Found) -> u32
-    ensures { Tells answer found.old result found.new }
+    ensures { TellsAnswer answer found.old result found.new }
 {
     match answer {
         Answer::Mate { plies, first } => {
@@ -121,7 +121,7 @@ fn is_held(solver: &SolverHandle, stop: &StopHandle) -> bool
 
 /// A solver over so many slots and what stops it, each in a box, or the number that says why there is neither.
 fn boxed(alloc: Global, slots: u32) -> Result<(Box<Solver>, Box<StopSource>), u32>
-    ensures opened { IfOk result (λ ends. IsOpened slots (Some ends.0.value) (Some ends.1.value)) }
+    ensures opened { IfOk result (λ ends. IsOpenSolver slots (Some ends.0.value) (Some ends.1.value)) }
     ensures number { IfErr result (λ number. (number ≡ 6) ⊎ (number ≡ 7)) }
     ensures size { IsErrOf result 6 ↔ (¬ IsSize slots 1) }
 {
@@ -142,7 +142,7 @@ fn boxed(alloc: Global, slots: u32) -> Result<(Box<Solver>, Box<StopSource>), u3
 
 /// Makes a solver over so many slots, and what stops it: 0 where there are both, else why there is neither. Memory may be refused anywhere.
 pub fn open(alloc: Global, solver: &mut SolverHandle, stop: &mut StopHandle, slots: u32) -> u32
-    ensures opened { (result ≡ 0) → IsOpened slots solver.new.held.value stop.new.held.value }
+    ensures opened { (result ≡ 0) → IsOpenSolver slots solver.new.held.value stop.new.held.value }
     ensures slots { (result ≡ 6) → IsSize slots 1 → ⊥ }
     ensures size { solver.old.full ≡ false → stop.old.full ≡ false → (¬ IsSize slots 1) → result ≡ 6 }
     ensures another { (result ≡ 8) ↔ ((solver.old.full ≡ true) ⊎ (stop.old.full ≡ true)) }
@@ -171,7 +171,7 @@ pub fn solve(
     limit: u32,
     found: &mut Found,
 ) -> u32
-    ensures { Asks fen.now stale limit found.old handle.old.held.value handle.new.held.value result found.new }
+    ensures { AsksSolver fen.now stale limit found.old handle.old.held.value handle.new.held.value result found.new }
 {
     let Some(mut solver) = handle.take(alloc) else {
         return NO_SOLVER;

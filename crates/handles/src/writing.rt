@@ -4,7 +4,7 @@ ghost use Rattle.answer_texts.specs.Answers.{none_text, keys_text};
 ghost use Rattle.searcher.specs.declared.halt.Halt.TheVariants.{Stopped as stopped, NoMemory as want};
 ghost use Rattle.solver.specs.Stopping.{IsStopped, Hears};
 ghost use Rattle.handles.specs.Asked.{goal_of};
-ghost use Rattle.handles.specs.Written.{KeysTold, TreeTold, IsTold, IsWhy, Writes};
+ghost use Rattle.handles.specs.Written.{KeysTold, TreeTold, IsTold, IsWhy, WritesTold};
 ghost use Rattle.handles.specs.Putting.{PutsTold, number_of, keys_number};
 
 use crate::asking::{
@@ -182,7 +182,7 @@ pub fn keys(
     room: &mut [u8],
     length: &mut usize,
 ) -> u32
-    ensures { Writes KeysTold asked.now.fen.now asked.now.stale asked.now.limit room.old
+    ensures { WritesTold KeysTold asked.now.fen.now asked.now.stale asked.now.limit room.old
         handle.old.held.value handle.new.held.value result room.new length.new }
 {
     let Some(mut solver) = handle.take(alloc) else {
@@ -202,7 +202,7 @@ pub fn tree(
     room: &mut [u8],
     length: &mut usize,
 ) -> u32
-    ensures { Writes TreeTold asked.now.fen.now asked.now.stale asked.now.limit room.old
+    ensures { WritesTold TreeTold asked.now.fen.now asked.now.stale asked.now.limit room.old
         handle.old.held.value handle.new.held.value result room.new length.new }
 {
     let Some(mut solver) = handle.take(alloc) else {

@@ -4,11 +4,11 @@
 ghost use Rattle.command_line.specs.declared.line.Action.TheVariants.{Solve, Keys, Tree};
 ghost use Rattle.std.specs.Prelude.{◌≡◌, ◌⊎◌, ◌↔◌, false, true};
 ghost use Rattle.slots.specs.Promise.{IsSize};
-ghost use Rattle.handles.specs.Asked.{Asks, IsOpened};
+ghost use Rattle.handles.specs.Asked.{AsksSolver, IsOpenSolver};
 ghost use Rattle.handles.specs.Stopping.{Sets, Looks};
-ghost use Rattle.handles.specs.Written.{KeysTold, TreeTold, Writes};
+ghost use Rattle.handles.specs.Written.{KeysTold, TreeTold, WritesTold};
 ghost use Rattle.calls.specs.Certificates.{AnswersVerify};
-ghost use Rattle.calls.specs.Calls.{AnswersAfter, AnswersCheck, AnswersFault, AnswersMoves, AnswersSearch, terms_of};
+ghost use Rattle.calls.specs.Calls.{AnswersPlayed, AnswersCheck, AnswersFault, AnswersMoves, AnswersSearch, terms_of};
 
 #[cfg(test)]
 mod tests;
@@ -37,7 +37,7 @@ pub extern "C" fn minimate_fault(alloc: Global, fen: &[u8], room: &mut [u8]) -> 
 /// The position after the lawful move that `minimate moves` writes by this name.
 #[unsafe(no_mangle)]
 pub extern "C" fn minimate_after(alloc: Global, fen: &[u8], name: &[u8], room: &mut [u8]) -> usize
-    ensures { AnswersAfter fen.now name.now room.old room.new result }
+    ensures { AnswersPlayed fen.now name.now room.old room.new result }
 {
     calls::after(alloc, fen, name, room)
 }
@@ -138,7 +138,7 @@ pub extern "C" fn minimate_solver_open(
     stop: &mut StopHandle,
     slots: u32,
 ) -> u32
-    ensures opened { (result ≡ 0) → IsOpened slots solver.new.held.value stop.new.held.value }
+    ensures opened { (result ≡ 0) → IsOpenSolver slots solver.new.held.value stop.new.held.value }
     ensures slots { (result ≡ 6) → IsSize slots 1 → ⊥ }
     ensures size { solver.old.full ≡ false → stop.old.full ≡ false → (¬ IsSize slots 1) → result ≡ 6 }
     ensures another { (result ≡ 8) ↔ ((solver.old.full ≡ true) ⊎ (stop.old.full ≡ true)) }
@@ -158,7 +158,7 @@ pub extern "C" fn minimate_solver_solve(
     limit: u32,
     found: &mut Found,
 ) -> u32
-    ensures { Asks fen.now stale limit found.old solver.old.held.value solver.new.held.value result found.new }
+    ensures { AsksSolver fen.now stale limit found.old solver.old.held.value solver.new.held.value result found.new }
 {
     handles::solve(alloc, solver, fen, stale, limit, found)
 }
@@ -174,7 +174,7 @@ pub extern "C" fn minimate_solver_keys(
     room: &mut [u8],
     length: &mut usize,
 ) -> u32
-    ensures { Writes KeysTold fen.now stale limit room.old
+    ensures { WritesTold KeysTold fen.now stale limit room.old
         solver.old.held.value solver.new.held.value result room.new length.new }
 {
     let asked = Asked { fen, stale, limit };
@@ -192,7 +192,7 @@ pub extern "C" fn minimate_solver_tree(
     room: &mut [u8],
     length: &mut usize,
 ) -> u32
-    ensures { Writes TreeTold fen.now stale limit room.old
+    ensures { WritesTold TreeTold fen.now stale limit room.old
         solver.old.held.value solver.new.held.value result room.new length.new }
 {
     let asked = Asked { fen, stale, limit };

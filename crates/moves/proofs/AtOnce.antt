@@ -27,7 +27,8 @@ use Rattle.moves.specs.Checking.{Attains}
 use Rattle.moves.specs.Safe.{IsNamed}
 use Rattle.moves.proofs.Kings.{check_from}
 use Rattle.rules.proofs.Lists.{HasParts-lawful, promotes_to}
-use Rattle.rules.proofs.Forcing.{on_own, to_own, on_other, to_other, same_side-self, turn-own}
+use Rattle.rules.proofs.Forcing.{to_own, to_other, same_side-self, turn-own}
+use Rattle.board.proofs.RankText.{on_true as on_own, on_false as on_other}
 
 -- ---- the goal, by check and by whether a move is lawful
 
@@ -40,11 +41,11 @@ pub mated_if : (goal : Goal) (b : PlainBoard) (check some : Bool) → goal ≡ M
 mated_if goal b check some is h k e = subst (λ (g : Goal). IsTrue (not some) ↔ IsReached g b) (sym is) (mated_exactly b some (h.0 e) k)
 
 -- the second goal is want of a lawful move
-still : (b : PlainBoard) (check some : Bool) → (IsTrue check ↔ IsInCheck b b.mover) → (IsTrue some ↔ ((m : Ply) × IsLawful b m)) → some ≡ false → IsReached MateOrStale b
+pub still : (b : PlainBoard) (check some : Bool) → (IsTrue check ↔ IsInCheck b b.mover) → (IsTrue some ↔ ((m : Ply) × IsLawful b m)) → some ≡ false → IsReached MateOrStale b
 still b true some h k e = inl (record { check = h.0 refl; no_move = λ m lawful. false≢true (sym e ∙ k.1 (m, lawful)) })
 still b false some h k e = inr (record { no_check = λ c. false≢true (h.1 c); no_move = λ m lawful. false≢true (sym e ∙ k.1 (m, lawful)) })
 
-no_move_of : (b : PlainBoard) → IsReached MateOrStale b → (m : Ply) → IsLawful b m → ⊥
+pub no_move_of : (b : PlainBoard) → IsReached MateOrStale b → (m : Ply) → IsLawful b m → ⊥
 no_move_of b (inl mated) = mated.no_move
 no_move_of b (inr stale) = stale.no_move
 
@@ -53,7 +54,7 @@ pub no_move_at : (goal : Goal) (b : PlainBoard) → IsReached goal b → (m : Pl
 no_move_at Mate b mated = mated.no_move
 no_move_at MateOrStale b r = no_move_of b r
 
-stale_exactly : (b : PlainBoard) (check some : Bool) → (IsTrue check ↔ IsInCheck b b.mover) → (IsTrue some ↔ ((m : Ply) × IsLawful b m)) → IsTrue (not some) ↔ IsReached MateOrStale b
+pub stale_exactly : (b : PlainBoard) (check some : Bool) → (IsTrue check ↔ IsInCheck b b.mover) → (IsTrue some ↔ ((m : Ply) × IsLawful b m)) → IsTrue (not some) ↔ IsReached MateOrStale b
 stale_exactly b check true h k = (λ is. absurd (false≢true is), λ r. absurd (let w = k.0 refl in no_move_of b r w.0 w.1))
 stale_exactly b check false h k = (λ _. still b check false h k refl, λ _. refl)
 

@@ -22,17 +22,13 @@ use Rattle.moves.specs.Guard.{HasBlocks}
 use Rattle.cells.proofs.CellNumbers.{IsCell-cell_of, place_in-cell_of, cell_of-place_in, cell_small}
 use Rattle.rules.proofs.Rides.{one_target}
 use Rattle.moves.proofs.Riding.{Rides-leads}
-use Rattle.moves.proofs.Seeing.{ways_of, single_step}
+use Rattle.moves.proofs.Seeing.{ways_of}
 use Rattle.moves.proofs.Laying.{unit_at-other}
-use Rattle.rules.proofs.Keeps.{to_on_board}
+use Rattle.rules.proofs.Keeps.{to_on_board, Leads-single_step as single_step, Leads-on_board as Leads-end, no_own as own_or_other}
 use Rattle.moves.proofs.Kings.{king_of, check_from}
 use Rattle.moves.proofs.Guarding.{king_stays}
 use Rattle.moves.proofs.Looking.{IsAttacked-struck, IsStruck-attacked, Aims-attacked, struck_played}
-use Rattle.moves.proofs.Pins.{place_cases, own_or_other, no_unit}
-
-Leads-end : (b : PlainBoard) (side : Side) (step : Step) (s t : Place) → Leads b side step s t → IsOnBoard b.game t
-Leads-end b side step s t (once on a) = on
-Leads-end b side step s t (again r on a e l) = Leads-end b side step _ t l
+use Rattle.moves.proofs.Pins.{place_cases, no_unit}
 
 module _ (b : PlainBoard) (m : Ply) (u : Man) (is : IsPosition b) (p : IsPseudoLegal b m u) where
   -- a walk comes by the to-square, or is one after the move too

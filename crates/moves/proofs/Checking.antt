@@ -33,10 +33,10 @@ use Rattle.moves.specs.Pinned.{IsPinned}
 use Rattle.moves.specs.Looking.{Aims}
 use Rattle.cells.proofs.CellNumbers.{IsCell-cell_of, place_in-cell_of}
 use Rattle.moves.proofs.Laying.{unit_at-to, unit_at-from, unit_at-other}
-use Rattle.rules.proofs.Keeps.{to_on_board}
+use Rattle.rules.proofs.Keeps.{to_on_board, no_own as own_or_other}
 use Rattle.moves.proofs.Kings.{king_of, check_from, one_king}
 use Rattle.moves.proofs.Looking.{Leads-then, size-neg, captures_from}
-use Rattle.moves.proofs.Pins.{stood, walked, place_cases, own_or_other, no_unit}
+use Rattle.moves.proofs.Pins.{stood, walked, place_cases, no_unit}
 
 named_or_not : (o : Option Kind) → IsSome o ⊎ (o ≡ None)
 named_or_not None = inr refl

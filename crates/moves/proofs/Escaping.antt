@@ -13,7 +13,7 @@ use Rattle.rules.specs.Squares.{Place, Ply, IsOnBoard, unit_at}
 use Rattle.rules.specs.Reach.{Leads, Allows, Reaches, IsAttacked, IsInCheck}
 use Rattle.rules.specs.Reach.Leads.{once, again}
 use Rattle.rules.specs.Moves.{IsSomeKing, IsPseudoLegal, IsLawful, placed, after}
-use Rattle.rules.proofs.Keeps.{to_on_board, IsPosition-after}
+use Rattle.rules.proofs.Keeps.{to_on_board, IsPosition-after, no_own as own_or_other}
 use Rattle.cells.specs.Mailbox.{place_in, IsCell}
 use Rattle.cells.specs.Ways.{IsOnStraight, IsOnSlanted}
 use Rattle.moves.specs.Looking.{Aims}
@@ -24,7 +24,7 @@ use Rattle.moves.proofs.Laying.{unit_at-to, unit_at-from, unit_at-other}
 use Rattle.moves.proofs.Kings.{king_of, check_at, check_from}
 use Rattle.moves.proofs.Guarding.{king_moved}
 use Rattle.moves.proofs.Looking.{captures_from}
-use Rattle.moves.proofs.Pins.{place_cases, own_or_other, no_unit, stood, walked}
+use Rattle.moves.proofs.Pins.{place_cases, no_unit, stood, walked}
 use Rattle.moves.proofs.Riding.{Rides-leads, rides-ray}
 use Rattle.moves.proofs.Seeing.{rides_as}
 use Rattle.moves.proofs.Shadows.{on_lines}

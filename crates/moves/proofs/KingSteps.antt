@@ -16,13 +16,13 @@ use Rattle.rules.specs.Reach.{Leads, IsAttacked, IsInCheck}
 use Rattle.rules.specs.Reach.Leads.{once, again}
 use Rattle.rules.specs.Moves.{IsPseudoLegal, after}
 use Rattle.rules.proofs.Rides.{room_of, room_of-step}
-use Rattle.rules.proofs.Keeps.{to_on_board, IsPosition-after}
+use Rattle.rules.proofs.Keeps.{to_on_board, IsPosition-after, no_own as own_or_other}
 use Rattle.moves.proofs.Laying.{unit_at-from, unit_at-other}
 use Rattle.moves.proofs.Kings.{king_of, check_at, check_from}
 use Rattle.moves.proofs.Guarding.{king_moved}
 use Rattle.moves.specs.Pinned.{IsPinned}
 use Rattle.moves.proofs.Looking.{captures_from}
-use Rattle.moves.proofs.Pins.{own_or_other, no_unit, place_cases, stood, walked}
+use Rattle.moves.proofs.Pins.{no_unit, place_cases, stood, walked}
 
 -- a walk ends where there is less room
 less_room : (b : PlainBoard) (side : Side) (step : Step) (s t : Place) → IsOnBoard b.game s → 0 < unsigned_abs step.dx + unsigned_abs step.dy → Leads b side step s t → room_of side step t < room_of side step s

@@ -288,7 +288,7 @@ pub record IsRead (g : Game) (words : List ℕ) (units : List (Option Man)) (n :
 abbrev nothing : Option Man
 nothing = None
 
-replicate_none : (n k : ℕ) → get_or (replicate n nothing) k nothing ≡ nothing
+pub replicate_none : (n k : ℕ) → get_or (replicate n nothing) k nothing ≡ nothing
 replicate_none zero k = refl
 replicate_none (suc n) zero = refl
 replicate_none (suc n) (suc k) = replicate_none n k

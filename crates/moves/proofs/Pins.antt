@@ -4,12 +4,10 @@ use Rattle.std.proofs.lemmas.Bool.{cases_eq}
 use Rattle.std.proofs.lemmas.Option.{same_Some}
 use Rattle.board.specs.declared.game.Game.{Game}
 use Rattle.board.specs.declared.game.Side.{Side}
-use Rattle.board.specs.declared.game.Side.TheVariants.{White, Black}
 use Rattle.board.specs.declared.game.Kind.{Kind}
 use Rattle.board.specs.declared.game.Kind.TheVariants.{King, Queen, Rook, Bishop, Knight, Pawn}
 use Rattle.board.specs.declared.game.Unit.{Unit as Man}
 use Rattle.board.specs.declared.step.Step.{Step}
-use Rattle.board.specs.Games.{other_side}
 use Rattle.board.specs.Board.{PlainBoard, IsPosition}
 use Rattle.rules.specs.Squares.{Place, Ply, IsOnBoard, square_number, unit_at}
 use Rattle.rules.specs.Reach.{Leads, IsInCheck}
@@ -18,7 +16,7 @@ use Rattle.rules.specs.Moves.{IsPromotion, IsPseudoLegal, placed, after}
 use Rattle.moves.specs.Pinned.{IsPinned}
 use Rattle.rules.proofs.Listed.{same_number}
 use Rattle.moves.proofs.Laying.{unit_at-to, unit_at-from, unit_at-other}
-use Rattle.rules.proofs.Keeps.{to_on_board}
+use Rattle.rules.proofs.Keeps.{to_on_board, no_own as own_or_other}
 use Rattle.moves.proofs.Kings.{king_of, check_from, one_king}
 use Rattle.moves.proofs.Looking.{captures_from}
 
@@ -41,10 +39,6 @@ promotes_no_king g (Some Pawn) k a not e = cc
 
 pub no_unit : {x : Man} → None ≡ Some x → ⊥
 no_unit h = cc
-
-pub own_or_other : (side : Side) → side ≡ other_side side → ⊥
-own_or_other White e = cc
-own_or_other Black e = cc
 
 module _ (b : PlainBoard) (m : Ply) (u : Man) (is : IsPosition b) (p : IsPseudoLegal b m u) where
   to : IsOnBoard b.game m.to

@@ -20,9 +20,9 @@ use Rattle.board.specs.declared.terms.Term.{Term}
 use Rattle.board.specs.Denotation.{IsAtomLeap, terms_of, Denotes}
 use Rattle.board.specs.Games.{other_side, IsPlayed}
 use Rattle.board.specs.Board.{PlainBoard, is_of_side}
-use Rattle.rules.specs.Squares.{Place, unit_at}
-use Rattle.rules.specs.Reach.{ahead_of, IsShift, IsStep, Leads, Allows, Reaches}
-use Rattle.rules.specs.Reach.Leads.{once, again}
+use Rattle.rules.specs.Squares.{unit_at}
+use Rattle.rules.specs.Reach.{ahead_of, IsShift, IsStep, Allows, Reaches}
+use Rattle.rules.specs.Reach.Leads.{once}
 use Rattle.cells.specs.StepTables.{table_of}
 use Rattle.cells.specs.Mailbox.{place_in, IsAway, IsCell}
 use Rattle.moves.specs.Looking.{Aims}
@@ -33,6 +33,7 @@ use Rattle.cells.proofs.CellNumbers.{shift_in, cell_small}
 use Rattle.cells.proofs.TableTests.{table_of-exact}
 use Rattle.cells.proofs.Masks.{Has-and, Has-or, Has-minus, Has-zero}
 use Rattle.cells.proofs.OnRays.{next_of, next-is, is-next}
+use Rattle.rules.proofs.Keeps.{Leads-single_step as single}
 
 -- ---- where a step may end
 
@@ -167,10 +168,6 @@ step-away side step i j h k e f s =
     let a = s'.file in
     let b = s'.rank in
     omega (arith, ints, a, b, h, k)
-
-single : (b : PlainBoard) (side : Side) (step : Step) (s t : Place) → step.rider ≡ false → Leads b side step s t → IsStep side step s t
-single b side step s t e (once on a) = a
-single b side step s t e (again r on a empty l) = cc
 
 pub IsTarget-pawn : (b : PlainBoard) (u : Man) (i : ℕ) → IsCell b.game i → u.kind ≡ Pawn → IsPlayed b.game u.kind → (set foes push : ℕ)
     → ((j : ℕ) → Has set j ↔ (IsCell b.game j × Aims b u (place_in i) (place_in j))) → ((j : ℕ) → Has foes j ↔ (IsCell b.game j × (is_of_side (other_side u.side) (unit_at b (place_in j)) ≡ true)))

@@ -29,10 +29,10 @@ use Rattle.cells.proofs.CellNumbers.{IsCell-cell_of, place_in-cell_of}
 use Rattle.moves.proofs.KingSteps.{attacked_then, steps_safely}
 use Rattle.cells.proofs.Masks.{lowest-has}
 use Rattle.moves.proofs.Laying.{unit_at-to, unit_at-from, unit_at-other}
-use Rattle.rules.proofs.Keeps.{IsRankAhead, to_on_board}
+use Rattle.rules.proofs.Keeps.{IsRankAhead, to_on_board, no_own as own_or_other}
 use Rattle.moves.proofs.Kings.{king_of, check_from}
 use Rattle.moves.proofs.Shadows.{pinned_attacks}
-use Rattle.moves.proofs.Pins.{place_cases, promotes_no_king, own_or_other, no_unit, stays_safe}
+use Rattle.moves.proofs.Pins.{place_cases, promotes_no_king, no_unit, stays_safe}
 use Rattle.moves.proofs.AtOnce.{pseudo_by, move_by}
 use Rattle.moves.proofs.Checking.{IsTarget-move}
 

@@ -264,10 +264,6 @@ pawn_leaps_all = refl
 
 -- ---- a step's way, where it is a rider's
 
-pub single_step : (b : PlainBoard) (side : Side) (step : Step) (s t : Place) → step.rider ≡ false → Leads b side step s t → IsStep side step s t
-single_step b side step s t e (once on a) = a
-single_step b side step s t e (again r on a empty l) = cc
-
 abbrev is_single : Step → Bool
 is_single s = not s.rider
 

@@ -22,7 +22,7 @@ use Rattle.command_line.specs.declared.line.Limits.{Limits}
 use Rattle.command_line.specs.declared.line.Action.TheVariants.{Solve, Tree, Check}
 use Rattle.devices.specs.Input.{without_line_feed}
 use Rattle.answer_texts.specs.Answers.{answer_text, checked_text}
-use Rattle.replies.specs.Output.{fault_of, ShowsAnswer, ShowsBest, ShowsPlanFound, ShowsTree, ShowsCheck, Shows, IsSoundText, IsOutput}
+use Rattle.replies.specs.Output.{fault_of, ShowsAnswer, ShowsBest, ShowsPlanFound, ShowsTree, ShowsCheck, ShowsCommand, IsSoundText, IsOutput}
 use Rattle.refusals.specs.Reply.{Reply, answered, line_of}
 use Rattle.text_laws.proofs.Faults.{no_sound_fault}
 use Rattle.answer_laws.proofs.OneAnswer.{one_fewest}
@@ -46,8 +46,8 @@ most_limit limit workers slots e =
 
 -- ---- a line at its sound position
 
-shown_at : (line : Line) (input : List ℕ) (reply : Reply) (b : PlainBoard) → IsSoundText line.fen.now b → IsOutput line input reply → Shows b line.action input reply
-shown_at line input reply b is (inl (c, also, shows)) = subst (λ p. Shows p line.action input reply) (one_board line.fen.now c b also.1 is.1) shows
+shown_at : (line : Line) (input : List ℕ) (reply : Reply) (b : PlainBoard) → IsSoundText line.fen.now b → IsOutput line input reply → ShowsCommand b line.action input reply
+shown_at line input reply b is (inl (c, also, shows)) = subst (λ p. ShowsCommand p line.action input reply) (one_board line.fen.now c b also.1 is.1) shows
 shown_at line input reply b is (inr (fault, wrong, e)) = absurd (no_sound_fault line.fen.now b fault is.0 is.1 is.2 wrong)
 
 -- ---- solve
@@ -60,7 +60,7 @@ named goal b limit plies (NoneWithin k) reply within fewest is e = absurd (is.1 
 pub solve_names : (line : Line) (goal : Goal) (limits : Limits) (plies : ℕ) (input : List ℕ) (reply : Reply) → IsForcedWithin line.fen.now goal limits plies → line.action ≡ Solve goal limits → IsOutput line input reply
     → (first : Ply) × (reply ≡ answered (answer_text goal (Mate plies first)))
 solve_names line goal limits plies input reply forced is output =
-    let shown : ShowsAnswer goal forced.board limits reply = subst (λ a. Shows forced.board a input reply) is (shown_at line input reply forced.board forced.sound output) in
+    let shown : ShowsAnswer goal forced.board limits reply = subst (λ a. ShowsCommand forced.board a input reply) is (shown_at line input reply forced.board forced.sound output) in
     let found = in_none (fault_of limits) _ _ forced.taken shown in
     named goal forced.board limits.limit plies found.0 reply forced.within forced.fewest found.1 found.2
 
@@ -93,9 +93,9 @@ pub tree_is_checked : (tree check : Line) (goal : Goal) (limits : Limits) (plies
     → tree.action ≡ Tree goal limits → check.action ≡ Check goal → IsOutput tree input printed → length printed.text ≤ 1048576 → IsOutput check printed.text (answered (checked_text (Some plies)))
 tree_is_checked tree check goal limits plies input printed forced same is_tree is_check output short =
     let b = forced.board in
-    let shown : ShowsPlanFound goal b limits printed = subst (λ a. Shows b a input printed) is_tree (shown_at tree input printed b forced.sound output) in
+    let shown : ShowsPlanFound goal b limits printed = subst (λ a. ShowsCommand b a input printed) is_tree (shown_at tree input printed b forced.sound output) in
     let found = plan_shown goal b limits.limit plies printed forced.within forced.fewest (in_none (fault_of limits) _ _ forced.taken shown) in
     let low : plies ≤ 63 = omega (arith, forced.within, most_limit limits.limit limits.workers limits.slots forced.taken) in
     let shows : ShowsCheck goal b printed.text (answered (checked_text (Some plies))) =
     check_shown goal b printed.text (plan_text found.0) (answered (checked_text (Some plies))) (ap (λ (r : Reply). r.text) found.2) short (checked goal b plies found.0 low forced.fewest found.1) in
-    inl (b, subst (λ fen. IsSoundText fen b) (sym same) forced.sound, subst (λ a. Shows b a printed.text (answered (checked_text (Some plies)))) (sym is_check) shows)
+    inl (b, subst (λ fen. IsSoundText fen b) (sym same) forced.sound, subst (λ a. ShowsCommand b a printed.text (answered (checked_text (Some plies)))) (sym is_check) shows)

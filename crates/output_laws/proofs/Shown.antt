@@ -23,7 +23,7 @@ use Rattle.command_line.specs.declared.line.Action.TheVariants.{Solve, Keys, Mov
 use Rattle.devices.specs.Input.{without_line_feed}
 use Rattle.refusals.specs.Refusal.{refusal_of_fen, refusal_of_tree}
 use Rattle.answer_texts.specs.Answers.{answer_text, keys_text, moves_text, checked_text}
-use Rattle.replies.specs.Output.{refusal_of_solve, fault_of, ShowsBest, ShowsPlan, ShowsTree, Shows, IsSoundText, IsOutput}
+use Rattle.replies.specs.Output.{refusal_of_solve, fault_of, ShowsBest, ShowsPlan, ShowsTree, ShowsCommand, IsSoundText, IsOutput}
 use Rattle.refusals.specs.Reply.{Reply, answered, refused, line_of}
 use Rattle.text_laws.proofs.Faults.{one_sound_fault, no_sound_fault, one_tree_fault, no_tree_fault}
 use Rattle.output_laws.specs.Outputs.{NamesAsMany, SearchesAlike}
@@ -70,7 +70,7 @@ one_tree_shown goal b text x y (inr (fault, wrong, e)) (inl (plan, is, shows)) =
 one_tree_shown goal b text x y (inr (fault, wrong, e)) (inr (other, also, f)) =
     e ∙ ap (λ t. refused (refusal_of_tree t)) (one_tree_fault text fault other wrong.1 also.1 wrong.0 also.0) ∙ sym f
 
-one_shown : (b : PlainBoard) (action : Action) (input : List ℕ) (x y : Reply) → Shows b action input x → Shows b action input y → x ≡ y
+one_shown : (b : PlainBoard) (action : Action) (input : List ℕ) (x y : Reply) → ShowsCommand b action input x → ShowsCommand b action input y → x ≡ y
 one_shown b (Solve goal limits) input = one_match (fault_of limits) _ (λ fault. refused (refusal_of_solve fault))
     (λ x y p q. p.2 ∙ ap (λ a. answered (answer_text goal a)) (one_answer goal b limits.limit p.0 q.0 p.1 q.1) ∙ sym q.2)
 one_shown b (Keys goal limits) input = one_match (fault_of limits) _ (λ fault. refused (refusal_of_solve fault))
@@ -85,7 +85,7 @@ one_shown b (Check goal) input = one_bool _ _ (ShowsTree goal b (without_line_fe
 pub one_output : (line : Line) (input : List ℕ) (x y : Reply) → IsOutput line input x → IsOutput line input y → x ≡ y
 one_output line input x y (inl (b, is, shows)) (inl (c, also, shown)) =
     let same : b ≡ c = one_board line.fen.now b c is.1 also.1 in
-    one_shown c line.action input x y (subst (λ p. Shows p line.action input x) same shows) shown
+    one_shown c line.action input x y (subst (λ p. ShowsCommand p line.action input x) same shows) shown
 one_output line input x y (inl (b, is, shows)) (inr (fault, wrong, e)) = absurd (no_sound_fault line.fen.now b fault is.0 is.1 is.2 wrong)
 one_output line input x y (inr (fault, wrong, e)) (inl (b, is, shows)) = absurd (no_sound_fault line.fen.now b fault is.0 is.1 is.2 wrong)
 one_output line input x y (inr (fault, wrong, e)) (inr (other, also, f)) =
@@ -93,7 +93,7 @@ one_output line input x y (inr (fault, wrong, e)) (inr (other, also, f)) =
 
 -- ---- the input
 
-other_input : (b : PlainBoard) (action : Action) (input other : List ℕ) (reply : Reply) → ((goal : Goal) → action ≡ Check goal → ⊥) → Shows b action input reply → Shows b action other reply
+other_input : (b : PlainBoard) (action : Action) (input other : List ℕ) (reply : Reply) → ((goal : Goal) → action ≡ Check goal → ⊥) → ShowsCommand b action input reply → ShowsCommand b action other reply
 other_input b (Solve goal limits) input other reply none shows = shows
 other_input b (Keys goal limits) input other reply none shows = shows
 other_input b Moves input other reply none shows = shows
@@ -120,7 +120,7 @@ shown_within : (P : Goal → ℕ → Type 0) (goal goal' : Goal) (one other : Li
 shown_within P goal goal' one other f (same, many) shows =
     to_none (fault_of other) _ f many.also (subst (P goal') many.plies (subst (λ g. P g one.limit) same (in_none (fault_of one) _ f many.taken shows)))
 
-shown_alike : (b : PlainBoard) (action other : Action) (input : List ℕ) (reply : Reply) → SearchesAlike action other → Shows b action input reply → Shows b other input reply
+shown_alike : (b : PlainBoard) (action other : Action) (input : List ℕ) (reply : Reply) → SearchesAlike action other → ShowsCommand b action input reply → ShowsCommand b other input reply
 shown_alike b (Solve goal one) (Solve goal' other) input reply alike shows =
     shown_within (λ g limit. (answer : Answer) × IsAnswer g b limit answer × (reply ≡ answered (answer_text g answer))) goal goal' one other _ alike shows
 shown_alike b (Keys goal one) (Keys goal' other) input reply alike shows =

@@ -3,7 +3,7 @@
 
 ghost use Rattle.command_line.specs.declared.line.Action.TheVariants.{Solve, Keys, Tree};
 ghost use Rattle.calls.specs.Certificates.{AnswersVerify};
-ghost use Rattle.calls.specs.Calls.{AnswersAfter, AnswersCheck, AnswersFault, AnswersMoves, AnswersSearch};
+ghost use Rattle.calls.specs.Calls.{AnswersPlayed, AnswersCheck, AnswersFault, AnswersMoves, AnswersSearch};
 
 mod arena;
 #[cfg(test)]
@@ -38,7 +38,7 @@ pub extern "C" fn page_fault(memory: Memory, fen: &[u8], room: &mut [u8]) -> usi
 /// The position after the lawful move that `minimate moves` writes by this name.
 #[unsafe(no_mangle)]
 pub extern "C" fn page_after(memory: Memory, fen: &[u8], name: &[u8], room: &mut [u8]) -> usize
-    ensures { AnswersAfter fen.now name.now room.old room.new result }
+    ensures { AnswersPlayed fen.now name.now room.old room.new result }
 {
     match arena_over(memory) {
         Some(arena) => calls::after(&arena, fen, name, room),

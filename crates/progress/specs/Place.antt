@@ -2,9 +2,9 @@
 use Rattle.std.specs.Prelude.{◌≡◌, ◌⊎◌, ◌<◌, ℕ, List, length, slice_index}
 
 -- the job wins, for which 255 stands, or isn't known to lose within so many plies
-abbrev pub IsNamed : List ℕ → ℕ → ℕ → Type 0
-IsNamed known plies k = (k < length known) × ((slice_index known k < plies) ⊎ (slice_index known k ≡ 255))
+abbrev pub MayBeNamed : List ℕ → ℕ → ℕ → Type 0
+MayBeNamed known plies k = (k < length known) × ((slice_index known k < plies) ⊎ (slice_index known k ≡ 255))
 
 -- the job is so, and none before it is
 abbrev pub StandsFirst : List ℕ → ℕ → ℕ → Type 0
-StandsFirst known plies k = IsNamed known plies k × ((j : ℕ) → j < k → IsNamed known plies j → ⊥)
+StandsFirst known plies k = MayBeNamed known plies k × ((j : ℕ) → j < k → MayBeNamed known plies j → ⊥)

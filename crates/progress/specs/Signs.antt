@@ -14,7 +14,7 @@ use Rattle.progress.specs.Place.{StandsFirst}
 use Rattle.progress.specs.Text.{drawn_text, sign_text}
 
 -- the watch is over the search at a position: its jobs are the lawful moves, in order, and there is room for what is known of each
-pub record Watches (watch : Watch) (place : Setting) (b : PlainBoard) (way : Course) : Type 0 where
+pub record WatchesSearch (watch : Watch) (place : Setting) (b : PlainBoard) (way : Course) : Type 0 where
   pub setting : watch.setting ≡ place
   pub course : watch.course ≡ way
   pub moves : ListsLawful b watch.moves.items

@@ -4,7 +4,7 @@ ghost use Rattle.atomic_table.specs.Seated.{TableId};
 ghost use Rattle.rounds.specs.Going.{KeepsOn};
 ghost use Rattle.progress.specs.Text.{drawn_text, sign_text};
 ghost use Rattle.progress.specs.declared.sign.Sign.{Sign};
-ghost use Rattle.progress.specs.Signs.{DrawsFirst, IsRoundAfter, IsSignOf, IsTargetOf, Watches};
+ghost use Rattle.progress.specs.Signs.{DrawsFirst, IsRoundAfter, IsSignOf, IsTargetOf, WatchesSearch};
 
 use crate::place::{WINS, first_named};
 use crate::sign::{CLEARED, Sign, Work, drawn, left_behind};
@@ -87,7 +87,7 @@ impl Watch {
         position: &Position,
         course: Course,
     ) -> Result<Watch, AllocError>
-        ensures { IfOk result (λ watch. Watches watch setting position.now course) }
+        ensures { IfOk result (λ watch. WatchesSearch watch setting position.now course) }
     {
         let mut moves = Vec::new(alloc);
         moves.extend_from_slice(lawful(position).as_slice())?;

@@ -1,5 +1,5 @@
 -- The tree of a first move.
-use Rattle.std.proofs.Common.{◌≡◌, ◌∙◌, ap, ℕ, zero, suc, ◌+◌, ◌-◌, ◌*◌, ◌<◌, ◌≤◌, List, [], ◌∷◌, length, Contains, None, Some, Result, Ok, Err, Vec, inl, inr, refl, slice_get, sym, subst, false, arith, vec_items}
+use Rattle.std.proofs.Common.{◌≡◌, ◌∙◌, ℕ, zero, suc, ◌+◌, ◌-◌, ◌*◌, ◌<◌, ◌≤◌, List, [], ◌∷◌, length, Contains, None, Some, Result, Vec, inl, inr, refl, slice_get, sym, subst, false, arith, vec_items}
 use Rattle.std.proofs.lemmas.List.Elements.{recursion_from_All}
 use Rattle.std.specs.List.{AllByRecursion}
 use Rattle.board.specs.declared.game.Side.{Side}
@@ -11,16 +11,15 @@ use Rattle.rules.specs.Order.{ListsLawful}
 use Rattle.rules.specs.declared.goal.Goal.{Goal}
 use Rattle.rules.specs.Forces.{IsReached, Forces}
 use Rattle.rules.proofs.Keeps.{one_after}
-use Rattle.rules.proofs.Forcing.{on_other, turn-own, turn-other, same_side-self}
-use Rattle.rules.specs.declared.goal.Goal.TheVariants.{Mate, MateOrStale}
+use Rattle.rules.proofs.Forcing.{turn-own, turn-other, same_side-self}
 use Rattle.decision.specs.declared.answer.Answer.TheVariants.{NoneWithin}
 use Rattle.decision.specs.Answer.{ForcesNothing, IsAnswer, Wins}
 use Rattle.decision.proofs.Winning.{same_mover}
 use Rattle.wintree.specs.Plan.{Plan, Replies, ends, splits, last, more, depth, deepest, plan_of, replies_of}
-use Rattle.wintree.specs.Wins.{height, highest, moves_of}
+use Rattle.wintree.specs.Wins.{height, highest}
 use Rattle.trees.specs.Best.{EachBest, IsBestAfter}
-use Rattle.trees.proofs.Forcing.{reached_now}
-use Rattle.trees.proofs.Lists.{AreBest, replies_in}
+use Rattle.trees.proofs.Forcing.{reached_now, not_reached}
+use Rattle.trees.proofs.Lists.{AreBest, replies_in, moves_of-replies_of as listed_moves}
 use Rattle.replies.specs.First.{IsBestOf, IsFirstReply, IsOpened, IsOpenedJob, NamesJob, ShowsFirst, ShowsJob, ShowsTreeFound}
 use Rattle.std.specs.declared.alloc.Global.{Global}
 use Rattle.std.proofs.lemmas.Option.{get_or_from_slice_get}
@@ -30,11 +29,14 @@ use Rattle.searcher.specs.Roots.{IsJobOf, TakesIn}
 use Rattle.searcher.specs.declared.root.Root.{Root}
 use Rattle.command_line.specs.declared.line.Limits.{Limits}
 use Rattle.command_line.specs.declared.line.Played.{Played}
-use Rattle.refusals.specs.Reply.{Reply, answered, line_of, refused}
+use Rattle.refusals.specs.Reply.{Reply, answered, line_of}
 use Rattle.refusals.specs.declared.refusal.Refusal.{Refusal}
 use Rattle.replies.specs.Outcome.{Gives}
 use Rattle.answer_texts.specs.Answers.{none_text}
 use Rattle.replies.specs.Output.{IsSoundText, fault_of}
+use Rattle.replies.proofs.ReplyLemmas.{gives_weaker}
+use Rattle.searcher.proofs.Jobs.{same_some}
+use Rattle.board.proofs.RankText.{on_false as on_other}
 
 -- ---- depths
 
@@ -48,11 +50,6 @@ mutual
   twice_as_highest (more r plan replies) = omega (arith, twice_as_high plan, twice_as_highest replies)
 
 -- ---- behind a first move that wins within so many plies
-
--- the goal isn't reached where a move is lawful
-not_reached : (goal : Goal) (q : PlainBoard) → ((r : Ply) × IsLawful q r) → IsReached goal q → ⊥
-not_reached Mate q some reached = reached.no_move some.0 some.1
-not_reached MateOrStale q some reached = elim reached [ inl mated ↦ mated.no_move some.0 some.1 | inr stale ↦ stale.no_move some.0 some.1 ]
 
 -- what is left to each reply of n plies
 left_to_each : (goal : Goal) (side : Side) (q : PlainBoard) (n : ℕ) → is_same_side side q.mover ≡ false → ((r : Ply) × IsLawful q r) → Forces goal side q n
@@ -88,10 +85,6 @@ module _ (goal : Goal) (b q : PlainBoard) (m : Ply) (limit : ℕ) (won : Wins go
 
 -- ---- a plan of replies
 
-listed_moves : (first : Ply × Plan) (others : List (Ply × Plan)) → moves_of (replies_of first others) ≡ replies_in (first ∷ others)
-listed_moves first [] = refl
-listed_moves first (next ∷ others) = ap (λ ms. first.0 ∷ ms) (listed_moves next others)
-
 module _ (goal : Goal) (q : PlainBoard) where
   each_best : (first : Ply × Plan) (others : List (Ply × Plan)) → AllByRecursion (λ reply. IsBestAfter goal q reply.0 reply.1) (first ∷ others) → EachBest goal q (replies_of first others)
   each_best first [] each = each.0
@@ -104,9 +97,6 @@ module _ (goal : Goal) (q : PlainBoard) where
       (refl, (q, move, subst (ListsLawful q) (sym (listed_moves first others)) lists, each_best first others (recursion_from_All _ (first ∷ others) each)))
 
 -- ---- which plies the first move takes
-
-same_some : (l m : Ply) → Some l ≡ Some m → l ≡ m
-same_some l m e = cc
 
 module _ (r : Root) (job : ℕ) (m : Ply) (at : slice_get r.moves.items job ≡ Some m) where
   -- a number of plies that the job takes is one that its move takes
@@ -127,12 +117,6 @@ module _ (r : Root) (job : ℕ) (m : Ply) (at : slice_get r.moves.items job ≡ 
   }
 
 -- ---- a reply
-
--- what is given is given for what follows of it
-gives_weaker : {B : Type 0} (bytes : B → List ℕ) (P Q : Reply → Type 0) (r : Result B Refusal) → ((reply : Reply) → P reply → Q reply) → Gives bytes P r → Gives bytes Q r
-gives_weaker bytes P Q (Ok text) so gives = so (answered (bytes text)) gives
-gives_weaker bytes P Q (Err refusal) so (inl none) = inl none
-gives_weaker bytes P Q (Err refusal) so (inr shows) = inr (so (refused refusal) shows)
 
 -- what is found of a move is shown
 found_shown : (goal : Goal) (b : PlainBoard) (m : Ply) (limits : Limits) (limit : ℕ) (plan : Plan) → fault_of limits ≡ None → limit ≡ limits.limit

@@ -8,7 +8,7 @@ use Rattle.rules.specs.declared.goal.Goal.{Goal}
 use Rattle.devices.specs.Input.{IsInput, IsTooLong, OfInput}
 use Rattle.replies.specs.Outcome.{Gives, GivesIfRead, GivesReply, trouble_of}
 use Rattle.answer_texts.specs.Answers.{none_text}
-use Rattle.replies.specs.Output.{fault_of, ShowsPlanFound, IsSoundText, IsOutput, Shows, input_of}
+use Rattle.replies.specs.Output.{fault_of, ShowsPlanFound, IsSoundText, IsOutput, ShowsCommand, input_of}
 use Rattle.refusals.specs.Reply.{Reply, answered, refused, line_of}
 use Rattle.decision.specs.Answer.{IsFewest, ForcesNothing}
 use Rattle.trees.specs.Best.{IsBest}
@@ -24,15 +24,7 @@ use Rattle.devices.specs.declared.transfer.InputFault.{InputFault}
 use Rattle.devices.specs.declared.transfer.InputFault.TheVariants as input
 use Rattle.replies.specs.declared.trouble.Trouble.{Trouble}
 use Rattle.replies.specs.declared.trouble.Trouble.TheVariants.{Refused, ReadFailed}
-
--- what is so of each input is so of the one that was read
-pub of_any : (known : Option (List ℕ)) (P : List ℕ → Type 0) → ((input : List ℕ) → P input) → OfInput known P
-of_any None P all = ([], tt, all [])
-of_any (Some input) P all = (input, refl, all input)
-
--- what follows from what is so of the input
-pub of_input_then : (known : Option (List ℕ)) (P Q : List ℕ → Type 0) → OfInput known P → ((input : List ℕ) → P input → Q input) → OfInput known Q
-of_input_then known P Q (input, same, is) so = (input, same, so input is)
+use Rattle.devices.proofs.InputLemmas.{of_any, of_input_then}
 
 -- a refusal that is right, or is want of memory, is given
 pub refusal_gives : {B : Type 0} (bytes : B → List ℕ) (Is : Reply → Type 0) (r : Result B Trouble) (refusal : Refusal) → (refusal ≡ NoMemory) ⊎ Is (refused refusal)
@@ -51,12 +43,12 @@ fault_gives bytes line known r fault is err =
 
 -- the reply of the command at the sound position of the line is the line's output
 output_at : (line : Line) (input : List ℕ) (b : PlainBoard) (action : Action) (reply : Reply) → IsSoundText line.fen.now b → line.action ≡ action
-    → Shows b action input reply → IsOutput line input reply
-output_at line input b action reply sound is shows = inl (b, sound, subst (λ a. Shows b a input reply) (sym is) shows)
+    → ShowsCommand b action input reply → IsOutput line input reply
+output_at line input b action reply sound is shows = inl (b, sound, subst (λ a. ShowsCommand b a input reply) (sym is) shows)
 
 -- what a command gives at the sound position of the line, a reply gives
 gives_at : {B : Type 0} (bytes : B → List ℕ) (line : Line) (input : List ℕ) (b : PlainBoard) (action : Action) (r : Result B Trouble)
-    → IsSoundText line.fen.now b → line.action ≡ action → GivesIfRead bytes (Shows b action input) r → GivesIfRead bytes (IsOutput line input) r
+    → IsSoundText line.fen.now b → line.action ≡ action → GivesIfRead bytes (ShowsCommand b action input) r → GivesIfRead bytes (IsOutput line input) r
 gives_at bytes line input b action (Ok text) sound is gives = output_at line input b action _ sound is gives
 gives_at bytes line input b action (Err (Refused refusal)) sound is (inl none) = inl none
 gives_at bytes line input b action (Err (Refused refusal)) sound is (inr shows) = inr (output_at line input b action _ sound is shows)
@@ -64,7 +56,7 @@ gives_at bytes line input b action (Err ReadFailed) sound is gives = tt
 
 -- the same with the input that the command reads
 pub gives_reply : {B : Type 0} (bytes : B → List ℕ) (line : Line) (known : Option (List ℕ)) (b : PlainBoard) (action : Action) (r : Result B Trouble)
-    → IsSoundText line.fen.now b → line.action ≡ action → OfInput (input_of action known) (λ input. GivesIfRead bytes (Shows b action input) r)
+    → IsSoundText line.fen.now b → line.action ≡ action → OfInput (input_of action known) (λ input. GivesIfRead bytes (ShowsCommand b action input) r)
     → GivesReply bytes line known r
 gives_reply {B} bytes line known b action r sound is gives =
     subst (λ a. OfInput (input_of a known) (λ input. GivesIfRead bytes (IsOutput line input) r)) (sym is)
@@ -72,15 +64,15 @@ gives_reply {B} bytes line known b action r sound is gives =
 
 -- the same of a command that reads no input
 pub gives_unread : {B : Type 0} (bytes : B → List ℕ) (line : Line) (known : Option (List ℕ)) (b : PlainBoard) (action : Action) (r : Result B Trouble)
-    → IsSoundText line.fen.now b → line.action ≡ action → input_of action known ≡ Some [] → GivesIfRead bytes (Shows b action []) r
+    → IsSoundText line.fen.now b → line.action ≡ action → input_of action known ≡ Some [] → GivesIfRead bytes (ShowsCommand b action []) r
     → GivesReply bytes line known r
 gives_unread {B} bytes line known b action r sound is none gives =
     gives_reply bytes line known b action r sound is
-    (subst (λ o. OfInput o (λ input. GivesIfRead bytes (Shows b action input) r)) (sym none) ([], refl, gives))
+    (subst (λ o. OfInput o (λ input. GivesIfRead bytes (ShowsCommand b action input) r)) (sym none) ([], refl, gives))
 
 -- the same where no read is to fail
 pub gives_output : {B : Type 0} (bytes : B → List ℕ) (line : Line) (input : List ℕ) (b : PlainBoard) (action : Action) (r : Result B Refusal)
-    → IsSoundText line.fen.now b → line.action ≡ action → Gives bytes (Shows b action input) r → Gives bytes (IsOutput line input) r
+    → IsSoundText line.fen.now b → line.action ≡ action → Gives bytes (ShowsCommand b action input) r → Gives bytes (IsOutput line input) r
 gives_output bytes line input b action (Ok text) sound is gives = output_at line input b action _ sound is gives
 gives_output bytes line input b action (Err refusal) sound is (inl none) = inl none
 gives_output bytes line input b action (Err refusal) sound is (inr shows) = inr (output_at line input b action _ sound is shows)
@@ -96,42 +88,42 @@ fault_output bytes line input (Err refusal) fault is err =
 
 -- what is so of an input that isn't too long
 abbrev IfFits : ℕ → (List ℕ → Reply → Type 0) → List ℕ → Reply → Type 0
-IfFits most Shows input reply = MatchBool (nat_lt most (length input)) (reply ≡ refused TooLong) (Shows input reply)
+IfFits most ShowsCommand input reply = MatchBool (nat_lt most (length input)) (reply ≡ refused TooLong) (ShowsCommand input reply)
 
-shows_fit : (most : ℕ) (Shows : List ℕ → Reply → Type 0) (input : List ℕ) (reply : Reply) → length input ≤ most → Shows input reply → IfFits most Shows input reply
-shows_fit most Shows input reply fits shows = rw (le-ltb most (length input) fits) shows
+shows_fit : (most : ℕ) (ShowsCommand : List ℕ → Reply → Type 0) (input : List ℕ) (reply : Reply) → length input ≤ most → ShowsCommand input reply → IfFits most ShowsCommand input reply
+shows_fit most ShowsCommand input reply fits shows = rw (le-ltb most (length input) fits) shows
 
 -- what is refused of the input that was read is refused of the reader's input
-pub input_refused : {B : Type 0} (bytes : B → List ℕ) (most : ℕ) (Shows : List ℕ → Reply → Type 0) (known : Option (List ℕ)) (read : List ℕ) (r : Result B Trouble) (refusal : Refusal)
-    → IsInput most known read → (refusal ≡ NoMemory) ⊎ Shows read (refused refusal)
+pub input_refused : {B : Type 0} (bytes : B → List ℕ) (most : ℕ) (ShowsCommand : List ℕ → Reply → Type 0) (known : Option (List ℕ)) (read : List ℕ) (r : Result B Trouble) (refusal : Refusal)
+    → IsInput most known read → (refusal ≡ NoMemory) ⊎ ShowsCommand read (refused refusal)
     → IsErr r × IsErrAnd r (λ trouble. trouble ≡ Refused refusal)
-    → OfInput known (λ input. GivesIfRead bytes (IfFits most Shows input) r)
-input_refused {B} bytes most Shows known read r refusal is right err =
-    let here : GivesIfRead bytes (IfFits most Shows read) r = refusal_gives bytes (IfFits most Shows read) r refusal
-    (elim right [ inl none ↦ inl none | inr shows ↦ inr (shows_fit most Shows read (refused refusal) is.0 shows) ]) err in
+    → OfInput known (λ input. GivesIfRead bytes (IfFits most ShowsCommand input) r)
+input_refused {B} bytes most ShowsCommand known read r refusal is right err =
+    let here : GivesIfRead bytes (IfFits most ShowsCommand read) r = refusal_gives bytes (IfFits most ShowsCommand read) r refusal
+    (elim right [ inl none ↦ inl none | inr shows ↦ inr (shows_fit most ShowsCommand read (refused refusal) is.0 shows) ]) err in
     (read, is.1, here)
 
 -- what is shown of the input that was read is shown of the reader's input
-pub input_shown : {B : Type 0} (bytes : B → List ℕ) (most : ℕ) (Shows : List ℕ → Reply → Type 0) (known : Option (List ℕ)) (read : List ℕ) (text : B)
-    → IsInput most known read → Shows read (answered (bytes text)) → OfInput known (λ input. GivesIfRead bytes (IfFits most Shows input) (Ok text))
-input_shown bytes most Shows known read text is shows = (read, is.1, shows_fit most Shows read (answered (bytes text)) is.0 shows)
+pub input_shown : {B : Type 0} (bytes : B → List ℕ) (most : ℕ) (ShowsCommand : List ℕ → Reply → Type 0) (known : Option (List ℕ)) (read : List ℕ) (text : B)
+    → IsInput most known read → ShowsCommand read (answered (bytes text)) → OfInput known (λ input. GivesIfRead bytes (IfFits most ShowsCommand input) (Ok text))
+input_shown bytes most ShowsCommand known read text is shows = (read, is.1, shows_fit most ShowsCommand read (answered (bytes text)) is.0 shows)
 
 -- an input that wasn't taken is too long, or memory is wanting, or a read failed
-pub input_unread : {B : Type 0} (bytes : B → List ℕ) (most : ℕ) (Shows : List ℕ → Reply → Type 0) (known : Option (List ℕ)) (r : Result B Trouble) (fault : InputFault)
+pub input_unread : {B : Type 0} (bytes : B → List ℕ) (most : ℕ) (ShowsCommand : List ℕ → Reply → Type 0) (known : Option (List ℕ)) (r : Result B Trouble) (fault : InputFault)
     → (fault ≡ input.TooLong → IsTooLong most known) → IsErr r × IsErrAnd r (λ trouble. trouble ≡ trouble_of fault)
-    → OfInput known (λ input. GivesIfRead bytes (IfFits most Shows input) r)
-input_unread bytes most Shows known (Ok text) fault long err = absurd err.1
-input_unread bytes most Shows known (Err (Refused refusal)) input.TooLong long err =
+    → OfInput known (λ input. GivesIfRead bytes (IfFits most ShowsCommand input) r)
+input_unread bytes most ShowsCommand known (Ok text) fault long err = absurd err.1
+input_unread bytes most ShowsCommand known (Err (Refused refusal)) input.TooLong long err =
     let same : TooLong ≡ refusal = cc in
     of_input_then known _ _ (long refl) (λ read big. inr (rw (lt-ltb most (length read) big) (ap refused (sym same))))
-input_unread bytes most Shows known (Err (Refused refusal)) input.NoMemory long err = of_any known _ (λ read. inl cc)
-input_unread bytes most Shows known (Err (Refused refusal)) input.ReadFailed long err = absurd cc
-input_unread bytes most Shows known (Err ReadFailed) fault long err = of_any known _ (λ read. tt)
+input_unread bytes most ShowsCommand known (Err (Refused refusal)) input.NoMemory long err = of_any known _ (λ read. inl cc)
+input_unread bytes most ShowsCommand known (Err (Refused refusal)) input.ReadFailed long err = absurd cc
+input_unread bytes most ShowsCommand known (Err ReadFailed) fault long err = of_any known _ (λ read. tt)
 
 -- ---- plans
 
 -- what is given is given for what follows of it
-gives_weaker : {B : Type 0} (bytes : B → List ℕ) (P Q : Reply → Type 0) (r : Result B Refusal) → ((reply : Reply) → P reply → Q reply) → Gives bytes P r → Gives bytes Q r
+pub gives_weaker : {B : Type 0} (bytes : B → List ℕ) (P Q : Reply → Type 0) (r : Result B Refusal) → ((reply : Reply) → P reply → Q reply) → Gives bytes P r → Gives bytes Q r
 gives_weaker bytes P Q (Ok text) so gives = so (answered (bytes text)) gives
 gives_weaker bytes P Q (Err refusal) so (inl none) = inl none
 gives_weaker bytes P Q (Err refusal) so (inr shows) = inr (so (refused refusal) shows)

@@ -27,7 +27,8 @@ use Rattle.refusals.specs.Refusal.{refusal_of_fen}
 use Rattle.replies.specs.Verdict.{ShowsProved, IsVerdict, GivesVerdict, trouble_of_certificate}
 use Rattle.replies.specs.declared.trouble.Trouble.{Trouble}
 use Rattle.replies.specs.declared.trouble.Trouble.TheVariants.{Refused, ReadFailed}
-use Rattle.replies.proofs.ReplyLemmas.{of_any, of_input_then, refusal_gives}
+use Rattle.replies.proofs.ReplyLemmas.{refusal_gives}
+use Rattle.devices.proofs.InputLemmas.{of_any, of_input_then}
 
 -- what is given is given for what follows of it
 gives_weaker : {B : Type 0} (bytes : B → List ℕ) (P Q : Reply → Type 0) (r : Result B Trouble) → ((reply : Reply) → P reply → Q reply) → GivesIfRead bytes P r

@@ -100,13 +100,13 @@ ShowsCheck goal b input reply =
     MatchBool (nat_lt 1048576 (length input)) (reply ≡ refused TooLong) (ShowsTree goal b (without_line_feed input) reply)
 
 -- the reply of the command
-abbrev pub Shows : PlainBoard → Action → List ℕ → Reply → Type 0
-Shows b (Solve goal limits) input reply = ShowsAnswer goal b limits reply
-Shows b (Keys goal limits) input reply = ShowsKeys goal b limits reply
-Shows b Moves input reply = ShowsMoves b reply
-Shows b (Show drawing) input reply = reply ≡ answered (drawn drawing b)
-Shows b (Tree goal limits) input reply = ShowsPlanFound goal b limits reply
-Shows b (Check goal) input reply = ShowsCheck goal b input reply
+abbrev pub ShowsCommand : PlainBoard → Action → List ℕ → Reply → Type 0
+ShowsCommand b (Solve goal limits) input reply = ShowsAnswer goal b limits reply
+ShowsCommand b (Keys goal limits) input reply = ShowsKeys goal b limits reply
+ShowsCommand b Moves input reply = ShowsMoves b reply
+ShowsCommand b (Show drawing) input reply = reply ≡ answered (drawn drawing b)
+ShowsCommand b (Tree goal limits) input reply = ShowsPlanFound goal b limits reply
+ShowsCommand b (Check goal) input reply = ShowsCheck goal b input reply
 
 -- ---- the output of a line
 
@@ -117,7 +117,7 @@ IsSoundText text b = IsPosition b × IsFenText text b × IsSound b
 -- the reply to a line with this input: its command's at the sound position of its text, or the refusal of its text's fault
 abbrev pub IsOutput : Line → List ℕ → Reply → Type 0
 IsOutput line input reply =
-    ((b : PlainBoard) × IsSoundText line.fen.now b × Shows b line.action input reply)
+    ((b : PlainBoard) × IsSoundText line.fen.now b × ShowsCommand b line.action input reply)
     ⊎ ((fault : FenFault) × IsSoundFault line.fen.now fault × (reply ≡ refused (refusal_of_fen fault)))
 
 -- what is known of the input that a command reads: all but `check` read none

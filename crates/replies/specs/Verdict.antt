@@ -9,7 +9,7 @@ use Rattle.decision.specs.Answer.{IsAnswer}
 use Rattle.certificates.specs.Answers.{IsUpTo}
 use Rattle.verifying.specs.declared.fault.Fault.{Fault}
 use Rattle.verifying.specs.declared.fault.Fault.TheVariants as certificate
-use Rattle.verifying.specs.FirstLine.{BeginsWith}
+use Rattle.verifying.specs.FirstLine.{HasFirstLine}
 use Rattle.verifying.specs.Certificate.{IsCertificate, IsRefusedWith}
 use Rattle.command_line.specs.declared.line.Subject.{Subject}
 use Rattle.devices.specs.Input.{OfInput}
@@ -25,7 +25,7 @@ use Rattle.replies.specs.declared.trouble.Trouble.TheVariants.{Refused, ReadFail
 
 -- it is the answer up to each limit that fits, the text begins with it, and is a certificate of it
 abbrev pub IsProved : Goal → PlainBoard → List ℕ → Answer → Type 0
-IsProved goal b text answer = ((limit : ℕ) → IsUpTo limit answer → IsAnswer goal b limit answer) × BeginsWith goal answer text × IsCertificate goal b answer text
+IsProved goal b text answer = ((limit : ℕ) → IsUpTo limit answer → IsAnswer goal b limit answer) × HasFirstLine goal answer text × IsCertificate goal b answer text
 
 -- the trouble of each fault of a certificate
 abbrev pub trouble_of_certificate : Fault → Trouble

@@ -8,23 +8,23 @@ use Rattle.decision.specs.Calls.{Continues}
 use Rattle.decision.proofs.Calls.{continues_none, continues_more}
 use Rattle.rounds.specs.declared.share.Share.{Share}
 use Rattle.rounds.specs.Shares.{seats_back}
-use Rattle.rounds.specs.Going.{GoesOn, KeepsOn, EachGoesOn, SeatsGoOn, KeptSeatsGoOn}
-use Rattle.rounds.specs.Going.GoesOn.{searched, called, onward}
+use Rattle.rounds.specs.Going.{SeatGoesOn, KeepsOn, EachGoesOn, SeatsGoOn, KeptSeatsGoOn}
+use Rattle.rounds.specs.Going.SeatGoesOn.{searched, called, onward}
 use Rattle.decision.proofs.Zips.{zip_same, zip_last, zip_then, zip_back}
 
 module _ (keeps : TableId → Seat ℕ View → Seat ℕ View → Type 0) (t : TableId) where
-  pub goes_none : (a : Seat ℕ View) → IsSeatOf t a → GoesOn keeps t a a
+  pub goes_none : (a : Seat ℕ View) → IsSeatOf t a → SeatGoesOn keeps t a a
   goes_none a seat = searched (continues_none t a seat)
 
-  pub goes_more : (a b c : Seat ℕ View) → GoesOn keeps t a b → GoesOn keeps t b c → GoesOn keeps t a c
+  pub goes_more : (a b c : Seat ℕ View) → SeatGoesOn keeps t a b → SeatGoesOn keeps t b c → SeatGoesOn keeps t a c
   goes_more a b c p q = onward p q
 
   -- the gate is called, and then a job is decided
-  pub goes_decided : (a b c : Seat ℕ View) → IsSeatOf t a → keeps t a b → Continues t b c → GoesOn keeps t a c
+  pub goes_decided : (a b c : Seat ℕ View) → IsSeatOf t a → keeps t a b → Continues t b c → SeatGoesOn keeps t a c
   goes_decided a b c seat kept calls = onward (called seat kept) (searched calls)
 
   -- a seat that goes on continues, if it does so in the gate's calls
-  pub goes_kept : KeepsOn keeps t → (a b : Seat ℕ View) → GoesOn keeps t a b → Continues t a b
+  pub goes_kept : KeepsOn keeps t → (a b : Seat ℕ View) → SeatGoesOn keeps t a b → Continues t a b
   goes_kept keep a b (searched calls) = calls
   goes_kept keep a b (called seat kept) = keep a b seat kept
   goes_kept keep a b (onward {between = m} p q) = continues_more t a m b (goes_kept keep a m p) (goes_kept keep m b q)
@@ -32,14 +32,14 @@ module _ (keeps : TableId → Seat ℕ View → Seat ℕ View → Type 0) (t : T
 module _ (keeps : TableId → Seat ℕ View → Seat ℕ View → Type 0) (t : TableId) where
   -- no seat was used
   pub seats_none : (xs : List (Seat ℕ View)) → All (IsSeatOf t) xs → SeatsGoOn keeps t xs xs
-  seats_none xs seats = zip_same (GoesOn keeps t) (IsSeatOf t) (goes_none keeps t) xs seats
+  seats_none xs seats = zip_same (SeatGoesOn keeps t) (IsSeatOf t) (goes_none keeps t) xs seats
 
   pub seats_more : (xs ys zs : List (Seat ℕ View)) → SeatsGoOn keeps t xs ys → SeatsGoOn keeps t ys zs → SeatsGoOn keeps t xs zs
-  seats_more xs ys zs p q = zip_then (GoesOn keeps t) (goes_more keeps t) xs ys zs p q
+  seats_more xs ys zs p q = zip_then (SeatGoesOn keeps t) (goes_more keeps t) xs ys zs p q
 
   -- the last one alone was used
-  pub seats_last : (xs xs' ys : List (Seat ℕ View)) (s s' : Seat ℕ View) → xs ≡ ys ++ s ∷ [] → xs' ≡ ys ++ s' ∷ [] → All (IsSeatOf t) ys → GoesOn keeps t s s' → SeatsGoOn keeps t xs xs'
-  seats_last xs xs' ys s s' e e' seats on = zip_last (GoesOn keeps t) (IsSeatOf t) (goes_none keeps t) xs xs' ys s s' e e' seats on
+  pub seats_last : (xs xs' ys : List (Seat ℕ View)) (s s' : Seat ℕ View) → xs ≡ ys ++ s ∷ [] → xs' ≡ ys ++ s' ∷ [] → All (IsSeatOf t) ys → SeatGoesOn keeps t s s' → SeatsGoOn keeps t xs xs'
+  seats_last xs xs' ys s s' e e' seats on = zip_last (SeatGoesOn keeps t) (IsSeatOf t) (goes_none keeps t) xs xs' ys s s' e e' seats on
 
   pub seats_kept : KeptSeatsGoOn keeps t
   seats_kept keep [] [] on = tt
@@ -49,12 +49,12 @@ module _ (keeps : TableId → Seat ℕ View → Seat ℕ View → Type 0) (t : T
 
   module _ {J : Type 0} where
     -- the last share alone was used
-    pub each_last : (xs xs' ys : List (Share J)) (s s' : Share J) → xs ≡ ys ++ s ∷ [] → xs' ≡ ys ++ s' ∷ [] → All (λ u. IsSeatOf t u.seat) ys → GoesOn keeps t s.seat s'.seat → EachGoesOn keeps t xs xs'
+    pub each_last : (xs xs' ys : List (Share J)) (s s' : Share J) → xs ≡ ys ++ s ∷ [] → xs' ≡ ys ++ s' ∷ [] → All (λ u. IsSeatOf t u.seat) ys → SeatGoesOn keeps t s.seat s'.seat → EachGoesOn keeps t xs xs'
     each_last xs xs' ys s s' e e' seats on =
-        zip_last (λ a b. GoesOn keeps t a.seat b.seat) (λ u. IsSeatOf t u.seat) (λ u h. goes_none keeps t u.seat h) xs xs' ys s s' e e' seats on
+        zip_last (λ a b. SeatGoesOn keeps t a.seat b.seat) (λ u. IsSeatOf t u.seat) (λ u h. goes_none keeps t u.seat h) xs xs' ys s s' e e' seats on
 
     pub each_more : (xs ys zs : List (Share J)) → EachGoesOn keeps t xs ys → EachGoesOn keeps t ys zs → EachGoesOn keeps t xs zs
-    each_more xs ys zs p q = zip_then (λ a b. GoesOn keeps t a.seat b.seat) (λ a b c. goes_more keeps t a.seat b.seat c.seat) xs ys zs p q
+    each_more xs ys zs p q = zip_then (λ a b. SeatGoesOn keeps t a.seat b.seat) (λ a b c. goes_more keeps t a.seat b.seat c.seat) xs ys zs p q
 
     pub back_goes_on : (xs ys : List (Share J)) → EachGoesOn keeps t xs ys → SeatsGoOn keeps t (seats_back xs) (seats_back ys)
-    back_goes_on xs ys p = zip_back (GoesOn keeps t) (λ u. u.seat) xs ys p
+    back_goes_on xs ys p = zip_back (SeatGoesOn keeps t) (λ u. u.seat) xs ys p

@@ -1,12 +1,12 @@
 -- A row of verdicts, read and written at a job.
-use Rattle.std.proofs.Common.{◌≡◌, ◌≢◌, ℕ, ◌+◌, ◌<◌, ◌≤◌, List, length, get_or, sym, ap, subst, ◌∙◌, arith}
+use Rattle.std.proofs.Common.{◌≡◌, ◌≢◌, ℕ, ◌<◌, ◌≤◌, List, length, get_or, sym, ap, subst, ◌∙◌, arith}
 use Rattle.std.proofs.lemmas.Grind.{common_steps, elements}
 use mathlib.Core.Logic.{dite}
 use native.Mathlib.Decide.{ℕ_discrete}
 use lib.ListN.{set}
 use Rattle.rounds.specs.declared.share.Verdict.{Verdict}
 use Rattle.rounds.specs.declared.share.Verdict.TheVariants.{Open, Wins, Loses}
-use Rattle.rounds.specs.Verdicts.{IsRight, AreRight}
+use Rattle.rounds.specs.Verdicts.{IsVerdictRight, AreRight}
 use Rattle.rounds.specs.Shares.{KnowsWins}
 
 loses_apart : Loses ≡ Wins → ⊥
@@ -27,17 +27,17 @@ set_length row i v = grind (arith, common_steps, elements)
 
 module _ (win : ℕ → Type 0) (row : List Verdict) (right : AreRight win row) where
   -- what is read of a job is right
-  pub row_says : (at job n : ℕ) (v : Verdict) → at ≡ job → length row ≡ n → job < n → v ≡ get_or row at v → IsRight (win job) v
+  pub row_says : (at job n : ℕ) (v : Verdict) → at ≡ job → length row ≡ n → job < n → v ≡ get_or row at v → IsVerdictRight (win job) v
   row_says at job n v same count h e =
-      subst (IsRight (win job)) (same_default row job Open v (omega (arith, count, h)) (e ∙ ap (λ i. get_or row i v) same)) (right job)
+      subst (IsVerdictRight (win job)) (same_default row job Open v (omega (arith, count, h)) (e ∙ ap (λ i. get_or row i v) same)) (right job)
 
-  row_right : (job : ℕ) (v : Verdict) → job < length row → IsRight (win job) v → AreRight win (set row job v)
+  row_right : (job : ℕ) (v : Verdict) → job < length row → IsVerdictRight (win job) v → AreRight win (set row job v)
   row_right job v h is k = dite (ℕ_discrete k job)
-      (λ e. subst (λ i. IsRight (win i) (get_or (set row job v) i Open)) (sym e) (subst (IsRight (win job)) (sym (set_here row job Open v h)) is))
-      (λ other. subst (IsRight (win k)) (sym (set_there row job k Open v other)) (right k))
+      (λ e. subst (λ i. IsVerdictRight (win i) (get_or (set row job v) i Open)) (sym e) (subst (IsVerdictRight (win job)) (sym (set_here row job Open v h)) is))
+      (λ other. subst (IsVerdictRight (win k)) (sym (set_there row job k Open v other)) (right k))
 
   -- a row with one right verdict more
-  pub row_with : (at job n : ℕ) (v : Verdict) → at ≡ job → length row ≡ n → job < n → IsRight (win job) v → (length (set row at v) ≡ n) × AreRight win (set row at v)
+  pub row_with : (at job n : ℕ) (v : Verdict) → at ≡ job → length row ≡ n → job < n → IsVerdictRight (win job) v → (length (set row at v) ≡ n) × AreRight win (set row at v)
   row_with at job n v same count h is = (
     set_length row at v ∙ count,
     subst (λ i. AreRight win (set row i v)) (sym same) (row_right job v (omega (arith, count, h)) is),

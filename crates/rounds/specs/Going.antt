@@ -5,14 +5,14 @@ use Rattle.atomic_table.specs.Seated.{TableId}
 use Rattle.atomic_table.specs.declared.shared.Seat.{Seat}
 use Rattle.slots.specs.declared.views.View.{View}
 use Rattle.slots.specs.Promise.{IsSeatOf}
-use Rattle.decision.specs.Calls.{Continues}
+use Rattle.decision.specs.Calls.{Continues, SeatsContinue}
 use Rattle.rounds.specs.declared.share.Share.{Share}
 
 -- The seat goes on by calls of two kinds, in any order: the search's own, by which it continues, and the gate's, which keep what the gate says
-pub data GoesOn (keeps : TableId → Seat ℕ View → Seat ℕ View → Type 0) (table : TableId) : Seat ℕ View → Seat ℕ View → Type 0 where
-  searched : {before after : Seat ℕ View} → Continues table before after → GoesOn keeps table before after
-  called : {before after : Seat ℕ View} → IsSeatOf table before → keeps table before after → GoesOn keeps table before after
-  onward : {before between after : Seat ℕ View} → GoesOn keeps table before between → GoesOn keeps table between after → GoesOn keeps table before after
+pub data SeatGoesOn (keeps : TableId → Seat ℕ View → Seat ℕ View → Type 0) (table : TableId) : Seat ℕ View → Seat ℕ View → Type 0 where
+  searched : {before after : Seat ℕ View} → Continues table before after → SeatGoesOn keeps table before after
+  called : {before after : Seat ℕ View} → IsSeatOf table before → keeps table before after → SeatGoesOn keeps table before after
+  onward : {before between after : Seat ℕ View} → SeatGoesOn keeps table before between → SeatGoesOn keeps table between after → SeatGoesOn keeps table before after
 
 -- the gate's calls are such that a seat continues in them
 abbrev pub KeepsOn : (TableId → Seat ℕ View → Seat ℕ View → Type 0) → TableId → Type 0
@@ -20,15 +20,11 @@ KeepsOn keeps table = (before after : Seat ℕ View) → IsSeatOf table before �
 
 -- each of these seats goes on, from the one with its number
 abbrev pub SeatsGoOn : (TableId → Seat ℕ View → Seat ℕ View → Type 0) → TableId → List (Seat ℕ View) → List (Seat ℕ View) → Type 0
-SeatsGoOn keeps table before after = AllZip (GoesOn keeps table) before after
+SeatsGoOn keeps table before after = AllZip (SeatGoesOn keeps table) before after
 
 -- so does the seat of each share
 abbrev pub EachGoesOn : {J : Type 0} → (TableId → Seat ℕ View → Seat ℕ View → Type 0) → TableId → List (Share J) → List (Share J) → Type 0
-EachGoesOn keeps table before after = AllZip (λ a b. GoesOn keeps table a.seat b.seat) before after
-
--- each of these seats continues, from the one with its number
-abbrev pub SeatsContinue : TableId → List (Seat ℕ View) → List (Seat ℕ View) → Type 0
-SeatsContinue table before after = AllZip (Continues table) before after
+EachGoesOn keeps table before after = AllZip (λ a b. SeatGoesOn keeps table a.seat b.seat) before after
 
 -- where the gate's calls are such, the seats that go on continue
 abbrev pub KeptSeatsGoOn : (TableId → Seat ℕ View → Seat ℕ View → Type 0) → TableId → Type 0

@@ -6,7 +6,7 @@ ghost use Rattle.searcher.specs.Keys.{ListsKeys};
 ghost use Rattle.searcher.specs.Roots.{IsRoot, IsLimit};
 ghost use Rattle.rounds.specs.Limits.{task_fault, IsTaskRefusal};
 ghost use Rattle.rounds.specs.Seats.{AreSeats};
-ghost use Rattle.rounds.specs.Going.{GoesOn, SeatsGoOn};
+ghost use Rattle.rounds.specs.Going.{SeatGoesOn, SeatsGoOn};
 
 use crate::bench::Search;
 use crate::gated::Gated;
@@ -65,7 +65,7 @@ fn prepare<T: Gate, R: Threads + Wait + Sync>(
         &|_, seat: &mut Seat|
             requires { IsRoot search.now.root × IsLimit limit × IsSeatOf search.now.slots.now seat.now }
             ensures { IsSeatOf search.entry.now.slots.now seat.exit.now
-                × GoesOn T.keeps search.entry.now.slots.now seat.entry.now seat.exit.now }
+                × SeatGoesOn T.keeps search.entry.now.slots.now seat.entry.now seat.exit.now }
         {
             let mut gated = Gated {
                 slots: search.slots,
@@ -86,7 +86,7 @@ fn own_keys<T: Gate>(
 ) -> Result<Vec<Key>, Halt>
     requires seat { IsSeatOf search.now.slots.now seat.old }
     ensures seat { IsSeatOf search.now.slots.now seat.new }
-    ensures goes_on { GoesOn T.keeps search.now.slots.now seat.old seat.new }
+    ensures goes_on { SeatGoesOn T.keeps search.now.slots.now seat.old seat.new }
     ensures lists { IfOk result (λ keys. ListsKeys problem.now.goal problem.now.position problem.now.limit keys.items) }
 {
     let mut gated = Gated {

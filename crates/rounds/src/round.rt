@@ -1,10 +1,10 @@
 //! A round: its jobs are dealt out, worked on by all threads, and settled by the caller.
 ghost use Rattle.std.specs.Prelude.{◌≡◌, ◌<◌, ◌≤◌, ◌↔◌, [], All, IfOk, IsTrue, length, vec_capacity};
-ghost use Rattle.rounds.specs.Verdicts.{IsRight};
+ghost use Rattle.rounds.specs.Verdicts.{IsVerdictRight};
 ghost use Rattle.searcher.specs.Roots.{IsRoot, IsLimit, EndsRound};
 ghost use Rattle.rounds.specs.Seats.{AreSeats, AreCallers, AreJobSeats};
 ghost use Rattle.rounds.specs.Shares.{IsBench, WinsHere, IsPart, IsShare, AreDealt, seats_back};
-ghost use Rattle.rounds.specs.Going.{GoesOn, EachGoesOn, SeatsGoOn};
+ghost use Rattle.rounds.specs.Going.{SeatGoesOn, EachGoesOn, SeatsGoOn};
 
 use crate::bench::{Bench, RootJobs, Search};
 use crate::deal::{Count, Thief, deal};
@@ -124,7 +124,7 @@ fn work_all<J: Count + Send + Sync, T: Gate, R: Threads + Wait + Sync>(
         &|_, share: &mut Share<'_, '_, J>|
             requires { IsShare J.jobs bench.now share.now }
             ensures { IsShare J.jobs bench.entry.now share.exit.now
-                × GoesOn T.keeps bench.entry.now.search.now.slots.now share.entry.now.seat share.exit.now.seat }
+                × SeatGoesOn T.keeps bench.entry.now.search.now.slots.now share.entry.now.seat share.exit.now.seat }
         { share.work(rt, bench, thieves, outs) },
     );
 }
@@ -139,7 +139,7 @@ fn found<J: Count, T: Gate>(
     requires shares { All (IsShare J.jobs bench.now) shares.now.items }
     requires own { IsShare J.jobs bench.now own.now }
     requires job { job < J.jobs }
-    ensures { IsRight (WinsHere bench.now job) result }
+    ensures { IsVerdictRight (WinsHere bench.now job) result }
 {
     match own.says(bench, job) {
         Verdict::Open => {}
@@ -165,7 +165,7 @@ fn wins<J: Count, T: Gate>(
     requires own { IsShare J.jobs bench.now own.old }
     requires job { job < J.jobs }
     ensures own { IsShare J.jobs bench.now own.new }
-    ensures goes_on { GoesOn T.keeps bench.now.search.now.slots.now own.old.seat own.new.seat }
+    ensures goes_on { SeatGoesOn T.keeps bench.now.search.now.slots.now own.old.seat own.new.seat }
     ensures wins { IsTrue result ↔ WinsHere bench.now job }
 {
     match found(bench, shares, own, job) {
@@ -184,7 +184,7 @@ fn settle<J: Count, T: Gate>(
     requires shares { All (IsShare J.jobs bench.now) shares.now.items }
     requires own { IsShare J.jobs bench.now own.old }
     ensures own { IsShare J.jobs bench.now own.new }
-    ensures goes_on { GoesOn T.keeps bench.now.search.now.slots.now own.old.seat own.new.seat }
+    ensures goes_on { SeatGoesOn T.keeps bench.now.search.now.slots.now own.old.seat own.new.seat }
     ensures end { EndsRound bench.now.search.now.root bench.now.plies result }
 {
     for job in 0..bench.search.root.jobs() {

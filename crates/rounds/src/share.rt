@@ -104,15 +104,15 @@ pub(crate) struct Share<'a, 'b, J: Count> {
 
 impl<'a, 'b, J: Count> Share<'a, 'b, J> {
     ghost use Rattle.std.specs.Prelude.{◌<◌};
-    ghost use Rattle.rounds.specs.Verdicts.{IsRight};
+    ghost use Rattle.rounds.specs.Verdicts.{IsVerdictRight};
     ghost use Rattle.rounds.specs.Shares.{WinsHere, IsShare};
-    ghost use Rattle.rounds.specs.Going.{GoesOn};
+    ghost use Rattle.rounds.specs.Going.{SeatGoesOn};
 
     /// What the share says of a job.
     pub(crate) fn says<T: Gate>(&self, bench: &Bench<'_, T>, job: u16) -> Verdict
         requires share { IsShare J.jobs bench.now self.now }
         requires job { job < J.jobs }
-        ensures { IsRight (WinsHere bench.now job) result }
+        ensures { IsVerdictRight (WinsHere bench.now job) result }
     {
         let _ = bench;
         self.row[usize::from(job)]
@@ -123,7 +123,7 @@ impl<'a, 'b, J: Count> Share<'a, 'b, J> {
         requires share { IsShare J.jobs bench.now self.old }
         requires job { job < J.jobs }
         ensures share { IsShare J.jobs bench.now self.new }
-        ensures goes_on { GoesOn T.keeps bench.now.search.now.slots.now self.old.seat self.new.seat }
+        ensures goes_on { SeatGoesOn T.keeps bench.now.search.now.slots.now self.old.seat self.new.seat }
     {
         let stop = &mut self.scout.stop;
         if bench.least.is_below(&mut stop.seat, job) {
@@ -156,7 +156,7 @@ impl<'a, 'b, J: Count> Share<'a, 'b, J> {
     fn take_all<T: Gate, R: Wait>(&mut self, rt: &R, bench: &Bench<'_, T>, thieves: &Vec<Thief<J>>)
         requires { IsShare J.jobs bench.now self.old }
         ensures share { IsShare J.jobs bench.now self.new }
-        ensures goes_on { GoesOn T.keeps bench.now.search.now.slots.now self.old.seat self.new.seat }
+        ensures goes_on { SeatGoesOn T.keeps bench.now.search.now.slots.now self.old.seat self.new.seat }
     {
         for _ in rt.forever() {
             let Some(job) = next_job(rt, &mut self.local, thieves) else {
@@ -169,7 +169,7 @@ impl<'a, 'b, J: Count> Share<'a, 'b, J> {
     fn help_all<T: Gate>(&mut self, bench: &Bench<'_, T>, outs: &Vec<Out<J>>)
         requires { IsShare J.jobs bench.now self.old }
         ensures share { IsShare J.jobs bench.now self.new }
-        ensures goes_on { GoesOn T.keeps bench.now.search.now.slots.now self.old.seat self.new.seat }
+        ensures goes_on { SeatGoesOn T.keeps bench.now.search.now.slots.now self.old.seat self.new.seat }
     {
         for out in outs {
             help(bench, out, &mut self.seat);
@@ -186,7 +186,7 @@ impl<'a, 'b, J: Count> Share<'a, 'b, J> {
     )
         requires { IsShare J.jobs bench.now self.old }
         ensures share { IsShare J.jobs bench.now self.new }
-        ensures goes_on { GoesOn T.keeps bench.now.search.now.slots.now self.old.seat self.new.seat }
+        ensures goes_on { SeatGoesOn T.keeps bench.now.search.now.slots.now self.old.seat self.new.seat }
     {
         self.take_all(rt, bench, thieves);
         self.help_all(bench, outs);

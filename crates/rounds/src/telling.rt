@@ -2,7 +2,7 @@
 ghost use Rattle.std.specs.Prelude.{◌↔◌, IsTrue};
 ghost use Rattle.slots.specs.Promise.{IsSeatOf};
 ghost use Rattle.searcher.specs.Roots.{IsJobOf, IsLimit, WinsIn};
-ghost use Rattle.rounds.specs.Going.{GoesOn};
+ghost use Rattle.rounds.specs.Going.{SeatGoesOn};
 
 use crate::bench::Search;
 use crate::gated::Gated;
@@ -14,7 +14,7 @@ use slots::Seat;
 impl<T: Gate> Decider for Gated<'_, T> {
     ghost use Rattle.std.proofs.Common.{◌∙◌, refl, sym, subst};
     ghost use Rattle.decision.proofs.Calls.{continues_none};
-    ghost use Rattle.rounds.specs.Going.GoesOn.{searched, onward};
+    ghost use Rattle.rounds.specs.Going.SeatGoesOn.{searched, onward};
     ghost use Rattle.rounds.specs.Telling.{TellsOn};
 
     ghost told = { λ _. ⊥ };
@@ -44,7 +44,7 @@ impl<T: Gate> Decider for Gated<'_, T> {
       table = q.table ∙ p.table;
       seat = q.seat ∙ p.seat;
       calls = λ seat. onward (p.calls seat)
-          (subst (λ t. GoesOn T.keeps t b.seat.now c.seat.now) p.table (q.calls (p.still seat)));
+          (subst (λ t. SeatGoesOn T.keeps t b.seat.now c.seat.now) p.table (q.calls (p.still seat)));
       still = λ seat. q.still (p.still seat);
     } };
 }
@@ -60,7 +60,7 @@ pub(crate) fn decide_job<T: Gate>(
     requires job { IsJobOf search.now.root job }
     requires plies { IsLimit plies }
     ensures seat { IsSeatOf search.now.slots.now seat.new }
-    ensures goes_on { GoesOn T.keeps search.now.slots.now seat.old seat.new }
+    ensures goes_on { SeatGoesOn T.keeps search.now.slots.now seat.old seat.new }
     ensures wins { IsTrue result ↔ WinsIn search.now.root plies job }
 {
     let mut gated = Gated {

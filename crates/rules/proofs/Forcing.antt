@@ -9,6 +9,7 @@ use Rattle.rules.specs.declared.goal.Goal.{Goal}
 use Rattle.rules.specs.Moves.{IsMove}
 use Rattle.rules.specs.Forces.{IsReached, Forces}
 use Rattle.rules.proofs.Keeps.{mover-after}
+use Rattle.board.proofs.RankText.{on_true as on_own, on_false as on_other}
 
 -- ---- whose turn it is
 
@@ -23,17 +24,9 @@ IsOwnTurn side b = is_same_side side b.mover ≡ true
 abbrev pub IsOtherTurn : Side → PlainBoard → Type 0
 IsOtherTurn side b = is_same_side side b.mover ≡ false
 
-pub on_own : (r : Bool) (P Q : Type 0) → r ≡ true → MatchBool r P Q → P
-on_own true P Q e h = h
-on_own false P Q e h = cc
-
 pub to_own : (r : Bool) (P Q : Type 0) → r ≡ true → P → MatchBool r P Q
 to_own true P Q e h = h
 to_own false P Q e h = cc
-
-pub on_other : (r : Bool) (P Q : Type 0) → r ≡ false → MatchBool r P Q → Q
-on_other true P Q e h = cc
-on_other false P Q e h = h
 
 pub to_other : (r : Bool) (P Q : Type 0) → r ≡ false → Q → MatchBool r P Q
 to_other true P Q e h = cc

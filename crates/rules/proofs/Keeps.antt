@@ -31,14 +31,14 @@ use Rattle.rules.proofs.Listed.{number_within}
 
 -- ---- what a unit that moves finds
 
-Leads-on_board : (b : PlainBoard) (side : Side) (step : Step) (s t : Place) → Leads b side step s t → IsOnBoard b.game t
+pub Leads-on_board : (b : PlainBoard) (side : Side) (step : Step) (s t : Place) → Leads b side step s t → IsOnBoard b.game t
 Leads-on_board b side step s t (once on a) = on
 Leads-on_board b side step s t (again {u = u} r on a e l) = Leads-on_board b side step u t l
 
 pub to_on_board : (b : PlainBoard) (m : Ply) (u : Man) → IsPseudoLegal b m u → IsOnBoard b.game m.to
 to_on_board b m u p = Leads-on_board b u.side p.reaches.step m.from m.to p.reaches.reaches.leads
 
-no_own : (side : Side) → side ≡ other_side side → ⊥
+pub no_own : (side : Side) → side ≡ other_side side → ⊥
 no_own White e = cc
 no_own Black e = cc
 
@@ -106,7 +106,7 @@ pawn_step s (suc zero, t, h, e, ts) =
     (ts.rider ∙ r, size_one s.dy (elim l [ inl x ↦ omega (arith, x.1) | inr x ↦ omega (arith, x.1) ]) (ts.leap.ahead f))
 pawn_step s (suc (suc k), t, h, e, ts) = absurd (omega arith)
 
-Leads-single_step : (b : PlainBoard) (side : Side) (step : Step) (s t : Place) → step.rider ≡ false → Leads b side step s t → IsStep side step s t
+pub Leads-single_step : (b : PlainBoard) (side : Side) (step : Step) (s t : Place) → step.rider ≡ false → Leads b side step s t → IsStep side step s t
 Leads-single_step b side step s t r (once on a) = a
 Leads-single_step b side step s t r (again {u = u} r' on a e l) = cc
 

@@ -233,7 +233,7 @@ ListsBelow-not_own b n xs other lists =
 
 -- ---- the whole list
 
-split3 : (i j : ℕ) → (i < j) ⊎ ((i ≡ j) ⊎ (j < i))
+pub split3 : (i j : ℕ) → (i < j) ⊎ ((i ≡ j) ⊎ (j < i))
 split3 i j = grind arith
 
 before_from : (a c p a' c' p' : ℕ) → c < 36 → c' < 36 → p < 5 → p' < 5 → (a * 36 + c) * 5 + p < (a' * 36 + c') * 5 + p' → (a < a') ⊎ ((a ≡ a') × (c < c')) ⊎ ((a ≡ a') × (c ≡ c') × (p < p'))

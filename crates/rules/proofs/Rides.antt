@@ -57,7 +57,7 @@ size-ahead Black (pos zero) = refl
 size-ahead Black (pos (suc n)) = refl
 size-ahead Black (negsuc n) = refl
 
-within_six : (g : Game) (n : ℕ) → n < width_of g → n < 6
+pub within_six : (g : Game) (n : ℕ) → n < width_of g → n < 6
 within_six LosAlamos n h = h
 within_six Gardner n h = omega arith
 

@@ -62,7 +62,7 @@ share_of-most Bishop w a n h l = l
 share_of-most Knight w a n h l = l
 share_of-most Pawn w a n h l = omega arith
 
-width_six : (g : Game) → width_of g ≤ 6
+pub width_six : (g : Game) → width_of g ≤ 6
 width_six LosAlamos = omega arith
 width_six Gardner = omega arith
 

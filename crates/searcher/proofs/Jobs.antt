@@ -17,12 +17,10 @@ use Rattle.decision.specs.Orders.{ListsAll}
 use Rattle.searcher.specs.declared.root.Root.{Root}
 use Rattle.searcher.specs.Jobs.{JobWins}
 use Rattle.searcher.specs.Roots.{IsQuestionOf, WinsIn, IsLeast, NoneWins}
+use Rattle.rules.proofs.Lists.{split3}
 
-same_some : (l m : Ply) → Some l ≡ Some m → l ≡ m
+pub same_some : (l m : Ply) → Some l ≡ Some m → l ≡ m
 same_some l m e = cc
-
-split3 : (i j : ℕ) → (i < j) ⊎ ((i ≡ j) ⊎ (j < i))
-split3 i j = grind arith
 
 -- the move that is read at a job
 pub move_at : (xs ys : List Ply) (at job : ℕ) (m : Ply) → ys ≡ xs → at ≡ job → m ≡ get_or ys at m → m ≡ get_or xs job m

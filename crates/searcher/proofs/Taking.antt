@@ -9,13 +9,15 @@ use Rattle.rules.specs.declared.goal.Goal.{Goal}
 use Rattle.rules.specs.Squares.{Ply}
 use Rattle.rules.specs.Order.{IsPlyBefore}
 use Rattle.rules.specs.Forces.{IsReached, Forces}
-use Rattle.rules.proofs.Forcing.{on_own, on_other, to_other, turn-own, turn-other, same_side-self, twice, twice-double, Forces-even}
+use Rattle.rules.proofs.Forcing.{to_other, turn-own, turn-other, same_side-self, twice, twice-double, Forces-even}
 use Rattle.decision.specs.Answer.{Wins}
 use Rattle.searcher.specs.declared.root.Root.{Root}
 use Rattle.searcher.specs.declared.keys.Key.{Key}
 use Rattle.searcher.specs.Roots.{IsRoot, WinsIn, TakesIn}
 use Rattle.searcher.specs.Keys.{Takes, ListsKeys}
 use Rattle.moves.proofs.Picking.{InOrder, Picks, keep, skip}
+use Rattle.searcher.proofs.Jobs.{same_some}
+use Rattle.board.proofs.RankText.{on_true as on_own, on_false as on_other}
 
 -- with the defender to move, 2 r + 1 plies are no better than 2 r
 last_ply : (r : ℕ) (goal : Goal) (side : Side) (q : PlainBoard) → is_same_side side q.mover ≡ false → Forces goal side q (suc (twice r)) → Forces goal side q (twice r)
@@ -62,9 +64,6 @@ module _ (r : Root) (job : ℕ) where
   takes_none n limit all before k within takes = before k takes.some (omega (arith, all, within)) takes.wins
 
 -- ---- the list of keys
-
-same_some : (l m : Ply) → Some l ≡ Some m → l ≡ m
-same_some l m e = cc
 
 abbrev pub Before : Root → Ply → Ply → Type 0
 Before r = IsPlyBefore r.board.game

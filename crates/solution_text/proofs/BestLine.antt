@@ -7,11 +7,12 @@ use Rattle.rules.specs.declared.goal.Goal.{Goal}
 use Rattle.rules.specs.Squares.{Ply}
 use Rattle.rules.specs.Moves.{IsMove, IsLawful}
 use Rattle.rules.proofs.Keeps.{one_after}
-use Rattle.rules.proofs.Forcing.{on_own, same_side-self}
+use Rattle.rules.proofs.Forcing.{same_side-self}
 use Rattle.decision.specs.Answer.{IsFewest}
 use Rattle.solutions.specs.declared.variation.Variation.{Variation}
 use Rattle.solutions.specs.Lines.{ListsContinuations, IsBestLine}
-use Rattle.solutions.specs.Solutions.{Tells, IsVariation}
+use Rattle.solutions.specs.Solutions.{TellsVariation, IsVariation}
+use Rattle.board.proofs.RankText.{on_true as on_own}
 
 -- a list of one, and a list of two or more, by what stands in it
 pub one_is : {X : Type 0} (xs : List X) (x : X) → 1 ≤ length xs → length xs < 2 → x ≡ get_or xs 0 x → xs ≡ x ∷ []
@@ -57,5 +58,5 @@ pub continuations_lawful : (goal : Goal) (b : PlainBoard) (n : ℕ) (moves : Lis
 continuations_lawful goal b n moves lists k d below = let wins = (lists.exact (get_or moves k d)).0 (Contains-get_or moves k d below) in (wins.0, wins.1)
 
 -- what a variation tells, on the board that its reply leads to
-pub tells_at : {A : Type 0} (goal : Goal) (q p : PlainBoard) (v : Variation A) → IsVariation goal q v → IsMove q v.reply p → Tells goal p v
-tells_at goal q p v h move = subst (λ x. Tells goal x v) (one_after q v.reply h.0 p h.1 move) h.2
+pub tells_at : {A : Type 0} (goal : Goal) (q p : PlainBoard) (v : Variation A) → IsVariation goal q v → IsMove q v.reply p → TellsVariation goal p v
+tells_at goal q p v h move = subst (λ x. TellsVariation goal x v) (one_after q v.reply h.0 p h.1 move) h.2

@@ -4,18 +4,18 @@ use Rattle.board.specs.declared.game.Side.{Side}
 use Rattle.board.specs.Games.{is_same_side}
 use Rattle.board.specs.Board.{PlainBoard}
 use Rattle.rules.specs.declared.goal.Goal.{Goal}
-use Rattle.rules.specs.declared.goal.Goal.TheVariants.{Mate, MateOrStale}
 use Rattle.rules.specs.Squares.{Ply}
 use Rattle.rules.specs.Moves.{IsMove, IsLawful}
 use Rattle.rules.specs.Forces.{IsReached, Forces}
 use Rattle.rules.proofs.Keeps.{one_after}
-use Rattle.rules.proofs.Forcing.{on_other, to_other, turn-own, turn-other, same_side-self, twice, twice-double, Forces-even}
+use Rattle.rules.proofs.Forcing.{to_other, turn-own, turn-other, same_side-self, twice, twice-double, Forces-even}
 use Rattle.decision.specs.Answer.{Wins, IsFewest, ForcesNothing, IsAnswer}
 use Rattle.decision.specs.declared.answer.Answer.{Answer}
 use Rattle.decision.specs.declared.answer.Answer.TheVariants.{Mate as mates, NoneWithin}
 use Rattle.decision.proofs.Winning.{forced_by, nothing_at_once, same_mover}
-use Rattle.trees.proofs.Forcing.{forced_within, reached_now}
+use Rattle.trees.proofs.Forcing.{forced_within, reached_now, not_reached}
 use Rattle.solutions.specs.Lines.{IsMet, Lasts}
+use Rattle.board.proofs.RankText.{on_false as on_other}
 
 -- ---- the fewest plies are odd
 
@@ -58,11 +58,6 @@ fewest_by goal b k n odd f not = record { forced = f; fewer = λ j less g. not (
     ]
 
 -- ---- what is left after the attacker's move
-
--- where the game goes on the goal isn't reached
-pub not_reached : (goal : Goal) (q : PlainBoard) → ((r : Ply) × IsLawful q r) → IsReached goal q → ⊥
-not_reached Mate q some reached = reached.no_move some.0 some.1
-not_reached MateOrStale q some reached = elim reached [ inl mated ↦ mated.no_move some.0 some.1 | inr stale ↦ stale.no_move some.0 some.1 ]
 
 module _ (goal : Goal) (b : PlainBoard) (m : Ply) (q : PlainBoard) (move : IsMove b m q) where
   other : is_same_side b.mover q.mover ≡ false

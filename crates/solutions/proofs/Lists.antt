@@ -14,11 +14,11 @@ use Rattle.decision.specs.Answer.{Wins}
 use Rattle.searcher.specs.declared.root.Root.{Root}
 use Rattle.searcher.specs.Roots.{WinsIn}
 use Rattle.solutions.specs.Lines.{ListsMoves}
+use Rattle.rules.proofs.Lists.{split3}
+use Rattle.searcher.proofs.Jobs.{same_some}
+use Rattle.decision.proofs.Winning.{same_default}
 
 -- ---- one element more
-
-split3 : (i j : ℕ) → (i < j) ⊎ ((i ≡ j) ⊎ (j < i))
-split3 i j = grind arith
 
 module _ {X : Type 0} (xs : List X) (i : ℕ) (m : X) (within : i < length xs) (is : m ≡ get_or xs i m) where
   pub take_more : take (i + 1) xs ≡ take i xs ++ m ∷ []
@@ -42,10 +42,6 @@ module _ {X : Type 0} (xs : List X) (i : ℕ) (m : X) (within : i < length xs) (
     | inl old ↦ inl old
     | inr new ↦ inr (only x new)
   ]
-
--- within a list no default is read
-same_default : (xs : List Ply) (i : ℕ) (d m : Ply) → i < length xs → get_or xs i m ≡ m → get_or xs i d ≡ m
-same_default xs i d m h e = grind (arith, common_steps, elements)
 
 -- the first lawful move of which P holds is the least
 pub first_least : (b : PlainBoard) (P : Ply → Type 0) (xs : List Ply) → ListsLawful b xs → (i : ℕ) (m : Ply) → i < length xs → m ≡ get_or xs i m → All (λ l. P l → ⊥) (take i xs)
@@ -101,9 +97,6 @@ module _ (b : PlainBoard) (P : Ply → Type 0) (xs : List Ply) where
         whole = subst (λ ms. Picks (IsPlyBefore b.game) itself P ms picked) (take_all i xs all) so_far.exact
 
 -- ---- the move of a job
-
-same_some : (l m : Ply) → Some l ≡ Some m → l ≡ m
-same_some l m e = cc
 
 pub job_wins : (r : Root) (n job : ℕ) (m : Ply) → slice_get r.moves.items job ≡ Some m → WinsIn r n job → Wins r.goal r.board n m
 job_wins r n job m at w = subst (Wins r.goal r.board n) (same_some w.0 m (sym w.1 ∙ at)) w.2

@@ -11,7 +11,7 @@ use Rattle.decision.specs.Answer.{ForcesNothing}
 use Rattle.trees.proofs.Forcing.{forced_within}
 use Rattle.solutions.specs.declared.variation.Variation.{Variation}
 use Rattle.solutions.specs.Lines.{IsMet}
-use Rattle.solutions.specs.Solutions.{Tells, IsVariation, replies_of, ListsVariations}
+use Rattle.solutions.specs.Solutions.{TellsVariation, IsVariation, replies_of, ListsVariations}
 use Rattle.solutions.proofs.Lists.{PicksMoves, pick_none, pick_one, pick_skip, pick_all}
 use Rattle.solutions.proofs.Forcing.{met_here}
 
@@ -26,7 +26,7 @@ module _ {A : Type 0} (goal : Goal) (q : PlainBoard) (n : ℕ) (xs : List Ply) w
 
   module _ (lists : ListsLawful q xs) (variations : List (Variation A)) (i : ℕ) (r : Ply) (within : i < length xs) (is : r ≡ get_or xs i r) (p : PlainBoard) (move : IsMove q r p) (so_far : VariesOver goal q n (take i xs) variations) where
     -- the reply is met
-    pub vary_one : (v : Variation A) (more : List (Variation A)) → more ≡ variations ++ v ∷ [] → v.reply ≡ r → v.plies ≤ n → Tells goal p v → VariesOver goal q n (take (i + 1) xs) more
+    pub vary_one : (v : Variation A) (more : List (Variation A)) → more ≡ variations ++ v ∷ [] → v.reply ≡ r → v.plies ≤ n → TellsVariation goal p v → VariesOver goal q n (take (i + 1) xs) more
     vary_one v more pushed reply few tells = subst (VariesOver goal q n (take (i + 1) xs)) (sym pushed) (record {
       picks = subst (PicksMoves q.game (IsMet goal q n) (take (i + 1) xs)) (sym (map-append (λ (w : Variation A). w.reply) variations (v ∷ []) ∙ ap (λ s. replies_of variations ++ s ∷ []) reply))
           (pick_one q (IsMet goal q n) xs lists (replies_of variations) i r within is so_far.picks (p, move, forced_within goal p.mover p v.plies n few tells.plies.forced));

@@ -32,14 +32,14 @@ AreThreats goal q n (Moves k moves) =
     (IsReached goal q → ⊥) × IsSound (passed q) × (k ≤ n) × IsFewest goal (passed q) k × ListsContinuations goal (passed q) k moves.items
 
 -- the variation says of a position the fewest plies, all continuations and the best line
-pub record Tells {A : Type 0} (goal : Goal) (p : PlainBoard) (v : Variation A) : Type 0 where
+pub record TellsVariation {A : Type 0} (goal : Goal) (p : PlainBoard) (v : Variation A) : Type 0 where
   pub plies : IsFewest goal p v.plies
   pub moves : ListsContinuations goal p v.plies v.moves.items
   pub line : IsBestLine goal p v.plies v.line.items
 
 -- the variation says so of the position behind its reply
 abbrev pub IsVariation : {A : Type 0} → Goal → PlainBoard → Variation A → Type 0
-IsVariation goal q v = (p : PlainBoard) × IsMove q v.reply p × Tells goal p v
+IsVariation goal q v = (p : PlainBoard) × IsMove q v.reply p × TellsVariation goal p v
 
 -- the replies of variations
 abbrev pub replies_of : {A : Type 0} → List (Variation A) → List Ply

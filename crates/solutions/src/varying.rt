@@ -3,7 +3,7 @@ ghost use Rattle.std.specs.Prelude.{◌≡◌, ◌≤◌, IfErr, IfOk, MatchOpti
 ghost use Rattle.decision.specs.Answer.{IsFewest, ForcesNothing};
 ghost use Rattle.searcher.specs.declared.halt.Halt.TheVariants.{Stopped};
 ghost use Rattle.searcher.specs.Roots.{IsRoot, IsLimit};
-ghost use Rattle.solutions.specs.Solutions.{Tells, ListsVariations};
+ghost use Rattle.solutions.specs.Solutions.{TellsVariation, ListsVariations};
 
 use crate::continuing::continuations_of;
 use crate::lines::best_line;
@@ -27,7 +27,7 @@ fn variation_in<D: Decider, A: Allocator + Copy>(
     ensures goes { D.goes decider.old decider.new }
     ensures reply { IfOk result (λ v. v.reply ≡ reply) }
     ensures plies { IfOk result (λ v. v.plies ≡ plies) }
-    ensures tells { IfOk result (Tells root.now.goal root.now.board) }
+    ensures tells { IfOk result (TellsVariation root.now.goal root.now.board) }
     ensures halt { IfErr result (λ halt. halt ≡ Stopped → D.told decider.new) }
 {
     let moves = continuations_of(alloc, decider, root, plies)?;
@@ -52,7 +52,7 @@ fn variation_of<D: Decider, A: Allocator + Copy>(
     requires limit { limit ≤ 63 }
     ensures goes { D.goes decider.old decider.new }
     ensures found { IfOk result (λ found. MatchOption found (ForcesNothing root.now.goal root.now.board limit)
-        (λ v. (v.reply ≡ reply) × (v.plies ≤ limit) × Tells root.now.goal root.now.board v)) }
+        (λ v. (v.reply ≡ reply) × (v.plies ≤ limit) × TellsVariation root.now.goal root.now.board v)) }
     ensures halt { IfErr result (λ halt. halt ≡ Stopped → D.told decider.new) }
 {
     match solve_by(decider, root, limit) {

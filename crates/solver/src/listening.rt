@@ -1,6 +1,6 @@
 //! What a solver shares with the handle that stops it: the requests, and how far a search is.
 ghost use Rattle.std.specs.Arc.{arc_value};
-ghost use Rattle.stops.specs.Promise.{IsSeatOf, IsAsker, WantsStop, requests, after_stop, after_go_on};
+ghost use Rattle.stops.specs.Promise.{IsSeatIn, IsAsker, WantsStop, requests, after_stop, after_go_on};
 ghost use Rattle.solver.specs.Placing.{IsPlace};
 
 use crate::place_word::PlaceWord;
@@ -30,7 +30,7 @@ pub struct Place {
 pub struct Listener {
     pub shared: Arc<Shared, Global>,
     pub seat: RequestSeat,
-    ghost belongs: { IsSeatOf (arc_value shared).requests seat },
+    ghost belongs: { IsSeatIn (arc_value shared).requests seat },
 }
 
 impl Stop for Listener {

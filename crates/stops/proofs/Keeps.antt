@@ -1,15 +1,13 @@
 -- Each step keeps the rule of the word.
-use Rattle.std.proofs.Common.{◌≡◌, ◌≢◌, ◌⊎◌, ℕ, zero, suc, ◌+◌, ◌≤◌, Bool, true, false, List, [], ◌∷◌, get_or, set, sym, refl, ap, ◌∙◌, subst, inl, inr, ⊎_elim, arith, le_refl}
+use Rattle.std.proofs.Common.{◌≡◌, ◌≢◌, ◌⊎◌, ℕ, zero, suc, ◌+◌, ◌≤◌, true, [], ◌∷◌, get_or, set, sym, refl, ap, ◌∙◌, subst, inl, inr, ⊎_elim, arith, le_refl}
 use Rattle.std.proofs.lemmas.Bool.{false≢true}
 use mathlib.Core.Option as option
 use lib.ListN.{get_elem?}
 use Rattle.atomic_table.specs.Table.{State, Me, keeps, stepped, Allows, Splits, opening}
-use Rattle.atomic_table.specs.Seated.{TableId}
-use Rattle.atomic_table.specs.declared.shared.Seat.{Seat}
 use Rattle.atomic_table.proofs.Lists.{at_set, set_again, at_snoc}
 use Rattle.stops.specs.declared.views.RequestView.{RequestView}
-use Rattle.stops.specs.Rule.{view, dealt, Fits, RequestsHold, heard, made}
-use Rattle.stops.specs.Promise.{requests, asks, IsSeatOf, IsAsker, AreMade}
+use Rattle.stops.specs.Rule.{view, dealt, FitsRequests, RequestsHold, heard, made}
+use Rattle.stops.specs.Promise.{AreMade}
 
 abbrev St : Type 0
 St = State (Unit {0}) RequestView
@@ -17,8 +15,8 @@ St = State (Unit {0}) RequestView
 abbrev M : Type 0
 M = Me (Unit {0}) RequestView
 
-first_fits : (seat : ℕ) (v : RequestView) → get_elem? (view 0 true ∷ []) seat ≡ option.some v → Fits 0 0 seat v
-first_fits zero v e = subst (Fits 0 0 zero) (option.some-injective (view 0 true) v e) record { past = le_refl 0; whole = λ _. refl; one = λ _. refl }
+first_fits : (seat : ℕ) (v : RequestView) → get_elem? (view 0 true ∷ []) seat ≡ option.some v → FitsRequests 0 0 seat v
+first_fits zero v e = subst (FitsRequests 0 0 zero) (option.some-injective (view 0 true) v e) record { past = le_refl 0; whole = λ _. refl; one = λ _. refl }
 first_fits (suc seat) v e = absurd (option.some-ne-none v (sym e))
 
 -- at the start no request was made
@@ -41,7 +39,7 @@ rises s r id me n at more who = let mine = r.each_seat id me.0 at in let w : Req
   asker = r.asker;
   alone = ap (λ ws. set ws 0 n) r.alone;
   each_seat = λ seat v e. ⊎_elim
-      (λ (x : (seat ≡ id) × (w ≡ v)). subst (Fits r.asker n seat) x.1 record { past = le_refl n; whole = λ _. refl; one = λ a. x.0 ∙ mine.one a })
+      (λ (x : (seat ≡ id) × (w ≡ v)). subst (FitsRequests r.asker n seat) x.1 record { past = le_refl n; whole = λ _. refl; one = λ a. x.0 ∙ mine.one a })
       (λ (x : (seat ≢ id) × (get_elem? s.views seat ≡ option.some v)). let f = r.each_seat seat v x.1 in record { past = omega (arith, f.past, more); whole = others s r id seat n me.0 v at x.1 x.0 who; one = f.one })
       (at_set s.views id seat w v e);
 }
@@ -69,7 +67,7 @@ deals_allowed id v s r at = let same = set_again s.views id v at in let mine = r
   alone = r.alone;
   each_seat = λ seat u e. ⊎_elim
       (λ (x : get_elem? (set s.views id v) seat ≡ option.some u). r.each_seat seat u (ap (λ vs. get_elem? vs seat) (sym same) ∙ x))
-      (λ (x : dealt v ≡ u). subst (Fits r.asker r.made seat) x record { past = mine.past; whole = λ a. absurd (false≢true a); one = λ a. absurd (false≢true a) })
+      (λ (x : dealt v ≡ u). subst (FitsRequests r.asker r.made seat) x record { past = mine.past; whole = λ a. absurd (false≢true a); one = λ a. absurd (false≢true a) })
       (at_snoc (set s.views id v) (dealt v) u seat e);
 }
 

@@ -17,12 +17,12 @@ abbrev pub asks : Seat (Unit {0}) RequestView → Bool
 asks seat = seat.me.0.asks
 
 -- the seat is one of this word's
-abbrev pub IsSeatOf : TableId → Seat (Unit {0}) RequestView → Type 0
-IsSeatOf table seat = (seat.table_id ≡ table) × (seat.me.1 ≡ [])
+abbrev pub IsSeatIn : TableId → Seat (Unit {0}) RequestView → Type 0
+IsSeatIn table seat = (seat.table_id ≡ table) × (seat.me.1 ≡ [])
 
 -- it is the one that makes the requests
 abbrev pub IsAsker : TableId → Seat (Unit {0}) RequestView → Type 0
-IsAsker table seat = IsSeatOf table seat × (asks seat ≡ true)
+IsAsker table seat = IsSeatIn table seat × (asks seat ≡ true)
 
 -- the last request that it knows of is one for a stop: these have the odd numbers
 abbrev pub WantsStop : Seat (Unit {0}) RequestView → Type 0

@@ -14,7 +14,7 @@ abbrev pub dealt : RequestView → RequestView
 dealt v = view v.requests false
 
 -- What a seat knows while so many requests were made: of no more than these, and the one seat that makes them of all
-pub record Fits (asker made seat : ℕ) (v : RequestView) : Type 0 where
+pub record FitsRequests (asker made seat : ℕ) (v : RequestView) : Type 0 where
   pub past : v.requests ≤ made
   pub whole : v.asks ≡ true → v.requests ≡ made
   pub one : v.asks ≡ true → seat ≡ asker
@@ -24,7 +24,7 @@ pub record RequestsHold (s : State (Unit {0}) RequestView) : Type 0 where
   pub made : ℕ
   pub asker : ℕ
   pub alone : s.words ≡ made ∷ []
-  pub each_seat : (seat : ℕ) (v : RequestView) → get_elem? s.views seat ≡ option.some v → Fits asker made seat v
+  pub each_seat : (seat : ℕ) (v : RequestView) → get_elem? s.views seat ≡ option.some v → FitsRequests asker made seat v
 
 -- after a read the seat knows of what was found
 abbrev pub heard : Me (Unit {0}) RequestView → ℕ → Me (Unit {0}) RequestView → Type 0

@@ -1,6 +1,6 @@
 //! The word, how it is made with its two seats, counted up and read.
 ghost use Rattle.std.specs.Prelude.{◌≡◌, ◌⊎◌, ◌+◌, ◌≤◌, ◌↔◌, IfOk, IsTrue, true, false};
-ghost use Rattle.stops.specs.Promise.{IsSeatOf, IsAsker, requests, asks, WantsStop, after_stop, after_go_on};
+ghost use Rattle.stops.specs.Promise.{IsSeatIn, IsAsker, requests, asks, WantsStop, after_stop, after_go_on};
 
 use crate::rule::{Ask, Counted, Deal, Hear};
 use crate::views::RequestView;
@@ -32,7 +32,7 @@ impl Requests {
     /// No request yet; the seat that makes them, and one that hears of them.
     pub fn make(alloc: Global) -> Result<(Requests, RequestSeat, RequestSeat), AllocError>
         ensures asker { IfOk result (λ r. IsAsker r.0 r.1) }
-        ensures listener { IfOk result (λ r. IsSeatOf r.0 r.2 × (asks r.2 ≡ false)) }
+        ensures listener { IfOk result (λ r. IsSeatIn r.0 r.2 × (asks r.2 ≡ false)) }
         ensures none { IfOk result (λ r. (requests r.1 ≡ 0) × (requests r.2 ≡ 0)) }
     {
         let (requests, mut first) = Requests::open(alloc)?;
@@ -68,8 +68,8 @@ impl Requests {
 
     /// Whether the last request is one for a stop. One atomic step.
     pub fn is_stopped(&self, seat: &mut RequestSeat) -> bool
-        requires seat { IsSeatOf self.now seat.old }
-        ensures seat { IsSeatOf self.now seat.new }
+        requires seat { IsSeatIn self.now seat.old }
+        ensures seat { IsSeatIn self.now seat.new }
         ensures asks { asks seat.new ≡ asks seat.old }
         ensures stop { IsTrue result ↔ WantsStop seat.new }
         ensures grows { requests seat.old ≤ requests seat.new }
@@ -90,15 +90,15 @@ impl Requests {
     fn deal(&self, first: &mut RequestSeat) -> RequestSeat
         requires { IsAsker self.now first.old }
         ensures first { IsAsker self.now first.new × (requests first.new ≡ requests first.old) }
-        ensures second { IsSeatOf self.now result × (asks result ≡ false) × (requests result ≡ requests first.old) }
+        ensures second { IsSeatIn self.now result × (asks result ≡ false) × (requests result ≡ requests first.old) }
     {
         self.table.shared.split_seat::<Deal>(first)
     }
 
     // How many requests were made.
     fn count(&self, seat: &mut RequestSeat) -> u64
-        requires { IsSeatOf self.now seat.old }
-        ensures seat { IsSeatOf self.now seat.new }
+        requires { IsSeatIn self.now seat.old }
+        ensures seat { IsSeatIn self.now seat.new }
         ensures known { requests seat.new ≡ result }
         ensures asks { asks seat.new ≡ asks seat.old }
         ensures grows { requests seat.old ≤ result }

@@ -1,5 +1,5 @@
 -- A text has one fault.
-use Rattle.std.proofs.Common.{◌≡◌, ◌≢◌, ◌⊎◌, ℕ, ◌<◌, ◌≤◌, List, cond, eqb, refl, sym, ap, subst, ◌∙◌, inl, inr, arith}
+use Rattle.std.proofs.Common.{◌≡◌, ◌≢◌, ◌⊎◌, ℕ, ◌≤◌, List, cond, eqb, refl, sym, ap, subst, ◌∙◌, inl, inr, arith}
 use Rattle.board.specs.declared.fault.FenFault.{FenFault}
 use Rattle.board.specs.declared.fault.FenFault.TheVariants.{Fields, Shape, Letter, Run, Side, Kings, Units, PawnRank, OtherInCheck}
 use Rattle.board.specs.FenFaults.{IsFenFault, fen_fault_number}
@@ -15,6 +15,7 @@ use Rattle.wintree.specs.Plan.{Plan, depth}
 use Rattle.wintree.specs.Text.{TreeText}
 use Rattle.wintree.proofs.Depths.{not_deep}
 use Rattle.text_laws.proofs.PositionTexts.{no_fault}
+use Rattle.rules.proofs.Lists.{split3 as three}
 
 -- ---- of positions
 
@@ -33,9 +34,6 @@ fault_again Kings = refl
 fault_again Units = refl
 fault_again PawnRank = refl
 fault_again OtherInCheck = refl
-
-three : (i j : ℕ) → (i < j) ⊎ ((i ≡ j) ⊎ (j < i))
-three i j = grind arith
 
 pub one_fault : (bytes : List ℕ) (f g : FenFault) → IsFenFault bytes f → IsFenFault bytes g → f ≡ g
 one_fault bytes f g x y = elim (three (fen_fault_number f) (fen_fault_number g)) as (λ _. f ≡ g) [

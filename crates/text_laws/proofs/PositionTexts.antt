@@ -5,7 +5,7 @@ use Rattle.std.specs.List.{count_by, position_or_len}
 use Rattle.std.proofs.lemmas.Bool.{ne_eqb, false≢true}
 use Rattle.std.proofs.lemmas.List.{take_at, drop_at, get_or_append_left, get_or-append_right}
 use Rattle.std.proofs.lemmas.List.Sums.{position_or_len_is}
-use Rattle.std.proofs.lemmas.List.Splits.{slice_split_none, slice_split_at, length-slice_split}
+use Rattle.std.proofs.lemmas.List.Splits.{slice_split_none, slice_split_at}
 use Rattle.std.proofs.lemmas.List.Elements.{All-cons, All-append, All-weaker, All-take, All-drop, All-get_or, All-from_get_or}
 use Rattle.board.specs.declared.game.Game.{Game}
 use Rattle.board.specs.declared.game.Game.TheVariants.{LosAlamos, Gardner}
@@ -23,9 +23,10 @@ use Rattle.board.specs.FenFaults.{board_part, side_part, rows, first_of, last_of
 use Rattle.board.specs.FenFaults.IsBoardByte.{separator, digit, letter}
 use Rattle.board.proofs.RankText.{letter_above}
 use Rattle.std.proofs.lemmas.Bool.Decides.{nat_tests}
-use Rattle.board.proofs.FenFaulty.{no_space}
-use Rattle.board.proofs.FenLaw.{letter_no_digit}
-use Rattle.text_laws.proofs.RowFacts.{IsRowByte, IsPlayedAt, row_bytes, row_wide, apart_more, row_apart, Agrees, count_more, count_append, weight, count_empty, row_count, kings_agree, sides_agree, IsNoPawn, neither, row_pawns}
+use Rattle.board.proofs.FenFaulty.{no_space, one_shape}
+use Rattle.board.proofs.FenLaw.{some_rows}
+use Rattle.text_laws.proofs.RowFacts.{IsRowByte, row_bytes, row_wide, apart_more, row_apart, neither, row_pawns}
+use Rattle.board.proofs.RowBytes.{letter_no_digit, IsPlayedAt, Agrees, count_more, count_append, weight, count_empty, row_count, kings_agree, sides_agree, IsNoPawn}
 
 -- ---- bytes of a board
 
@@ -73,9 +74,6 @@ apart_joined (c ∷ row) rest a b =
 last_more : (row : List ℕ) (parts : List (List ℕ)) → 0 < length parts → last_of (row ∷ parts) ≡ last_of parts
 last_more row [] some = absurd (omega (arith, some))
 last_more row (part ∷ parts) some = refl
-
-some_rows : (board : List ℕ) → 0 < length (rows board)
-some_rows board = omega (arith, length-slice_split (λ x. eqb x 47) board)
 
 -- ---- a text of k + 1 ranks
 
@@ -199,12 +197,6 @@ played_at g j (Some u) h = h.played
 no_pawn_at : (g : Game) (j : ℕ) (x : Option Man) → IfSome x (MayStandOn g j) → ((width_of g ≤ j) → (j + width_of g < squares_of g) → ⊥) → IsNoPawn x
 no_pawn_at g j None h outer = tt
 no_pawn_at g j (Some u) h outer = λ pawn. let inner = h.inner pawn in outer inner.0 inner.1
-
-one_shape : (g h : Game) (board : List ℕ) → IsShape g board → IsShape h board → g ≡ h
-one_shape LosAlamos LosAlamos board x y = refl
-one_shape LosAlamos Gardner board x y = absurd (omega (arith, ap length (sym x ∙ y)))
-one_shape Gardner LosAlamos board x y = absurd (omega (arith, ap length (sym x ∙ y)))
-one_shape Gardner Gardner board x y = refl
 
 -- the parts of a text with this board before the first space
 module _ (board rest : List ℕ) (none : All (λ c. c ≢ 32) board) where

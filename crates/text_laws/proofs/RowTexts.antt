@@ -1,5 +1,5 @@
 -- Each position has a text.
-use Rattle.std.proofs.Common.{◌≡◌, ℕ, zero, suc, ◌+◌, ◌*◌, ◌<◌, ◌≤◌, List, [], ◌∷◌, ◌++◌, length, take, drop, replicate, length-take, length-drop, refl, sym, ap, subst, arith, Option, Some, None}
+use Rattle.std.proofs.Common.{◌≡◌, ℕ, zero, suc, ◌+◌, ◌*◌, ◌<◌, List, [], ◌∷◌, ◌++◌, length, take, drop, replicate, length-take, length-drop, refl, sym, ap, subst, arith, Option, Some, None}
 use Rattle.std.proofs.lemmas.List.{take-append-drop}
 use Rattle.board.specs.declared.game.Game.{Game}
 use Rattle.board.specs.declared.game.Game.TheVariants.{LosAlamos, Gardner}
@@ -12,6 +12,7 @@ use Rattle.board.specs.Fen.IsRankText.{end, unit, run}
 use Rattle.board.specs.Fen.IsTextFrom.{first, above}
 use Rattle.board.proofs.RankText.{starts_with_letter}
 use Rattle.board.proofs.FenWritten.{places_empty}
+use Rattle.rules.proofs.Room.{squares_36 as squares_within}
 
 -- ---- a rank
 
@@ -54,10 +55,6 @@ text_from w side (suc n) units low long =
 text_of : (g : Game) (side : Side) (units : List (Option Man)) → length units ≡ squares_of g → (bytes : List ℕ) × IsTextFrom (width_of g) side (width_of g) bytes units
 text_of LosAlamos side units long = text_from 6 side 5 units (omega arith) long
 text_of Gardner side units long = text_from 5 side 4 units (omega arith) long
-
-squares_within : (g : Game) → squares_of g ≤ 36
-squares_within LosAlamos = omega arith
-squares_within Gardner = omega arith
 
 pub position_has_text : (b : PlainBoard) → IsPosition b → (bytes : List ℕ) × IsFenText bytes b
 position_has_text b position =

@@ -10,15 +10,16 @@ use Rattle.rules.specs.declared.goal.Goal.TheVariants.{Mate, MateOrStale}
 use Rattle.rules.specs.Reach.{IsInCheck}
 use Rattle.rules.specs.Forces.{IsReached, Forces}
 use Rattle.rules.proofs.Keeps.{one_after}
-use Rattle.rules.proofs.Forcing.{on_own, on_other, turn-own, turn-other, same_side-self, Forces-more}
+use Rattle.rules.proofs.Forcing.{turn-own, turn-other, same_side-self, Forces-more}
 use Rattle.decision.specs.Answer.{IsFewest}
 use Rattle.decision.proofs.Winning.{same_mover}
 use Rattle.wintree.specs.Wins.{EndsAt}
 use Rattle.wintree.specs.declared.tree.End.TheVariants as ending
 use Rattle.trees.specs.Best.{IsBestMove}
+use Rattle.board.proofs.RankText.{on_true as on_own, on_false as on_other}
 
 -- the goal isn't reached where a move is lawful
-not_reached : (goal : Goal) (q : PlainBoard) → ((r : Ply) × IsLawful q r) → IsReached goal q → ⊥
+pub not_reached : (goal : Goal) (q : PlainBoard) → ((r : Ply) × IsLawful q r) → IsReached goal q → ⊥
 not_reached Mate q some reached = reached.no_move some.0 some.1
 not_reached MateOrStale q some reached = elim reached [ inl mated ↦ mated.no_move some.0 some.1 | inr stale ↦ stale.no_move some.0 some.1 ]
 

@@ -18,7 +18,7 @@ use Rattle.trees.specs.Best.{IsBestMove, IsBest, EachBest, IsBestAfter}
 abbrev pub replies_in : List (Ply × Plan) → List Ply
 replies_in list = map (λ reply. reply.0) list
 
-moves_of-replies_of : (first : Ply × Plan) (others : List (Ply × Plan)) → moves_of (replies_of first others) ≡ replies_in (first ∷ others)
+pub moves_of-replies_of : (first : Ply × Plan) (others : List (Ply × Plan)) → moves_of (replies_of first others) ≡ replies_in (first ∷ others)
 moves_of-replies_of first [] = refl
 moves_of-replies_of first (next ∷ others) = ap (λ ms. first.0 ∷ ms) (moves_of-replies_of next others)
 

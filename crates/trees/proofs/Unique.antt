@@ -19,7 +19,7 @@ use Rattle.trees.proofs.Fewest.{first_reply}
 
 -- ---- one best move
 
-one_least : (goal : Goal) (b : PlainBoard) (n : ℕ) (l m : Ply) → IsLeastWin goal b n l → IsLeastWin goal b n m → l ≡ m
+pub one_least : (goal : Goal) (b : PlainBoard) (n : ℕ) (l m : Ply) → IsLeastWin goal b n l → IsLeastWin goal b n m → l ≡ m
 one_least goal b n l m a c = elim (c.least l a.wins) [
   | inl same ↦ same
   | inr after ↦ elim (a.least m c.wins) as (λ _. l ≡ m) [

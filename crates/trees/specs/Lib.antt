@@ -1,3 +1,2 @@
 -- to be believed
 pub mod Best
-pub mod Seats

@@ -5,10 +5,9 @@ ghost use Rattle.rules.specs.Moves.{IsMove};
 ghost use Rattle.rules.specs.Forces.{Forces};
 ghost use Rattle.slots.specs.Promise.{IsSeatOf};
 ghost use Rattle.decision.specs.Answer.{IsFewest};
-ghost use Rattle.decision.specs.Calls.{Continues};
+ghost use Rattle.decision.specs.Calls.{Continues, SeatsContinue};
 ghost use Rattle.wintree.specs.Wins.{Wins, height};
 ghost use Rattle.trees.specs.Best.{IsBest};
-ghost use Rattle.trees.specs.Seats.{SeatsContinue};
 
 use crate::best::best_move;
 use crate::building::build_tree;

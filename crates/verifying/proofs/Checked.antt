@@ -3,7 +3,6 @@ use Rattle.std.proofs.Common.{◌≡◌, ◌<◌, ◌≤◌, ℕ, ◌+◌, List,
 use Rattle.board.specs.Board.{PlainBoard}
 use Rattle.rules.specs.declared.goal.Goal.{Goal}
 use Rattle.decision.specs.declared.answer.Answer.{Answer}
-use Rattle.certificates.specs.declared.claim.Claim.{Claim}
 use Rattle.certificates.specs.Answers.{Certifies}
 use Rattle.devices.specs.Lines.{HasNoFeed}
 use Rattle.verifying.specs.declared.checker.Checker.{Checker}
@@ -11,11 +10,10 @@ use Rattle.verifying.specs.declared.fault.Fault.{Fault}
 use Rattle.verifying.specs.declared.fault.Fault.TheVariants.{TooLong, ReadFailed}
 use Rattle.verifying.specs.declared.part.Part.{Part}
 use Rattle.verifying.specs.declared.part.Part.TheVariants.{First, Win, Yes, Lesser, No}
-use Rattle.verifying.specs.FirstLine.{answer_text, IsInRange, IsNamed}
+use Rattle.verifying.specs.FirstLine.{answer_text, IsInRange, HasNamedMove}
 use Rattle.verifying.specs.Growing.{AreApart}
-use Rattle.verifying.specs.Parts.{Stands}
-use Rattle.verifying.specs.Certificate.{IsCertificate, IsRefusedWith}
-use Rattle.verifying.specs.Checking.{IsTaken, HasTaken, TakesMore, RefusesMore, IsProvedBy}
+use Rattle.verifying.specs.Parts.{HasShown}
+use Rattle.verifying.specs.Checking.{HasTakenText, HasTaken, TakesMore, RefusesMore, IsProvedBy}
 use Rattle.verifying.specs.Reading.{BeginsPart, HasRead, IsNoLineOf, IsUnfinished, ReadsLine}
 use Rattle.verifying.specs.Taking.{fault_at}
 use Rattle.verifying.proofs.Reading.{first_read, line_read, nothing_read, whole_read}
@@ -23,11 +21,11 @@ use Rattle.verifying.proofs.Refused.{end_refused, line_refused, long_refused, re
 use Rattle.verifying.proofs.Apart.{none_apart}
 
 -- what is so of a checker's goal and position is so of those that it is of
-both : {A : Type 0} (goal : Goal) (b : PlainBoard) (checker : Checker A) (text : List ℕ) (P : Goal → PlainBoard → Type 0) → IsTaken goal b checker text → P checker.goal checker.board → P goal b
+both : {A : Type 0} (goal : Goal) (b : PlainBoard) (checker : Checker A) (text : List ℕ) (P : Goal → PlainBoard → Type 0) → HasTakenText goal b checker text → P checker.goal checker.board → P goal b
 both goal b checker text P taken so = subst (λ (x : PlainBoard). P goal x) taken.board_is (subst (λ (x : Goal). P x checker.board) taken.goal_is so)
 
 -- nothing was taken
-pub nothing_taken : {A : Type 0} (goal : Goal) (b : PlainBoard) (checker : Checker A) → checker.goal ≡ goal → checker.board ≡ b → checker.number ≡ 0 → checker.part ≡ First → checker.claims ≡ [] → IsTaken goal b checker []
+pub nothing_taken : {A : Type 0} (goal : Goal) (b : PlainBoard) (checker : Checker A) → checker.goal ≡ goal → checker.board ≡ b → checker.number ≡ 0 → checker.part ≡ First → checker.claims ≡ [] → HasTakenText goal b checker []
 nothing_taken goal b checker goal_is board_is none first empty = record {
   goal_is = goal_is;
   board_is = board_is;
@@ -35,8 +33,8 @@ nothing_taken goal b checker goal_is board_is none first empty = record {
 }
 
 -- the line of an answer was taken
-pub answer_taken : {A : Type 0} (goal : Goal) (b : PlainBoard) (answer : Answer) (checker : Checker A) → IsInRange answer → IsNamed answer → checker.goal ≡ goal → checker.board ≡ b → checker.number ≡ 1 → BeginsPart b answer checker.part checker.claims → Stands goal b checker.part checker.claims
-    → IsTaken goal b checker (answer_text goal answer ++ 10 ∷ [])
+pub answer_taken : {A : Type 0} (goal : Goal) (b : PlainBoard) (answer : Answer) (checker : Checker A) → IsInRange answer → HasNamedMove answer → checker.goal ≡ goal → checker.board ≡ b → checker.number ≡ 1 → BeginsPart b answer checker.part checker.claims → HasShown goal b checker.part checker.claims
+    → HasTakenText goal b checker (answer_text goal answer ++ 10 ∷ [])
 answer_taken goal b answer checker range named goal_is board_is one begins stands =
     let reads : ReadsLine goal b First (answer_text goal answer) [] checker.part checker.claims = (answer, range, named, refl, begins) in
     record {
@@ -47,17 +45,17 @@ answer_taken goal b answer checker range named goal_is board_is one begins stand
           (nothing_read goal b 0 First [] refl refl refl));
     }
 
-pub stands_so_far : {A : Type 0} (checker : Checker A) → HasTaken checker → Stands checker.goal checker.board checker.part checker.claims
+pub stands_so_far : {A : Type 0} (checker : Checker A) → HasTaken checker → HasShown checker.goal checker.board checker.part checker.claims
 stands_so_far checker (goal, b, text, taken) =
-    subst (λ (x : Goal). Stands x checker.board checker.part checker.claims) (sym taken.goal_is) (subst (λ (x : PlainBoard). Stands goal x checker.part checker.claims) (sym taken.board_is) taken.read.stands)
+    subst (λ (x : Goal). HasShown x checker.board checker.part checker.claims) (sym taken.goal_is) (subst (λ (x : PlainBoard). HasShown goal x checker.part checker.claims) (sym taken.board_is) taken.read.stands)
 
 -- a line more was taken
-pub line_taken : {A : Type 0} (old new : Checker A) (line : List ℕ) → length line ≤ 8192 → new.goal ≡ old.goal → new.board ≡ old.board → new.number ≡ old.number + 1 → ReadsLine old.goal old.board old.part line old.claims new.part new.claims → Stands new.goal new.board new.part new.claims → TakesMore old new (line ++ 10 ∷ [])
+pub line_taken : {A : Type 0} (old new : Checker A) (line : List ℕ) → length line ≤ 8192 → new.goal ≡ old.goal → new.board ≡ old.board → new.number ≡ old.number + 1 → ReadsLine old.goal old.board old.part line old.claims new.part new.claims → HasShown new.goal new.board new.part new.claims → TakesMore old new (line ++ 10 ∷ [])
 line_taken old new line small goal_is board_is counts reads stands goal b text taken =
     let goal_too : new.goal ≡ goal = goal_is ∙ taken.goal_is in
     let board_too : new.board ≡ b = board_is ∙ taken.board_is in
     let mine = both goal b old text (λ (g : Goal) (x : PlainBoard). ReadsLine g x old.part line old.claims new.part new.claims) taken reads in
-    let still = subst (λ (x : PlainBoard). Stands goal x new.part new.claims) board_too (subst (λ (x : Goal). Stands x new.board new.part new.claims) goal_too stands) in
+    let still = subst (λ (x : PlainBoard). HasShown goal x new.part new.claims) board_too (subst (λ (x : Goal). HasShown x new.board new.part new.claims) goal_too stands) in
     record {
       goal_is = goal_too;
       board_is = board_too;

@@ -19,6 +19,7 @@ use Rattle.verifying.specs.FirstLine.{answer_text, goal_text, IsInRange}
 use Rattle.verifying.specs.Words.{letter_of, word_text, line_text}
 use Rattle.verifying.specs.Refusals.{fed}
 use Rattle.verifying.proofs.FirstTexts.{low_decimal, high_decimal}
+use Rattle.verifying.proofs.OneAnswer.{same_cons}
 
 abbrev NoFeed : ℕ → Type 0
 NoFeed x = x ≢ 10
@@ -85,9 +86,6 @@ lines_no_feed [] = All-nil HasNoFeed
 lines_no_feed (line ∷ lines) = All-cons HasNoFeed (line_text line) (map line_text lines) (line_no_feed line) (lines_no_feed lines)
 
 -- ---- where a line ends
-
-same_cons : (a b : ℕ) (x y : List ℕ) → a ∷ x ≡ b ∷ y → (a ≡ b) × (x ≡ y)
-same_cons a b x y e = (cc, cc)
 
 one_feed : (x y a b : List ℕ) → HasNoFeed x → HasNoFeed y → x ++ 10 ∷ a ≡ y ++ 10 ∷ b → (x ≡ y) × (a ≡ b)
 one_feed [] [] a b p q e = (refl, (same_cons 10 10 a b e).1)

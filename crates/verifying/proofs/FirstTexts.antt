@@ -12,6 +12,7 @@ use Rattle.rules.specs.Moves.{IsPromoted}
 use Rattle.rules.specs.MoveText.{square_text, promotion_text, move_text}
 use Rattle.verifying.specs.FirstLine.{HasName}
 use Rattle.verifying.proofs.FirstLines.{four_bytes, short_name, long_name, two_are}
+use Rattle.verifying.proofs.OneAnswer.{same_cons as one_of}
 
 -- ---- numbers
 
@@ -20,9 +21,6 @@ low_decimal n low = decimal_digit n low
 
 pub high_decimal : (n : ℕ) → 10 ≤ n → n ≤ 63 → decimal n ≡ (48 + n / 10) ∷ (48 + n % 10) ∷ []
 high_decimal n large few = two_are n (n / 10) (n % 10) (48 + n / 10) (48 + n % 10) (omega arith) (omega arith) (omega arith) large refl refl
-
-one_of : (a b : ℕ) (x y : List ℕ) → a ∷ x ≡ b ∷ y → (a ≡ b) × (x ≡ y)
-one_of a b x y e = (cc, cc)
 
 not_both_lengths : (a b c : ℕ) → a ∷ b ∷ [] ≡ c ∷ [] → ⊥
 not_both_lengths a b c e = cc

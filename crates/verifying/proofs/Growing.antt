@@ -7,7 +7,7 @@ use Rattle.board.specs.Board.{PlainBoard}
 use Rattle.rules.specs.declared.goal.Goal.{Goal}
 use Rattle.rules.specs.Squares.{Ply}
 use Rattle.certificates.specs.declared.claim.Claim.{Claim}
-use Rattle.certificates.specs.Claims.{ClaimsSoMany, ClaimsSoFew, EscapesBy, FailsBy, Holds, MetBy, WinsBy, IsWon}
+use Rattle.certificates.specs.Claims.{ClaimsSoMany, ClaimsSoFew, EscapesBy, FailsBy, HoldsOver, MetBy, WinsBy, IsWon}
 use Rattle.verifying.specs.Growing.{Extends}
 
 pub extends_itself : (xs : List Claim) → Extends xs xs
@@ -60,7 +60,7 @@ module _ (old new : List Claim) (grown : Extends old new) where
   pub still_all_fail : (goal : Goal) (b : PlainBoard) (n : ℕ) (moves : List Ply) → All (FailsBy goal old b n) moves → All (FailsBy goal new b n) moves
   still_all_fail goal b n moves all = All-weaker (FailsBy goal old b n) (FailsBy goal new b n) (λ m fails. still_fails goal b n m fails) moves all
 
-  pub still_holds : (goal : Goal) (c : Claim) → Holds goal old c → Holds goal new c
+  pub still_holds : (goal : Goal) (c : Claim) → HoldsOver goal old c → HoldsOver goal new c
   still_holds goal c holds m = still_fails goal c.position c.plies m (holds m)
 
   pub still_met : (goal : Goal) (p : PlainBoard) (n : ℕ) → MetBy goal old p n → MetBy goal new p n

@@ -1,5 +1,5 @@
 -- An input that is read, and what its end or its first fault tells.
-use Rattle.std.proofs.Common.{◌≡◌, ◌<◌, ℕ, List, [], ◌∷◌, ◌++◌, length, Option, None, Some, IfSome, true, Result, Ok, Err, IfOk, IfErr, IsErr, IsErrAnd, refl, sym, ap, ◌∙◌, subst, append_assoc}
+use Rattle.std.proofs.Common.{◌≡◌, ℕ, List, [], ◌∷◌, ◌++◌, Option, None, Some, IfSome, true, Result, Ok, Err, IfOk, IfErr, IsErr, IsErrAnd, refl, sym, ap, ◌∙◌, subst, append_assoc}
 use Rattle.std.proofs.lemmas.List.{append-nil}
 use Rattle.std.proofs.KnownBytes.{Consumes-trans}
 use Rattle.std.specs.Io.KnownBytes.{Consumes}
@@ -20,14 +20,15 @@ use Rattle.verifying.specs.declared.fault.Fault.{Fault}
 use Rattle.verifying.specs.declared.fault.Fault.TheVariants.{Answer as AnswerFault, Claim, TooLong, NoMemory, ReadFailed}
 use Rattle.verifying.specs.Refusals.{TellsOf, fault_of_input, reads_failed}
 use Rattle.verifying.specs.Certificate.{IsCertificate, IsRefusedWith}
-use Rattle.verifying.specs.Checking.{IsTaken, TakesMore, RefusesMore, IsProvedBy}
+use Rattle.verifying.specs.Checking.{HasTakenText, TakesMore, RefusesMore, IsProvedBy}
 use Rattle.verifying.proofs.Checked.{line_long}
 use Rattle.verifying.proofs.Refused.{certificate_begins}
 use Rattle.verifying.proofs.Taken.{fault_of_text, lost}
+use Rattle.devices.proofs.InputLemmas.{of_input_then as then_so}
 
 -- a text is gone from the front of the input, and the checker has taken it
 abbrev pub HasReadOf : {A : Type 0} → Goal → PlainBoard → Option (List ℕ) → Option (List ℕ) → Checker A → Type 0
-HasReadOf goal b first now checker = (text : List ℕ) × Consumes first now text × IsTaken goal b checker text
+HasReadOf goal b first now checker = (text : List ℕ) × Consumes first now text × HasTakenText goal b checker text
 
 pub none_gone : (u : Unread) (known : Option (List ℕ)) → u.from ≡ 0 → u.to ≡ 0 → Consumes known (left_of u known) []
 none_gone u None from to = tt
@@ -35,9 +36,6 @@ none_gone u (Some xs) from to = rw to (rw from refl)
 
 pub more_gone : {A : Type 0} (goal : Goal) (b : PlainBoard) (first now after : Option (List ℕ)) (old new : Checker A) (more : List ℕ) → TakesMore old new more → Consumes now after more → HasReadOf goal b first now old → HasReadOf goal b first after new
 more_gone goal b first now after old new more takes next (text, gone, taken) = (text ++ more, Consumes-trans first now after text more gone next, takes goal b text taken)
-
-then_so : (known : Option (List ℕ)) (P Q : List ℕ → Type 0) → OfInput known P → ((input : List ℕ) → P input → Q input) → OfInput known Q
-then_so known P Q (input, same, is) so = (input, same, so input is)
 
 end_of : (first now : Option (List ℕ)) (bytes rest : List ℕ) (P : List ℕ → Type 0) → Consumes first now bytes → IfSome now (λ told. told ≡ rest) → P (bytes ++ rest) → OfInput first P
 end_of None now bytes rest P gone left so = (bytes ++ rest, tt, so)

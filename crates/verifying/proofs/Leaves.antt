@@ -5,7 +5,8 @@ use Rattle.board.specs.declared.game.Side.{Side}
 use Rattle.board.specs.Board.{PlainBoard}
 use Rattle.rules.specs.declared.goal.Goal.{Goal}
 use Rattle.rules.specs.Forces.{IsReached, Forces}
-use Rattle.rules.proofs.Forcing.{on_own, same_side-self, Forces-more, Forces-even}
+use Rattle.rules.proofs.Forcing.{same_side-self, Forces-more, Forces-even}
+use Rattle.board.proofs.RankText.{on_true as on_own}
 
 -- nothing is forced within no ply
 pub none_at_once : (goal : Goal) (b : PlainBoard) (n : ℕ) → n ≡ 0 → IsTrue false ↔ Forces goal b.mover b n

@@ -1,5 +1,5 @@
 -- The first line of each part of a mate's certificate.
-use Rattle.std.proofs.Common.{◌≡◌, ◌⊎◌, ◌<◌, ℕ, ◌-◌, List, [], ◌∷◌, ◌++◌, length, get_or, take, inl, inr, sym, ap, ◌∙◌, subst, arith, All, Contains, Some, slice_get}
+use Rattle.std.proofs.Common.{◌≡◌, ◌<◌, ℕ, ◌-◌, List, [], ◌∷◌, ◌++◌, length, get_or, take, inl, inr, sym, ap, ◌∙◌, subst, arith, All, Contains, Some, slice_get}
 use Rattle.std.proofs.lemmas.List.{get_or-take, length-take, get_or_default}
 use Rattle.std.proofs.lemmas.List.Elements.{All-get_or, All-take, Contains-push}
 use Rattle.board.specs.Board.{PlainBoard}
@@ -15,6 +15,8 @@ use Rattle.verifying.specs.Parts.{HasFewer, LesserFail, ShowsFewer}
 use Rattle.verifying.proofs.Growing.{still_there, still_fails}
 use Rattle.verifying.proofs.Failing.{all_lawful}
 use Rattle.verifying.proofs.Places.{claim_more, one_item}
+use Rattle.rules.proofs.Lists.{split3}
+use Rattle.wintree.proofs.Listings.{lower_once as one_way}
 
 -- ---- the first claim of a part
 
@@ -38,20 +40,6 @@ module _ (goal : Goal) (old start new : List Claim) (b : PlainBoard) (n : ℕ) (
       (λ c here. (m, subst (λ (x : Claim). WinsBy goal new x.position x.plies m) (one_item read c (sym at ∙ here)) wins))
 
 -- ---- moves before one of a list
-
-one_way : (f f' t t' p p' : ℕ) → (f < f') ⊎ ((f ≡ f') × (t < t')) ⊎ ((f ≡ f') × (t ≡ t') × (p < p')) → (f' < f) ⊎ ((f' ≡ f) × (t' < t)) ⊎ ((f' ≡ f) × (t' ≡ t) × (p' < p)) → ⊥
-one_way f f' t t' p p' (inl a) (inl b) = omega (arith, a, b)
-one_way f f' t t' p p' (inl a) (inr (inl b)) = omega (arith, a, b.0)
-one_way f f' t t' p p' (inl a) (inr (inr b)) = omega (arith, a, b.0)
-one_way f f' t t' p p' (inr (inl a)) (inl b) = omega (arith, a.0, b)
-one_way f f' t t' p p' (inr (inl a)) (inr (inl b)) = omega (arith, a.1, b.1)
-one_way f f' t t' p p' (inr (inl a)) (inr (inr b)) = omega (arith, a.1, b.1)
-one_way f f' t t' p p' (inr (inr a)) (inl b) = omega (arith, a.0, b)
-one_way f f' t t' p p' (inr (inr a)) (inr (inl b)) = omega (arith, a.1, b.1)
-one_way f f' t t' p p' (inr (inr a)) (inr (inr b)) = omega (arith, a.2, b.2)
-
-split3 : (i j : ℕ) → (i < j) ⊎ ((i ≡ j) ⊎ (j < i))
-split3 i j = grind arith
 
 -- the moves in front of this one's place are those before it
 module _ (goal : Goal) (claims : List Claim) (b : PlainBoard) (n : ℕ) (moves : List Ply) (lists : ListsLawful b moves) (place : ℕ) (first : Ply) (at : get_or moves place first ≡ first) (failed : All (FailsBy goal claims b n) (take place moves)) where

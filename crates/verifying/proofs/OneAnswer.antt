@@ -8,7 +8,6 @@ use Rattle.board.specs.declared.game.Game.{Game}
 use Rattle.board.specs.declared.game.Game.TheVariants.{LosAlamos, Gardner}
 use Rattle.board.specs.declared.game.Kind.{Kind}
 use Rattle.board.specs.declared.game.Kind.TheVariants.{King, Queen, Rook, Bishop, Knight, Pawn}
-use Rattle.board.specs.Games.{width_of}
 use Rattle.board.specs.Board.{PlainBoard}
 use Rattle.rules.specs.declared.goal.Goal.{Goal}
 use Rattle.rules.specs.declared.goal.Goal.TheVariants as goal
@@ -21,14 +20,15 @@ use Rattle.decision.specs.declared.answer.Answer.{Answer}
 use Rattle.decision.specs.declared.answer.Answer.TheVariants as answer
 use Rattle.certificates.specs.declared.claim.Claim.{Claim}
 use Rattle.verifying.specs.declared.words.Word.{Word}
-use Rattle.verifying.specs.FirstLine.{answer_text, goal_text, IsInRange, IsNamed, IsNamedSquare, HasName}
+use Rattle.verifying.specs.FirstLine.{answer_text, goal_text, IsInRange, HasNamedMove, IsNamedSquare, HasName}
 use Rattle.verifying.specs.Certificate.{YesLinesMake, ProveAnswer, IsCertificate}
 use Rattle.verifying.proofs.FirstTexts.{digits_no_space, no_letter, one_letter}
+use Rattle.rules.proofs.Room.{width_six as six}
 
 abbrev NoSpace : ℕ → Type 0
 NoSpace x = x ≢ 32
 
-same_cons : (a b : ℕ) (x y : List ℕ) → a ∷ x ≡ b ∷ y → (a ≡ b) × (x ≡ y)
+pub same_cons : (a b : ℕ) (x y : List ℕ) → a ∷ x ≡ b ∷ y → (a ≡ b) × (x ≡ y)
 same_cons a b x y e = (cc, cc)
 
 one_space : (x y a b : List ℕ) → All NoSpace x → All NoSpace y → x ++ 32 ∷ a ≡ y ++ 32 ∷ b → (x ≡ y) × (a ≡ b)
@@ -81,7 +81,7 @@ not_none : (goal : Goal) (n limit : ℕ) (m : Ply) → answer_text goal (answer.
 not_none goal.Mate n limit m e = let head = same_cons 109 110 _ _ e in omega (arith, head.0)
 not_none goal.MateOrStale n limit m e = let head = same_cons 103 110 _ _ e in omega (arith, head.0)
 
-pub one_answer : (goal : Goal) (a b : Answer) → IsInRange a → IsInRange b → IsNamed a → IsNamed b → answer_text goal a ≡ answer_text goal b → a ≡ b
+pub one_answer : (goal : Goal) (a b : Answer) → IsInRange a → IsInRange b → HasNamedMove a → HasNamedMove b → answer_text goal a ≡ answer_text goal b → a ≡ b
 one_answer goal (answer.Mate n m) (answer.Mate k l) range also named named_too e = one_mate n k m l range.1 also.1 named named_too (append_cancel_left (goal_text goal) _ _ e)
 one_answer goal (answer.Mate n m) (answer.NoneWithin limit) range also named named_too e = absurd (not_none goal n limit m e)
 one_answer goal (answer.NoneWithin limit) (answer.Mate k l) range also named named_too e = absurd (not_none goal k limit l (sym e))
@@ -101,10 +101,6 @@ promoted LosAlamos (Some Bishop) allowed = absurd allowed
 promoted LosAlamos (Some Knight) allowed = tt
 promoted LosAlamos (Some Pawn) allowed = absurd allowed
 
-six : (g : Game) → width_of g ≤ 6
-six LosAlamos = omega arith
-six Gardner = omega arith
-
 on_board : (g : Game) (s : Place) → IsOnBoard g s → IsNamedSquare s
 on_board g s on = let most = six g in (omega (arith, on.file, most), omega (arith, on.rank, most))
 
@@ -117,11 +113,11 @@ first_lawful : (goal : Goal) (b : PlainBoard) (n : ℕ) (first : Ply) (yeas : Li
 first_lawful goal b n first [] won make = absurd make
 first_lawful goal b n first (line ∷ yeas) won (next, (place, words, is, at, some, q, move, win), rest) = (q, move)
 
-proved_named : (goal : Goal) (b : PlainBoard) (told : Answer) (lines : List (List Word)) → ProveAnswer goal b told lines → IsNamed told
+proved_named : (goal : Goal) (b : PlainBoard) (told : Answer) (lines : List (List Word)) → ProveAnswer goal b told lines → HasNamedMove told
 proved_named goal b (answer.Mate n first) lines (yeas, noes, is, (won, make, few), held) = lawful_named b first (first_lawful goal b n first yeas won make)
 proved_named goal b (answer.NoneWithin limit) lines prove = tt
 
-pub certificate_named : (goal : Goal) (b : PlainBoard) (told : Answer) (text : List ℕ) → IsCertificate goal b told text → IsNamed told
+pub certificate_named : (goal : Goal) (b : PlainBoard) (told : Answer) (text : List ℕ) → IsCertificate goal b told text → HasNamedMove told
 certificate_named goal b told text certificate = proved_named goal b told certificate.lines certificate.prove
 
 -- ---- lines of no answer
@@ -138,6 +134,6 @@ pub no_word : (goal : Goal) (line : List ℕ) → ((rest : List ℕ) → line �
 no_word goal line none mate (answer.Mate n m) is = mate (decimal n ++ 32 ∷ move_text m) is
 no_word goal line none mate (answer.NoneWithin limit) is = none (decimal limit) is
 
-pub no_mate : (goal : Goal) (line mate : List ℕ) → ((rest : List ℕ) → line ≢ codes "none within " ++ rest) → line ≡ goal_text goal ++ mate → ((n : ℕ) (m : Ply) → IsOdd n → n ≤ 63 → HasName m → mate ≢ decimal n ++ 32 ∷ move_text m) → (a : Answer) → IsInRange a → IsNamed a → line ≡ answer_text goal a → ⊥
+pub no_mate : (goal : Goal) (line mate : List ℕ) → ((rest : List ℕ) → line ≢ codes "none within " ++ rest) → line ≡ goal_text goal ++ mate → ((n : ℕ) (m : Ply) → IsOdd n → n ≤ 63 → HasName m → mate ≢ decimal n ++ 32 ∷ move_text m) → (a : Answer) → IsInRange a → HasNamedMove a → line ≡ answer_text goal a → ⊥
 no_mate goal line mate none begins other (answer.Mate n m) range named is = other n m range.0 range.1 named (append_cancel_left (goal_text goal) mate (decimal n ++ 32 ∷ move_text m) (sym begins ∙ is))
 no_mate goal line mate none begins other (answer.NoneWithin limit) range named is = none (decimal limit) is

@@ -14,10 +14,10 @@ use Rattle.verifying.specs.declared.part.Mate.{Mate}
 use Rattle.verifying.specs.declared.part.Part.{Part}
 use Rattle.verifying.specs.declared.part.Part.TheVariants.{First, Win, Yes, Lesser, No}
 use Rattle.verifying.specs.declared.words.Word.{Word}
-use Rattle.verifying.specs.FirstLine.{answer_text, IsInRange}
+use Rattle.verifying.specs.FirstLine.{answer_text}
 use Rattle.verifying.specs.Words.{line_text}
 use Rattle.verifying.specs.Refusals.{fed}
-use Rattle.verifying.specs.Parts.{Stands, answer_of}
+use Rattle.verifying.specs.Parts.{HasShown, answer_of}
 use Rattle.verifying.specs.Growing.{AreApart}
 use Rattle.verifying.specs.Certificate.{with_claim, shorter_claim, IsSomeYesLine, IsNoLine, IsLesserLine, YesLinesMake, NoLinesMake, ProveAnswer, IsCertificate}
 use Rattle.verifying.specs.Reading.{AreNoSoFar, IsReadTo, IsBehindYes, TakesWords, BeginsPart, ReadsLine, text_so_far, count_so_far, IsToldWell, HasRead, IsNoLineOf}
@@ -102,7 +102,7 @@ read_begun goal b (answer.NoneWithin limit) next new (is, made) = subst (λ (par
 -- ---- lines that were read
 
 words_read : (goal : Goal) (b : PlainBoard) (number : ℕ) (old new : Part) (told : Answer) (before claims : List Claim) (text line : List ℕ) → length line ≤ 8192 → answer_of old ≡ Some told → answer_of new ≡ Some told → ((words : List Word) × (line ≡ line_text words) × TakesWords goal b old words before new claims)
-    → AreApart claims → Stands goal b new claims → HasRead goal b number old before text → HasRead goal b (number + 1) new claims (text ++ (line ++ 10 ∷ []))
+    → AreApart claims → HasShown goal b new claims → HasRead goal b number old before text → HasRead goal b (number + 1) new claims (text ++ (line ++ 10 ∷ []))
 words_read goal b number old new told before claims text line small was is (words, spelled, takes) apart stands so_far =
     let mine : text ≡ text_so_far goal (Some told) so_far.lines = subst (λ (o : Option Answer). text ≡ text_so_far goal o so_far.lines) was so_far.spelled in
     let counted : number ≡ length so_far.lines + 1 = subst (λ (o : Option Answer). number ≡ count_so_far o so_far.lines) was so_far.count in
@@ -118,7 +118,7 @@ words_read goal b number old new told before claims text line small was is (word
       stands = stands;
     }
 
-pub first_read : (goal : Goal) (b : PlainBoard) (number : ℕ) (new : Part) (before claims : List Claim) (text line : List ℕ) → ReadsLine goal b First line before new claims → AreApart claims → Stands goal b new claims → HasRead goal b number First before text
+pub first_read : (goal : Goal) (b : PlainBoard) (number : ℕ) (new : Part) (before claims : List Claim) (text line : List ℕ) → ReadsLine goal b First line before new claims → AreApart claims → HasShown goal b new claims → HasRead goal b number First before text
     → HasRead goal b (number + 1) new claims (text ++ (line ++ 10 ∷ []))
 first_read goal b number new before claims text line (told, range, named, spelled, begins) apart stands so_far = record {
   lines = [];
@@ -137,7 +137,7 @@ behind_answer : (mate : Mate) (place count : ℕ) (next : Part) → IsBehindYes 
 behind_answer mate place count next (inl (less, is)) = ap answer_of is
 behind_answer mate place count next (inr (all, is)) = ap answer_of is
 
-pub line_read : (goal : Goal) (b : PlainBoard) (number : ℕ) (old new : Part) (before claims : List Claim) (text line : List ℕ) → length line ≤ 8192 → ReadsLine goal b old line before new claims → AreApart claims → Stands goal b new claims → HasRead goal b number old before text
+pub line_read : (goal : Goal) (b : PlainBoard) (number : ℕ) (old new : Part) (before claims : List Claim) (text line : List ℕ) → length line ≤ 8192 → ReadsLine goal b old line before new claims → AreApart claims → HasShown goal b new claims → HasRead goal b number old before text
     → HasRead goal b (number + 1) new claims (text ++ (line ++ 10 ∷ []))
 line_read goal b number First new before claims text line small reads apart stands so_far = first_read goal b number new before claims text line reads apart stands so_far
 line_read goal b number (Win mate) new before claims text line small (words, spelled, takes) apart stands so_far =

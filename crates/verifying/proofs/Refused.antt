@@ -1,5 +1,5 @@
 -- A text that is refused is no certificate.
-use Rattle.std.proofs.Common.{suc, codes, ◌≡◌, ◌⊎◌, inl, inr, ◌<◌, ◌≤◌, ℕ, ◌+◌, ◌-◌, ◌%◌, List, [], ◌∷◌, ◌++◌, length, map, refl, sym, ap, ◌∙◌, subst, arith, append_assoc, length-append, All, Option, None, Some}
+use Rattle.std.proofs.Common.{suc, codes, ◌≡◌, ◌⊎◌, inl, inr, ◌<◌, ◌≤◌, ℕ, ◌+◌, ◌-◌, ◌%◌, List, [], ◌∷◌, ◌++◌, length, map, refl, sym, ap, ◌∙◌, subst, arith, append_assoc, length-append, All, Option, Some}
 use Rattle.std.proofs.lemmas.List.{append-nil}
 use Rattle.std.proofs.lemmas.List.Elements.{All-cons, All-head, All-tail}
 use Rattle.std.specs.Fmt.{decimal}
@@ -16,11 +16,11 @@ use Rattle.verifying.specs.declared.fault.Fault.TheVariants.{TooLong}
 use Rattle.verifying.specs.declared.part.Part.{Part}
 use Rattle.verifying.specs.declared.part.Part.TheVariants.{First, Win, Yes, Lesser, No}
 use Rattle.verifying.specs.declared.words.Word.{Word}
-use Rattle.verifying.specs.FirstLine.{answer_text, goal_text, BeginsWith, IsInRange, IsNamed}
+use Rattle.verifying.specs.FirstLine.{answer_text, goal_text, HasFirstLine, IsInRange, HasNamedMove}
 use Rattle.verifying.specs.Growing.{AreApart}
 use Rattle.verifying.specs.Words.{line_text}
 use Rattle.verifying.specs.Refusals.{fed}
-use Rattle.verifying.specs.Parts.{Stands, answer_of}
+use Rattle.verifying.specs.Parts.{HasShown, answer_of}
 use Rattle.verifying.specs.Certificate.{ProveAnswer, IsCertificate, IsRefusedWith, with_claim}
 use Rattle.verifying.specs.Reading.{IsReadTo, BeginsPart, TakesWords, ReadsLine, IsNoLineOf, IsUnfinished, IsToldWell, text_so_far, HasRead}
 use Rattle.verifying.specs.Taking.{fault_at}
@@ -62,7 +62,7 @@ abbrev IsShort : List Word → Type 0
 IsShort line = length (line_text line) ≤ 8192
 
 -- what a certificate has behind what was read of it
-behind_read : (goal : Goal) (b : PlainBoard) (told mine : Answer) (lines : List (List Word)) (rest : List ℕ) → IsInRange told → IsNamed told → IsCertificate goal b mine (text_so_far goal (Some told) lines ++ rest) → (more : List (List Word)) × ProveAnswer goal b told (lines ++ more) × All IsShort more × (fed (map line_text more) ≡ rest)
+behind_read : (goal : Goal) (b : PlainBoard) (told mine : Answer) (lines : List (List Word)) (rest : List ℕ) → IsInRange told → HasNamedMove told → IsCertificate goal b mine (text_so_far goal (Some told) lines ++ rest) → (more : List (List Word)) × ProveAnswer goal b told (lines ++ more) × All IsShort more × (fed (map line_text more) ≡ rest)
 behind_read goal b told mine lines rest range named certificate =
     let xs : List (List ℕ) = answer_text goal mine ∷ map line_text certificate.lines in
     let ys : List (List ℕ) = answer_text goal told ∷ map line_text lines in
@@ -100,7 +100,7 @@ wrong_first goal b mine line rest claims none wrong certificate =
     let begun = begin b mine in
     wrong begun.0 begun.1 (mine, certificate.range, certificate_named goal b mine _ certificate, sym is, begun.2)
 
-wrong_later : (goal : Goal) (b : PlainBoard) (part : Part) (told mine : Answer) (lines : List (List Word)) (line rest : List ℕ) (claims : List Claim) → answer_of part ≡ Some told → IsInRange told → IsNamed told → IsReadTo goal b part lines claims → HasNoFeed line → IsNoLineOf goal b part line claims → IsCertificate goal b mine (text_so_far goal (Some told) lines ++ (line ++ 10 ∷ rest)) → ⊥
+wrong_later : (goal : Goal) (b : PlainBoard) (part : Part) (told mine : Answer) (lines : List (List Word)) (line rest : List ℕ) (claims : List Claim) → answer_of part ≡ Some told → IsInRange told → HasNamedMove told → IsReadTo goal b part lines claims → HasNoFeed line → IsNoLineOf goal b part line claims → IsCertificate goal b mine (text_so_far goal (Some told) lines ++ (line ++ 10 ∷ rest)) → ⊥
 wrong_later goal b part told mine lines line rest claims is range named read none wrong certificate =
     let behind = behind_read goal b told mine lines (line ++ 10 ∷ rest) range named certificate in
     let next = next_of (map line_text behind.0) line rest (lines_no_feed behind.0) none behind.3 in
@@ -108,7 +108,7 @@ wrong_later goal b part told mine lines line rest claims is range named read non
     let taken = next_taken goal b part told lines words.0 words.1 claims is (subst (λ (l : List (List Word)). ProveAnswer goal b told (lines ++ l)) words.2 behind.1) read in
     wrong taken.0 taken.1 (reads_words goal b part taken.0 line words.0 claims taken.1 (sym words.3) taken.2)
 
-well_told : (told : Option Answer) (mine : Answer) → told ≡ Some mine → IsToldWell told → IsInRange mine × IsNamed mine
+well_told : (told : Option Answer) (mine : Answer) → told ≡ Some mine → IsToldWell told → IsInRange mine × HasNamedMove mine
 well_told told mine is well = subst IsToldWell is well
 
 -- the answer that was told at this part
@@ -140,7 +140,7 @@ no_lines : (more : List (List Word)) → map line_text more ≡ [] → more ≡ 
 no_lines [] e = refl
 no_lines (words ∷ more) e = absurd (no_line (line_text words) (map line_text more) (sym e))
 
-missing_later : (goal : Goal) (b : PlainBoard) (part : Part) (told mine : Answer) (lines : List (List Word)) (rest : List ℕ) (claims : List Claim) → answer_of part ≡ Some told → IsInRange told → IsNamed told → IsReadTo goal b part lines claims → HasNoFeed rest → (rest ≡ [] → IsUnfinished part claims) → IsCertificate goal b mine (text_so_far goal (Some told) lines ++ rest) → ⊥
+missing_later : (goal : Goal) (b : PlainBoard) (part : Part) (told mine : Answer) (lines : List (List Word)) (rest : List ℕ) (claims : List Claim) → answer_of part ≡ Some told → IsInRange told → HasNamedMove told → IsReadTo goal b part lines claims → HasNoFeed rest → (rest ≡ [] → IsUnfinished part claims) → IsCertificate goal b mine (text_so_far goal (Some told) lines ++ rest) → ⊥
 missing_later goal b part told mine lines rest claims is range named read none wrong certificate =
     let behind = behind_read goal b told mine lines rest range named certificate in
     let gone = none_of (map line_text behind.0) rest none behind.3 in
@@ -220,11 +220,11 @@ long_refused goal b number part claims text line rest fault is none long read = 
 
 -- ---- the answer with which a certificate begins
 
-pub certificate_begins : (goal : Goal) (b : PlainBoard) (answer : Answer) (text : List ℕ) → IsCertificate goal b answer text → BeginsWith goal answer text
+pub certificate_begins : (goal : Goal) (b : PlainBoard) (answer : Answer) (text : List ℕ) → IsCertificate goal b answer text → HasFirstLine goal answer text
 certificate_begins goal b answer text certificate =
     (certificate.range, (fed (map line_text certificate.lines), certificate.spelled ∙ append_assoc (answer_text goal answer) (10 ∷ []) (fed (map line_text certificate.lines))))
 
-pub begun_answer : (goal : Goal) (b : PlainBoard) (told answer : Answer) (rest : List ℕ) → IsInRange told → IsNamed told → IsCertificate goal b answer (answer_text goal told ++ 10 ∷ rest) → answer ≡ told
+pub begun_answer : (goal : Goal) (b : PlainBoard) (told answer : Answer) (rest : List ℕ) → IsInRange told → HasNamedMove told → IsCertificate goal b answer (answer_text goal told ++ 10 ∷ rest) → answer ≡ told
 begun_answer goal b told answer rest range named certificate =
     let next = next_of (xs_of goal answer certificate.lines) (answer_text goal told) rest (xs_no_feed goal answer certificate.lines certificate.range) (answer_no_feed goal told range) (sym certificate.spelled) in
     let is = (same_line (answer_text goal answer) (answer_text goal told) (map line_text certificate.lines) next.0 next.1).0 in
@@ -239,13 +239,13 @@ takes_apart goal b (Yes mate place) next words old new ((c, at, (m, line)), is) 
 takes_apart goal b (Lesser mate) next words old new (line, is) apart = lesser_apart goal b mate.plies mate.first words new line
 takes_apart goal b (No told place) next words old new ((c, at, line), is) apart = no_apart goal c words old new line apart
 
-begun_apart : (goal : Goal) (b : PlainBoard) (told : Answer) (next : Part) (new : List Claim) → BeginsPart b told next new → Stands goal b next new → AreApart new
+begun_apart : (goal : Goal) (b : PlainBoard) (told : Answer) (next : Part) (new : List Claim) → BeginsPart b told next new → HasShown goal b next new → AreApart new
 begun_apart goal b (answer.Mate n first) next new is stands =
-    let empty = subst (λ (p : Part). Stands goal b p new) is stands in
+    let empty = subst (λ (p : Part). HasShown goal b p new) is stands in
     subst AreApart (sym empty.1) none_apart
 begun_apart goal b (answer.NoneWithin limit) next new (is, made) stands = subst AreApart (sym made) (one_apart b (limit - 1 + limit % 2))
 
-pub reads_apart : (goal : Goal) (b : PlainBoard) (part next : Part) (line : List ℕ) (old new : List Claim) → ReadsLine goal b part line old next new → Stands goal b next new → AreApart old → AreApart new
+pub reads_apart : (goal : Goal) (b : PlainBoard) (part next : Part) (line : List ℕ) (old new : List Claim) → ReadsLine goal b part line old next new → HasShown goal b next new → AreApart old → AreApart new
 reads_apart goal b First next line old new (told, range, named, spelled, begins) stands apart = begun_apart goal b told next new begins stands
 reads_apart goal b (Win mate) next line old new (words, spelled, takes) stands apart = takes_apart goal b (Win mate) next words old new takes apart
 reads_apart goal b (Yes mate place) next line old new (words, spelled, takes) stands apart = takes_apart goal b (Yes mate place) next words old new takes apart

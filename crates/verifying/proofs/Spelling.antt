@@ -5,7 +5,7 @@ use Rattle.std.proofs.lemmas.List.{take-append-drop, drop_more, take_all}
 use Rattle.verifying.specs.declared.words.Word.{Word}
 use Rattle.verifying.specs.declared.words.Word.TheVariants.{Seen, Claimed, Stalemated, Place}
 use Rattle.verifying.specs.Words.{letter_of, word_text, line_text}
-use Rattle.verifying.proofs.Texts.{same_head, same_tail}
+use Rattle.wintree.proofs.Turns.{same_head, same_tail}
 
 -- ---- a word is so many Zs, and then a byte that is none
 

@@ -5,14 +5,14 @@ use Rattle.rules.specs.declared.goal.Goal.{Goal}
 use Rattle.decision.specs.declared.answer.Answer.{Answer}
 use Rattle.decision.specs.declared.answer.Answer.TheVariants as answer
 use Rattle.certificates.specs.declared.claim.Claim.{Claim}
-use Rattle.certificates.specs.Claims.{Holds, IsWon}
+use Rattle.certificates.specs.Claims.{HoldsOver, IsWon}
 use Rattle.certificates.specs.Answers.{Certifies, IsOdd}
 use Rattle.verifying.specs.declared.fault.Fault.TheVariants.{Claim as NumberedFault}
 use Rattle.verifying.specs.declared.part.Mate.{Mate}
 use Rattle.verifying.specs.declared.part.Part.{Part}
 use Rattle.verifying.specs.declared.part.Part.TheVariants.{First, Win, Yes, Lesser, No}
 use Rattle.verifying.specs.Growing.{Extends}
-use Rattle.verifying.specs.Parts.{Awaits, IsYesUpTo, ShowsFewer, ShowsWin, Stands}
+use Rattle.verifying.specs.Parts.{Awaits, IsYesUpTo, ShowsFewer, ShowsWin, HasShown}
 use Rattle.verifying.specs.Taking.{fault_at}
 use Rattle.verifying.proofs.Growing.{still_there, still_wins, still_won, still_holds}
 use Rattle.verifying.proofs.Mates.{still_shows_fewer}
@@ -43,30 +43,30 @@ still_awaits goal b (answer.NoneWithin limit) old new grown shown = record {
 }
 
 -- one no claim more
-pub no_more : (goal : Goal) (old new : List Claim) (b : PlainBoard) (answer : Answer) (place : ℕ) → Extends old new → place < length old → ((c : Claim) → slice_get old place ≡ Some c → Holds goal new c) → Stands goal b (No answer place) old → Stands goal b (No answer (place + 1)) new
+pub no_more : (goal : Goal) (old new : List Claim) (b : PlainBoard) (answer : Answer) (place : ℕ) → Extends old new → place < length old → ((c : Claim) → slice_get old place ≡ Some c → HoldsOver goal new c) → HasShown goal b (No answer place) old → HasShown goal b (No answer (place + 1)) new
 no_more goal old new b answer place grown lt here (awaits, held) = (
   still_awaits goal b answer old new grown awaits,
-  claim_more (Holds goal old) (Holds goal new) old new place grown lt (still_holds old new grown goal) held here,
+  claim_more (HoldsOver goal old) (HoldsOver goal new) old new place grown lt (still_holds old new grown goal) held here,
 )
 
 -- the no claims begin
-pub no_first : (goal : Goal) (claims : List Claim) (b : PlainBoard) (mate : Mate) → IsOdd mate.plies → ShowsWin goal b mate.plies mate.first → ShowsFewer goal claims b mate.plies mate.first → Stands goal b (No (answer.Mate mate.plies mate.first) 0) claims
+pub no_first : (goal : Goal) (claims : List Claim) (b : PlainBoard) (mate : Mate) → IsOdd mate.plies → ShowsWin goal b mate.plies mate.first → ShowsFewer goal claims b mate.plies mate.first → HasShown goal b (No (answer.Mate mate.plies mate.first) 0) claims
 no_first goal claims b mate odd win fewer = ((odd, win, fewer), λ k d lt. absurd (omega (arith, lt)))
 
 -- all lines were taken
-pub stands_whole : (goal : Goal) (b : PlainBoard) (answer : Answer) (place : ℕ) (claims : List Claim) → length claims ≤ place → Stands goal b (No answer place) claims → Certifies goal b answer
+pub stands_whole : (goal : Goal) (b : PlainBoard) (answer : Answer) (place : ℕ) (claims : List Claim) → length claims ≤ place → HasShown goal b (No answer place) claims → Certifies goal b answer
 stands_whole goal b (answer.Mate plies first) place claims whole ((odd, win, (fewer, lesser)), held) = record {
   yes_claims = win.0;
   no_claims = claims;
   won = win.1;
-  held = each_claim (Holds goal claims) claims place whole held;
+  held = each_claim (HoldsOver goal claims) claims place whole held;
   shown = record { odd = odd; wins = win.2; no_fewer = fewer; no_lesser = lesser };
 }
 stands_whole goal b (answer.NoneWithin limit) place claims whole (shown, held) = record {
   yes_claims = [];
   no_claims = claims;
   won = λ c among. absurd (omega (arith, among.1));
-  held = each_claim (Holds goal claims) claims place whole held;
+  held = each_claim (HoldsOver goal claims) claims place whole held;
   shown = shown;
 }
 

@@ -1,5 +1,5 @@
 -- What the lines that were read tell of a text.
-use Rattle.std.proofs.Common.{◌≡◌, inl, inr, ℕ, ◌+◌, ◌<◌, List, [], ◌∷◌, ◌++◌, length, map, Option, None, Some, refl, sym, ap, ◌∙◌, subst, arith, append_assoc, All, Result, Ok, Err, IfErr, IfOk, IsErr, IsErrAnd}
+use Rattle.std.proofs.Common.{◌≡◌, ℕ, ◌+◌, ◌<◌, List, [], ◌∷◌, ◌++◌, length, map, Option, None, Some, refl, sym, ap, subst, arith, All, Err}
 use Rattle.std.proofs.lemmas.List.Elements.{All-cons, All-nil}
 use Rattle.std.specs.Io.KnownBytes.{Consumes}
 use Rattle.board.specs.Board.{PlainBoard}
@@ -20,6 +20,7 @@ use Rattle.verifying.specs.Parts.{answer_of}
 use Rattle.verifying.specs.Reading.{HasRead, IsToldWell, count_so_far, text_so_far}
 use Rattle.verifying.specs.Refusals.{AreLines, HasLongLine, IsClaimLine, IsReadUpTo, TellsOf, fed}
 use Rattle.verifying.specs.Taking.{fault_at}
+use Rattle.devices.proofs.InputLemmas.{of_any as any_input}
 
 count_lines : (lines : List (List Word)) → length (map line_text lines) ≡ length lines
 count_lines [] = refl
@@ -69,10 +70,6 @@ pub lost : (first now : Option (List ℕ)) (bytes : List ℕ) (P : List ℕ → 
 lost None now bytes P gone so = (bytes ++ [], tt, so [])
 lost (Some xs) None bytes P gone so = absurd gone
 lost (Some xs) (Some ys) bytes P gone so = (bytes ++ ys, gone, so ys)
-
-pub any_input : (known : Option (List ℕ)) (P : List ℕ → Type 0) → ((input : List ℕ) → P input) → OfInput known P
-any_input None P so = ([], tt, so [])
-any_input (Some xs) P so = (xs, refl, so xs)
 
 -- a fault that isn't of the text tells nothing of it
 pub fault_of_text : (goal : Goal) (first : Option (List ℕ)) (fault : Fault) → ((fault ≡ NoMemory → ⊥) → (fault ≡ ReadFailed → ⊥) → OfInput first (λ input. TellsOf goal input (Err fault))) → OfInput first (λ input. TellsOf goal input (Err fault))

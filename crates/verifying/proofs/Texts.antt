@@ -5,12 +5,7 @@ use Rattle.std.proofs.lemmas.List.{take_more, replicate_more, append-nil}
 use Rattle.verifying.specs.declared.words.Word.{Word}
 use Rattle.verifying.specs.declared.words.Word.TheVariants.{Seen, Claimed, Stalemated, Place}
 use Rattle.verifying.specs.Words.{letter_of, word_text, line_text}
-
-pub same_head : (a b : ℕ) (x y : List ℕ) → a ∷ x ≡ b ∷ y → a ≡ b
-same_head a b x y e = cc
-
-pub same_tail : (a b : ℕ) (x y : List ℕ) → a ∷ x ≡ b ∷ y → x ≡ y
-same_tail a b x y e = cc
+use Rattle.wintree.proofs.Turns.{same_head, same_tail}
 
 -- a byte that is no letter and no sign is no word
 no_place : (k i byte : ℕ) → ((n : ℕ) → n < 50 → byte ≢ letter_of n) → i < 50 → replicate k 90 ++ letter_of i ∷ [] ≡ byte ∷ [] → ⊥

@@ -35,10 +35,10 @@ abbrev pub HasName : Ply → Type 0
 HasName m = IsNamedSquare m.from × IsNamedSquare m.to × IfSome m.promotion IsPromoted
 
 -- a mate's first move has a name
-abbrev pub IsNamed : Answer → Type 0
-IsNamed (Mate plies first) = HasName first
-IsNamed (NoneWithin limit) = ⊤
+abbrev pub HasNamedMove : Answer → Type 0
+HasNamedMove (Mate plies first) = HasName first
+HasNamedMove (NoneWithin limit) = ⊤
 
 -- the text's first line is the answer's
-abbrev pub BeginsWith : Goal → Answer → List ℕ → Type 0
-BeginsWith goal answer text = IsInRange answer × ((rest : List ℕ) × (text ≡ answer_text goal answer ++ 10 ∷ rest))
+abbrev pub HasFirstLine : Goal → Answer → List ℕ → Type 0
+HasFirstLine goal answer text = IsInRange answer × ((rest : List ℕ) × (text ≡ answer_text goal answer ++ 10 ∷ rest))

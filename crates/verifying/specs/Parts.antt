@@ -7,7 +7,7 @@ use Rattle.rules.specs.Order.{IsPlyBefore}
 use Rattle.decision.specs.declared.answer.Answer.{Answer}
 use Rattle.decision.specs.declared.answer.Answer.TheVariants as answer
 use Rattle.certificates.specs.declared.claim.Claim.{Claim}
-use Rattle.certificates.specs.Claims.{AllWon, IsWon, WinsBy, Holds, FailsBy}
+use Rattle.certificates.specs.Claims.{AllWon, IsWon, WinsBy, HoldsOver, FailsBy}
 use Rattle.certificates.specs.Answers.{HasClaim, IsOdd, ShowsNone}
 use Rattle.verifying.specs.declared.part.Mate.{Mate}
 use Rattle.verifying.specs.declared.part.Part.{Part}
@@ -39,12 +39,12 @@ Awaits goal b (answer.Mate plies first) claims = IsOdd plies × ShowsWin goal b 
 Awaits goal b (answer.NoneWithin limit) claims = ShowsNone b claims limit
 
 -- what was shown where this part comes next
-abbrev pub Stands : Goal → PlainBoard → Part → List Claim → Type 0
-Stands goal b First claims = claims ≡ []
-Stands goal b (Win mate) claims = IsOdd mate.plies × (claims ≡ [])
-Stands goal b (Yes mate place) claims = IsOdd mate.plies × IsYesUpTo goal claims b mate place
-Stands goal b (Lesser mate) claims = IsOdd mate.plies × ShowsWin goal b mate.plies mate.first
-Stands goal b (No answer place) claims = Awaits goal b answer claims × All (Holds goal claims) (take place claims)
+abbrev pub HasShown : Goal → PlainBoard → Part → List Claim → Type 0
+HasShown goal b First claims = claims ≡ []
+HasShown goal b (Win mate) claims = IsOdd mate.plies × (claims ≡ [])
+HasShown goal b (Yes mate place) claims = IsOdd mate.plies × IsYesUpTo goal claims b mate place
+HasShown goal b (Lesser mate) claims = IsOdd mate.plies × ShowsWin goal b mate.plies mate.first
+HasShown goal b (No answer place) claims = Awaits goal b answer claims × All (HoldsOver goal claims) (take place claims)
 
 -- the answer that was told
 abbrev pub answer_of : Part → Option Answer

@@ -9,11 +9,11 @@ use Rattle.verifying.specs.declared.part.Mate.{Mate}
 use Rattle.verifying.specs.declared.part.Part.{Part}
 use Rattle.verifying.specs.declared.part.Part.TheVariants.{First, Win, Yes, Lesser, No}
 use Rattle.verifying.specs.declared.words.Word.{Word}
-use Rattle.verifying.specs.FirstLine.{answer_text, IsInRange, IsNamed}
+use Rattle.verifying.specs.FirstLine.{answer_text, IsInRange, HasNamedMove}
 use Rattle.verifying.specs.Words.{line_text}
 use Rattle.verifying.specs.Refusals.{fed}
 use Rattle.verifying.specs.Growing.{AreApart}
-use Rattle.verifying.specs.Parts.{Stands, answer_of}
+use Rattle.verifying.specs.Parts.{HasShown, answer_of}
 use Rattle.verifying.specs.Certificate.{with_claim, shorter_claim, IsYesLine, IsSomeYesLine, IsNoLine, IsLesserLine, YesLinesMake, NoLinesMake, NoneLinesMake}
 
 -- the no lines so far, of an answer
@@ -53,7 +53,7 @@ BeginsPart b (answer.NoneWithin limit) next new = (next ≡ No (answer.NoneWithi
 
 -- the line is of this part, and what comes behind it
 abbrev pub ReadsLine : Goal → PlainBoard → Part → List ℕ → List Claim → Part → List Claim → Type 0
-ReadsLine goal b First line old next new = (answer : Answer) × IsInRange answer × IsNamed answer × (line ≡ answer_text goal answer) × BeginsPart b answer next new
+ReadsLine goal b First line old next new = (answer : Answer) × IsInRange answer × HasNamedMove answer × (line ≡ answer_text goal answer) × BeginsPart b answer next new
 ReadsLine goal b (Win mate) line old next new = (words : List Word) × (line ≡ line_text words) × TakesWords goal b (Win mate) words old next new
 ReadsLine goal b (Yes mate place) line old next new = (words : List Word) × (line ≡ line_text words) × TakesWords goal b (Yes mate place) words old next new
 ReadsLine goal b (Lesser mate) line old next new = (words : List Word) × (line ≡ line_text words) × TakesWords goal b (Lesser mate) words old next new
@@ -72,7 +72,7 @@ count_so_far (Some answer) lines = length lines + 1
 -- the answer that was told could be
 abbrev pub IsToldWell : Option Answer → Type 0
 IsToldWell None = ⊤
-IsToldWell (Some answer) = IsInRange answer × IsNamed answer
+IsToldWell (Some answer) = IsInRange answer × HasNamedMove answer
 
 -- so many lines were read up to where this part comes next, and this is their text
 pub record HasRead (goal : Goal) (b : PlainBoard) (number : ℕ) (part : Part) (claims : List Claim) (text : List ℕ) : Type 0 where
@@ -85,7 +85,7 @@ pub record HasRead (goal : Goal) (b : PlainBoard) (number : ℕ) (part : Part) (
   pub well : IsToldWell (answer_of part)
   -- and what they show
   pub apart : AreApart claims
-  pub stands : Stands goal b part claims
+  pub stands : HasShown goal b part claims
 
 -- the line is none of this part
 abbrev pub IsNoLineOf : Goal → PlainBoard → Part → List ℕ → List Claim → Type 0

@@ -9,7 +9,7 @@ use Rattle.devices.specs.declared.transfer.InputFault.TheVariants as input
 use Rattle.verifying.specs.declared.fault.Fault.{Fault}
 use Rattle.verifying.specs.declared.fault.Fault.TheVariants.{Answer as IsAnswerFault, Claim, TooLong, NoMemory, ReadFailed}
 use Rattle.verifying.specs.declared.words.Word.{Word}
-use Rattle.verifying.specs.FirstLine.{answer_text, BeginsWith, IsInRange}
+use Rattle.verifying.specs.FirstLine.{answer_text, HasFirstLine, IsInRange}
 use Rattle.verifying.specs.Words.{line_text}
 
 -- the fault of each fault of the input
@@ -46,7 +46,7 @@ HasLongLine text = (lines : List (List ℕ)) × (line : List ℕ) × (rest : Lis
 
 -- The answer is that of the text's first line. Of a fault it is told that a line is too long, or that the lines in front of the one that is refused are in the grammar and as many as its number says; of the others nothing is told here
 abbrev pub TellsOf : Goal → List ℕ → Result Answer Fault → Type 0
-TellsOf goal text (Ok answer) = BeginsWith goal answer text
+TellsOf goal text (Ok answer) = HasFirstLine goal answer text
 TellsOf goal text (Err IsAnswerFault) = ⊤
 TellsOf goal text (Err (Claim n)) = IsReadUpTo goal text n
 TellsOf goal text (Err TooLong) = HasLongLine text

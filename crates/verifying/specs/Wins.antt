@@ -9,9 +9,9 @@ use Rattle.certificates.specs.declared.claim.Claim.{Claim}
 use Rattle.certificates.specs.Claims.{MetBy}
 
 -- the goal is reached, or the defender has a reply, and each is met within the plies that are left
-abbrev pub WinsAfter : Goal → List Claim → PlainBoard → ℕ → Type 0
-WinsAfter goal claims q n = IsReached goal q ⊎ (((r : Ply) × IsLawful q r) × ((r : Ply) (p : PlainBoard) → IsMove q r p → MetBy goal claims p (n - 2)))
+abbrev pub WinsByClaims : Goal → List Claim → PlainBoard → ℕ → Type 0
+WinsByClaims goal claims q n = IsReached goal q ⊎ (((r : Ply) × IsLawful q r) × ((r : Ply) (p : PlainBoard) → IsMove q r p → MetBy goal claims p (n - 2)))
 
 -- the reply is met within n plies
-abbrev pub IsMet : Goal → List Claim → PlainBoard → ℕ → Ply → Type 0
-IsMet goal claims q n r = (p : PlainBoard) → IsMove q r p → MetBy goal claims p n
+abbrev pub IsReplyMet : Goal → List Claim → PlainBoard → ℕ → Ply → Type 0
+IsReplyMet goal claims q n r = (p : PlainBoard) → IsMove q r p → MetBy goal claims p n

@@ -6,11 +6,11 @@ ghost use Rattle.verifying.specs.declared.part.Part.{Part as ThePart};
 ghost use Rattle.board.specs.Board.{PlainBoard};
 ghost use Rattle.certificates.specs.Answers.{Certifies, IsOdd};
 ghost use Rattle.devices.specs.Lines.{HasNoFeed};
-ghost use Rattle.verifying.specs.FirstLine.{answer_text, IsInRange, IsNamed};
+ghost use Rattle.verifying.specs.FirstLine.{answer_text, IsInRange, HasNamedMove};
 ghost use Rattle.verifying.specs.declared.part.Part.TheVariants.{First, No as TheNo};
 ghost use Rattle.verifying.specs.declared.fault.Fault.TheVariants.{NoMemory, ReadFailed};
-ghost use Rattle.verifying.specs.Checking.{HasTaken, IsProvedBy, IsTaken, RefusesMore, TakesMore};
-ghost use Rattle.verifying.specs.Parts.{IsYesUpTo, Stands};
+ghost use Rattle.verifying.specs.Checking.{HasTaken, IsProvedBy, HasTakenText, RefusesMore, TakesMore};
+ghost use Rattle.verifying.specs.Parts.{IsYesUpTo, HasShown};
 ghost use Rattle.verifying.specs.Taking.{fault_at};
 ghost use Rattle.verifying.specs.Reading.{BeginsPart, IsBehindYes, IsNoLineOf, IsUnfinished, ReadsLine, TakesWords};
 
@@ -46,7 +46,7 @@ fn begun<A: Allocator + Copy>(
 ) -> Result<Part, AllocError>
     requires none { claims.old ≡ [] }
     requires range { IsInRange answer }
-    ensures stands { IfOk result (λ part. (goal : Goal) → Stands goal board.now part claims.new) }
+    ensures stands { IfOk result (λ part. (goal : Goal) → HasShown goal board.now part claims.new) }
     ensures begins { IfOk result (λ part. BeginsPart board.now answer part claims.new) }
 {
     match answer {
@@ -62,7 +62,7 @@ fn begun<A: Allocator + Copy>(
 fn behind_yes<A: Allocator + Copy>(claims: &Claims<A>, mate: Mate, place: usize) -> Part
     requires { place < length claims.now }
     ensures stands { (goal : Goal) (b : PlainBoard) → IsOdd mate.plies → IsYesUpTo goal claims.now b mate (place + 1)
-        → Stands goal b result claims.now }
+        → HasShown goal b result claims.now }
     ensures behind { IsBehindYes mate (place + 1) (length claims.now) result }
 {
     let count = claims.len();
@@ -81,8 +81,8 @@ fn shown<A: Allocator + Copy>(
     part: Part,
     words: &[Word],
 ) -> Result<Option<Part>, AllocError>
-    requires { Stands goal board.now part claims.old }
-    ensures stands { IfOk result (λ next. IfSome next (λ new. Stands goal board.now new claims.new)) }
+    requires { HasShown goal board.now part claims.old }
+    ensures stands { IfOk result (λ next. IfSome next (λ new. HasShown goal board.now new claims.new)) }
     ensures takes { IfOk result (λ next. IfSome next (λ new.
         TakesWords goal board.now part words.now claims.old new claims.new)) }
     ensures refuses { IfOk result (λ next. IfNone next (AreApart claims.old → (new : ThePart) (more : List Claim)
@@ -127,7 +127,7 @@ fn shown<A: Allocator + Copy>(
 impl<A: Allocator + Copy> Checker<A> {
     /// Nothing was taken yet.
     pub fn new(alloc: A, board: &Board, goal: Goal) -> Checker<A>
-        ensures { IsTaken goal board.now result [] }
+        ensures { HasTakenText goal board.now result [] }
     {
         Checker {
             board: board.copied(),
@@ -147,8 +147,8 @@ impl<A: Allocator + Copy> Checker<A> {
         answer: Answer,
     ) -> Result<Checker<A>, AllocError>
         requires range { IsInRange answer }
-        requires named { IsNamed answer }
-        ensures { IfOk result (λ checker. IsTaken goal board.now checker (answer_text goal answer ++ 10 ∷ [])) }
+        requires named { HasNamedMove answer }
+        ensures { IfOk result (λ checker. HasTakenText goal board.now checker (answer_text goal answer ++ 10 ∷ [])) }
     {
         let mut claims = Claims::new(alloc);
         let part = begun(&mut claims, board, answer)?;
@@ -168,7 +168,7 @@ impl<A: Allocator + Copy> Checker<A> {
         ensures about { (self.new.goal ≡ self.old.goal) × (self.new.board ≡ self.old.board) }
         ensures counts { self.new.number ≡ self.old.number }
         ensures stands { IfOk result (λ next. IfSome next (λ new.
-            Stands self.new.goal self.new.board new self.new.claims)) }
+            HasShown self.new.goal self.new.board new self.new.claims)) }
         ensures reads { IfOk result (λ next. IfSome next (λ new.
             ReadsLine self.old.goal self.old.board First line.now self.old.claims new self.new.claims)) }
         ensures refuses { IfOk result (λ next. IfNone next
@@ -184,11 +184,11 @@ impl<A: Allocator + Copy> Checker<A> {
     /// What comes behind a line of claims, if it is one and shows what it has to.
     fn next_part(&mut self, line: &[u8]) -> Result<Option<Part>, AllocError>
         requires short { length line.now ≤ 8192 }
-        requires stands { Stands self.old.goal self.old.board self.old.part self.old.claims }
+        requires stands { HasShown self.old.goal self.old.board self.old.part self.old.claims }
         ensures about { (self.new.goal ≡ self.old.goal) × (self.new.board ≡ self.old.board) }
         ensures counts { self.new.number ≡ self.old.number }
         ensures stands { IfOk result (λ next. IfSome next (λ new.
-            Stands self.new.goal self.new.board new self.new.claims)) }
+            HasShown self.new.goal self.new.board new self.new.claims)) }
         ensures reads { IfOk result (λ next. IfSome next (λ new.
             ReadsLine self.old.goal self.old.board self.old.part line.now self.old.claims new self.new.claims)) }
         ensures refuses { IfOk result (λ next. IfNone next (AreApart self.old.claims → (self.old.part ≡ First → ⊥)
@@ -209,11 +209,11 @@ impl<A: Allocator + Copy> Checker<A> {
     /// What comes behind the line, if it is the one that comes next.
     fn part_behind(&mut self, line: &[u8]) -> Result<Option<Part>, AllocError>
         requires short { length line.now ≤ 8192 }
-        requires stands { Stands self.old.goal self.old.board self.old.part self.old.claims }
+        requires stands { HasShown self.old.goal self.old.board self.old.part self.old.claims }
         ensures about { (self.new.goal ≡ self.old.goal) × (self.new.board ≡ self.old.board) }
         ensures counts { self.new.number ≡ self.old.number }
         ensures stands { IfOk result (λ next. IfSome next (λ new.
-            Stands self.new.goal self.new.board new self.new.claims)) }
+            HasShown self.new.goal self.new.board new self.new.claims)) }
         ensures reads { IfOk result (λ next. IfSome next (λ new.
             ReadsLine self.old.goal self.old.board self.old.part line.now self.old.claims new self.new.claims)) }
         ensures refuses { IfOk result (λ next. IfNone next (AreApart self.old.claims
@@ -263,7 +263,7 @@ impl<A: Allocator + Copy> Checker<A> {
 
     /// The answer, where no line is left out.
     fn answer(&self) -> Option<Answer>
-        requires { Stands self.now.goal self.now.board self.now.part self.now.claims }
+        requires { HasShown self.now.goal self.now.board self.now.part self.now.claims }
         ensures certified { IfSome result (Certifies self.now.goal self.now.board) }
         ensures whole { IfSome result (λ answer. (place : ℕ) × (self.now.part ≡ TheNo answer place)
             × (length self.now.claims ≤ place)) }

@@ -4,7 +4,7 @@ ghost use Rattle.std.specs.Fmt.{decimal};
 ghost use Rattle.rules.specs.MoveText.{square_text, promotion_text, move_text};
 ghost use Rattle.rules.specs.Moves.{IsPromoted};
 ghost use Rattle.certificates.specs.Answers.{IsOdd};
-ghost use Rattle.verifying.specs.FirstLine.{goal_text, answer_text, HasName, IsInRange, IsNamed, IsNamedSquare};
+ghost use Rattle.verifying.specs.FirstLine.{goal_text, answer_text, HasName, IsInRange, HasNamedMove, IsNamedSquare};
 ghost use Rattle.board.specs.declared.game.Kind.{Kind as PlainKind};
 ghost use Rattle.decision.specs.declared.answer.Answer.{Answer as PlainAnswer};
 ghost use Rattle.rules.specs.Squares.{Place, Ply};
@@ -182,9 +182,9 @@ fn word_of(goal: Goal) -> &'static [u8]
 pub(crate) fn answer_of(line: &[u8], goal: Goal) -> Option<Answer>
     ensures range { IfSome result IsInRange }
     ensures text { MatchOption result
-        ((answer : PlainAnswer) → IsInRange answer → IsNamed answer → line.now ≢ answer_text goal answer)
+        ((answer : PlainAnswer) → IsInRange answer → HasNamedMove answer → line.now ≢ answer_text goal answer)
         (λ answer. line.now ≡ answer_text goal answer) }
-    ensures named { IfSome result IsNamed }
+    ensures named { IfSome result HasNamedMove }
 {
     if let Some(digits) = line.strip_prefix(b"none within ") {
         let limit = number_of(digits)?;

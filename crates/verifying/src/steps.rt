@@ -2,7 +2,7 @@
 ghost use Rattle.std.specs.Prelude.{◌≡◌, ◌≢◌, ◌↔◌, ◌<◌, ◌≤◌, ℕ, [], List, All, Some, IfOk, IsTrue, false, length, slice_get, slice_index_or, take};
 ghost use Rattle.certificates.specs.declared.claim.Claim.{Claim};
 ghost use Rattle.certificates.specs.Answers.{IsOdd};
-ghost use Rattle.certificates.specs.Claims.{Holds, IsWon, WinsBy};
+ghost use Rattle.certificates.specs.Claims.{HoldsOver, IsWon, WinsBy};
 ghost use Rattle.verifying.specs.Growing.{AreApart, Extends};
 ghost use Rattle.verifying.specs.Parts.{HasFewer, LesserFail, ShowsFewer};
 ghost use Rattle.verifying.specs.Certificate.{IsLesserLine, IsNoLine, IsSomeYesLine, IsYesLine, shorter_claim, with_claim};
@@ -48,7 +48,7 @@ pub(crate) fn shows_no<A: Allocator + Copy>(
     requires { place < length claims.old }
     ensures more { Extends claims.old claims.new }
     ensures holds { IfOk result (λ yes. IsTrue yes
-        → (c : Claim) → slice_get claims.old place ≡ Some c → Holds goal claims.new c) }
+        → (c : Claim) → slice_get claims.old place ≡ Some c → HoldsOver goal claims.new c) }
     ensures tells { IfOk result (λ yes. IsTrue yes → (c : Claim) × (slice_get claims.old place ≡ Some c)
         × IsNoLine goal c words.now claims.old claims.new) }
     ensures refuses { IfOk result (λ yes. yes ≡ false → AreApart claims.old → (c : Claim) (new : List Claim)

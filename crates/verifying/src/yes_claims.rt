@@ -4,7 +4,7 @@ ghost use Rattle.board.specs.Board.{PlainBoard};
 ghost use Rattle.rules.specs.Squares.{Ply};
 ghost use Rattle.rules.specs.Moves.{IsMove, IsLawful};
 ghost use Rattle.certificates.specs.Claims.{ClaimsSoFew, MetBy, WinsBy};
-ghost use Rattle.verifying.specs.Wins.{WinsAfter};
+ghost use Rattle.verifying.specs.Wins.{WinsByClaims};
 ghost use Rattle.verifying.specs.Growing.{AreApart, Extends};
 ghost use Rattle.verifying.specs.declared.words.Word.{Word as TheWord};
 ghost use Rattle.certificates.specs.declared.claim.Claim.{Claim};
@@ -118,7 +118,7 @@ fn wins_after<A: Allocator + Copy>(
     words: &[Word],
 ) -> Result<bool, AllocError>
     ensures more { Extends claims.old claims.new }
-    ensures wins { IfOk result (λ yes. IsTrue yes → WinsAfter goal claims.new board.now plies) }
+    ensures wins { IfOk result (λ yes. IsTrue yes → WinsByClaims goal claims.new board.now plies) }
     ensures tells { IfOk result (λ yes. IsTrue yes → ShowWin goal board.now plies words.now claims.old claims.new) }
     ensures refuses { IfOk result (λ yes. yes ≡ false → AreApart claims.old
         → (new : List Claim) → ShowWin goal board.now plies words.now claims.old new → ⊥) }

@@ -5,7 +5,7 @@ use Rattle.std.proofs.lemmas.List.Elements.{recursion_from_All, All-push}
 use Rattle.std.specs.List.{AllByRecursion}
 use Rattle.wintree.specs.declared.tree.Next.{Next}
 use Rattle.wintree.specs.declared.tree.Next.TheVariants.{Replies}
-use Rattle.wintree.specs.View.{plan_after, HasReplies, IsKept}
+use Rattle.wintree.specs.View.{plan_after, HasReplies, KeepsPlan}
 use Rattle.rules.specs.Squares.{Ply}
 use Rattle.wintree.specs.Plan.{Plan, depth, deepest, deepest_in, replies_of, plan_of, IsPly, IsPlan, ArePlans, ArePlansIn}
 
@@ -47,7 +47,7 @@ module _ (all list : List (Ply × Plan)) (r : Ply) (plan : Plan) (is : all ≡ l
   room_more inside room below = subst (All (λ reply. depth reply.1 + inside ≤ 32)) (sym is) (All-push (λ reply. depth reply.1 + inside ≤ 32) list (r, plan) room below)
 
 -- what `Tree::node` makes is a tree
-pub kept_node : {A : Type 0} (m : Ply) (replies : Vec (Ply × Plan) A) (nested : ℕ) → IsPly m → ArePlansIn replies.items → 0 < length replies.items → All (λ reply. depth reply.1 ≤ 31) replies.items → nested ≡ deepest_in replies.items → IsKept m (Replies replies) (nested + 1)
+pub kept_node : {A : Type 0} (m : Ply) (replies : Vec (Ply × Plan) A) (nested : ℕ) → IsPly m → ArePlansIn replies.items → 0 < length replies.items → All (λ reply. depth reply.1 ≤ 31) replies.items → nested ≡ deepest_in replies.items → KeepsPlan m (Replies replies) (nested + 1)
 kept_node m replies nested ply plans some room is =
     record {
       some = some;

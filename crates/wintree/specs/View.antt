@@ -17,7 +17,7 @@ HasReplies (Replies replies) = 0 < length replies.items
 
 -- what a tree keeps: a list of replies isn't empty, the moves are those of the type `Move`, and the number is the
 -- depth, at most 32
-pub record IsKept {A : Type 0} (m : Ply) (next : Next A) (nested : ℕ) : Type 0 where
+pub record KeepsPlan {A : Type 0} (m : Ply) (next : Next A) (nested : ℕ) : Type 0 where
   pub some : HasReplies next
   pub plan : IsPlan (plan_after m next)
   pub depth_is : nested ≡ depth (plan_after m next)

@@ -43,11 +43,11 @@ impl<A: Allocator> Model for Tree<A> {
 
     ghost coded = { plan_code };
 
-    ghost use Rattle.wintree.specs.View.{plan_after, IsKept};
+    ghost use Rattle.wintree.specs.View.{plan_after, KeepsPlan};
 
     ghost view = { λ tree. plan_after tree.attack tree.next.value };
 
-    ghost invariant = { λ tree. IsKept tree.attack tree.next.value tree.nested };
+    ghost invariant = { λ tree. KeepsPlan tree.attack tree.next.value tree.nested };
 
     ghost size = { depth };
 

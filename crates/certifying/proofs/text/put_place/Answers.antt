@@ -1,4 +1,4 @@
-use Rattle.std.proofs.Common.{arith, ap, ◌∷◌, ◌++◌, ◌∙◌, ◌/◌, List, ℕ, [], replicate}
+use Rattle.std.proofs.Common.{arith, ap, ◌∷◌, ◌++◌, ◌∙◌, ◌/◌, ℕ, []}
 use Rattle.certifying.proofs.Fifties.{no_fifty, fifty_more, letter_after}
 use Rattle.certifying.proofs.text.put_place.Goals as goal
 

@@ -1,7 +1,7 @@
 use Rattle.std.proofs.Common.{◌≡◌, ◌∙◌, Option, None, Some, ap, codes, refl, sym}
 use Rattle.clap.specs.Words.{Text, found_of, rows_of}
 use Rattle.clap.proofs.WalkLemmas.{first_value-rows}
-use Rattle.command_line.proofs.Names.{no_tree, tree_means}
+use Rattle.command_line.proofs.Names.{no_tree}
 use Rattle.command_line.proofs.reading.tree_order.Goals as goal
 
 found_twice : (o : Option Text) (t : Text) → o ≡ Some t → o ≡ None → ⊥

@@ -1,4 +1,4 @@
-use Rattle.std.proofs.Common.{◌∙◌, arith}
+use Rattle.std.proofs.Common.{arith}
 use Rattle.std.proofs.KnownBytes.{Appends-nil}
 use Rattle.console.specs.Desk.{step_of}
 use Rattle.devices.specs.Lines.{left_of}

@@ -1,6 +1,6 @@
-use Rattle.std.proofs.Common.{◌≡◌, ◌∙◌, [], ◌∷◌, ◌++◌, ap, subst, vec_items}
+use Rattle.std.proofs.Common.{◌∙◌, [], ◌∷◌, ◌++◌, ap, subst, vec_items}
 use Rattle.board.specs.Board.{PlainBoard}
-use Rattle.verifying.specs.Checking.{IsTaken}
+use Rattle.verifying.specs.Checking.{HasTakenText}
 use Rattle.verifying.specs.FirstLine.{answer_text}
 use Rattle.console.proofs.CertifyLemmas.{answer_named, answer_ranged, begun_at, solved_at}
 use Rattle.console.proofs.certificate.begin_at.Goals as goal
@@ -23,4 +23,4 @@ returns g c =
     let solved = solved_at c.args.goal c.args.position.now c.args.limits answer c.answers.result c.in-Ok.desk.solver.batch c.in-Ok.ensures.1
     c.answers.ensures.goal c.answers.ensures.limits c.in-Ok-position_answer.ensures.solves in
     begun_at c.args.goal c.args.position.now c.args.limits answer _ solved.0 solved.1 (ap vec_items c.into_bytes-line.ensures.value ∙ c.in_ok-answer_text.ensures)
-    (subst (λ (p : PlainBoard). IsTaken c.args.goal p c.in_ok-checker.checker (answer_text c.args.goal answer ++ 10 ∷ [])) c.of.ensures c.in_ok-checker.ensures)
+    (subst (λ (p : PlainBoard). HasTakenText c.args.goal p c.in_ok-checker.checker (answer_text c.args.goal answer ++ 10 ∷ [])) c.of.ensures c.in_ok-checker.ensures)

@@ -1,9 +1,9 @@
 use Rattle.std.proofs.Common.{inl, inr, arith}
 use Rattle.std.proofs.KnownBytes.{Appends-nil}
 use Rattle.refusals.specs.Reply.{answered}
-use Rattle.replies.proofs.ReplyLemmas.{of_input_then}
 use Rattle.console.proofs.RunLemmas.{verify_refused}
 use Rattle.console.proofs.running.run_verify.Goals as goal
+use Rattle.devices.proofs.InputLemmas.{of_input_then}
 
 pub returns-in-Ok-clause-runs : goal.returns-in-Ok-clause-runs
 returns-in-Ok-clause-runs g c =

@@ -4,8 +4,9 @@ use Rattle.rules.specs.Squares.{IsOnBoard, square_number}
 use Rattle.laws.specs.Turnings.{turned_place}
 use Rattle.laws.proofs.Squares.{turned_on_board}
 use Rattle.decision.specs.Turned.{way_of}
-use Rattle.decision.proofs.Turns.{within_36, turned_none, turned_more, turned_whole}
+use Rattle.decision.proofs.Turns.{turned_none, turned_more, turned_whole}
 use Rattle.decision.proofs.turning.turned_units.Goals as goal
+use Rattle.moves.proofs.Packing.{within_36}
 
 pub loop-number-init : goal.loop-number-init
 loop-number-init c = turned_none (way_of c.args.turning) c.args.board.now

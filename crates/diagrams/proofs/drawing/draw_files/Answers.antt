@@ -1,8 +1,9 @@
 use Rattle.std.proofs.Common.{◌∙◌, ◌+◌, ◌∷◌, ◌++◌, [], ap, arith, string_bytes}
 use Rattle.diagrams.specs.Places.{column_of}
 use Rattle.diagrams.specs.Drawing.{file_drawn}
-use Rattle.diagrams.proofs.DrawingLemmas.{drawn_on, two_drawn, width_fits}
+use Rattle.diagrams.proofs.DrawingLemmas.{drawn_on, two_drawn}
 use Rattle.diagrams.proofs.drawing.draw_files.Goals as goal
+use Rattle.rules.proofs.Room.{width_six as width_fits}
 
 pub loop-column-preserved : goal.loop-column-preserved
 loop-column-preserved c =

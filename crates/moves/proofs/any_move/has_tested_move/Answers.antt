@@ -5,10 +5,11 @@ use Rattle.rules.specs.Squares.{IsOnBoard, unit_at}
 use Rattle.rules.specs.Reach.{Reaches}
 use Rattle.cells.specs.Mailbox.{cell_of, place_in}
 use Rattle.cells.specs.CellSets.{Has}
-use Rattle.cells.proofs.CellNumbers.{IsCell-cell_of, place_in-cell_of, cell_small, small_width}
+use Rattle.cells.proofs.CellNumbers.{IsCell-cell_of, place_in-cell_of, cell_small}
 use Rattle.rules.proofs.Keeps.{to_on_board}
 use Rattle.moves.proofs.AtOnce.{pseudo_by, Has-kept}
 use Rattle.moves.proofs.any_move.has_tested_move.Goals as goal
+use Rattle.rules.proofs.Room.{width_six as small_width}
 
 pub square_in-requires-clause-above : goal.square_in-requires-clause-above
 square_in-requires-clause-above c = (c.cells.invariant.cells c.lowest-cell.result c.lowest-cell.ensures.there).0.above

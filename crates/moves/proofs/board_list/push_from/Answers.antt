@@ -2,9 +2,9 @@ use Rattle.std.proofs.Common.{◌+◌, ◌*◌, sym, subst, ◌∙◌, arith}
 use Rattle.rules.specs.Squares.{IsOnBoard, square_number}
 use Rattle.rules.specs.Listing.{ListsBelow}
 use Rattle.cells.specs.Mailbox.{place_in}
-use Rattle.cells.proofs.CellNumbers.{small_width}
 use Rattle.moves.proofs.Scanning.{IsScanned-start, next_has, next_target, next_lists, next_room, IsScanned-more, IsScanned-end}
 use Rattle.moves.proofs.board_list.push_from.Goals as goal
+use Rattle.rules.proofs.Room.{width_six as small_width}
 
 pub cells-init : goal.cells-init
 cells-init c = IsScanned-start c.args.board.now c.args.unit c.args.from c.requires.on_board c.safe_cells-left.result c.safe_cells-left.ensures c.args.moves.now.items _ c.safe_cells-left.type_inv c.requires.before

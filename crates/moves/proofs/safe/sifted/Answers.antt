@@ -5,11 +5,12 @@ use Rattle.rules.specs.Reach.{Reaches}
 use Rattle.cells.specs.Mailbox.{cell_of, place_in}
 use Rattle.cells.specs.CellSets.{Has}
 use Rattle.moves.specs.Targets.{IsTarget}
-use Rattle.cells.proofs.CellNumbers.{IsCell-cell_of, place_in-cell_of, cell_small, small_width}
+use Rattle.cells.proofs.CellNumbers.{IsCell-cell_of, place_in-cell_of, cell_small}
 use Rattle.rules.proofs.Keeps.{to_on_board}
 use Rattle.cells.proofs.Masks.{Has-zero}
 use Rattle.moves.proofs.AtOnce.{pseudo_by, Has-kept}
 use Rattle.moves.proofs.safe.sifted.Goals as goal
+use Rattle.rules.proofs.Room.{width_six as small_width}
 
 pub cells-init : goal.cells-init
 cells-init c = record {

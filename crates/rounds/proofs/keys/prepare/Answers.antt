@@ -1,5 +1,5 @@
 use Rattle.std.proofs.Common.{rules, sym, subst}
-use Rattle.rounds.specs.Going.{GoesOn, SeatsGoOn}
+use Rattle.rounds.specs.Going.{SeatGoesOn, SeatsGoOn}
 use Rattle.rounds.proofs.Going.{seats_none}
 use Rattle.decision.proofs.Zips.{take_whole, zip_each}
 use Rattle.rounds.proofs.keys.prepare.Goals as goal
@@ -10,4 +10,4 @@ returns-then-threads-lt2-clause-go_on g c = seats_none g.T.Gate.keeps c.args.sea
 pub returns-clause-go_on : goal.returns-clause-go_on
 returns-clause-go_on g c =
     subst (SeatsGoOn g.T.Gate.keeps c.args.search.now.slots.now c.args.seats.now.items) (sym (take_whole c.args.seats.now.len c.for_each_mut.new.s _ (search rules)))
-    (zip_each (GoesOn g.T.Gate.keeps c.args.search.now.slots.now) c.args.seats.now.items c.for_each_mut.new.s (search rules) (λ i d lt. search rules))
+    (zip_each (SeatGoesOn g.T.Gate.keeps c.args.search.now.slots.now) c.args.seats.now.items c.for_each_mut.new.s (search rules) (λ i d lt. search rules))

@@ -1,6 +1,6 @@
 use Rattle.std.proofs.Common.{◌<◌, ℕ}
 use Rattle.rounds.specs.Shares.{WinsHere, IsShare}
-use Rattle.rounds.specs.Going.{GoesOn}
+use Rattle.rounds.specs.Going.{SeatGoesOn}
 use Rattle.rounds.proofs.round.settle.Given as goal
 
 -- none of the jobs so far wins
@@ -8,6 +8,6 @@ abbrev pub invariant-loop-job : goal.invariant-loop-job
 invariant-loop-job g l =
     record {
       own : IsShare g.J.Count.jobs l.fn.bench l.own;
-      goes_on : GoesOn g.T.Gate.keeps l.fn.bench.search.now.slots.now l.fn.own.seat l.own.seat;
+      goes_on : SeatGoesOn g.T.Gate.keeps l.fn.bench.search.now.slots.now l.fn.own.seat l.own.seat;
       none : (k : ℕ) → k < l.job → WinsHere l.fn.bench k → ⊥;
     }

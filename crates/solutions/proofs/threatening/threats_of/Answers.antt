@@ -5,10 +5,10 @@ use Rattle.rules.specs.declared.goal.Goal.{Goal}
 use Rattle.rules.proofs.Forcing.{same_side-self}
 use Rattle.decision.specs.Answer.{IsFewest, ForcesNothing}
 use Rattle.searcher.proofs.Halts.{err_halts}
-use Rattle.trees.proofs.Forcing.{some_ply}
+use Rattle.trees.proofs.Forcing.{some_ply, not_reached}
 use Rattle.solutions.specs.Lines.{ListsContinuations}
 use Rattle.solutions.specs.Solutions.{passed}
-use Rattle.solutions.proofs.Forcing.{not_reached, mate_found, nothing_found, carried}
+use Rattle.solutions.proofs.Forcing.{mate_found, nothing_found, carried}
 use Rattle.solutions.proofs.threatening.threats_of.Goals as goal
 
 pub returns-in_default-clause-threats : goal.returns-in_default-clause-threats

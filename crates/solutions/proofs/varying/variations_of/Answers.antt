@@ -6,7 +6,7 @@ use Rattle.searcher.proofs.Jobs.{lawful_job}
 use Rattle.searcher.proofs.Halts.{err_halts}
 use Rattle.decision.specs.Answer.{ForcesNothing}
 use Rattle.decision.proofs.Options.{none_at, some_at}
-use Rattle.solutions.specs.Solutions.{Tells}
+use Rattle.solutions.specs.Solutions.{TellsVariation}
 use Rattle.solutions.proofs.Variations.{vary_one, vary_skip, vary_all}
 use Rattle.solutions.proofs.varying.variations_of.Goals as goal
 use Rattle.solutions.proofs.varying.variations_of.Goals.{in-Some+in_ok-push, in_default}
@@ -40,7 +40,7 @@ loop-reply-preserved g c =
     elim c.match-branch-2.branch [
       | in-Some+in_ok-push w ↦
           let found = some_at c.in_ok-variation.field-0 w.in-Some.variation _ _ w.in-Some.is c.in_ok-variation.ensures.found in
-          let tells = subst (λ (at : Goal × PlainBoard). Tells at.0 at.1 w.in-Some.variation) (λ i. (c.on-root.ensures.goal i, c.on-root.ensures.position i)) found.2 in
+          let tells = subst (λ (at : Goal × PlainBoard). TellsVariation at.0 at.1 w.in-Some.variation) (λ i. (c.on-root.ensures.goal i, c.on-root.ensures.position i)) found.2 in
           record {
             goes = goes;
             varies = rw w.variations-is (vary_one c.args.goal q n xs lists old i r c.loop-reply-test.true c.reply-item.is p c.after.ensures varies w.in-Some.variation w.push.new.self.items w.in_ok-push.ensures.items found.0 found.1 tells);

@@ -4,10 +4,9 @@ use Rattle.slots.specs.declared.views.View.{View}
 use Rattle.board.specs.Board.{PlainBoard}
 use Rattle.rules.specs.Forces.{Forces}
 use Rattle.slots.specs.Promise.{IsSeatOf}
-use Rattle.decision.specs.Calls.{Continues}
+use Rattle.decision.specs.Calls.{Continues, SeatsContinue}
 use Rattle.decision.proofs.Calls.{continues_none}
 use Rattle.decision.proofs.Zips.{take_whole, zip_each, zip_same}
-use Rattle.trees.specs.Seats.{SeatsContinue}
 use Rattle.trees.proofs.preparing.prepare_tree.Goals as goal
 
 pub returns-then-threads-lt2-clause-go_on : goal.returns-then-threads-lt2-clause-go_on

@@ -2,7 +2,7 @@ use Rattle.std.proofs.Common.{List, sym, subst, ◌∙◌}
 use Rattle.std.proofs.lemmas.Result.{IfOk-weaker}
 use Rattle.rules.specs.Squares.{Ply}
 use Rattle.certificates.specs.declared.claim.Claim.{Claim}
-use Rattle.certificates.specs.Claims.{Holds}
+use Rattle.certificates.specs.Claims.{HoldsOver}
 use Rattle.verifying.specs.Certificate.{ShowFailures}
 use Rattle.verifying.proofs.Failing.{each_fails, all_lawful}
 use Rattle.verifying.proofs.Places.{one_item}
@@ -17,7 +17,7 @@ pub returns-clause-holds : goal.returns-clause-holds
 returns-clause-holds g c =
     IfOk-weaker c.all_fail.result _ _
     (λ yes fail out claim at.
-    subst (Holds c.args.goal c.all_fail.new.claims) (one_item c.claim-claim.result claim (sym c.claim-claim.ensures ∙ at))
+    subst (HoldsOver c.args.goal c.all_fail.new.claims) (one_item c.claim-claim.result claim (sym c.claim-claim.ensures ∙ at))
     (each_fails c.args.goal c.all_fail.new.claims c.claim-claim.result.position c.claim-claim.result.plies c.lawful_on-moves.result.items c.as_slice.result.now c.lawful_on-moves.ensures c.as_slice.ensures.value (fail out)))
     c.all_fail.ensures.fail
 

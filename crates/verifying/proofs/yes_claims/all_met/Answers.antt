@@ -1,7 +1,7 @@
 use Rattle.std.proofs.Common.{All, List, refl, get_or, ap, ◌∙◌, subst, arith}
 use Rattle.std.proofs.lemmas.List.{take_all}
 use Rattle.rules.specs.Squares.{Ply}
-use Rattle.verifying.specs.Wins.{IsMet}
+use Rattle.verifying.specs.Wins.{IsReplyMet}
 use Rattle.verifying.proofs.Growing.{extends_twice}
 use Rattle.verifying.proofs.Failing.{listed_item}
 use Rattle.verifying.proofs.Winning.{met_after, met_more, each_met}
@@ -34,7 +34,7 @@ loop-i-preserved g c =
 pub returns-clause-met : goal.returns-clause-met
 returns-clause-met g c = λ _.
     each_met c.args.goal c.loop-i.claims c.args.board.now c.args.left c.lawful_on-replies.result.items c.lawful_on-replies.ensures
-    (subst (All (IsMet c.args.goal c.loop-i.claims c.args.board.now c.args.left)) (take_all c.loop-i.i c.lawful_on-replies.result.items (omega (arith, c.loop-i-test.false, c.len-i-end.ensures.value))) c.loop-i.invariant.met)
+    (subst (All (IsReplyMet c.args.goal c.loop-i.claims c.args.board.now c.args.left)) (take_all c.loop-i.i c.lawful_on-replies.result.items (omega (arith, c.loop-i-test.false, c.len-i-end.ensures.value))) c.loop-i.invariant.met)
 
 pub returns-clause-tells : goal.returns-clause-tells
 returns-clause-tells g c = λ _. (

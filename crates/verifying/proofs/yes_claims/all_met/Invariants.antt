@@ -1,6 +1,6 @@
 use Rattle.std.proofs.Common.{◌≡◌, length, take, All}
 use Rattle.verifying.specs.Growing.{Extends}
-use Rattle.verifying.specs.Wins.{IsMet}
+use Rattle.verifying.specs.Wins.{IsReplyMet}
 use Rattle.verifying.specs.Certificate.{TellInTurn, MeetsReply}
 use Rattle.verifying.proofs.yes_claims.all_met.Given as goal
 
@@ -10,5 +10,5 @@ invariant-loop-i g l = record {
   same_length : length l.words ≡ length l.replies.items;
   more : Extends l.fn.claims l.claims;
   told : TellInTurn (MeetsReply l.goal l.board l.left) (take l.i l.replies.items) (take l.i l.words) l.fn.claims l.claims;
-  met : All (IsMet l.goal l.claims l.board l.left) (take l.i l.replies.items);
+  met : All (IsReplyMet l.goal l.claims l.board l.left) (take l.i l.replies.items);
 }

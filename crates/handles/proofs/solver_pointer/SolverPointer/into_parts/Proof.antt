@@ -5,7 +5,7 @@ use mathlib.Core.Path.{◌≡◌}
 use contract.Monad.{fact}
 use types.Kit.{rewrite}
 use denote.Steps.{heard}
-use Rattle.std.specs.Prelude.{Option, Some, is_some, true}
+use Rattle.std.specs.Prelude.{Option, is_some, true}
 use Rattle.std_alloc.proofs.BoxSteps.Form.{X}
 use seplogic.Ra.Ura.{Ura}
 use mir.Val.{Val}
@@ -28,7 +28,7 @@ use denote.Steps.{nothing}
 use denote.Triple.Spec.{triple_of}
 use denote.Triple.Table.{entered}
 use denote.Triple.Walked.{says, Stays, stay_dropped, walk_of, ends_at, Goes-dropped, walk_Meets}
-use Rattle.std_alloc.proofs.BoxSteps.Form.{D, B, word, box_typed}
+use Rattle.std_alloc.proofs.BoxSteps.Form.{D, word, box_typed}
 use Rattle.std_alloc.proofs.BoxSteps.Steps.{box_out, box_in}
 use Rattle.handles.proofs.AsBox.{some_if, solver_box as E, FromSolver as From, From_row}
 use Rattle.handles.specs.contracts.solver_pointer.SolverPointer.into_parts as F

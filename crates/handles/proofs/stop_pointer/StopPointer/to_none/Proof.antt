@@ -1,5 +1,5 @@
 -- `to_none` puts the two fields together, and owns nothing.
-use Rattle.std.proofs.Common.{◌≡◌, List, [], ◌∷◌, ◌++◌, refl, sym, subst}
+use Rattle.std.proofs.Common.{List, [], ◌∷◌, ◌++◌, refl, sym, subst}
 use mir.Syntax.{ty_ptr}
 use lib.Dec.{T}
 use mir.Val.{Val, has_ty, vstruct, vcons, vnil, WT}

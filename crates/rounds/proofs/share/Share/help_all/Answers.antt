@@ -1,4 +1,4 @@
-use Rattle.rounds.specs.Going.GoesOn.{searched}
+use Rattle.rounds.specs.Going.SeatGoesOn.{searched}
 use Rattle.rounds.proofs.Going.{goes_none, goes_more}
 use Rattle.rounds.proofs.share.Share.help_all.Goals as goal
 

@@ -1,10 +1,10 @@
 use Rattle.rounds.specs.Shares.{IsShare}
-use Rattle.rounds.specs.Going.{GoesOn}
+use Rattle.rounds.specs.Going.{SeatGoesOn}
 use Rattle.rounds.proofs.share.Share.take_all.Given as goal
 
 abbrev pub invariant-loop : goal.invariant-loop
 invariant-loop g l =
     record {
       share : IsShare g.J.Count.jobs l.fn.bench l.self;
-      goes_on : GoesOn g.T.Gate.keeps l.fn.bench.search.now.slots.now l.fn.self.seat l.self.seat;
+      goes_on : SeatGoesOn g.T.Gate.keeps l.fn.bench.search.now.slots.now l.fn.self.seat l.self.seat;
     }

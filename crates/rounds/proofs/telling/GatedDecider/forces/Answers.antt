@@ -1,5 +1,5 @@
 use Rattle.std.proofs.Common.{refl}
-use Rattle.rounds.specs.Going.GoesOn.{searched}
+use Rattle.rounds.specs.Going.SeatGoesOn.{searched}
 use Rattle.rounds.proofs.telling.GatedDecider.forces.Goals as goal
 
 pub returns-clause-goes : goal.returns-clause-goes

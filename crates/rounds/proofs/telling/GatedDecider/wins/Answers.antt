@@ -1,4 +1,4 @@
-use Rattle.rounds.specs.Going.GoesOn.{called, onward}
+use Rattle.rounds.specs.Going.SeatGoesOn.{called, onward}
 use Rattle.searcher.proofs.Jobs.{job_after}
 use Rattle.rounds.proofs.telling.GatedDecider.wins.Goals as goal
 

@@ -1,4 +1,4 @@
-use Rattle.std.proofs.Common.{sym, ap, ◌∙◌, arith}
+use Rattle.std.proofs.Common.{sym, ◌∙◌, arith}
 use Rattle.stops.proofs.Keeps.{asks_allowed}
 use Rattle.stops.proofs.requests.Requests.ask.Goals as goal
 

@@ -1,6 +1,5 @@
-use Rattle.std.proofs.Common.{sym, ap, ◌∙◌, arith}
+use Rattle.std.proofs.Common.{sym, ◌∙◌, arith}
 use Rattle.stops.proofs.Keeps.{hears_allowed}
-use Rattle.stops.specs.declared.views.RequestView.{RequestView}
 use Rattle.stops.proofs.requests.Requests.count.Goals as goal
 
 pub load-requires : goal.load-requires
