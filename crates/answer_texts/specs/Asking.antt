@@ -1,5 +1,5 @@
 -- What a line of a batch asks, and what is found for it.
-use Rattle.std.specs.Prelude.{◌≡◌, ◌↔◌, ◌*◌, ◌-◌, ◌<◌, ⊤, ℕ, Bool, true, false, List, ◌++◌, length, Option, None, Some, MatchOption, IsTrue, All, codes}
+use Rattle.std.specs.Prelude.{◌≡◌, ◌↔◌, ◌*◌, ◌-◌, ◌<◌, ℕ, Bool, true, false, List, ◌++◌, length, Option, None, Some, MatchOption, IsTrue, All, codes}
 use Rattle.std.specs.Fmt.{decimal}
 use Rattle.board.specs.Board.{PlainBoard}
 use Rattle.rules.specs.declared.goal.Goal.{Goal}
@@ -35,11 +35,6 @@ abbrev pub IsFoundAt : Bool → Goal → PlainBoard → ℕ → Found → Type 0
 IsFoundAt true goal b limit (Keys keys) = ListsKeys goal b limit keys.items
 IsFoundAt false goal b limit (Answer answer) = IsAnswer goal b limit answer
 IsFoundAt _ goal b limit _ = ⊥
-
--- an answer was found
-abbrev pub IsAnswerFound : Found → Type 0
-IsAnswerFound (Answer answer) = ⊤
-IsAnswerFound (Keys keys) = ⊥
 
 -- the fewest plies of what was found are these; all keys within them take them
 abbrev pub TakesPlies : Found → ℕ → Type 0

@@ -12,30 +12,6 @@ pub struct Batch {
     pub manner: Manner,
 }
 
-impl Batch {
-    ghost use Rattle.std.specs.Prelude.{◌≡◌, false};
-
-    /// Answers alone.
-    pub fn answers(goal: Goal, limits: Limits) -> Batch
-        ensures goal { result.goal ≡ goal }
-        ensures limits { result.limits ≡ limits }
-        ensures answers { result.manner.keys ≡ false }
-    {
-        let manner = Manner {
-            echo: false,
-            keys: false,
-            json: false,
-            lines: None,
-            skip: None,
-        };
-        Batch {
-            goal,
-            limits,
-            manner,
-        }
-    }
-}
-
 /// What a line asks.
 #[derive(Clone, Copy)]
 pub struct Asked<'a> {

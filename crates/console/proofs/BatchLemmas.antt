@@ -1,6 +1,6 @@
 -- A batch, line by line.
 use Rattle.std.proofs.Common.{◌≡◌, ◌≢◌, ◌∙◌, ◌+◌, ◌-◌, ◌<◌, ◌⊎◌, ℕ, Bool, true, false, List, [], ◌∷◌, ◌++◌, Option, None, Some, Result, Ok, Err, IfSome, IsErr, IsErrAnd, Vec, vec_items, length, take, drop, ap, inl, inr, refl, sym, subst, append_assoc, append-nil, drop-drop, length-append, ne_eqb, not, arith, All, MatchBool, ◌≤◌}
-use Rattle.std.proofs.lemmas.Bool.{false≢true, le-ltb, lt-ltb}
+use Rattle.std.proofs.lemmas.Bool.{le-ltb}
 use Rattle.std.proofs.lemmas.List.{drop_all, flat_map_more}
 use Rattle.std.proofs.lemmas.List.Elements.{AllZip-push, All-head, All-nil, All-push, All-tail}
 use Rattle.std.proofs.lemmas.Option.{IfSome_then}
@@ -10,15 +10,9 @@ use Rattle.std.specs.List.{AllZip}
 use Rattle.std.specs.declared.alloc.Global.{Global}
 use Rattle.board.specs.Board.{PlainBoard}
 use Rattle.board.specs.declared.fault.FenFault.{FenFault}
-use Rattle.rules.specs.declared.goal.Goal.{Goal}
-use Rattle.decision.specs.declared.answer.Answer.{Answer as TheAnswer}
-use Rattle.decision.specs.Answer.{IsAnswer}
-use Rattle.answer_texts.specs.declared.asked.Found.TheVariants.{Answer, Keys}
-use Rattle.answer_texts.specs.Asking.{IsAnswerFound, IsFoundAt, limit_of}
-use Rattle.answer_texts.specs.Forms.{IsFoundText, IsRefusalText}
+use Rattle.answer_texts.specs.Forms.{IsRefusalText}
 use Rattle.answer_texts.specs.declared.asked.Asked.{Asked}
 use Rattle.answer_texts.specs.declared.asked.Batch.{Batch}
-use Rattle.answer_texts.specs.declared.asked.Found.{Found}
 use Rattle.rules.specs.Reading.{IsSoundFault}
 use Rattle.devices.specs.Device.{AppendsBeginning}
 use Rattle.devices.specs.Input.{OfInput, failed_reads, without_line_feed}
@@ -29,8 +23,8 @@ use Rattle.refusals.specs.Refusal.{refusal_of_fen}
 use Rattle.refusals.specs.declared.refusal.Refusal.{Refusal}
 use Rattle.refusals.specs.declared.refusal.Refusal.TheVariants.{TooLong}
 use Rattle.answer_texts.specs.Said.{said_in}
-use Rattle.console.specs.Batch.{AnswersLines, EndsBatch, HasReplyText, IsAskedReply, IsFoundReply, IsLineReply, RunsBatch, answered_lines, joined, left_out, lines_of, onto}
-use Rattle.console.specs.Desk.{Fails, GivesAsked, GivesFound, GivesNext, IsFirstOf, IsAskedRefusal, PassesOver, RepliesTo, SameSolver, Step, TakesAnswered, TakesLines, TakesStep, asked_limits, stop_of}
+use Rattle.console.specs.Batch.{AnswersLines, EndsBatch, HasReplyText, IsAskedReply, IsLineReply, RunsBatch, answered_lines, joined, left_out, lines_of, onto}
+use Rattle.console.specs.Desk.{Fails, GivesAsked, GivesFound, GivesNext, IsFirstOf, IsAskedRefusal, PassesOver, RepliesTo, SameSolver, Step, TakesAnswered, TakesLines, TakesStep, stop_of}
 use Rattle.devices.specs.Lines.{HasNoFeed, IsFed, IsLastOf, IsReadAs, TakesLine, left_of}
 use Rattle.console.specs.Run.{Ending, Finishes, Refuses, Run, no_memory}
 use Rattle.rounds.specs.declared.task.SolveFault.{SolveFault}
@@ -58,11 +52,6 @@ pub asked_gives : (batch : Batch) (asked : Asked) (b : PlainBoard) (r : Result (
 asked_gives batch asked b (Ok text) sound gives = inl (b, sound, gives)
 asked_gives batch asked b (Err why) sound (inl none) = inl none
 asked_gives batch asked b (Err why) sound (inr refused) = inr (inl (b, sound, refused))
-
--- what is found within the limits is a reply
-pub found_reply : (batch : Batch) (asked : Asked) (b : PlainBoard) (found : Found) (text : List ℕ) → fault_of (asked_limits batch asked) ≡ None
-    → IsFoundAt batch.manner.keys batch.goal b (limit_of batch.limits.limit asked.moves) found → IsFoundText batch asked found text → IsFoundReply batch asked b text
-found_reply batch asked b found text none is written = rw none (found, is, written)
 
 -- the text of a refusal is a reply
 pub refusal_reply : (batch : Batch) (asked : Asked) (why : Refusal) (text : List ℕ) → IsAskedRefusal batch asked why
@@ -249,11 +238,6 @@ lines_stop s s' left step written reads writes WriteFailed same r w (front, text
 )
 
 -- ---- one line
-
--- a line that is too long is refused
-pub too_long_reply : (s : Solver) (text line : List ℕ) → (0 < length line) × (256 < length (without_line_feed line)) → IsRefusalText s.batch.manner.json None TooLong text
-    → (0 < length line) × RepliesTo s line text
-too_long_reply s text line next is = (next.0, rw (lt-ltb 256 (length (without_line_feed line)) next.1) is)
 
 -- any other is answered by what it says
 pub line_reply : (s : Solver) (held : Vec ℕ Global) (text line : List ℕ) → IsReadAs line (Line held) → HasReplyText s.batch (said_in held.items) text
@@ -444,15 +428,3 @@ answers_with batch m status left texts other answers = of_input_then left _ _ an
     let (front, rest, split, zip, end) = a in (front, rest, split, zip, λ e. absurd (other e)))
 
 -- ---- an answer
-
--- what is found where no keys are asked for is an answer
-pub found_answer : (keys : Bool) (goal : Goal) (b : PlainBoard) (limit : ℕ) (found : Found) → keys ≡ false → IsFoundAt keys goal b limit found → IsAnswerFound found
-found_answer true goal b limit found answers is = absurd (false≢true (sym answers))
-found_answer false goal b limit (Answer answer) answers is = tt
-found_answer false goal b limit (Keys keys) answers is = absurd is
-
--- and it is the answer
-pub answer_found : (keys : Bool) (goal : Goal) (b : PlainBoard) (limit : ℕ) (found : Found) (answer : TheAnswer) → keys ≡ false → IsFoundAt keys goal b limit found
-    → found ≡ Answer answer → IsAnswer goal b limit answer
-answer_found true goal b limit found answer answers is same = absurd (false≢true (sym answers))
-answer_found false goal b limit found answer answers is same = subst (IsFoundAt false goal b limit) same is

@@ -39,8 +39,6 @@ use Rattle.answer_texts.specs.Answers.{answer_text}
 use Rattle.replies.specs.Output.{IsSoundText, fault_of}
 use Rattle.replies.specs.Verdict.{IsRefusedFor}
 use Rattle.replies.proofs.VerdictLemmas.{answer_line}
-use Rattle.answer_texts.specs.declared.asked.Batch.{Batch}
-use Rattle.replies.specs.Outcome.{Solves}
 use Rattle.console.specs.Batch.{ShowsPosition}
 use Rattle.console.specs.Certifying.{WritesCertificate, WritesClaims}
 use Rattle.console.specs.Claims.{AddsAll, AddsClaims, BeginsAt, BeginsCertificate, HasAnswerLine, CutsClaims, StopsClaims, EndsWriting, Writing, WritesLines, cut_of}
@@ -113,13 +111,6 @@ begun_at goal b limits answer begun accepted is line taken = (
     },
   ),
 )
-
--- the answer that a desk for these limits has found
-pub solved_at : (goal : Goal) (b : PlainBoard) (limits : Limits) (answer : Answer) (asked batch : Batch) → batch ≡ asked → asked.goal ≡ goal → asked.limits ≡ limits
-    → Solves batch.goal b batch.limits (Ok answer) → (fault_of limits ≡ None) × IsAnswer goal b limits.limit answer
-solved_at goal b limits answer asked batch same goal_is limits_is solves =
-    subst (λ (l : Limits). Solves goal b l (Ok answer)) (ap (λ (x : Batch). x.limits) same ∙ limits_is)
-    (subst (λ (x : Goal). Solves x b batch.limits (Ok answer)) (ap (λ (x : Batch). x.goal) same ∙ goal_is) solves)
 
 pub begins_position : (subject : Subject) (limits : Limits) (b : PlainBoard) (r : Result Begun Refusal) → IsSoundText subject.fen.now b → BeginsAt subject.goal b limits r → BeginsCertificate subject limits r
 begins_position subject limits b (Ok begun) sound begins = (b, sound, begins)

@@ -3,14 +3,13 @@ use Rattle.std.proofs.Common.{◌≡◌, ◌≤◌, ℕ, List, None, Result, Ok,
 use Rattle.std.specs.declared.alloc.Global.{Global}
 use Rattle.board.specs.Board.{PlainBoard}
 use Rattle.rules.specs.declared.goal.Goal.{Goal}
-use Rattle.decision.specs.Answer.{IsFewest, ForcesNothing}
+use Rattle.decision.specs.Answer.{IsFewest}
 use Rattle.command_line.specs.declared.line.Limits.{Limits}
 use Rattle.command_line.specs.declared.line.Subject.{Subject}
 use Rattle.command_line.specs.declared.line.Telling.{Telling}
 use Rattle.refusals.specs.Reply.{Reply, answered, refused}
 use Rattle.refusals.specs.declared.refusal.Refusal.{Refusal}
 use Rattle.replies.specs.Outcome.{Gives}
-use Rattle.answer_texts.specs.Answers.{none_text}
 use Rattle.replies.specs.Output.{IsSoundText, fault_of}
 use Rattle.algebraic.specs.declared.naming.Notation.{Notation}
 use Rattle.solutions.specs.declared.solution.Solution.{Solution}
@@ -21,27 +20,19 @@ use Rattle.console.specs.Solving.{EndsReply, IsPublished, IsSolutionReply, Shows
 use Rattle.replies.proofs.ReplyLemmas.{gives_weaker}
 
 -- the text of the solution of the position's root is published
-pub published_text : (goal other : Goal) (b c d : PlainBoard) (telling : Telling) (notation : Notation) (solution : Solution Global) (text written : List ℕ) → other ≡ goal → c ≡ b
-    → IsSolution other c (extras_of telling) solution → notation ≡ notation_of goal telling → d ≡ b → IsSolutionText notation d solution written → text ≡ written
+pub published_text : (goal : Goal) (b : PlainBoard) (telling : Telling) (notation : Notation) (solution : Solution Global) (text written : List ℕ)
+    → IsSolution goal b (extras_of telling) solution → notation ≡ notation_of goal telling → IsSolutionText notation b solution written → text ≡ written
     → IsPublished goal b telling text
-published_text goal other b c d telling notation solution text written same_goal same_board is same_notation same is_text same_text = (
+published_text goal b telling notation solution text written is same_notation is_text same_text = (
   solution,
-  subst (λ g. IsSolution g b (extras_of telling) solution) same_goal (subst (λ x. IsSolution other x (extras_of telling) solution) same_board is),
-  subst (λ t. IsSolutionText (notation_of goal telling) b solution t) (sym same_text)
-      (subst (λ x. IsSolutionText (notation_of goal telling) x solution written) same (subst (λ n. IsSolutionText n d solution written) same_notation is_text)),
+  is,
+  subst (λ t. IsSolutionText (notation_of goal telling) b solution t) (sym same_text) (subst (λ n. IsSolutionText n b solution written) same_notation is_text),
 )
 
 -- the solution is shown
 pub published_shown : (goal : Goal) (b : PlainBoard) (telling : Telling) (limits : Limits) (plies : ℕ) (text : List ℕ) → fault_of limits ≡ None → plies ≤ limits.limit
     → IsFewest goal b plies → IsPublished goal b telling text → ShowsSolution goal b telling limits (answered text)
 published_shown goal b telling limits plies text none within fewest is = rw none (inl (plies, within, fewest, (text, is, refl)))
-
--- nothing is forced
-pub none_shown : (goal : Goal) (b : PlainBoard) (telling : Telling) (limits : Limits) (within : ℕ) (r : Result (Vec ℕ Global) Refusal) → fault_of limits ≡ None → within ≡ limits.limit
-    → ForcesNothing goal b limits.limit → Gives vec_items (λ reply. reply ≡ answered (none_text within)) r → Gives vec_items (ShowsSolution goal b telling limits) r
-none_shown goal b telling limits within r none same nothing gives =
-    gives_weaker vec_items (λ reply. reply ≡ answered (none_text within)) (ShowsSolution goal b telling limits) r
-    (λ reply is. rw none (inr (nothing, subst (λ n. reply ≡ answered (none_text n)) same is))) gives
 
 -- what is shown at the sound position is the reply
 pub solution_at_text : (subject : Subject) (telling : Telling) (limits : Limits) (b : PlainBoard) (r : Result (Vec ℕ Global) Refusal) → IsSoundText subject.fen.now b

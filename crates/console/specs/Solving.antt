@@ -20,10 +20,18 @@ use Rattle.command_line.specs.declared.line.Telling.{Telling}
 use Rattle.refusals.specs.Reply.{Reply, answered, refused}
 use Rattle.refusals.specs.Refusal.{refusal_of_fen}
 use Rattle.replies.specs.First.{IsFirstReply}
+use Rattle.replies.specs.Outcome.{Solves}
+use Rattle.rounds.specs.declared.task.SolveFault.{SolveFault}
+use Rattle.console.specs.declared.beside.Searched.{Searched}
 use Rattle.answer_texts.specs.Answers.{none_text}
 use Rattle.replies.specs.Output.{IsSoundText, fault_of, refusal_of_solve}
 use Rattle.refusals.specs.declared.refusal.Refusal.{Refusal}
 use Rattle.console.specs.Run.{Ending, Run, Finishes, Refuses, no_memory}
+
+-- the answer within the limits, and its table; or the first fault of the values, or want of memory
+abbrev pub SolvesOver : Goal → PlainBoard → Limits → Result Searched SolveFault → Type 0
+SolvesOver goal b limits (Ok found) = Solves goal b limits (Ok found.answer)
+SolvesOver goal b limits (Err fault) = Solves goal b limits (Err fault)
 
 -- what is asked for beside the keys
 abbrev pub extras_of : Telling → Extras

@@ -1,10 +1,8 @@
 //! A batch: a solve of each position of the input, over one table.
-ghost use Rattle.std.specs.Prelude.{◌≡◌, ◌+◌, ◌<◌, IfOk, false, option_map};
+ghost use Rattle.std.specs.Prelude.{◌≡◌, ◌+◌, ◌<◌, IfOk, option_map};
 ghost use Rattle.devices.specs.Input.{failed_reads};
 ghost use Rattle.devices.specs.Lines.{IsUnread, left_of};
-ghost use Rattle.replies.specs.Outcome.{Solves};
-ghost use Rattle.answer_texts.specs.Asking.{IsAnswerFound, with_plies};
-ghost use Rattle.answer_texts.specs.declared.asked.Found.TheVariants.{Answer as TheAnswer};
+ghost use Rattle.answer_texts.specs.Asking.{with_plies};
 ghost use Rattle.answer_texts.specs.Said.{said_in};
 ghost use Rattle.console.specs.Batch.{HasReplyText, IsAskedReply, IsReplyText, left_out, remark_text, with_position};
 ghost use Rattle.answer_texts.specs.Forms.{IsRefusalText};
@@ -18,7 +16,6 @@ use answer_texts::{
 };
 use board::Position;
 use command_line::{Limits, Manner};
-use decision::Answer;
 use devices::{Failed, InputFault, Next, Sink, Source, Taken, Unread, write_all};
 use entry::MateLore;
 use moves::read_sound;
@@ -154,36 +151,6 @@ fn find_at<R: Threads + Wait + Eprint + Clock + Sync + AllocGlobal>(
     let (found, seats) = find_beside(host.rt, manner.keys, &task, &solver.slots, seats);
     solver.seats = seats;
     found
-}
-
-/// What was found, where that is an answer.
-fn answer_of(found: &Found) -> Answer
-    requires { IsAnswerFound found.now }
-    ensures { found.now ≡ TheAnswer result }
-{
-    match found {
-        Found::Answer(answer) => *answer,
-        Found::Keys(_) => unreachable!(),
-    }
-}
-
-/// The answer at a position, by the table of a batch that asks for answers.
-pub fn position_answer<R: Threads + Wait + Eprint + Clock + Sync + AllocGlobal>(
-    host: &Host<'_, R>,
-    solver: &mut Solver,
-    position: &Position,
-) -> Result<Answer, SolveFault>
-    requires solver { IsSolver solver.old }
-    requires answers { solver.old.batch.manner.keys ≡ false }
-    ensures solver { IsSolver solver.new }
-    ensures same { SameSolver solver.old solver.new }
-    ensures solves { Solves solver.old.batch.goal position.now solver.old.batch.limits result }
-{
-    let limit = solver.batch.limits.limit;
-    match find_at(host, solver, limit, position) {
-        Ok(found) => Ok(answer_of(&found)),
-        Err(fault) => Err(fault),
-    }
 }
 
 /// What is written for what is found at a position, or why nothing is.

@@ -6,18 +6,20 @@ ghost use Rattle.rounds.specs.Limits.{task_fault, IsTaskRefusal};
 ghost use Rattle.rounds.specs.Seats.{AreSeats};
 ghost use Rattle.replies.specs.Outcome.{GivesReply, reads_failed};
 ghost use Rattle.replies.specs.Output.{input_of, MayRead};
+ghost use Rattle.console.specs.Solving.{SolvesOver};
 ghost use Rattle.progress.specs.Signs.{IsLastRound};
 
 use crate::tally::Tally;
 use answer_texts::Found;
 use board::Position;
 use command_line::{Action, Limits, Line};
+use decision::Answer;
 use devices::{Failed, Source};
 use entry::MateLore;
-use moves::read_sound;
+use moves::{Goal, read_sound};
 use progress::{Course, Setting, Watch, show};
-use replies::{Told, Trouble, reply, reply_told, search_of};
-use rounds::{Gate, SolveFault, Task, keys_over, solve_over};
+use replies::{Told, Trouble, reply, reply_told, search_of, searched_within};
+use rounds::{Gate, NoGate, SolveFault, Task, keys_over, solve_over};
 use slots::{Seat, Slots};
 use std::sync::Wait;
 use std::sync::atomic::{AtomicU64, Ordering};
@@ -240,4 +242,86 @@ pub fn find_beside<R: Threads + Wait + Eprint + Clock + Sync + AllocGlobal>(
         },
     );
     found
+}
+
+/// An answer, with the table by which it was found, and a seat there.
+#[derive(Drop)]
+pub struct Searched {
+    pub answer: Answer,
+    pub slots: Slots<MateLore>,
+    pub seat: Seat,
+    ghost belongs: { IsSeatOf slots seat },
+}
+
+/// The answer at a position, told to the gate.
+fn searched<R: Threads + Wait + Sync + AllocGlobal, T: Gate>(
+    rt: &R,
+    gate: &T,
+    position: &Position,
+    goal: Goal,
+    limits: Limits,
+) -> Result<Searched, SolveFault>
+    ensures { SolvesOver goal position.now limits result }
+{
+    let told = Told {
+        alloc: rt.alloc(),
+        gate,
+    };
+    let (answer, slots, mut seats) = searched_within(rt, &told, position, goal, limits)?;
+    let seat = seats.take_last();
+    Ok(Searched {
+        answer,
+        slots,
+        seat,
+    })
+}
+
+/// The same, told to a watch, whose search is over then.
+fn searched_watched<R: Threads + Wait + Sync + AllocGlobal>(
+    rt: &R,
+    watch: &Watch,
+    position: &Position,
+    goal: Goal,
+    limits: Limits,
+) -> Result<Searched, SolveFault>
+    ensures { SolvesOver goal position.now limits result }
+{
+    let found = searched(rt, watch, position, goal, limits);
+    watch.finish();
+    found
+}
+
+/// The answer at a position, with a thread beside it that shows the search.
+fn searched_beside<R: Threads + Wait + Eprint + Clock + Sync + AllocGlobal>(
+    rt: &R,
+    watch: &Watch,
+    position: &Position,
+    goal: Goal,
+    limits: Limits,
+) -> Result<Searched, SolveFault>
+    ensures { SolvesOver goal position.now limits result }
+{
+    let (_, found) = join(
+        rt,
+        || show(rt, watch),
+        move || -> Result<Searched, SolveFault>
+            ensures { SolvesOver goal position.entry.now limits result }
+        { searched_watched(rt, watch, position, goal, limits) },
+    );
+    found
+}
+
+/// The answer at a position, with a sign of life where one is asked for.
+pub fn searched_at<R: Threads + Wait + Eprint + Clock + Sync + AllocGlobal>(
+    host: &Host<'_, R>,
+    position: &Position,
+    goal: Goal,
+    limits: Limits,
+) -> Result<Searched, SolveFault>
+    ensures { SolvesOver goal position.now limits result }
+{
+    match host.watch_of(position, false, limits) {
+        Some(watch) => searched_beside(host.rt, &watch, position, goal, limits),
+        None => searched(host.rt, &NoGate, position, goal, limits),
+    }
 }

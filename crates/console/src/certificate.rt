@@ -1,24 +1,19 @@
 //! A certificate: the answer of a solve, and then line after line as it is made.
 ghost use Rattle.std.specs.Prelude.{◌≡◌, ◌<◌};
-ghost use Rattle.slots.specs.Promise.{IsSeatOf};
 ghost use Rattle.verifying.specs.Checking.{HasTaken};
 ghost use Rattle.console.specs.Claims.{BeginsAt, BeginsCertificate, EndsClaims, EndsWriting, cut_of, writing_of};
-ghost use Rattle.console.specs.Desk.{IsSolver};
 ghost use Rattle.console.specs.declared.certificate.Cut.TheVariants.{WriteFailed};
 
-use crate::batch::{Desk, Solver, position_answer};
-use crate::beside::Host;
-use answer_texts::{Batch, answer_text};
+use crate::beside::{Host, Searched, searched_at};
+use answer_texts::answer_text;
 use board::Position;
 use certifying::{Certificate, Checked};
 use command_line::{Limits, Subject};
 use decision::Question;
 use devices::{Failed, Sink, write_all};
-use entry::MateLore;
 use moves::{Board, Goal, read_sound};
 use refusals::Refusal;
 use replies::refusal_of;
-use slots::{Seat, Slots};
 use std::sync::Wait;
 use std::thread::Threads;
 use std::time::Clock;
@@ -61,20 +56,6 @@ impl From<Fault> for Cut {
     }
 }
 
-/// The table of what has solved, and a seat there.
-pub fn table_of(solver: Solver) -> (Slots<MateLore>, Seat)
-    requires { IsSolver solver }
-    ensures { IsSeatOf result.0 result.1 }
-{
-    let Solver {
-        slots,
-        mut seats,
-        ..
-    } = solver;
-    let seat = seats.take_last();
-    (slots, seat)
-}
-
 /// The answer at a position, with what makes its certificate.
 fn begin_at<R: Threads + Wait + Eprint + Clock + Sync + AllocGlobal>(
     host: &Host<'_, R>,
@@ -85,16 +66,15 @@ fn begin_at<R: Threads + Wait + Eprint + Clock + Sync + AllocGlobal>(
     ensures { BeginsAt goal position.now limits result }
 {
     let alloc = host.rt.alloc();
-    let mut desk = match Desk::open(alloc, Batch::answers(goal, limits)) {
-        Ok(desk) => desk,
-        Err(fault) => return Err(refusal_of(fault)),
-    };
-    let answer = match position_answer(host, &mut desk.solver, position) {
-        Ok(answer) => answer,
+    let Searched {
+        answer,
+        slots,
+        seat,
+    } = match searched_at(host, position, goal, limits) {
+        Ok(found) => found,
         Err(fault) => return Err(refusal_of(fault)),
     };
     let line = answer_text(alloc, goal, answer)?.into_bytes();
-    let (slots, seat) = table_of(desk.solver);
     let root = Question {
         position: Board::of(position),
         attacker: position.mover(),

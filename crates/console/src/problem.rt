@@ -2,18 +2,15 @@
 ghost use Rattle.std.specs.Prelude.{◌≡◌, ◌≤◌, IfOk, vec_items};
 ghost use Rattle.decision.specs.Answer.{IsFewest};
 ghost use Rattle.replies.specs.Outcome.{Gives};
-ghost use Rattle.console.specs.Desk.{IsSolver};
+ghost use Rattle.searcher.specs.Roots.{IsRoot};
 ghost use Rattle.console.specs.Solving.{IsPublished, IsSolutionReply, ShowsSolution, notation_of};
 
-use crate::batch::{Desk, Solver, position_answer};
-use crate::beside::Host;
-use crate::certificate::table_of;
+use crate::beside::{Host, Searched, searched_at};
 use algebraic::{Notation, Symbols};
-use answer_texts::Batch;
 use board::Position;
 use command_line::{Limits, Subject, Telling};
 use decision::{Answer, Memory, Never, Scout};
-use moves::{Board, Goal, read_sound};
+use moves::{Goal, read_sound};
 use refusals::Refusal;
 use replies::{none_line, refusal_of};
 use searcher::{Halt, Root, Searcher};
@@ -38,18 +35,21 @@ fn notation_of(goal: Goal, telling: Telling) -> Notation
 /// The text of the solution of a position whose fewest plies these are, by the table of what has found them.
 fn published(
     alloc: Global,
-    solver: Solver,
-    position: &Position,
+    found: Searched,
+    root: &Root,
     plies: u8,
     telling: Telling,
 ) -> Result<Vec<u8>, AllocError>
-    requires solver { IsSolver solver }
+    requires root { IsRoot root.now }
     requires plies { plies ≤ 63 }
-    requires fewest { IsFewest solver.batch.goal position.now plies }
-    ensures { IfOk result (λ text. IsPublished solver.batch.goal position.now telling text.items) }
+    requires fewest { IsFewest root.now.goal root.now.board plies }
+    ensures { IfOk result (λ text. IsPublished root.now.goal root.now.board telling text.items) }
 {
-    let goal = solver.batch.goal;
-    let (slots, mut seat) = table_of(solver);
+    let Searched {
+        slots,
+        mut seat,
+        ..
+    } = found;
     let mut scout = Scout {
         stop: Never,
         memory: Memory::new(),
@@ -59,18 +59,17 @@ fn published(
         seat: &mut seat,
         scout: &mut scout,
     };
-    let root = Root::of(position, goal);
     let extras = Extras {
         set_play: telling.set_play,
         tries: telling.tries,
     };
-    let solution = match solution_of(alloc, &mut searcher, &root, plies, extras) {
+    let solution = match solution_of(alloc, &mut searcher, root, plies, extras) {
         Ok(solution) => solution,
         Err(Halt::NoMemory) => return Err(AllocError),
         Err(Halt::Stopped) => unreachable!(),
     };
-    let notation = notation_of(goal, telling);
-    Ok(solution_text(alloc, notation, &Board::of(position), &solution)?.into_bytes())
+    let notation = notation_of(root.goal, telling);
+    Ok(solution_text(alloc, notation, &root.board, &solution)?.into_bytes())
 }
 
 /// The solution of a position, or that nothing is forced within the limit.
@@ -84,16 +83,15 @@ fn solution_at<R: Threads + Wait + Eprint + Clock + Sync + AllocGlobal>(
     ensures { Gives vec_items (ShowsSolution goal position.now telling limits) result }
 {
     let alloc = host.rt.alloc();
-    let mut desk = match Desk::open(alloc, Batch::answers(goal, limits)) {
-        Ok(desk) => desk,
+    let found = match searched_at(host, position, goal, limits) {
+        Ok(found) => found,
         Err(fault) => return Err(refusal_of(fault)),
     };
-    let answer = match position_answer(host, &mut desk.solver, position) {
-        Ok(answer) => answer,
-        Err(fault) => return Err(refusal_of(fault)),
-    };
-    match answer {
-        Answer::Mate { plies, .. } => Ok(published(alloc, desk.solver, position, plies, telling)?),
+    match found.answer {
+        Answer::Mate { plies, .. } => {
+            let root = Root::of(position, goal);
+            Ok(published(alloc, found, &root, plies, telling)?)
+        }
         Answer::NoneWithin(limit) => none_line(alloc, limit),
     }
 }

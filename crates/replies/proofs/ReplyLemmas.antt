@@ -77,13 +77,6 @@ gives_output bytes line input b action (Ok text) sound is gives = output_at line
 gives_output bytes line input b action (Err refusal) sound is (inl none) = inl none
 gives_output bytes line input b action (Err refusal) sound is (inr shows) = inr (output_at line input b action _ sound is shows)
 
--- a text of a fault is refused by that fault
-pub fault_output : {B : Type 0} (bytes : B → List ℕ) (line : Line) (input : List ℕ) (r : Result B Refusal) (fault : FenFault)
-    → IsSoundFault line.fen.now fault → IsErr r × IsErrAnd r (λ refusal. refusal ≡ refusal_of_fen fault) → Gives bytes (IsOutput line input) r
-fault_output bytes line input (Ok text) fault is err = absurd err.1
-fault_output bytes line input (Err refusal) fault is err =
-    let same : refusal ≡ refusal_of_fen fault = cc in inr (inr (fault, is, ap refused same))
-
 -- ---- an input of so many bytes at most
 
 -- what is so of an input that isn't too long
@@ -102,11 +95,6 @@ input_refused {B} bytes most ShowsCommand known read r refusal is right err =
     let here : GivesIfRead bytes (IfFits most ShowsCommand read) r = refusal_gives bytes (IfFits most ShowsCommand read) r refusal
     (elim right [ inl none ↦ inl none | inr shows ↦ inr (shows_fit most ShowsCommand read (refused refusal) is.0 shows) ]) err in
     (read, is.1, here)
-
--- what is shown of the input that was read is shown of the reader's input
-pub input_shown : {B : Type 0} (bytes : B → List ℕ) (most : ℕ) (ShowsCommand : List ℕ → Reply → Type 0) (known : Option (List ℕ)) (read : List ℕ) (text : B)
-    → IsInput most known read → ShowsCommand read (answered (bytes text)) → OfInput known (λ input. GivesIfRead bytes (IfFits most ShowsCommand input) (Ok text))
-input_shown bytes most ShowsCommand known read text is shows = (read, is.1, shows_fit most ShowsCommand read (answered (bytes text)) is.0 shows)
 
 -- an input that wasn't taken is too long, or memory is wanting, or a read failed
 pub input_unread : {B : Type 0} (bytes : B → List ℕ) (most : ℕ) (ShowsCommand : List ℕ → Reply → Type 0) (known : Option (List ℕ)) (r : Result B Trouble) (fault : InputFault)

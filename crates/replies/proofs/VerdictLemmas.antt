@@ -77,8 +77,3 @@ answer_line goal.Mate (Mate plies first) = sym (mate_line (codes "mate ") plies 
 answer_line goal.MateOrStale (Mate plies first) = sym (mate_line (codes "goal ") plies (move_text first))
 answer_line goal.Mate (NoneWithin limit) = sym (append_assoc (codes "none within ") (decimal limit) (10 ∷ []))
 answer_line goal.MateOrStale (NoneWithin limit) = sym (append_assoc (codes "none within ") (decimal limit) (10 ∷ []))
-
--- want of memory is a reply to each certificate
-pub memory_shown : {B : Type 0} (bytes : B → List ℕ) (goal : Goal) (b : PlainBoard) (known : Option (List ℕ)) (r : Result B Trouble) → IsErr r × IsErrAnd r (λ trouble. trouble ≡ Refused refusal.NoMemory)
-    → OfInput known (λ input. GivesIfRead bytes (ShowsProved goal b input) r)
-memory_shown bytes goal b known r err = of_any known _ (λ input. refusal_gives bytes (ShowsProved goal b input) r refusal.NoMemory (inl refl) err)

@@ -1,19 +1,16 @@
 -- What is written for the tree of a first move that is given.
-use Rattle.std.specs.Prelude.{◌≡◌, ◌⊎◌, ◌≤◌, ℕ, List, MatchOption, Option, Some, None, slice_get}
+use Rattle.std.specs.Prelude.{◌≡◌, ◌⊎◌, ℕ, List, MatchOption, Some, slice_get}
 use Rattle.board.specs.declared.fault.FenFault.{FenFault}
 use Rattle.board.specs.Board.{PlainBoard}
 use Rattle.rules.specs.declared.goal.Goal.{Goal}
 use Rattle.rules.specs.MoveText.{move_text}
-use Rattle.rules.specs.Moves.{IsMove, IsLawful}
-use Rattle.rules.specs.Order.{ListsLawful}
+use Rattle.rules.specs.Moves.{IsLawful}
 use Rattle.rules.specs.Reading.{IsSoundFault}
 use Rattle.rules.specs.Squares.{Ply}
-use Rattle.searcher.specs.Keys.{Takes}
 use Rattle.searcher.specs.declared.root.Root.{Root}
-use Rattle.wintree.specs.Plan.{Plan, ends, splits}
+use Rattle.wintree.specs.Plan.{Plan}
 use Rattle.wintree.specs.Text.{text as plan_text}
-use Rattle.wintree.specs.Wins.{EndsAt, moves_of}
-use Rattle.trees.specs.Best.{EachBest}
+use Rattle.trees.specs.First.{IsOpened, TakesNone}
 use Rattle.command_line.specs.declared.line.Limits.{Limits}
 use Rattle.command_line.specs.declared.line.Played.{Played}
 use Rattle.refusals.specs.Reply.{Reply, answered, refused, line_of}
@@ -22,20 +19,6 @@ use Rattle.refusals.specs.declared.refusal.Refusal.TheVariants.{Move}
 use Rattle.answer_texts.specs.Answers.{none_text}
 use Rattle.replies.specs.Output.{IsSoundText, fault_of, refusal_of_solve}
 use Rattle.replies.specs.Playing.{NamesNone}
-
--- the plan begins with the move, and there the line ends rightly, or it has exactly the lawful replies, in order, and each reply's plan is the best
-abbrev pub IsBestOf : Goal → PlainBoard → Ply → Plan → Type 0
-IsBestOf goal b m (ends l end) = (l ≡ m) × ((q : PlainBoard) × IsMove b m q × EndsAt goal q end)
-IsBestOf goal b m (splits l replies) = (l ≡ m) × ((q : PlainBoard) × IsMove b m q × ListsLawful q (moves_of replies) × EachBest goal q replies)
-
--- the move takes no number of plies up to the limit
-abbrev pub TakesNone : Goal → PlainBoard → ℕ → Ply → Type 0
-TakesNone goal b limit m = (n : ℕ) → n ≤ limit → Takes goal b n m → ⊥
-
--- the plan that begins with the move, which takes some number of plies up to the limit; or none, where it takes none
-abbrev pub IsOpened : Goal → PlainBoard → Ply → ℕ → Option Plan → Type 0
-IsOpened goal b m limit None = TakesNone goal b limit m
-IsOpened goal b m limit (Some plan) = (plies : ℕ) × (plies ≤ limit) × Takes goal b plies m × IsBestOf goal b m plan
 
 -- the text of that plan, or that there is none within the limit
 abbrev pub ShowsTreeOf : Goal → PlainBoard → Ply → ℕ → Reply → Type 0
@@ -59,10 +42,6 @@ ShowsFirst goal b name limits reply =
 -- the move of this number has the name
 abbrev pub NamesJob : List Ply → List ℕ → ℕ → Type 0
 NamesJob moves name job = (m : Ply) × (slice_get moves job ≡ Some m) × (move_text m ≡ name)
-
--- what is found of the move of this number
-abbrev pub IsOpenedJob : Root → ℕ → ℕ → Option Plan → Type 0
-IsOpenedJob r job limit found = (m : Ply) → slice_get r.moves.items job ≡ Some m → IsOpened r.goal r.board m limit found
 
 -- what is shown of it
 abbrev pub ShowsJob : Root → ℕ → Limits → Reply → Type 0

@@ -126,7 +126,7 @@ fn answer_within<R: Threads + Wait + Sync, T: Gate>(
 }
 
 /// The answer within the limits, with the table that it was found over and its seats there.
-fn searched_within<R: Threads + Wait + Sync, T: Gate>(
+pub fn searched_within<R: Threads + Wait + Sync, T: Gate>(
     rt: &R,
     told: &Told<'_, T>,
     position: &Position,

@@ -11,7 +11,7 @@ use Rattle.rules.specs.Reach.{IsInCheck}
 use Rattle.rules.specs.Forces.{IsReached, Forces}
 use Rattle.rules.proofs.Keeps.{one_after}
 use Rattle.rules.proofs.Forcing.{turn-own, turn-other, same_side-self, Forces-more}
-use Rattle.decision.specs.Answer.{IsFewest}
+use Rattle.decision.specs.Answer.{IsFewest, Wins}
 use Rattle.decision.proofs.Winning.{same_mover}
 use Rattle.wintree.specs.Wins.{EndsAt}
 use Rattle.wintree.specs.declared.tree.End.TheVariants as ending
@@ -70,26 +70,40 @@ module _ (goal : Goal) (side : Side) where
     | inr w ↦ absurd (none w.0.0 w.0.1)
   ]
 
--- after a best move, where the goal is forced within so many plies
-module _ (goal : Goal) (b q : PlainBoard) (m : Ply) (best : IsBestMove goal b m) (move : IsMove b m q) (limit : ℕ) (forced : Forces goal b.mover b limit) where
+-- after a move that wins within so many plies
+module _ (goal : Goal) (b q : PlainBoard) (m : Ply) (limit : ℕ) (won : Wins goal b limit m) (move : IsMove b m q) where
   other_turn : is_same_side b.mover q.mover ≡ false
   other_turn = turn-own b.mover b m q move (same_side-self b.mover)
 
-  fewest_left : Forces goal b.mover q (best.0 - 1)
-  fewest_left = let w = best.2.wins in subst (λ x. Forces goal b.mover x (best.0 - 1)) (one_after b m w.0 q w.1 move) w.2
+  won_left : Forces goal b.mover q (limit - 1)
+  won_left = subst (λ x. Forces goal b.mover x (limit - 1)) (one_after b m won.0 q won.1 move) won.2
 
-  pub best_reached : ((r : Ply) → IsLawful q r → ⊥) → IsReached goal q
-  best_reached none = reached_now goal b.mover q (best.0 - 1) other_turn none fewest_left
+  pub won_reached : ((r : Ply) → IsLawful q r → ⊥) → IsReached goal q
+  won_reached none = reached_now goal b.mover q (limit - 1) other_turn none won_left
 
   module _ (some : (r : Ply) × IsLawful q r) where
-    left : (0 < best.0 - 1) × ((r : Ply) (p : PlainBoard) → IsMove q r p → Forces goal b.mover p (best.0 - 1 - 1))
-    left = left_to_each goal b.mover q (best.0 - 1) other_turn some fewest_left
+    left : (0 < limit - 1) × ((r : Ply) (p : PlainBoard) → IsMove q r p → Forces goal b.mover p (limit - 1 - 1))
+    left = left_to_each goal b.mover q (limit - 1) other_turn some won_left
 
-    pub two_plies : 2 ≤ limit
-    two_plies = let within = fewest_most goal b best.0 limit best.1 forced in let plies = left.0 in omega arith
+    pub won_plies : 2 ≤ limit
+    won_plies = let plies = left.0 in omega arith
 
-    pub best_forces : (r : Ply) (p : PlainBoard) → IsMove q r p → Forces goal p.mover p (limit - 2)
-    best_forces r p reply =
-        let within = fewest_most goal b best.0 limit best.1 forced in
-        let later = forced_within goal b.mover p (best.0 - 1 - 1) (limit - 2) (omega arith) (left.1 r p reply) in
-        subst (λ (s : Side). Forces goal s p (limit - 2)) (same_mover b.mover p.mover (turn-other b.mover q r p reply other_turn)) later
+    pub won_forces : (r : Ply) (p : PlainBoard) → IsMove q r p → Forces goal p.mover p (limit - 2)
+    won_forces r p reply =
+        let fewer : limit - 1 - 1 ≡ limit - 2 = omega arith in
+        subst (λ (s : Side). Forces goal s p (limit - 2)) (same_mover b.mover p.mover (turn-other b.mover q r p reply other_turn))
+        (subst (Forces goal b.mover p) fewer (left.1 r p reply))
+
+-- a best move wins within any plies in which the goal is forced
+pub best_wins : (goal : Goal) (b : PlainBoard) (m : Ply) → IsBestMove goal b m → (limit : ℕ) → Forces goal b.mover b limit → Wins goal b limit m
+best_wins goal b m best limit forced =
+    let within = fewest_most goal b best.0 limit best.1 forced in
+    let w = best.2.wins in
+    (w.0, w.1, forced_within goal b.mover w.0 (best.0 - 1) (limit - 1) (omega arith) w.2)
+
+module _ (goal : Goal) (b q : PlainBoard) (m : Ply) (best : IsBestMove goal b m) (move : IsMove b m q) (limit : ℕ) (forced : Forces goal b.mover b limit) (some : (r : Ply) × IsLawful q r) where
+  pub two_plies : 2 ≤ limit
+  two_plies = won_plies goal b q m limit (best_wins goal b m best limit forced) move some
+
+  pub best_forces : (r : Ply) (p : PlainBoard) → IsMove q r p → Forces goal p.mover p (limit - 2)
+  best_forces = won_forces goal b q m limit (best_wins goal b m best limit forced) move some

@@ -2,3 +2,4 @@ pub mod Forcing
 pub mod Fewest
 pub mod Lists
 pub mod Unique
+pub mod Firsts

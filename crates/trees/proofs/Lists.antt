@@ -9,10 +9,11 @@ use Rattle.rules.specs.Squares.{Ply}
 use Rattle.rules.specs.Moves.{IsMove, IsLawful}
 use Rattle.rules.specs.Order.{ListsLawful}
 use Rattle.rules.specs.declared.goal.Goal.{Goal}
-use Rattle.wintree.specs.Plan.{Plan, depth, deepest_in, replies_of, plan_of}
-use Rattle.wintree.specs.Wins.{moves_of}
+use Rattle.wintree.specs.Plan.{Plan, ends, splits, depth, deepest_in, replies_of, plan_of}
+use Rattle.wintree.specs.Wins.{EndsAt, moves_of}
 use Rattle.wintree.proofs.Lists.{depth-plan_of}
 use Rattle.trees.specs.Best.{IsBestMove, IsBest, EachBest, IsBestAfter}
+use Rattle.trees.specs.First.{IsBestOf}
 
 -- the replies, without their plans
 abbrev pub replies_in : List (Ply × Plan) → List Ply
@@ -36,10 +37,19 @@ module _ (goal : Goal) (q : PlainBoard) where
   some_listed [] some lists = let none = (lists.exact some.0).1 some.1 in absurd (omega (arith, none.1))
   some_listed (first ∷ others) some lists = omega arith
 
-  pub best_node : (b : PlainBoard) (m : Ply) (list : List (Ply × Plan)) → IsBestMove goal b m → IsMove b m q → ((r : Ply) × IsLawful q r) → ListsLawful q (replies_in list) → AreBest list → IsBest goal b (plan_of m list)
-  best_node b m [] best move some lists each = absurd (omega (arith, some_listed [] some lists))
-  best_node b m (first ∷ others) best move some lists each =
-      (best, (q, move, subst (ListsLawful q) (sym (moves_of-replies_of first others)) lists, each_of first others (recursion_from_All _ (first ∷ others) each)))
+  pub node_of : (b : PlainBoard) (m : Ply) (list : List (Ply × Plan)) → IsMove b m q → 0 < length list → ListsLawful q (replies_in list) → AreBest list → IsBestOf goal b m (plan_of m list)
+  node_of b m [] move some lists each = absurd (omega (arith, some))
+  node_of b m (first ∷ others) move some lists each =
+      (refl, (q, move, subst (ListsLawful q) (sym (moves_of-replies_of first others)) lists, each_of first others (recursion_from_All _ (first ∷ others) each)))
+
+-- the plan of a best move is the best
+pub best_of : (goal : Goal) (b : PlainBoard) (m : Ply) (plan : Plan) → IsBestMove goal b m → IsBestOf goal b m plan → IsBest goal b plan
+best_of goal b m (ends l end) best (same, is) =
+    (subst (IsBestMove goal b) (sym same) best, subst (λ (x : Ply). (q : PlainBoard) × IsMove b x q × EndsAt goal q end) (sym same) is)
+best_of goal b m (splits l replies) best (same, is) = (
+  subst (IsBestMove goal b) (sym same) best,
+  subst (λ (x : Ply). (q : PlainBoard) × IsMove b x q × ListsLawful q (moves_of replies) × EachBest goal q replies) (sym same) is,
+)
 
 -- ---- depths
 

@@ -1,2 +1,3 @@
 -- to be believed
 pub mod Best
+pub mod First

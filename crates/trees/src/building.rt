@@ -1,16 +1,17 @@
 //! The building of a tree.
-ghost use Rattle.std.specs.Prelude.{◌≡◌, ◌≤◌, ◌+◌, ◌*◌, IfErr, IfOk, All, map};
+ghost use Rattle.std.specs.Prelude.{◌≡◌, ◌<◌, ◌≤◌, ◌+◌, ◌*◌, IfErr, IfOk, All, map};
 ghost use Rattle.rules.specs.Squares.{Ply};
 ghost use Rattle.rules.specs.Moves.{IsMove, IsLawful};
 ghost use Rattle.rules.specs.Order.{ListsLawful};
 ghost use Rattle.rules.specs.Forces.{IsReached, Forces};
 ghost use Rattle.slots.specs.Promise.{IsSeatOf};
-ghost use Rattle.decision.specs.Answer.{IsFewest};
+ghost use Rattle.decision.specs.Answer.{IsFewest, Wins as WinsWithin};
 ghost use Rattle.decision.specs.Calls.{Continues};
 ghost use Rattle.wintree.specs.Plan.{depth};
 ghost use Rattle.wintree.specs.Wins.{Wins, EndsAt, height};
 ghost use Rattle.searcher.specs.declared.halt.Halt.TheVariants.{Stopped};
 ghost use Rattle.trees.specs.Best.{IsBest, IsBestAfter};
+ghost use Rattle.trees.specs.First.{IsBestOf};
 
 use crate::best::best_move;
 use board::Position;
@@ -36,9 +37,9 @@ fn end_at(board: &Board, goal: Goal) -> End
 
 /// What each part of a tree is built with.
 #[derive(Drop)]
-struct Builder<B: Allocator> {
-    alloc: B,
-    goal: Goal,
+pub(crate) struct Builder<B: Allocator> {
+    pub(crate) alloc: B,
+    pub(crate) goal: Goal,
 }
 
 /// The best tree, where the side to move forces the goal within the limit.
@@ -59,12 +60,31 @@ fn best_tree<D: Decider, B: Allocator + Copy>(
     let Some(attack) = best_move(decider, board, builder.goal, limit) else {
         return Err(Halt::Stopped);
     };
-    let next = after(board, attack);
+    tree_behind(builder, decider, board, attack, limit)
+}
+
+/// The tree of a first move that wins within the limit: behind each reply it is the best.
+#[cycle(building)]
+pub(crate) fn tree_behind<D: Decider, B: Allocator + Copy>(
+    builder: &Builder<B>,
+    decider: &mut D,
+    board: &Board,
+    first: Move,
+    limit: u8,
+) -> Result<Tree<B>, Halt>
+    requires limit { (0 < limit) × (limit ≤ 63) }
+    requires wins { WinsWithin builder.now.goal board.now limit first }
+    ensures goes { D.goes decider.old decider.new }
+    ensures best { IfOk result (IsBestOf builder.now.goal board.now first) }
+    ensures depth { IfOk result (λ tree. 2 * depth tree ≤ limit + 1) }
+    ensures halt { IfErr result (λ halt. halt ≡ Stopped → D.told decider.new) }
+{
+    let next = after(board, first);
     if !has_lawful_move(&next) {
-        return Ok(Tree::end(builder.alloc, attack, end_at(&next, builder.goal))?);
+        return Ok(Tree::end(builder.alloc, first, end_at(&next, builder.goal))?);
     }
     let replies = replies_to(builder, decider, &next, limit - 2)?;
-    Ok(Tree::node(builder.alloc, attack, replies)?)
+    Ok(Tree::node(builder.alloc, first, replies)?)
 }
 
 /// Each lawful reply, in order, with the best tree that meets it, where each is met within so many plies.

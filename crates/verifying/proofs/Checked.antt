@@ -3,7 +3,6 @@ use Rattle.std.proofs.Common.{◌≡◌, ◌<◌, ◌≤◌, ℕ, ◌+◌, List,
 use Rattle.board.specs.Board.{PlainBoard}
 use Rattle.rules.specs.declared.goal.Goal.{Goal}
 use Rattle.decision.specs.declared.answer.Answer.{Answer}
-use Rattle.certificates.specs.Answers.{Certifies}
 use Rattle.devices.specs.Lines.{HasNoFeed}
 use Rattle.verifying.specs.declared.checker.Checker.{Checker}
 use Rattle.verifying.specs.declared.fault.Fault.{Fault}
@@ -13,10 +12,10 @@ use Rattle.verifying.specs.declared.part.Part.TheVariants.{First, Win, Yes, Less
 use Rattle.verifying.specs.FirstLine.{answer_text, IsInRange, HasNamedMove}
 use Rattle.verifying.specs.Growing.{AreApart}
 use Rattle.verifying.specs.Parts.{HasShown}
-use Rattle.verifying.specs.Checking.{HasTakenText, HasTaken, TakesMore, RefusesMore, IsProvedBy}
+use Rattle.verifying.specs.Checking.{HasTakenText, TakesMore, RefusesMore}
 use Rattle.verifying.specs.Reading.{BeginsPart, HasRead, IsNoLineOf, IsUnfinished, ReadsLine}
 use Rattle.verifying.specs.Taking.{fault_at}
-use Rattle.verifying.proofs.Reading.{first_read, line_read, nothing_read, whole_read}
+use Rattle.verifying.proofs.Reading.{first_read, line_read, nothing_read}
 use Rattle.verifying.proofs.Refused.{end_refused, line_refused, long_refused, reads_apart}
 use Rattle.verifying.proofs.Apart.{none_apart}
 
@@ -24,12 +23,6 @@ use Rattle.verifying.proofs.Apart.{none_apart}
 both : {A : Type 0} (goal : Goal) (b : PlainBoard) (checker : Checker A) (text : List ℕ) (P : Goal → PlainBoard → Type 0) → HasTakenText goal b checker text → P checker.goal checker.board → P goal b
 both goal b checker text P taken so = subst (λ (x : PlainBoard). P goal x) taken.board_is (subst (λ (x : Goal). P x checker.board) taken.goal_is so)
 
--- nothing was taken
-pub nothing_taken : {A : Type 0} (goal : Goal) (b : PlainBoard) (checker : Checker A) → checker.goal ≡ goal → checker.board ≡ b → checker.number ≡ 0 → checker.part ≡ First → checker.claims ≡ [] → HasTakenText goal b checker []
-nothing_taken goal b checker goal_is board_is none first empty = record {
-  goal_is = goal_is;
-  board_is = board_is;
-  read = nothing_read goal b checker.number checker.part checker.claims none first empty;
 }
 
 -- the line of an answer was taken
@@ -44,10 +37,6 @@ answer_taken goal b answer checker range named goal_is board_is one begins stand
           (first_read goal b 0 checker.part [] checker.claims [] (answer_text goal answer) reads (reads_apart goal b First checker.part (answer_text goal answer) [] checker.claims reads stands none_apart) stands
           (nothing_read goal b 0 First [] refl refl refl));
     }
-
-pub stands_so_far : {A : Type 0} (checker : Checker A) → HasTaken checker → HasShown checker.goal checker.board checker.part checker.claims
-stands_so_far checker (goal, b, text, taken) =
-    subst (λ (x : Goal). HasShown x checker.board checker.part checker.claims) (sym taken.goal_is) (subst (λ (x : PlainBoard). HasShown goal x checker.part checker.claims) (sym taken.board_is) taken.read.stands)
 
 -- a line more was taken
 pub line_taken : {A : Type 0} (old new : Checker A) (line : List ℕ) → length line ≤ 8192 → new.goal ≡ old.goal → new.board ≡ old.board → new.number ≡ old.number + 1 → ReadsLine old.goal old.board old.part line old.claims new.part new.claims → HasShown new.goal new.board new.part new.claims → TakesMore old new (line ++ 10 ∷ [])
@@ -76,10 +65,6 @@ line_long checker line rest fault is long none goal b text taken = long_refused 
 pub end_wrong : {A : Type 0} (checker : Checker A) (rest : List ℕ) (fault : Fault) → fault ≡ fault_at checker.part checker.number → (rest ≡ [] → IsUnfinished checker.part checker.claims) → HasNoFeed rest → RefusesMore checker rest fault
 end_wrong checker rest fault is wrong none goal b text taken = end_refused goal b checker.number checker.part checker.claims text rest fault is none wrong taken.read
 
-pub whole_proved : {A : Type 0} (checker : Checker A) (answer : Answer) (place : ℕ) → checker.part ≡ No answer place → length checker.claims ≤ place → Certifies checker.goal checker.board answer → IsProvedBy checker answer
-whole_proved checker answer place is whole certifies goal b text taken = (
-  whole_read goal b answer place checker.number checker.claims text whole (subst (λ (p : Part). HasRead goal b checker.number p checker.claims text) is taken.read),
-  both goal b checker text (λ (g : Goal) (x : PlainBoard). Certifies g x answer) taken certifies,
 )
 
 -- no fault of a line is a failed read

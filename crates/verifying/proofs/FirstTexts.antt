@@ -10,8 +10,7 @@ use Rattle.board.specs.declared.game.Kind.TheVariants.{King, Queen, Rook, Bishop
 use Rattle.rules.specs.Squares.{Place, Ply}
 use Rattle.rules.specs.Moves.{IsPromoted}
 use Rattle.rules.specs.MoveText.{square_text, promotion_text, move_text}
-use Rattle.verifying.specs.FirstLine.{HasName}
-use Rattle.verifying.proofs.FirstLines.{four_bytes, short_name, long_name, two_are}
+use Rattle.verifying.proofs.FirstLines.{four_bytes, two_are}
 use Rattle.verifying.proofs.OneAnswer.{same_cons as one_of}
 
 -- ---- numbers
@@ -72,11 +71,6 @@ second_square m name tail long is =
     let whole : (97 + m.from.file) ∷ (49 + m.from.rank) ∷ (97 + m.to.file) ∷ (49 + m.to.rank) ∷ promotion_text m.promotion ≡ get_or name 0 0 ∷ get_or name 1 0 ∷ get_or name 2 0 ∷ get_or name 3 0 ∷ tail = is ∙ ap (λ (x : List ℕ). x ++ tail) (four_bytes name long) in
     cc
 
-last_bytes : (m : Ply) (name tail : List ℕ) → 4 ≤ length name → move_text m ≡ take 4 name ++ tail → promotion_text m.promotion ≡ tail
-last_bytes m name tail long is =
-    let whole : (97 + m.from.file) ∷ (49 + m.from.rank) ∷ (97 + m.to.file) ∷ (49 + m.to.rank) ∷ promotion_text m.promotion ≡ get_or name 0 0 ∷ get_or name 1 0 ∷ get_or name 2 0 ∷ get_or name 3 0 ∷ tail = is ∙ ap (λ (x : List ℕ). x ++ tail) (four_bytes name long) in
-    cc
-
 pub no_letter : (p : Option Kind) → IfSome p IsPromoted → promotion_text p ≡ [] → p ≡ None
 no_letter None named is = refl
 no_letter (Some King) named is = absurd named
@@ -85,11 +79,6 @@ no_letter (Some Rook) named is = cc
 no_letter (Some Bishop) named is = cc
 no_letter (Some Knight) named is = cc
 no_letter (Some Pawn) named is = absurd named
-
-pub four_named : (m : Ply) (name : List ℕ) → length name ≡ 4 → HasName m → move_text m ≡ name → m.promotion ≡ None
-four_named m name four named is =
-    let whole : take 4 name ++ [] ≡ name = short_name name four in
-    no_letter m.promotion named.2 (last_bytes m name [] (omega (arith, four)) (is ∙ sym whole))
 
 no_letters : (c : ℕ) (x : List ℕ) → [] ≡ c ∷ x → ⊥
 no_letters c x e = cc
@@ -126,14 +115,6 @@ one_letter Knight (Some Bishop) letter promoted named is also = absurd (two_lett
 one_letter Knight (Some Knight) letter promoted named is also = refl
 one_letter Knight (Some Pawn) letter promoted named is also = absurd named
 
--- a name of five bytes ends with the letter of what a pawn becomes
-pub five_named : (m : Ply) (name : List ℕ) → length name ≡ 5 → move_text m ≡ name → promotion_text m.promotion ≡ get_or name 4 0 ∷ []
-five_named m name five is =
-    last_bytes m name (get_or name 4 0 ∷ []) (omega (arith, five)) (is ∙ sym (long_name name (get_or name 4 0 ∷ []) five refl))
-
-pub five_named_by : (m : Ply) (name : List ℕ) (k : Kind) → length name ≡ 5 → HasName m → IsPromoted k → promotion_text (Some k) ≡ get_or name 4 0 ∷ [] → move_text m ≡ name → m.promotion ≡ Some k
-five_named_by m name k five named promoted is spelled = one_letter k m.promotion (get_or name 4 0) promoted named.2 is (five_named m name five spelled)
-
 pub letter_long : (p : Option Kind) → length (promotion_text p) ≤ 1
 letter_long None = omega arith
 letter_long (Some King) = omega arith
@@ -142,12 +123,6 @@ letter_long (Some Rook) = omega arith
 letter_long (Some Bishop) = omega arith
 letter_long (Some Knight) = omega arith
 letter_long (Some Pawn) = omega arith
-
-pub name_long : (m : Ply) (name : List ℕ) → length name ≢ 4 → length name ≢ 5 → move_text m ≡ name → ⊥
-name_long m name four five is =
-    let long : length (move_text m) ≡ suc (suc (suc (suc (length (promotion_text m.promotion))))) = refl in
-    let most = letter_long m.promotion in
-    omega (arith, long, most, ap length is, four, five)
 
 -- ---- a number, a space and a name
 
@@ -188,18 +163,7 @@ square_heads s file rank is =
     let front = one_of (97 + s.file) file ((49 + s.rank) ∷ []) (rank ∷ []) is in
     (sym front.0, sym (one_of (49 + s.rank) rank [] [] front.1).0)
 
-pub no_promotion : (k : Kind) (letter : ℕ) → IsPromoted k → letter ≢ 113 → letter ≢ 114 → letter ≢ 98 → letter ≢ 110 → promotion_text (Some k) ≡ letter ∷ [] → ⊥
-no_promotion King letter promoted q r b n is = absurd promoted
-no_promotion Pawn letter promoted q r b n is = absurd promoted
-no_promotion Queen letter promoted q r b n is = q (sym (one_of 113 letter [] [] is).0)
-no_promotion Rook letter promoted q r b n is = r (sym (one_of 114 letter [] [] is).0)
-no_promotion Bishop letter promoted q r b n is = b (sym (one_of 98 letter [] [] is).0)
-no_promotion Knight letter promoted q r b n is = n (sym (one_of 110 letter [] [] is).0)
-
 -- ---- the whole line
-
-pub other_head : (a b : ℕ) (x y : List ℕ) → a ≢ b → a ∷ x ≡ b ∷ y → ⊥
-other_head a b x y differ e = differ (one_of a b x y e).0
 
 pub rest_bytes : (text : List ℕ) (k : ℕ) → take (length text - k) (drop k text) ≡ drop k text
 rest_bytes text k = take_all (length text - k) (drop k text) (omega (arith, length-drop k text))

@@ -10,17 +10,11 @@ use Rattle.certificates.specs.declared.claim.Claim.{Claim}
 use Rattle.certificates.specs.Claims.{ClaimsSoMany, ClaimsSoFew, EscapesBy, FailsBy, HoldsOver, MetBy, WinsBy, IsWon}
 use Rattle.verifying.specs.Growing.{Extends}
 
-pub extends_itself : (xs : List Claim) → Extends xs xs
-extends_itself xs = ([], sym (append-nil xs))
-
 pub extends_twice : (xs ys zs : List Claim) → Extends xs ys → Extends ys zs → Extends xs zs
 extends_twice xs ys zs (more, is) (others, next) = (more ++ others, next ∙ ap (λ (l : List Claim). l ++ others) is ∙ append_assoc xs more others)
 
 pub extends_same : (old new : List Claim) → new ≡ old → Extends old new
 extends_same old new same = ([], same ∙ sym (append-nil old))
-
-pub extends_more : (old new : List Claim) (c : Claim) → new ≡ old ++ c ∷ [] → Extends old new
-extends_more old new c is = (c ∷ [], is)
 
 -- the claim that was added
 pub claimed_many : (old new : List Claim) (p : PlainBoard) (n : ℕ) → new ≡ old ++ record { position = p; plies = n } ∷ [] → ClaimsSoMany new p n

@@ -1,7 +1,7 @@
 -- The first line of each part of a mate's certificate.
-use Rattle.std.proofs.Common.{◌≡◌, ◌<◌, ℕ, ◌-◌, List, [], ◌∷◌, ◌++◌, length, get_or, take, inl, inr, sym, ap, ◌∙◌, subst, arith, All, Contains, Some, slice_get}
+use Rattle.std.proofs.Common.{◌≡◌, ◌<◌, ℕ, ◌-◌, List, [], ◌∷◌, ◌++◌, length, get_or, take, inl, inr, sym, ap, ◌∙◌, subst, arith, All, Some, slice_get}
 use Rattle.std.proofs.lemmas.List.{get_or-take, length-take, get_or_default}
-use Rattle.std.proofs.lemmas.List.Elements.{All-get_or, All-take, Contains-push}
+use Rattle.std.proofs.lemmas.List.Elements.{All-get_or, All-take}
 use Rattle.board.specs.Board.{PlainBoard}
 use Rattle.rules.specs.declared.goal.Goal.{Goal}
 use Rattle.rules.specs.Squares.{Ply}
@@ -9,7 +9,6 @@ use Rattle.rules.specs.Moves.{IsLawful}
 use Rattle.rules.specs.Order.{IsPlyBefore, ListsLawful}
 use Rattle.certificates.specs.declared.claim.Claim.{Claim}
 use Rattle.certificates.specs.Claims.{FailsBy, WinsBy, IsWon}
-use Rattle.certificates.specs.Answers.{HasClaim}
 use Rattle.verifying.specs.Growing.{Extends}
 use Rattle.verifying.specs.Parts.{HasFewer, LesserFail, ShowsFewer}
 use Rattle.verifying.proofs.Growing.{still_there, still_fails}
@@ -63,11 +62,6 @@ pub front_lawful : (b : PlainBoard) (moves list : List Ply) (place : ℕ) → Li
 front_lawful b moves list place lists same = All-take (IsLawful b) place list (all_lawful b moves list lists same)
 
 -- ---- the no claim of two plies fewer
-
-pub fewer_claim : (b : PlainBoard) (n k : ℕ) (old claims : List Claim) → claims ≡ old ++ record { position = b; plies = k } ∷ [] → k ≡ n - 2 → HasFewer claims b n
-fewer_claim b n k old claims is plies =
-    let there : HasClaim claims b k = subst (λ (l : List Claim). Contains l (record { position = b; plies = k })) (sym is) (Contains-push old _) in
-    inr (subst (λ (j : ℕ). HasClaim claims b j) plies there)
 
 pub still_fewer : (old new : List Claim) → Extends old new → (b : PlainBoard) (n : ℕ) → HasFewer old b n → HasFewer new b n
 still_fewer old new grown b n (inl one) = inl one

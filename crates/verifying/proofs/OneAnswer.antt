@@ -1,5 +1,5 @@
 -- A first line is of one answer at most.
-use Rattle.std.proofs.Common.{◌≡◌, ◌≢◌, ◌<◌, ◌≤◌, ℕ, ◌+◌, List, [], ◌∷◌, ◌++◌, refl, sym, ap, ◌∙◌, arith, All, Option, None, Some, IfSome, codes}
+use Rattle.std.proofs.Common.{◌≡◌, ◌≢◌, ◌≤◌, ℕ, ◌+◌, List, [], ◌∷◌, ◌++◌, refl, sym, ap, ◌∙◌, arith, All, Option, None, Some, IfSome, codes}
 use Rattle.std.proofs.lemmas.List.{append_cancel_left}
 use Rattle.std.proofs.lemmas.List.Elements.{All-head, All-tail, All-from_get_or}
 use Rattle.std.specs.Fmt.{decimal}
@@ -15,7 +15,6 @@ use Rattle.rules.specs.Squares.{Place, Ply, IsOnBoard}
 use Rattle.rules.specs.Moves.{IsLawful, IsPromotion, IsPromoted}
 use Rattle.rules.specs.MoveText.{promotion_text, move_text}
 use Rattle.rules.proofs.Lists.{IsNumbered-lawful}
-use Rattle.certificates.specs.Answers.{IsOdd}
 use Rattle.decision.specs.declared.answer.Answer.{Answer}
 use Rattle.decision.specs.declared.answer.Answer.TheVariants as answer
 use Rattle.certificates.specs.declared.claim.Claim.{Claim}
@@ -121,19 +120,3 @@ pub certificate_named : (goal : Goal) (b : PlainBoard) (told : Answer) (text : L
 certificate_named goal b told text certificate = proved_named goal b told certificate.lines certificate.prove
 
 -- ---- lines of no answer
-
-mate_apart : (goal : Goal) (n : ℕ) (m : Ply) (rest : List ℕ) → answer_text goal (answer.Mate n m) ≡ codes "none within " ++ rest → ⊥
-mate_apart goal.Mate n m rest e = let head = same_cons 109 110 _ _ e in omega (arith, head.0)
-mate_apart goal.MateOrStale n m rest e = let head = same_cons 103 110 _ _ e in omega (arith, head.0)
-
-pub no_limit : (goal : Goal) (line digits : List ℕ) → line ≡ codes "none within " ++ digits → ((n : ℕ) → 0 < n → n ≤ 63 → decimal n ≢ digits) → (a : Answer) → IsInRange a → line ≡ answer_text goal a → ⊥
-no_limit goal line digits begins none (answer.Mate n m) range is = mate_apart goal n m digits (sym is ∙ begins)
-no_limit goal line digits begins none (answer.NoneWithin limit) range is = none limit range.0 range.1 (append_cancel_left (codes "none within ") (decimal limit) digits (sym is ∙ begins))
-
-pub no_word : (goal : Goal) (line : List ℕ) → ((rest : List ℕ) → line ≢ codes "none within " ++ rest) → ((rest : List ℕ) → line ≢ goal_text goal ++ rest) → (a : Answer) → line ≡ answer_text goal a → ⊥
-no_word goal line none mate (answer.Mate n m) is = mate (decimal n ++ 32 ∷ move_text m) is
-no_word goal line none mate (answer.NoneWithin limit) is = none (decimal limit) is
-
-pub no_mate : (goal : Goal) (line mate : List ℕ) → ((rest : List ℕ) → line ≢ codes "none within " ++ rest) → line ≡ goal_text goal ++ mate → ((n : ℕ) (m : Ply) → IsOdd n → n ≤ 63 → HasName m → mate ≢ decimal n ++ 32 ∷ move_text m) → (a : Answer) → IsInRange a → HasNamedMove a → line ≡ answer_text goal a → ⊥
-no_mate goal line mate none begins other (answer.Mate n m) range named is = other n m range.0 range.1 named (append_cancel_left (goal_text goal) mate (decimal n ++ 32 ∷ move_text m) (sym begins ∙ is))
-no_mate goal line mate none begins other (answer.NoneWithin limit) range named is = none (decimal limit) is

@@ -19,7 +19,7 @@ use Rattle.verifying.specs.Words.{line_text}
 use Rattle.verifying.specs.Refusals.{fed}
 use Rattle.verifying.specs.Parts.{HasShown, answer_of}
 use Rattle.verifying.specs.Growing.{AreApart}
-use Rattle.verifying.specs.Certificate.{with_claim, shorter_claim, IsSomeYesLine, IsNoLine, IsLesserLine, YesLinesMake, NoLinesMake, ProveAnswer, IsCertificate}
+use Rattle.verifying.specs.Certificate.{with_claim, shorter_claim, IsSomeYesLine, IsNoLine, IsLesserLine, YesLinesMake, NoLinesMake}
 use Rattle.verifying.specs.Reading.{AreNoSoFar, IsReadTo, IsBehindYes, TakesWords, BeginsPart, ReadsLine, text_so_far, count_so_far, IsToldWell, HasRead, IsNoLineOf}
 use Rattle.verifying.proofs.Apart.{none_apart}
 use Rattle.verifying.proofs.Turns.{lines_more}
@@ -151,17 +151,6 @@ line_read goal b number (No told place) new before claims text line small (words
 
 -- ---- the end
 
-proved : (goal : Goal) (b : PlainBoard) (told : Answer) (place : ℕ) (lines : List (List Word)) (claims : List Claim) → length claims ≤ place → AreNoSoFar goal b told place lines claims → ProveAnswer goal b told lines
-proved goal b (answer.Mate n first) place lines claims whole (yeas, noes, is, won, make, count) = (yeas, noes, is, won, (claims, make, omega (arith, whole, count)))
-proved goal b (answer.NoneWithin limit) place lines claims whole (are, count) = (claims, are, omega (arith, whole, count))
-
-pub whole_read : (goal : Goal) (b : PlainBoard) (told : Answer) (place number : ℕ) (claims : List Claim) (text : List ℕ) → length claims ≤ place → HasRead goal b number (No told place) claims text → IsCertificate goal b told text
-whole_read goal b told place number claims text whole so_far = record {
-  range = so_far.well.0;
-  lines = so_far.lines;
-  prove = proved goal b told place so_far.lines claims whole so_far.read;
-  short = so_far.short;
-  spelled = so_far.spelled;
 }
 
 -- nothing was read yet

@@ -1,5 +1,5 @@
 -- What was shown of a certificate, line after line.
-use Rattle.std.proofs.Common.{◌≡◌, ◌<◌, ◌≤◌, ℕ, ◌+◌, List, [], length, refl, ap, arith, length-append, Some, slice_get}
+use Rattle.std.proofs.Common.{◌≡◌, ◌<◌, ◌≤◌, ℕ, ◌+◌, List, [], length, refl, arith, Some, slice_get}
 use Rattle.board.specs.Board.{PlainBoard}
 use Rattle.rules.specs.declared.goal.Goal.{Goal}
 use Rattle.decision.specs.declared.answer.Answer.{Answer}
@@ -17,9 +17,6 @@ use Rattle.verifying.specs.Taking.{fault_at}
 use Rattle.verifying.proofs.Growing.{still_there, still_wins, still_won, still_holds}
 use Rattle.verifying.proofs.Mates.{still_shows_fewer}
 use Rattle.verifying.proofs.Places.{claim_more, each_claim}
-
-pub longer : (old new : List Claim) (place : ℕ) → Extends old new → place < length old → place < length new
-longer old new place (more, is) lt = omega (arith, lt, ap length is, length-append old more)
 
 -- one yes claim more
 pub yes_more : (goal : Goal) (old new : List Claim) (b : PlainBoard) (mate : Mate) (place : ℕ) → Extends old new → place < length old → ((c : Claim) → slice_get old place ≡ Some c → IsWon goal new c) → IsYesUpTo goal old b mate place → IsYesUpTo goal new b mate (place + 1)

@@ -26,10 +26,6 @@ pub no_words : (words : List Word) → length words ≡ 0 → words ≡ []
 no_words [] none = refl
 no_words (word ∷ words) none = absurd (omega (arith, none))
 
-pub no_moves : (moves : List Ply) → length moves ≡ 0 → moves ≡ []
-no_moves [] none = refl
-no_moves (m ∷ moves) none = absurd (omega (arith, none))
-
 -- nothing is found
 pub none_found : (o : Option ℕ) (P : Type 0) (Q : ℕ → Type 0) → is_some o ≡ false → MatchOption o P Q → P
 none_found None P Q none h = h

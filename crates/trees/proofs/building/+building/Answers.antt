@@ -1,58 +1,77 @@
 use Rattle.std.proofs.Common.{◌≤◌, ◌*◌, ◌+◌, ◌-◌, sym, ap, ◌∙◌, subst, arith}
 use Rattle.std.proofs.lemmas.Bool.{false≢true}
+use Rattle.std.proofs.lemmas.Result.{IfOk-weaker}
 use Rattle.rules.specs.Order.{ListsLawful}
 use Rattle.wintree.specs.Plan.{depth}
 use Rattle.rules.proofs.Forcing.{same_side-self}
-use Rattle.trees.specs.Best.{IsBest}
-use Rattle.trees.proofs.Forcing.{some_ply, best_reached, two_plies, best_forces}
-use Rattle.trees.proofs.Lists.{replies_in, AreBest, AreShallow, best_node, node_depth, node_room, some_listed, replies_more, best_more, shallow_more}
+use Rattle.trees.specs.First.{IsBestOf}
+use Rattle.trees.proofs.Forcing.{some_ply, best_wins, won_reached, won_plies, won_forces}
+use Rattle.trees.proofs.Lists.{replies_in, AreBest, AreShallow, node_of, best_of, node_depth, node_room, some_listed, replies_more, best_more, shallow_more}
 use Rattle.searcher.proofs.Halts.{err_halts}
 use Rattle.trees.proofs.building.+building.Goals as goal
 
 -- ---- a tree
 
-pub best_tree-end_at-requires : goal.best_tree-end_at-requires
-best_tree-end_at-requires g t c =
-    best_reached c.args.builder.now.goal c.args.board.now c.after-next.result c.in-Some.attack c.in-Some.ensures.best c.after-next.ensures c.args.limit c.requires.forced
-    (λ r lawful. false≢true (sym c.if-not-has_lawful_move.true ∙ c.has_lawful_move.ensures.1 (r, lawful)))
-
-pub best_tree-returns-then-not-has_lawful_move-clause-depth : goal.best_tree-returns-then-not-has_lawful_move-clause-depth
-best_tree-returns-then-not-has_lawful_move-clause-depth g t c =
+pub best_tree-tree_behind-requires : goal.best_tree-tree_behind-requires
+best_tree-tree_behind-requires g t c κs within =
     let plies = some_ply c.args.builder.now.goal c.args.board.now.mover c.args.board.now c.args.limit (same_side-self c.args.board.now.mover) c.requires.forced in
-    omega (arith, plies, ap depth c.in_ok-end.ensures)
+    (omega (arith, c.decreases), (within.0, (within.1, ((plies, c.requires.limit), best_wins c.args.builder.now.goal c.args.board.now c.in-Some.attack c.in-Some.ensures.best c.args.limit c.requires.forced))))
 
-pub best_tree-overflow_sub-limit : goal.best_tree-overflow_sub-limit
-best_tree-overflow_sub-limit g t c =
-    two_plies c.args.builder.now.goal c.args.board.now c.after-next.result c.in-Some.attack c.in-Some.ensures.best c.after-next.ensures c.args.limit c.requires.forced
-    (c.has_lawful_move.ensures.0 c.if-not-has_lawful_move.false)
-
-pub best_tree-replies_to-requires : goal.best_tree-replies_to-requires
-best_tree-replies_to-requires g t c κs within =
-    let some = c.has_lawful_move.ensures.0 c.if-not-has_lawful_move.false in
-    let plies = two_plies c.args.builder.now.goal c.args.board.now c.after-next.result c.in-Some.attack c.in-Some.ensures.best c.after-next.ensures c.args.limit c.requires.forced some in
-    let most = c.requires.limit in
-    (omega (arith, c.decreases, plies), (within.0, (within.1, (omega arith, (some, best_forces c.args.builder.now.goal c.args.board.now c.after-next.result c.in-Some.attack c.in-Some.ensures.best c.after-next.ensures c.args.limit c.requires.forced some)))))
-
-pub best_tree-returns-in_err-replies-clause-halt : goal.best_tree-returns-in_err-replies-clause-halt
-best_tree-returns-in_err-replies-clause-halt g t c = err_halts c.from_residual-in_err-replies.result _ _ c.from_residual-in_err-replies.ensures.1 c.in_err-replies.ensures.halt
-
-pub best_tree-node-requires-clause-some : goal.best_tree-node-requires-clause-some
-best_tree-node-requires-clause-some g t c =
-    let some = some_listed c.args.builder.now.goal c.after-next.result c.in_ok-replies.replies.items (c.has_lawful_move.ensures.0 c.if-not-has_lawful_move.false) c.in_ok-replies.ensures.replies in
-    omega (arith, some)
+pub best_tree-returns-clause-goes : goal.best_tree-returns-clause-goes
+best_tree-returns-clause-goes g t c = g.met.D.Decider.goes_on _ _ _ c.best_move.ensures.goes c.tree_behind.ensures.goes
 
 pub best_tree-returns-clause-best : goal.best_tree-returns-clause-best
 best_tree-returns-clause-best g t c =
-    subst (IsBest c.args.builder.now.goal c.args.board.now) (sym c.in_ok-node.ensures)
-    (best_node c.args.builder.now.goal c.after-next.result c.args.board.now c.in-Some.attack c.in_ok-replies.replies.items c.in-Some.ensures.best c.after-next.ensures
-    (c.has_lawful_move.ensures.0 c.if-not-has_lawful_move.false) c.in_ok-replies.ensures.replies c.in_ok-replies.ensures.best)
+    IfOk-weaker c.tree_behind.result _ _ (λ tree is. best_of c.args.builder.now.goal c.args.board.now c.in-Some.attack tree c.in-Some.ensures.best is) c.tree_behind.ensures.best
 
-pub best_tree-returns-clause-depth : goal.best_tree-returns-clause-depth
-best_tree-returns-clause-depth g t c =
+-- ---- behind its first move
+
+pub tree_behind-end_at-requires : goal.tree_behind-end_at-requires
+tree_behind-end_at-requires g t c =
+    won_reached c.args.builder.now.goal c.args.board.now c.after-next.result c.args.first c.args.limit c.requires.wins c.after-next.ensures
+    (λ r lawful. false≢true (sym c.if-not-has_lawful_move.true ∙ c.has_lawful_move.ensures.1 (r, lawful)))
+
+pub tree_behind-returns-then-not-has_lawful_move-clause-depth : goal.tree_behind-returns-then-not-has_lawful_move-clause-depth
+tree_behind-returns-then-not-has_lawful_move-clause-depth g t c = omega (arith, c.requires.limit.0, ap depth c.in_ok-end.ensures)
+
+pub tree_behind-overflow_sub-limit : goal.tree_behind-overflow_sub-limit
+tree_behind-overflow_sub-limit g t c =
+    won_plies c.args.builder.now.goal c.args.board.now c.after-next.result c.args.first c.args.limit c.requires.wins c.after-next.ensures
+    (c.has_lawful_move.ensures.0 c.if-not-has_lawful_move.false)
+
+pub tree_behind-replies_to-requires : goal.tree_behind-replies_to-requires
+tree_behind-replies_to-requires g t c κs within =
     let some = c.has_lawful_move.ensures.0 c.if-not-has_lawful_move.false in
-    let plies = two_plies c.args.builder.now.goal c.args.board.now c.after-next.result c.in-Some.attack c.in-Some.ensures.best c.after-next.ensures c.args.limit c.requires.forced some in
+    let plies = won_plies c.args.builder.now.goal c.args.board.now c.after-next.result c.args.first c.args.limit c.requires.wins c.after-next.ensures some in
+    let most = c.requires.limit.1 in
+    (omega (arith, c.decreases, plies), (within.0, (within.1, (omega arith, (some, won_forces c.args.builder.now.goal c.args.board.now c.after-next.result c.args.first c.args.limit c.requires.wins c.after-next.ensures some)))))
+
+pub tree_behind-returns-in_err-replies-clause-halt : goal.tree_behind-returns-in_err-replies-clause-halt
+tree_behind-returns-in_err-replies-clause-halt g t c = err_halts c.from_residual-in_err-replies.result _ _ c.from_residual-in_err-replies.ensures.1 c.in_err-replies.ensures.halt
+
+pub tree_behind-node-requires-clause-some : goal.tree_behind-node-requires-clause-some
+tree_behind-node-requires-clause-some g t c =
+    let some = some_listed c.args.builder.now.goal c.after-next.result c.in_ok-replies.replies.items (c.has_lawful_move.ensures.0 c.if-not-has_lawful_move.false) c.in_ok-replies.ensures.replies in
+    omega (arith, some)
+
+pub tree_behind-node-requires-clause-room : goal.tree_behind-node-requires-clause-room
+tree_behind-node-requires-clause-room g t c =
+    let most = c.requires.limit.1 in
+    node_room c.in_ok-replies.replies.items (c.args.limit - 2) (omega arith) c.in_ok-replies.ensures.depth
+
+pub tree_behind-returns-clause-best : goal.tree_behind-returns-clause-best
+tree_behind-returns-clause-best g t c =
+    let some = some_listed c.args.builder.now.goal c.after-next.result c.in_ok-replies.replies.items (c.has_lawful_move.ensures.0 c.if-not-has_lawful_move.false) c.in_ok-replies.ensures.replies in
+    subst (IsBestOf c.args.builder.now.goal c.args.board.now c.args.first) (sym c.in_ok-node.ensures)
+    (node_of c.args.builder.now.goal c.after-next.result c.args.board.now c.args.first c.in_ok-replies.replies.items c.after-next.ensures some
+    c.in_ok-replies.ensures.replies c.in_ok-replies.ensures.best)
+
+pub tree_behind-returns-clause-depth : goal.tree_behind-returns-clause-depth
+tree_behind-returns-clause-depth g t c =
+    let some = c.has_lawful_move.ensures.0 c.if-not-has_lawful_move.false in
+    let plies = won_plies c.args.builder.now.goal c.args.board.now c.after-next.result c.args.first c.args.limit c.requires.wins c.after-next.ensures some in
     subst (λ plan. 2 * depth plan ≤ c.args.limit + 1) (sym c.in_ok-node.ensures)
-    (node_depth c.in-Some.attack c.in_ok-replies.replies.items c.args.limit plies (some_listed c.args.builder.now.goal c.after-next.result c.in_ok-replies.replies.items some c.in_ok-replies.ensures.replies) c.in_ok-replies.ensures.depth)
+    (node_depth c.args.first c.in_ok-replies.replies.items c.args.limit plies (some_listed c.args.builder.now.goal c.after-next.result c.in_ok-replies.replies.items some c.in_ok-replies.ensures.replies) c.in_ok-replies.ensures.depth)
 
 -- ---- its replies
 
@@ -75,20 +94,6 @@ replies_to-loop-m-preserved g t c =
       best = best_more c.args.builder.now.goal c.args.board.now c.loop-m.replies.items c.push.new.self.items c.m-item.result c.in_ok-tree.tree items before.best (c.after.result, c.after.ensures, c.in_ok-tree.ensures.best);
       depth = shallow_more c.args.n c.loop-m.replies.items c.push.new.self.items c.m-item.result c.in_ok-tree.tree items before.depth c.in_ok-tree.ensures.depth;
     }
-
-pub best_tree-node-requires-clause-room : goal.best_tree-node-requires-clause-room
-best_tree-node-requires-clause-room g t c =
-    let most = c.requires.limit in
-    node_room c.in_ok-replies.replies.items (c.args.limit - 2) (omega arith) c.in_ok-replies.ensures.depth
-
-pub best_tree-returns-in_err-replies-clause-goes : goal.best_tree-returns-in_err-replies-clause-goes
-best_tree-returns-in_err-replies-clause-goes g t c = g.met.D.Decider.goes_on _ _ _ c.best_move.ensures.goes c.replies_to.ensures.goes
-
-pub best_tree-returns-in_err-node-clause-goes : goal.best_tree-returns-in_err-node-clause-goes
-best_tree-returns-in_err-node-clause-goes g t c = g.met.D.Decider.goes_on _ _ _ c.best_move.ensures.goes c.replies_to.ensures.goes
-
-pub best_tree-returns-clause-goes : goal.best_tree-returns-clause-goes
-best_tree-returns-clause-goes g t c = g.met.D.Decider.goes_on _ _ _ c.best_move.ensures.goes c.replies_to.ensures.goes
 
 pub replies_to-loop-m-init : goal.replies_to-loop-m-init
 replies_to-loop-m-init g t c = record {

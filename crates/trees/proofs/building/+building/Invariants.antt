@@ -3,10 +3,13 @@ use Rattle.trees.proofs.Lists.{replies_in, AreBest, AreShallow}
 use Rattle.trees.proofs.building.+building.Given as goal
 
 abbrev pub decreases-best_tree : goal.decreases-best_tree
-decreases-best_tree g l = 2 * l.limit
+decreases-best_tree g l = 3 * l.limit + 1
+
+abbrev pub decreases-tree_behind : goal.decreases-tree_behind
+decreases-tree_behind g l = 3 * l.limit
 
 abbrev pub decreases-replies_to : goal.decreases-replies_to
-decreases-replies_to g l = 2 * l.n + 1
+decreases-replies_to g l = 3 * l.n + 2
 
 -- the replies so far are met
 abbrev pub invariant-replies_to-loop-m : goal.invariant-replies_to-loop-m
