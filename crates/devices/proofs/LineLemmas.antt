@@ -1,8 +1,8 @@
 -- Lines, byte by byte.
 use Rattle.std.proofs.Common.{◌≡◌, ◌≢◌, ◌∙◌, ◌+◌, ◌-◌, ◌<◌, ◌≤◌, ℕ, zero, suc, true, false, List, [], ◌∷◌, ◌++◌, Option, None, Some, length, take, drop, get_or, ap, refl, sym, subst, length-append, ne_eqb, arith}
-use Rattle.std.proofs.lemmas.List.Elements.{All-push, All-nil, All-get_or}
+use Rattle.std.proofs.lemmas.List.Elements.{All-push, All-get_or}
 use lib.Seq.{take-append_seam, get_or-append_seam}
-use Rattle.std.proofs.KnownBytes.{Consumes-nil, Consumes-trans, Consumes-whole}
+use Rattle.std.proofs.KnownBytes.{Consumes-trans, Consumes-whole}
 use Rattle.std.specs.Io.KnownBytes.{Consumes, IsAtEnd}
 use Rattle.devices.specs.Input.{without_line_feed}
 use Rattle.devices.specs.Lines.{HasNoFeed, HoldsLine, IsReadAs, TakesByte, TakesLine, left_of}
@@ -83,9 +83,6 @@ byte_gone (Some xs) (Some zs) byte (ys, one, left) = let same : ys ≡ zs = cc i
 pub at_end : (now after : Option (List ℕ)) → TakesByte now after None → IsAtEnd now
 at_end None after takes = tt
 at_end (Some xs) after takes = takes.0
-
-pub reads_first : (known : Option (List ℕ)) (held : Held) → HoldsLine [] held → Reads known known held
-reads_first known held holds = ([], Consumes-nil known, All-nil (λ x. x ≢ 10), holds)
 
 -- one byte more of the line
 pub reads_more : (first now after : Option (List ℕ)) (held further : Held) (byte : ℕ) → byte ≢ 10 → Reads first now held → TakesByte now after (Some byte)
