@@ -23,8 +23,6 @@ use Rattle.verifying.proofs.Apart.{none_apart}
 both : {A : Type 0} (goal : Goal) (b : PlainBoard) (checker : Checker A) (text : List ℕ) (P : Goal → PlainBoard → Type 0) → HasTakenText goal b checker text → P checker.goal checker.board → P goal b
 both goal b checker text P taken so = subst (λ (x : PlainBoard). P goal x) taken.board_is (subst (λ (x : Goal). P x checker.board) taken.goal_is so)
 
-}
-
 -- the line of an answer was taken
 pub answer_taken : {A : Type 0} (goal : Goal) (b : PlainBoard) (answer : Answer) (checker : Checker A) → IsInRange answer → HasNamedMove answer → checker.goal ≡ goal → checker.board ≡ b → checker.number ≡ 1 → BeginsPart b answer checker.part checker.claims → HasShown goal b checker.part checker.claims
     → HasTakenText goal b checker (answer_text goal answer ++ 10 ∷ [])
@@ -64,8 +62,6 @@ line_long checker line rest fault is long none goal b text taken = long_refused 
 -- the end
 pub end_wrong : {A : Type 0} (checker : Checker A) (rest : List ℕ) (fault : Fault) → fault ≡ fault_at checker.part checker.number → (rest ≡ [] → IsUnfinished checker.part checker.claims) → HasNoFeed rest → RefusesMore checker rest fault
 end_wrong checker rest fault is wrong none goal b text taken = end_refused goal b checker.number checker.part checker.claims text rest fault is none wrong taken.read
-
-)
 
 -- no fault of a line is a failed read
 pub no_read : (part : Part) (number : ℕ) (fault : Fault) → fault ≡ fault_at part number → fault ≡ ReadFailed → ⊥

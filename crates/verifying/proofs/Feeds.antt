@@ -18,8 +18,7 @@ use Rattle.verifying.specs.declared.words.Word.TheVariants.{Seen, Claimed, Stale
 use Rattle.verifying.specs.FirstLine.{answer_text, goal_text, IsInRange}
 use Rattle.verifying.specs.Words.{letter_of, word_text, line_text}
 use Rattle.verifying.specs.Refusals.{fed}
-use Rattle.verifying.proofs.FirstTexts.{low_decimal, high_decimal}
-use Rattle.verifying.proofs.OneAnswer.{same_cons}
+use Rattle.verifying.proofs.FirstTexts.{low_decimal, high_decimal, one_of as same_cons}
 
 abbrev NoFeed : ℕ → Type 0
 NoFeed x = x ≢ 10

@@ -11,7 +11,10 @@ use Rattle.rules.specs.Squares.{Place, Ply}
 use Rattle.rules.specs.Moves.{IsPromoted}
 use Rattle.rules.specs.MoveText.{square_text, promotion_text, move_text}
 use Rattle.verifying.proofs.FirstLines.{four_bytes, two_are}
-use Rattle.verifying.proofs.OneAnswer.{same_cons as one_of}
+
+-- the heads and the tails of equal texts are equal
+pub one_of : (a b : ℕ) (x y : List ℕ) → a ∷ x ≡ b ∷ y → (a ≡ b) × (x ≡ y)
+one_of a b x y e = (cc, cc)
 
 -- ---- numbers
 

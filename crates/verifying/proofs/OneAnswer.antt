@@ -21,14 +21,11 @@ use Rattle.certificates.specs.declared.claim.Claim.{Claim}
 use Rattle.verifying.specs.declared.words.Word.{Word}
 use Rattle.verifying.specs.FirstLine.{answer_text, goal_text, IsInRange, HasNamedMove, IsNamedSquare, HasName}
 use Rattle.verifying.specs.Certificate.{YesLinesMake, ProveAnswer, IsCertificate}
-use Rattle.verifying.proofs.FirstTexts.{digits_no_space, no_letter, one_letter}
+use Rattle.verifying.proofs.FirstTexts.{digits_no_space, no_letter, one_letter, one_of as same_cons}
 use Rattle.rules.proofs.Room.{width_six as six}
 
 abbrev NoSpace : ℕ → Type 0
 NoSpace x = x ≢ 32
-
-pub same_cons : (a b : ℕ) (x y : List ℕ) → a ∷ x ≡ b ∷ y → (a ≡ b) × (x ≡ y)
-same_cons a b x y e = (cc, cc)
 
 one_space : (x y a b : List ℕ) → All NoSpace x → All NoSpace y → x ++ 32 ∷ a ≡ y ++ 32 ∷ b → (x ≡ y) × (a ≡ b)
 one_space [] [] a b p q e = (refl, (same_cons 32 32 a b e).1)

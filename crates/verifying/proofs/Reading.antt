@@ -151,8 +151,6 @@ line_read goal b number (No told place) new before claims text line small (words
 
 -- ---- the end
 
-}
-
 -- nothing was read yet
 pub nothing_read : (goal : Goal) (b : PlainBoard) (number : ℕ) (part : Part) (claims : List Claim) → number ≡ 0 → part ≡ First → claims ≡ [] → HasRead goal b number part claims []
 nothing_read goal b number part claims none is empty = subst (λ (p : Part). HasRead goal b number p claims []) (sym is) (record {

@@ -34,6 +34,12 @@ tree_behind-end_at-requires g t c =
 pub tree_behind-returns-then-not-has_lawful_move-clause-depth : goal.tree_behind-returns-then-not-has_lawful_move-clause-depth
 tree_behind-returns-then-not-has_lawful_move-clause-depth g t c = omega (arith, c.requires.limit.0, ap depth c.in_ok-end.ensures)
 
+pub tree_behind-returns-in_err-end-clause-goes : goal.tree_behind-returns-in_err-end-clause-goes
+tree_behind-returns-in_err-end-clause-goes g t c = g.met.D.Decider.goes_at_once _
+
+pub tree_behind-returns-then-not-has_lawful_move-clause-goes : goal.tree_behind-returns-then-not-has_lawful_move-clause-goes
+tree_behind-returns-then-not-has_lawful_move-clause-goes g t c = g.met.D.Decider.goes_at_once _
+
 pub tree_behind-overflow_sub-limit : goal.tree_behind-overflow_sub-limit
 tree_behind-overflow_sub-limit g t c =
     won_plies c.args.builder.now.goal c.args.board.now c.after-next.result c.args.first c.args.limit c.requires.wins c.after-next.ensures

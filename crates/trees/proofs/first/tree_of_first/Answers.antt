@@ -1,4 +1,4 @@
-use Rattle.std.proofs.Common.{◌∙◌, ◌<◌, length, subst, sym}
+use Rattle.std.proofs.Common.{◌∙◌, ◌<◌, arith, length, subst, sym}
 use Rattle.rules.specs.Squares.{Ply}
 use Rattle.decision.proofs.Options.{none_at, some_at}
 use Rattle.searcher.proofs.Jobs.{got_at, move_at, same_some}
@@ -18,7 +18,7 @@ tree_behind-requires g c =
     let got = got_at r.moves.items c.args.job first below (move_at r.moves.items c.deref.result.now c.from.result c.args.job first c.deref.ensures.0 c.from.ensures c.index-deref-from.is) in
     let takes = some_at c.in-Some.found c.in-Some-found.plies _ _ c.in-Some-found.is c.in-Some.ensures.plies in
     let is = job_takes r c.args.job first got c.in-Some-found.plies takes.1 in
-    ((is.some, takes.0 ∙ c.requires.limit), is.wins)
+    record { limit = (is.some, omega (arith, takes.0, c.requires.limit)); wins = is.wins }
 
 pub returns-clause-found : goal.returns-clause-found
 returns-clause-found g c = λ m at.
@@ -30,8 +30,5 @@ returns-clause-found g c = λ m at.
       c.in-Some-found.plies,
       takes.0,
       job_takes r c.args.job m at c.in-Some-found.plies takes.1,
-      subst (λ (x : Ply). IsBestOf r.goal r.board x c.in_ok-tree_behind.value) (same_some first m (sym got ∙ at)) c.in_ok-tree_behind.ensures.best,
+      subst (λ (x : Ply). IsBestOf r.goal r.board x c.in_ok-tree_behind.field-0) (same_some first m (sym got ∙ at)) c.in_ok-tree_behind.ensures.best,
     )
-
-pub returns-in_err-clause-halt : goal.returns-in_err-clause-halt
-returns-in_err-clause-halt g c = c.in_err.ensures.halt
