@@ -54,7 +54,7 @@ some_or_none : {X : Type 0} (r : Bool) (x : X) (rest : Option X) → cond r (Som
 some_or_none true x rest e = cc
 some_or_none false x rest e = refl
 
-limit_within : (limit workers slots : ℕ) → limits_fault limit workers slots ≡ None → (0 < limit) × (limit ≤ 63)
+pub limit_within : (limit workers slots : ℕ) → limits_fault limit workers slots ≡ None → (0 < limit) × (limit ≤ 63)
 limit_within limit workers slots e =
     let neither = or_parts (ltb limit 1) (ltb 63 limit) (some_or_none (ltb limit 1 || ltb 63 limit) Limit _ e) in
     (at_least limit neither.0, at_most limit neither.1)

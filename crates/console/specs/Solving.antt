@@ -22,7 +22,7 @@ use Rattle.refusals.specs.Refusal.{refusal_of_fen}
 use Rattle.replies.specs.First.{IsFirstReply}
 use Rattle.replies.specs.Outcome.{Solves}
 use Rattle.rounds.specs.declared.task.SolveFault.{SolveFault}
-use Rattle.console.specs.declared.beside.Searched.{Searched}
+use Rattle.console.specs.declared.searched.Searched.{Searched}
 use Rattle.answer_texts.specs.Answers.{none_text}
 use Rattle.replies.specs.Output.{IsSoundText, fault_of, refusal_of_solve}
 use Rattle.refusals.specs.declared.refusal.Refusal.{Refusal}

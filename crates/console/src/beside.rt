@@ -9,11 +9,11 @@ ghost use Rattle.replies.specs.Output.{input_of, MayRead};
 ghost use Rattle.console.specs.Solving.{SolvesOver};
 ghost use Rattle.progress.specs.Signs.{IsLastRound};
 
+use crate::searched::Searched;
 use crate::tally::Tally;
 use answer_texts::Found;
 use board::Position;
 use command_line::{Action, Limits, Line};
-use decision::Answer;
 use devices::{Failed, Source};
 use entry::MateLore;
 use moves::{Goal, read_sound};
@@ -244,17 +244,8 @@ pub fn find_beside<R: Threads + Wait + Eprint + Clock + Sync + AllocGlobal>(
     found
 }
 
-/// An answer, with the table by which it was found, and a seat there.
-#[derive(Drop)]
-pub struct Searched {
-    pub answer: Answer,
-    pub slots: Slots<MateLore>,
-    pub seat: Seat,
-    ghost belongs: { IsSeatOf slots seat },
-}
-
 /// The answer at a position, told to the gate.
-fn searched<R: Threads + Wait + Sync + AllocGlobal, T: Gate>(
+fn search_told<R: Threads + Wait + Sync + AllocGlobal, T: Gate>(
     rt: &R,
     gate: &T,
     position: &Position,
@@ -286,7 +277,7 @@ fn searched_watched<R: Threads + Wait + Sync + AllocGlobal>(
 ) -> Result<Searched, SolveFault>
     ensures { SolvesOver goal position.now limits result }
 {
-    let found = searched(rt, watch, position, goal, limits);
+    let found = search_told(rt, watch, position, goal, limits);
     watch.finish();
     found
 }
@@ -322,6 +313,6 @@ pub fn searched_at<R: Threads + Wait + Eprint + Clock + Sync + AllocGlobal>(
 {
     match host.watch_of(position, false, limits) {
         Some(watch) => searched_beside(host.rt, &watch, position, goal, limits),
-        None => searched(host.rt, &NoGate, position, goal, limits),
+        None => search_told(host.rt, &NoGate, position, goal, limits),
     }
 }

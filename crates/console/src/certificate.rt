@@ -4,7 +4,8 @@ ghost use Rattle.verifying.specs.Checking.{HasTaken};
 ghost use Rattle.console.specs.Claims.{BeginsAt, BeginsCertificate, EndsClaims, EndsWriting, cut_of, writing_of};
 ghost use Rattle.console.specs.declared.certificate.Cut.TheVariants.{WriteFailed};
 
-use crate::beside::{Host, Searched, searched_at};
+use crate::beside::{Host, searched_at};
+use crate::searched::Searched;
 use answer_texts::answer_text;
 use board::Position;
 use certifying::{Certificate, Checked};

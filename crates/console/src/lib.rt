@@ -10,6 +10,7 @@ mod over;
 mod problem;
 mod program;
 mod running;
+mod searched;
 mod tally;
 
 pub use beginning::{Input, Keeping};

@@ -5,7 +5,8 @@ ghost use Rattle.replies.specs.Outcome.{Gives};
 ghost use Rattle.searcher.specs.Roots.{IsRoot};
 ghost use Rattle.console.specs.Solving.{IsPublished, IsSolutionReply, ShowsSolution, notation_of};
 
-use crate::beside::{Host, Searched, searched_at};
+use crate::beside::{Host, searched_at};
+use crate::searched::Searched;
 use algebraic::{Notation, Symbols};
 use board::Position;
 use command_line::{Limits, Subject, Telling};

@@ -1,11 +1,18 @@
-use Rattle.std.proofs.Common.{Ok, subst, sym, vec_items}
+use Rattle.std.proofs.Common.{Ok, arith, subst, sym, vec_items}
 use Rattle.board.specs.Board.{PlainBoard}
 use Rattle.rules.specs.declared.goal.Goal.{Goal}
 use Rattle.decision.specs.Answer.{IsFewest}
 use Rattle.replies.specs.Outcome.{Solves}
 use Rattle.console.specs.Solving.{IsPublished}
+use Rattle.console.proofs.CertifyLemmas.{limit_within}
 use Rattle.console.proofs.SolvingLemmas.{published_shown}
 use Rattle.console.proofs.problem.solution_at.Goals as goal
+
+pub published-requires-clause-plies : goal.published-requires-clause-plies
+published-requires-clause-plies g c =
+    let solved = subst (λ a. Solves c.args.goal c.args.position.now c.args.limits (Ok a)) c.in-Mate.is c.in-Ok.ensures in
+    let most = limit_within c.args.limits.limit c.args.limits.workers c.args.limits.slots solved.0 in
+    omega (arith, solved.1.0, most.1)
 
 pub published-requires-clause-fewest : goal.published-requires-clause-fewest
 published-requires-clause-fewest g c =
