@@ -8,7 +8,7 @@ use Rattle.std.specs.List.{list_all}
 use Rattle.std.proofs.lemmas.Bool.{and_parts}
 use Rattle.std.proofs.lemmas.Bool.Decides.{Decides-int_eq}
 use Rattle.std.proofs.lemmas.List.Sums.{AllPass-from_list_all}
-use Rattle.std.proofs.lemmas.List.Elements.{All-from_get_or, All-push, All-weaker, All-contains, All-nil, All-get_or, Contains-append_left, Contains-push, Contains-push_cases}
+use Rattle.std.proofs.lemmas.List.Elements.{All-from_get_or, All-push, All-weaker, All-contains, All-get_or, Contains-append_left, Contains-push, Contains-push_cases}
 use Rattle.std.proofs.lemmas.List.Quantifiers.{all_pairs_push}
 use Rattle.std.proofs.lemmas.Grind.{common_steps, elements}
 use Rattle.board.specs.declared.step.Step.{Step}
@@ -92,15 +92,6 @@ pub record Collects (terms : List Term) (seen : List (ℤ × ℤ)) (steps : List
   pub among : All (λ s. Contains seen (s.dx, s.dy)) steps
   pub complete : (s : Step) → Contains seen (s.dx, s.dy) → Denotes terms s → Contains steps s
   pub ordered : AllPairs IsStepBefore steps
-
-pub Collects-nil : (terms : List Term) → Collects terms [] []
-Collects-nil terms = record {
-  short = omega arith;
-  denoted = All-nil (Denotes terms);
-  among = All-nil (λ s. Contains [] (s.dx, s.dy));
-  complete = λ s h _. absurd (omega (arith, h.1));
-  ordered = λ i j d p q. absurd (omega arith);
-}
 
 pub Collects-skip : (terms : List Term) (seen : List (ℤ × ℤ)) (steps : List Step) (p : ℤ × ℤ) → Collects terms seen steps → All (λ t. IsTermLeap t p.0 p.1 → ⊥) terms → Collects terms (seen ++ p ∷ []) steps
 Collects-skip terms seen steps p c none = record {

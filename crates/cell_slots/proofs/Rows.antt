@@ -1,9 +1,9 @@
 -- The tokens of a seat, one for each slot.
-use Rattle.std.proofs.Common.{◌≡◌, ◌≢◌, ℕ, zero, suc, ◌+◌, ◌<◌, ◌≤◌, List, [], ◌∷◌, ◌++◌, map, All, length, get_or, set, take, refl, sym, ap, ◌∙◌, subst, arith, length-set, get_or-set_same, get_or-set_other, lt_of_not-le}
+use Rattle.std.proofs.Common.{◌≡◌, ◌≢◌, ℕ, zero, suc, ◌+◌, ◌<◌, ◌≤◌, List, [], ◌∷◌, ◌++◌, map, All, length, get_or, set, take, refl, sym, ap, ◌∙◌, subst, arith, length-set, get_or-set_same, get_or-set_other}
 use Rattle.std.proofs.lemmas.List.{map-append, take_more}
 use Rattle.std.proofs.lemmas.List.Elements.{All-append, All-get_or, All-from_get_or}
 use mathlib.Core.Logic.{dite}
-use native.Mathlib.Decide.{dec_le, ℕ_discrete}
+use native.Mathlib.Decide.{ℕ_discrete}
 use Rattle.atomic_table.specs.Seated.{TableId}
 use Rattle.std.proofs.Math.Seq.{map-set_same}
 use Rattle.std.proofs.lemmas.List.{length-map}
@@ -87,11 +87,6 @@ fresh_more cell cells i a tokens now t inside is now_is old here sits new = subs
   new = subst (All IsFresh) (sym (map-append token_part tokens (t ∷ []))) (All-push IsFresh (map token_part tokens) (token_part t) old.new new);
 }
 
-pub all_new : (tokens : List Token) → All IsFresh (map token_part tokens) → (i : ℕ) → IsFresh (tokens_part tokens i)
-all_new tokens all i = dite (dec_le (length (map token_part tokens)) i)
-    (λ out. subst IsFresh (sym (past (map token_part tokens) i nobody_yet out)) (refl, refl))
-    (λ inside. All-get_or IsFresh (map token_part tokens) i nobody_yet (lt_of_not-le inside) all)
-
 -- ---- The tokens of one seat that are told those of another, one by one
 
 -- of the slots below i it is done
@@ -103,17 +98,6 @@ pub record Telling (i : ℕ) (old others now others_now : List Token) : Type 0 w
   pub done : (k : ℕ) → k < i → tokens_part now k ≡ told_part (tokens_part old k) (tokens_part others k)
   pub same : (k : ℕ) → i ≤ k → tokens_part now k ≡ tokens_part old k
   pub others_same : (k : ℕ) → i ≤ k → tokens_part others_now k ≡ tokens_part others k
-
-pub telling_begins : (old others : List Token) → All IsSeated old → All IsSeated others → Telling 0 old others old others
-telling_begins old others seated also = record {
-  line = refl;
-  others_line = refl;
-  seated = seated;
-  others_seated = λ k d _ inside. All-get_or IsSeated others k d inside also;
-  done = λ k less. absurd (omega arith);
-  same = λ k _. refl;
-  others_same = λ k _. refl;
-}
 
 pub telling_on : (i : ℕ) (old others now others_now : List Token) (t o t' o' : Token) → Telling i old others now others_now → i < length now → i < length others_now
     → t ≡ get_or now i t → o ≡ get_or others_now i o → (t'.table_id ≡ t.table_id) × (t'.id ≡ t.id) → (o'.table_id ≡ o.table_id) × (o'.id ≡ o.id)
@@ -138,13 +122,3 @@ telling_on i old others now others_now t o t' o' so_far inside others_inside t_i
       same = λ k from. set_part_else now i k t' (λ e. omega arith) ∙ so_far.same k (omega arith);
       others_same = λ k from. set_part_else others_now i k o' (λ e. omega arith) ∙ so_far.others_same k (omega arith);
     }
-
-pub telling_done : (i : ℕ) (old others now others_now : List Token) → Telling i old others now others_now → length old ≤ i → length others ≤ i
-    → (k : ℕ) → tokens_part now k ≡ told_part (tokens_part old k) (tokens_part others k)
-telling_done i old others now others_now so_far short others_short k =
-    let long = length-map old token_part in
-    let others_long = length-map others token_part in
-    dite (dec_le i k)
-    (λ from. so_far.same k from ∙ (past (map token_part old) k nobody_yet (omega arith)
-    ∙ sym (λ j. told_part (past (map token_part old) k nobody_yet (omega arith) j) (past (map token_part others) k nobody_yet (omega arith) j))))
-    (λ less. so_far.done k (lt_of_not-le less))

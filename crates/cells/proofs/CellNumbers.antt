@@ -52,12 +52,6 @@ shift_in g dx dy i j from small away to =
     let w = file_away dx dy (place_in i).file (place_in i).rank (place_in j).file (place_in j).rank (six g _ from.on_board.file) (six g _ to.on_board.file) small e in
     record { file = w.0; rank = w.1 }
 
--- and the square that the step leads to stands in that cell
-pub cell_of-shift : (g : Game) (dx dy : ℤ) (i j : ℕ) (t : Place) → IsCell g i → IsAway dx dy i j → IsOnBoard g t → IsShift dx dy (place_in i) t → cell_of t ≡ j
-cell_of-shift g dx dy i j t from away on e =
-    let a : i ≡ 17 + (8 * (place_in i).rank + (place_in i).file) = let h = from.above in omega arith in
-    omega (arith, ints, a, away, e.file, e.rank)
-
 pub small_squares : (g : Game) → width_of g * width_of g ≤ 36
 small_squares LosAlamos = omega arith
 small_squares Gardner = omega arith

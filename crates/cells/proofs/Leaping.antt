@@ -62,11 +62,6 @@ is-away dx dy i h small = omega (arith, ints, h, small)
 same_size : (side : Side) (x : Step) → IsShort x → unsigned_abs x.dx + 8 * unsigned_abs (ahead_of side x.dy) < 18
 same_size side x h = let e = size-ahead side x.dy in omega (arith, e, h)
 
-move-is : (m : Mode) → is_move m ≡ true → m ≡ Move
-move-is Move e = refl
-move-is Capture e = cc
-move-is Both e = cc
-
 captures : (m : Mode) → is_move m ≡ false → m ≡ Move → ⊥
 captures Move e h = cc
 captures Capture e h = cc

@@ -145,13 +145,6 @@ Has-minus a b i fa fb = elim (cases_lt i 64) [
 pub Has-zero : (i : ℕ) → Has 0 i → ⊥
 Has-zero i h = let z = bit_at-zero i in omega (arith, z, h)
 
--- a set that isn't 0 has something
-pub zero-none : (a : ℕ) → a < 2 ^ 64 → ((i : ℕ) → i < 64 → Has a i → ⊥) → a ≡ 0
-zero-none a fits none = elim (cases_lt 0 a) [
-  | inl some ↦ let w = bit_at-trailing_zeros w64 a some fits in absurd (none _ w.0 w.1)
-  | inr zeroed ↦ omega (arith, zeroed)
-]
-
 -- a set without one cell
 pub Has-clear : (n k i : ℕ) → n < 2 ^ 64 → k < 64 → Has (bit_and n (bit_not w64 (1 * 2 ^ k % 2 ^ 64))) i ↔ (Has n i × (i ≢ k))
 Has-clear n k i fits low = elim (cases_lt i 64) [

@@ -3,9 +3,8 @@ use Rattle.std.proofs.Common.{◌≡◌, ℕ, ◌++◌, refl, ◌∙◌, subst}
 use Rattle.atomic_table.specs.Seated.{TableId}
 use Rattle.slots.specs.Promise.{slots_of, number}
 use Rattle.decision.specs.declared.caller.Caller.{Caller}
-use Rattle.decision.specs.declared.lead.Lead.{Lead}
 use Rattle.decision.specs.Calls.{Continues}
-use Rattle.decision.specs.Callers.{GoesOn, Searches, adds}
+use Rattle.decision.specs.Callers.{GoesOn, adds}
 use Rattle.decision.proofs.Calls.{continues_none, continues_more, added_more}
 
 -- the later calls, over the table of the first
@@ -24,14 +23,6 @@ goes_more a b c p q = record {
 
 pub adds_more : {A : Type 0} (a b c : Caller A) → GoesOn a b → GoesOn b c → adds a c ≡ adds a b ++ adds b c
 adds_more a b c p q = added_more a.seat.now b.seat.now c.seat.now p.calls.grew q.calls.grew
-
-module _ {S : Type 0} (stays : S → S → Type 0) (on : (x y z : S) → stays x y → stays y z → stays x z) where
-  pub searches_more : {A : Type 0} (a b c : Caller A) (l m n : Lead S) → Searches stays a b l m → Searches stays b c m n → Searches stays a c l n
-  searches_more a b c l m n p q = record {
-    caller = goes_more a b c p.caller q.caller;
-    reference = q.reference ∙ p.reference;
-    stop = on l.scout.now.stop m.scout.now.stop n.scout.now.stop p.stop q.stop;
-  }
 
 -- the names that the caller had before
 pub named_before : {A : Type 0} (a b : Caller A) → GoesOn a b → (P : ℕ → ℕ → Type 0) → P (slots_of b.slots.now) (number b.seat.now) → P (slots_of a.slots.now) (number a.seat.now)

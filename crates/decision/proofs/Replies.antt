@@ -1,5 +1,5 @@
 -- What replies say.
-use Rattle.std.proofs.Common.{◌≡◌, ℕ, ◌<◌, ◌≤◌, ◌-◌, ◌↔◌, IsTrue, Bool, true, false, List, Option, Some, None, refl, sym, ap, ◌∙◌, subst, arith}
+use Rattle.std.proofs.Common.{ℕ, ◌≤◌, ◌-◌, ◌↔◌, IsTrue, Bool, true, false, List, Option, Some, None, refl, sym, ap, ◌∙◌, subst, arith}
 use Rattle.std.specs.Option.{IfSome, MatchOption}
 use Rattle.std.proofs.lemmas.Bool.{false≢true}
 use Rattle.board.specs.Board.{IsPosition}
@@ -40,23 +40,6 @@ replies_of (Hit words) i n answer t s = (t.0, t.1, subst (λ (j : Bounds). Says 
 replies_of Vacant i n answer t s = absurd t
 replies_of Other i n answer t s = absurd t
 replies_of Busy i n answer t s = absurd t
-
--- an interval that says neither decides nothing
-pub says_neither : (i : Bounds) (n : ℕ) → i.below ≤ n → (EndsBy i.upto n → ⊥) → (answer : Bool) → Says i n answer → ⊥
-says_neither i n low high true s = high s
-says_neither i n low high false s = omega (arith, low, s)
-
--- an end that comes later, and one that isn't known
-pub ends_later : (end : Option ℕ) (m n : ℕ) → end ≡ Some m → n < m → EndsBy end n → ⊥
-ends_later None m n is lt e = e
-ends_later (Some k) m n is lt e = let same : k ≡ m = some_same k m is in omega arith
-  where
-    some_same : (k m : ℕ) → Some k ≡ Some m → k ≡ m
-    some_same k m is = cc
-
-pub ends_never : (end : Option ℕ) (n : ℕ) → end ≡ None → EndsBy end n → ⊥
-ends_never None n is e = e
-ends_never (Some k) n is e = cc
 
 -- what one reply says is settled by it
 pub settles_not : (reply : Probe) (i : Bounds) (n : ℕ) → Tells reply (Some i) → ((answer : Bool) → Says i n answer → ⊥) → Settles reply n → ⊥
@@ -106,10 +89,6 @@ met_is_right law q position Vacant h s i right m = subst (IsRight (asked_for q))
 met_is_right law q position Other h s i right m = subst (IsRight (asked_for q)) (sym m) right
 met_is_right law q position Busy h s i right m = subst (IsRight (asked_for q)) (sym m) right
 
--- the words of what is right are a true entry's
-pub true_words : (q : Question) (i : Bounds) (words : List ℕ) → Packing (entry_for q i) words → IsRight (asked_for q) i → IsTruePacking words
-true_words q i words packing right = record { entry = entry_for q i; packing = packing; holds = record { below = right.below; upto = right.upto } }
-
 -- a reply that decides n is right
 pub reply_is_right : (q : Question) → IsPosition q.position → (reply : Probe) → HitFits key_words IsTruePacking (Asked (key_for q) reply) → (n : ℕ) (answer : Bool) → RepliesThat reply n answer
     → IsTrue answer ↔ Forces q.goal q.attacker q.position n
@@ -131,10 +110,6 @@ known_is_right q i right n true s = (λ e. ends_in i.upto n s right.upto, λ f. 
     ends_in None n by f = absurd by
     ends_in (Some m) n by f = raise (asked_for q) (n - m) m n (omega (arith, by)) f
 known_is_right q i right n false s = (λ e. absurd (false≢true e), λ f. absurd (right.below n s f))
-
--- nothing is known at first
-pub nothing_known : (q : Question) → IsKnownOf q (bounds_of 0 None)
-nothing_known q = record { below = λ n lt. absurd (omega (arith, lt)); upto = tt }
 
 -- an answer met with what is known still says so
 pub says_on : (n : ℕ) (answer : Bool) (i : Bounds) → Says (meeting (said answer n) i) n answer

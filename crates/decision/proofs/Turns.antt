@@ -8,10 +8,9 @@ use Rattle.board.specs.Games.{squares_of}
 use Rattle.board.specs.Board.{PlainBoard, board_of, unit_on, IsPosition, MayStandOn}
 use Rattle.rules.specs.Squares.{Place, IsOnBoard, square_number, unit_at}
 use Rattle.rules.proofs.Listed.{same_number, number_within}
-use Rattle.laws.specs.Turnings.{Turning as Way, turned_place, turned_units, IsTurned, MayTurn}
+use Rattle.laws.specs.Turnings.{Turning as Way, turned_place, turned_units, IsTurned}
 use Rattle.laws.proofs.Squares.{back_of, turned_on_board, turned_back}
 use Rattle.laws.proofs.Forced.{Forces-turned, Forces-back}
-use Rattle.moves.specs.Pawns.{HasPawn}
 use Rattle.decision.specs.declared.turning.Turning.{Turning}
 use Rattle.decision.specs.declared.question.Question.{Question}
 use Rattle.decision.specs.Questions.{question, IsForced}
@@ -97,18 +96,6 @@ turned_whole t b units n is all c = record {
 }
 
 -- ---- which boards may be turned
-
--- files stay files, and top stays top
-pub may_straight : (t : Turning) (b : PlainBoard) → t.top_bottom ≡ false → t.diagonal ≡ false → MayTurn (way_of t) b
-may_straight t b top over = inl (record { straight = over; ahead = top })
-
--- there is no pawn
-pub may_without : (t : Turning) (b : PlainBoard) → (HasPawn b → ⊥) → MayTurn (way_of t) b
-may_without t b none = inr (λ s u on stands pawn. none (s, u, on, stands, pawn))
-
-pub may_not : (t : Turning) (b : PlainBoard) → HasPawn b → (t.top_bottom ≡ false → t.diagonal ≡ false → ⊥) → MayTurn (way_of t) b → ⊥
-may_not t b pawn turns (inl keeps) = turns keeps.ahead keeps.straight
-may_not t b pawn turns (inr none) = none pawn.0 pawn.1 pawn.2 pawn.3 pawn.4
 
 -- ---- what is forced
 

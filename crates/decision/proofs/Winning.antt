@@ -1,8 +1,8 @@
 -- What is forced, from the list of lawful moves, round by round.
-use Rattle.std.proofs.Common.{◌≡◌, ℕ, ◌+◌, ◌-◌, ◌*◌, ◌<◌, ◌≤◌, ◌⊎◌, inl, inr, zero, suc, sym, ap, subst, ◌∙◌, arith, List, [], ◌∷◌, length, take, get_or, get_or-take, length-take, Bool, All, Contains, ◌↔◌, IsTrue, true, refl}
+use Rattle.std.proofs.Common.{◌≡◌, ℕ, ◌+◌, ◌-◌, ◌*◌, ◌<◌, ◌≤◌, ◌⊎◌, inl, inr, zero, suc, sym, subst, ◌∙◌, arith, List, [], ◌∷◌, length, take, get_or, Bool, All, ◌↔◌, IsTrue, true, refl}
 use Rattle.std.proofs.lemmas.Bool.{false≢true}
 use Rattle.std.proofs.lemmas.Grind.{common_steps, elements}
-use Rattle.std.proofs.lemmas.List.Elements.{All-append, All-contains, All-get_or}
+use Rattle.std.proofs.lemmas.List.Elements.{All-append}
 use Rattle.std.proofs.Math.Seq.{take-suc}
 use Rattle.board.specs.declared.game.Side.{Side}
 use Rattle.board.specs.declared.game.Side.TheVariants.{White, Black}
@@ -11,13 +11,12 @@ use Rattle.board.specs.Board.{PlainBoard}
 use Rattle.rules.specs.Squares.{Ply}
 use Rattle.rules.specs.declared.goal.Goal.{Goal}
 use Rattle.rules.specs.Moves.{IsMove}
-use Rattle.rules.specs.Order.{IsPlyBefore, ListsLawful}
+use Rattle.rules.specs.Order.{ListsLawful}
 use Rattle.rules.specs.Forces.{IsReached, Forces}
 use Rattle.rules.proofs.Keeps.{one_after}
-use Rattle.rules.proofs.Forcing.{to_own, to_other, turn-own, same_side-self, twice, twice-double, Forces-even}
-use Rattle.decision.specs.Answer.{Wins, IsLeastWin, ForcesNothing}
-use Rattle.rules.proofs.Lists.{split3}
-use Rattle.board.proofs.RankText.{on_true as on_own, on_false as on_other}
+use Rattle.rules.proofs.Forcing.{to_own, same_side-self, twice, twice-double, Forces-even}
+use Rattle.decision.specs.Answer.{Wins, ForcesNothing}
+use Rattle.board.proofs.RankText.{on_true as on_own}
 
 -- ---- one move
 
@@ -26,14 +25,6 @@ pub wins_by : (goal : Goal) (b : PlainBoard) (n : ℕ) (m : Ply) (q : PlainBoard
 wins_by goal b n m q answer move h = (
   λ yes_is. (q, move, h.0 yes_is),
   λ (x, other, forces). h.1 (subst (λ (z : PlainBoard). Forces goal b.mover z (n - 1)) (one_after b m x q other move) forces),
-)
-
--- a move wins within one ply where the position after it has reached the goal
-pub wins_from : (goal : Goal) (b : PlainBoard) (m : Ply) (q : PlainBoard) (r : Bool) → IsMove b m q → (IsTrue r ↔ IsReached goal q) → IsTrue r ↔ Wins goal b 1 m
-wins_from goal b m q r move h = (
-  λ won. (q, move, to_other _ ⊥ (IsReached goal q) (turn-own b.mover b m q move (same_side-self b.mover)) (h.0 won)),
-  λ (x, other, forces). let reached = on_other _ ⊥ (IsReached goal x) (turn-own b.mover b m x other (same_side-self b.mover)) forces in
-      h.1 (subst (IsReached goal) (one_after b m x q other move) reached),
 )
 
 -- on the attacker's turn a win is all that forces
@@ -78,27 +69,6 @@ pub same_default : (xs : List Ply) (i : ℕ) (d m : Ply) → i < length xs → g
 same_default xs i d m h e = grind (arith, common_steps, elements)
 
 module _ (goal : Goal) (b : PlainBoard) (n : ℕ) (xs : List Ply) (lists : ListsLawful b xs) where
-  wins_listed : (m : Ply) → Wins goal b n m → Contains xs m
-  wins_listed m (q, move, f) = (lists.exact m).1 (q, move)
-
-  -- the first of the list that wins is the answer
-  pub answer_at : (i : ℕ) (m : Ply) → i < length xs → m ≡ get_or xs i m → All (λ l. Wins goal b n l → ⊥) (take i xs) → Wins goal b n m → IsLeastWin goal b n m
-  answer_at i m h at none wins = record {
-    wins = wins;
-    least = λ l w. least l w (wins_listed l w);
-  }
-    where
-      least : (l : Ply) → Wins goal b n l → Contains xs l → (l ≡ m) ⊎ IsPlyBefore b.game m l
-      least l w (j, in_list, e) = elim (split3 i j) [
-        | inl after ↦ inr (subst (IsPlyBefore b.game m) e (subst (λ x. IsPlyBefore b.game x (get_or xs j l)) (same_default xs i l m h (sym at)) (lists.ordered i j l after in_list)))
-        | inr (inl same) ↦ inl (sym e ∙ ap (λ k. get_or xs k l) (sym same) ∙ same_default xs i l m h (sym at))
-        | inr (inr before) ↦ absurd (All-get_or (λ x. Wins goal b n x → ⊥) (take i xs) j l (omega (arith, length-take {A = Ply})) none (subst (Wins goal b n) (sym (get_or-take i xs j l before ∙ e)) w))
-      ]
-
-  -- where none of the list wins, no move does
-  pub none_wins : All (λ l. Wins goal b n l → ⊥) xs → (m : Ply) → Wins goal b n m → ⊥
-  none_wins none m w = All-contains (λ l. Wins goal b n l → ⊥) xs m none (wins_listed m w) w
-
   -- the moves before, and one more
   pub none_next : (i : ℕ) (m : Ply) → i < length xs → m ≡ get_or xs i m → (Wins goal b n m → ⊥) → All (λ l. Wins goal b n l → ⊥) (take i xs) → All (λ l. Wins goal b n l → ⊥) (take (i + 1) xs)
   none_next i m lt at none before =

@@ -169,9 +169,6 @@ module _ (b : PlainBoard) (is : IsPosition b) (side : Side) (i set : ℕ) (c : I
   pub check-some : set < 2 ^ 64 → (set ≡ 0 → ⊥) → IsInCheck b side
   check-some fits some = check_from b side (place_in i) c.on_board king (some-attacks b is side i c set fits are some)
 
-  pub no-check-none : set ≡ 0 → IsInCheck b side → ⊥
-  no-check-none zero check = none-attacks b is side i c set are zero (check_at b is side (place_in i) c.on_board king check)
-
 -- what is attacked has an attacker
 pub some_checkers : (b : PlainBoard) (is : IsPosition b) (side : Side) (i : ℕ) → IsCell b.game i → (set : ℕ) → ((j : ℕ) → Has set j ↔ (IsCell b.game j × AttacksFrom b (other_side side) (place_in j) (place_in i))) → IsAttacked b (place_in i) (other_side side) → 0 < set
 some_checkers b is side i cell set are attacked = elim (cases_eq set 0) [

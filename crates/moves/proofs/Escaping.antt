@@ -64,9 +64,6 @@ module _ (b : PlainBoard) (m : Ply) (u : Man) (is : IsPosition b) (p : IsPseudoL
     foe : Man
     foe = record { side = other_side b.mover; kind = King }
 
-    step_to : Ply
-    step_to = record { from = k; to = f; promotion = None }
-
     not_from : k ≡ m.from → ⊥
     not_from e = own_or_other b.mover (sym p.owner ∙ ap (λ (x : Man). x.side) (same_Some u (record { side = other_side b.mover; kind = King }) (sym p.stands ∙ ap (unit_at b) (sym e) ∙ king)))
 

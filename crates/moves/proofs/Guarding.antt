@@ -110,10 +110,6 @@ module _ (b : PlainBoard) (m : Ply) (u : Man) (stands : unit_at b m.from ≡ Som
     λ (q, move). safe.1 (λ check. move.safe (subst (λ x. IsInCheck x b.mover) (ap (after b m) (sym (same_unit move.unit move.pseudo)) ∙ sym move.leads) check)),
   )
 
-  -- a move onto a king, or one that names its promotion badly, is no lawful one
-  pub not_onto_king : IsSomeKing (unit_at b m.to) → IsLawful b m → ⊥
-  not_onto_king there (q, move) = move.pseudo.no_king there
-
   pub promotes_well : IsLawful b m → (IsSome m.promotion ↔ Promotes b.game u m.to) × IfSome m.promotion (IsPromotion b.game)
   promotes_well (q, move) = (subst (λ v. IsSome m.promotion ↔ Promotes b.game v m.to) (same_unit move.unit move.pseudo) move.pseudo.named, move.pseudo.allowed)
 

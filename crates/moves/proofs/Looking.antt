@@ -1,5 +1,5 @@
 -- A walk read backwards: what attacks a square is what a unit of the same kind would take from there.
-use Rattle.std.proofs.Common.{◌≡◌, ℕ, ℤ, pos, negsuc, neg_ℤ, zero, suc, refl, sym, ap, subst, ◌∙◌, arith, true, Some, None, unwrap_or, Option, IfSome, List}
+use Rattle.std.proofs.Common.{◌≡◌, ℕ, ℤ, pos, negsuc, neg_ℤ, zero, suc, refl, sym, ap, subst, ◌∙◌, arith, true, Some, None, Option, IfSome, List}
 use Rattle.std.specs.Int.RustNames.{unsigned_abs}
 use Rattle.std.proofs.lemmas.Int.{ints}
 use Rattle.std.proofs.lemmas.Option.{same_Some}
@@ -23,9 +23,6 @@ use Rattle.rules.specs.Squares.{Place, IsOnBoard, square_number, unit_at}
 use Rattle.rules.specs.Reach.{ahead_of, IsStep, Leads, Allows, AttacksFrom, IsAttacked}
 use Rattle.rules.specs.Reach.Leads.{once, again}
 use Rattle.moves.specs.Looking.{foe_of, IsStruck, Aims}
-
-some_same : {X : Type 0} {x y : X} → Some x ≡ Some y → x ≡ y
-some_same {x = x} e = ap (λ o. unwrap_or o x) e
 
 no_Some : {X : Type 0} {x : X} → None ≡ Some x → ⊥
 no_Some e = cc

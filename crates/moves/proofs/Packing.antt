@@ -1,7 +1,6 @@
 -- What words stand for, and what a move does to them.
-use Rattle.std.proofs.Common.{◌≡◌, ◌≢◌, ℕ, ◌+◌, ◌*◌, ◌%◌, ◌<◌, ◌≤◌, zero, suc, refl, sym, ap, subst, ◌∙◌, arith, ◌⊎◌, inl, inr, List, [], ◌∷◌, length, get_or, set, IfSome, Option, Some, None, replicate}
+use Rattle.std.proofs.Common.{◌≡◌, ◌≢◌, ℕ, ◌+◌, ◌%◌, ◌<◌, ◌≤◌, zero, suc, refl, sym, ap, subst, ◌∙◌, arith, ◌⊎◌, inl, inr, List, length, get_or, set, IfSome, Option, Some, None, replicate}
 use Rattle.std.specs.Int.RustNames.{bit_xor}
-use Rattle.std.proofs.lemmas.Nat.{shr_le}
 use Rattle.std.proofs.lemmas.Bool.{cases_eq, cases_lt}
 use Rattle.std.proofs.lemmas.List.{get_or-set_same, get_or-set_other, length-set}
 use Rattle.std.proofs.lemmas.List.FromFn.{get_or-map-range_with_len, length-map-range_with_len, fill_by_all}
@@ -163,29 +162,12 @@ module _ (g : Game) (w v u : List ℕ) (t from to code : ℕ) (p : IsPut g w v f
 
 -- ---- the words of a position, filled square by square
 
-digit_zero : (i : ℕ) → digit 0 i ≡ 0
-digit_zero i = omega (arith, shr_le 0 (4 * i))
-
 -- the squares below n are filled, and all else is 0 but for the flags
 pub record IsFilled (g : Game) (f : ℕ) (units : List (Option Man)) (words : List ℕ) (n : ℕ) : Type 0 where
   pub flags : flags_of words ≡ f
   pub done : (k : ℕ) → k < n → man_of (code_on g words k) ≡ get_or units k None
   pub small : (k : ℕ) → k < n → code_on g words k < 13
   pub free : (k i : ℕ) → ((m : ℕ) → m < n → word_of g m ≡ k → place_of g m ≡ i → ⊥) → (k ≡ 0 → i ≡ 12 → ⊥) → digit (get_or words k 0) i ≡ 0
-
-free_start : (w : ℕ) → ((i : ℕ) → i ≢ 12 → digit w i ≡ digit 0 i) → (k i : ℕ) → (k ≡ 0 → i ≡ 12 → ⊥) → digit (get_or (w ∷ 0 ∷ 0 ∷ []) k 0) i ≡ 0
-free_start w rest zero i none = rest i (none refl) ∙ digit_zero i
-free_start w rest (suc zero) i none = digit_zero i
-free_start w rest (suc (suc zero)) i none = digit_zero i
-free_start w rest (suc (suc (suc k))) i none = digit_zero i
-
-pub IsFilled-start : (g : Game) (f : ℕ) (units : List (Option Man)) (w : ℕ) → digit w 12 ≡ f → ((i : ℕ) → i ≢ 12 → digit w i ≡ digit 0 i) → IsFilled g f units (w ∷ 0 ∷ 0 ∷ []) 0
-IsFilled-start g f units w there rest = record {
-  flags = there;
-  done = λ k h. absurd (omega (arith, h));
-  small = λ k h. absurd (omega (arith, h));
-  free = λ k i _ none. free_start w rest k i none;
-}
 
 module _ (g : Game) (f : ℕ) (units : List (Option Man)) (v u : List ℕ) (n code : ℕ) (p : IsPut g v u n code) (is : man_of code ≡ get_or units n None) (low : code < 13) (h : IsFilled g f units v n) where
   same_below : (k : ℕ) → k ≢ n → code_on g u k ≡ code_on g v k

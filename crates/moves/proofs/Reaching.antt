@@ -29,17 +29,13 @@ use Rattle.moves.specs.Looking.{Aims}
 use Rattle.cells.specs.CellSets.{Has}
 use Rattle.moves.specs.Targets.{IsTarget}
 use Rattle.cells.specs.Ways.{IsNext, ahead_way}
-use Rattle.cells.proofs.CellNumbers.{shift_in, cell_small}
+use Rattle.cells.proofs.CellNumbers.{shift_in}
 use Rattle.cells.proofs.TableTests.{table_of-exact}
-use Rattle.cells.proofs.Masks.{Has-and, Has-or, Has-minus, Has-zero}
+use Rattle.cells.proofs.Masks.{Has-and, Has-or, Has-minus}
 use Rattle.cells.proofs.OnRays.{next_of, next-is, is-next}
 use Rattle.rules.proofs.Keeps.{Leads-single_step as single}
 
 -- ---- where a step may end
-
-not_own : (side : Side) → is_of_side side (Some (record { side = other_side side; kind = King })) ≡ false
-not_own White = refl
-not_own Black = refl
 
 own-foe : (s t : Side) (k : Kind) → t ≡ other_side s → is_of_side s (Some (record { side = t; kind = k })) ≡ true → ⊥
 own-foe White White k e h = cc
@@ -220,9 +216,6 @@ IsTarget-pawn b u i ci pawn played set foes push seen others pushes j =
 
 -- ---- the cell ahead
 
-pub next_number : Side → ℕ → ℕ
-next_number side i = next_of (ahead_way side) i
-
 pub pushed-next : (b : PlainBoard) (side : Side) (i n one empty : ℕ) → 17 ≤ i → n ≡ next_of (ahead_way side) i → ((j : ℕ) → Has one j ↔ (n ≡ j)) → ((j : ℕ) → Has empty j ↔ (IsCell b.game j × (unit_at b (place_in j) ≡ None)))
     → (j : ℕ) → Has (bit_and one empty) j ↔ (IsNext (ahead_way side) i j × IsCell b.game j × (unit_at b (place_in j) ≡ None))
 pushed-next b side i n one empty h e ones bare j =
@@ -230,9 +223,3 @@ pushed-next b side i n one empty h e ones bare j =
       λ x. let (o, m) = w.0 x in let (c, none) = (bare j).0 m in (subst (IsNext (ahead_way side) i) (sym e ∙ (ones j).0 o) (is-next (ahead_way side) i h), c, none),
       λ (a, c, none). w.1 ((ones j).1 (e ∙ next-is (ahead_way side) i j h a), (bare j).1 (c, none)),
     )
-
-pub pushed-off : (b : PlainBoard) (side : Side) (i n : ℕ) → 17 ≤ i → n ≡ next_of (ahead_way side) i → (n < 63 → ⊥) → (j : ℕ) → Has 0 j ↔ (IsNext (ahead_way side) i j × IsCell b.game j × (unit_at b (place_in j) ≡ None))
-pushed-off b side i n h e far j = (
-  λ x. absurd (Has-zero j x),
-  λ (a, c, none). let s = cell_small b.game j c in let f = next-is (ahead_way side) i j h a in absurd (far (omega (arith, e, f, s))),
-)

@@ -43,10 +43,6 @@ module _ (win : ℕ → Type 0) (row : List Verdict) (right : AreRight win row) 
     subst (λ i. AreRight win (set row i v)) (sym same) (row_right job v (omega (arith, count, h)) is),
   )
 
--- what is known falls, and no job is found to win by it
-pub knows_less : (row : List Verdict) (a b : ℕ) → b ≤ a → KnowsWins row a → KnowsWins row b
-knows_less row a b falls knows job e = omega (arith, falls, knows job e)
-
 -- one job more is found to win, and is known
 pub knows_win : (row : List Verdict) (a b at job : ℕ) → at ≡ job → b ≤ a → b ≤ job → KnowsWins row a → KnowsWins (set row at Wins) b
 knows_win row a b at job same falls lowered knows k e = dite (ℕ_discrete k at)

@@ -43,12 +43,6 @@ pub seat_taken : {J : Type 0} (seats seats' all : List (Seat ℕ View)) (seat : 
 seat_taken seats seats' all seat xs ys s taken put same so_far =
     ap (λ l. seats' ++ l) (back_more xs ys s put ∙ ap (λ x. x ∷ seats_back xs) same) ∙ sym (append_assoc seats' (seat ∷ []) (seats_back xs)) ∙ sym (ap (λ l. l ++ seats_back xs) taken) ∙ so_far
 
--- and goes back from there
-pub seat_given : {J : Type 0} (seats seats' all : List (Seat ℕ View)) (xs ys : List (Share J)) (s : Share J) → xs ≡ ys ++ s ∷ [] → seats' ≡ seats ++ s.seat ∷ []
-    → all ≡ seats ++ seats_back xs → all ≡ seats' ++ seats_back ys
-seat_given seats seats' all xs ys s taken put so_far =
-    so_far ∙ ap (λ l. seats ++ l) (back_more ys xs s taken) ∙ sym (append_assoc seats (s.seat ∷ []) (seats_back ys)) ∙ sym (ap (λ l. l ++ seats_back ys) put)
-
 -- they are seats of the table, one a share
 module _ {J : Type 0} (t : TableId) where
   each_back : (xs : List (Share J)) → All (λ s. IsSeatOf t s.seat) xs → All (IsSeatOf t) (seats_back xs)

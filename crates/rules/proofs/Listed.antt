@@ -59,10 +59,6 @@ module _ (g : Game) (P : Place → Type 0) where
       split : (k m : ℕ) → k < m + 1 → (k < m) ⊎ (k ≡ m)
       split k m h = grind arith
 
-  -- its end
-  pub none_at_all : ((s : Place) → IsOnBoard g s → square_number g s < squares_of g → P s → ⊥) → (s : Place) → IsOnBoard g s → P s → ⊥
-  none_at_all none s a p = none s a (number_within g s a) p
-
 -- ---- a list of lawful moves
 
 -- each of its moves is lawful

@@ -79,9 +79,6 @@ module _ (g : Game) (u : Man) (from : Place) where
   unfolding share
   share-most n h = share_of-most u.kind (width_of g) (ahead_rank u.side from.rank) n (width_six g) (omega (arith, squares_36 g))
 
-  pub share-none : share g u from 0 ≤ 0 + 36
-  share-none = omega (arith, share-most 0 (omega arith))
-
 -- the turn at a square that the unit reaches
 pub share-step : (b : PlainBoard) (u : Man) (from to : Place) (target : Option Man) (n old new : ℕ) → Reaches b u from to target → IsOnBoard b.game to → square_number b.game to ≡ n → new ≤ old + 5 → ((u.kind ≡ Pawn → ⊥) → new ≤ old + 1) → new + share b.game u from n ≤ old + share b.game u from (n + 1)
 unfolding share

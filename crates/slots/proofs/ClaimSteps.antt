@@ -18,7 +18,7 @@ use Rattle.slots.specs.declared.views.View.{View}
 use Rattle.slots.specs.Machine.{Way, fresh, run, standing, part, call}
 use Rattle.slots.specs.Rule.{way_at, note, glance, gate_at, words_at, TableHolds, words_of}
 use prog.Atomic.{either}
-use Rattle.slots.specs.Steps.{Lists, halfway, ended, Ends, EndsBusy, claimed, written, published, IsBusy, IsWhole, Yields}
+use Rattle.slots.specs.Steps.{Lists, halfway, ended, Ends, EndsBusy, claimed, written, published, IsBusy, Yields}
 use Rattle.slots.proofs.Histories.{part-own, standing-meets}
 use Rattle.slots.proofs.ClaimPass.{yields_may}
 use Rattle.slots.proofs.SlotKeeps.{HalfDone, claim_kept, put_kept, end_kept}
@@ -34,16 +34,6 @@ module _ (way : Way) (meets : List ℕ → Type 0) (n : ℕ) where
 
   pub even_way : (k : ℕ) (r w : List ℕ) → k % 2 ≡ 0 → (way_at k way).prefers r w ≡ way.prefers r w
   even_way k r w e = ap (λ (b : Bool). if b then way.prefers r w else false) (eq-eqb (k % 2) 0 e)
-
-  pub odd_way : (k : ℕ) (r w : List ℕ) → k % 2 ≢ 0 → (way_at k way).prefers r w ≡ false
-  odd_way k r w ne = ap (λ (b : Bool). if b then way.prefers r w else false) (ne_eqb (k % 2) 0 ne)
-
-  -- an even slot, where the words that were read aren't preferred
-  pub even_yields : (k : ℕ) (stood words : List ℕ) → k % 2 ≡ 0 → length stood ≡ 3 → (IsWhole meets stood → way.prefers stood words ≡ false) → Yields meets (way_at k way) stood words
-  even_yields k stood words even full never = λ r same whole. even_way k r words even ∙ (ap (λ z. way.prefers z words) (sym (same full)) ∙ never (subst (IsWhole meets) (sym (same full)) whole))
-
-  pub odd_yields : (k : ℕ) (stood words : List ℕ) → k % 2 ≡ 1 → Yields meets (way_at k way) stood words
-  odd_yields k stood words odd = λ r same whole. odd_way k r words (λ e. omega arith)
 
   pub inside_table : (s : St) (r : Rule s) (k i : ℕ) → k < n → i < 4 → 4 * k + i < length s.words
   inside_table s r k i lt inn = let wide = r.wide in omega arith

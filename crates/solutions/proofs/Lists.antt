@@ -1,5 +1,5 @@
 -- The moves of a list of which something holds, move by move.
-use Rattle.std.proofs.Common.{◌≡◌, ℕ, suc, ◌+◌, ◌<◌, ◌≤◌, ◌⊎◌, inl, inr, sym, ap, subst, ◌∙◌, arith, rules, List, [], ◌∷◌, ◌++◌, length, length-take, take, get_or, get_or-take, AllPairs, All, Contains, Some, slice_get}
+use Rattle.std.proofs.Common.{◌≡◌, ℕ, suc, ◌+◌, ◌<◌, ◌≤◌, ◌⊎◌, inl, inr, sym, ap, subst, ◌∙◌, arith, List, [], ◌∷◌, ◌++◌, length, length-take, take, get_or, get_or-take, AllPairs, All, Contains, Some, slice_get}
 use Rattle.std.proofs.lemmas.Grind.{common_steps, elements}
 use Rattle.std.proofs.lemmas.List.{take_all}
 use Rattle.std.proofs.lemmas.List.Elements.{All-push, All-get_or, All-contains, Contains-push, Contains-append_left, Contains-append_cases}
@@ -70,9 +70,6 @@ pub record PicksMoves (game : Game) (P : Ply → Type 0) (xs picked : List Ply) 
   pub exact : Picks (IsPlyBefore game) itself P xs picked
 
 module _ (b : PlainBoard) (P : Ply → Type 0) (xs : List Ply) where
-  pub pick_none : PicksMoves b.game P (take 0 xs) []
-  pick_none = record { ordered = search rules; exact = search rules }
-
   module _ (lists : ListsLawful b xs) where
     module _ (picked : List Ply) (i : ℕ) (m : Ply) (within : i < length xs) (is : m ≡ get_or xs i m) (so_far : PicksMoves b.game P (take i xs) picked) where
       pub pick_one : P m → PicksMoves b.game P (take (i + 1) xs) (picked ++ m ∷ [])

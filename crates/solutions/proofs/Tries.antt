@@ -15,7 +15,7 @@ use Rattle.decision.specs.Answer.{Wins}
 use Rattle.solutions.specs.declared.first_try.Try.{Try}
 use Rattle.solutions.specs.Lines.{IsMet}
 use Rattle.solutions.specs.Solutions.{Refutes, RefutesAlone, IsTry, ListsTries}
-use Rattle.solutions.proofs.Lists.{PicksMoves, pick_none, pick_one, pick_skip, pick_all, among_before, among_here, among_cases}
+use Rattle.solutions.proofs.Lists.{PicksMoves, pick_one, pick_skip, pick_all, among_before, among_here, among_cases}
 use Rattle.solutions.proofs.Forcing.{met_here, key_meets}
 
 -- no move comes before itself
@@ -117,9 +117,6 @@ no_tries goal b n one tries none = subst (ListsTries goal b n) (sym none) (recor
 })
 
 module _ (goal : Goal) (b : PlainBoard) (n : ℕ) (xs : List Ply) where
-  pub try_none : (tries : List Try) → tries ≡ [] → TriesOver goal b n (take 0 xs) tries
-  try_none tries none = subst (TriesOver goal b n (take 0 xs)) (sym none) (record { picks = pick_none b (IsTried goal b n) xs; each = All-nil (IsTry goal b n) })
-
   module _ (lists : ListsLawful b xs) (tries : List Try) (i : ℕ) (m : Ply) (within : i < length xs) (is : m ≡ get_or xs i m) (q : PlainBoard) (move : IsMove b m q) (so_far : TriesOver goal b n (take i xs) tries) where
     -- one reply alone refutes the move
     pub try_one : 2 ≤ n → (r : Ply) (more : List Try) → more ≡ tries ++ (record { first = m; refutation = r }) ∷ [] → RefutesAlone goal q (n - 2) r → TriesOver goal b n (take (i + 1) xs) more

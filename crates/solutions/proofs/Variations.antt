@@ -1,7 +1,7 @@
 -- Variations, reply by reply.
 use Rattle.std.proofs.Common.{◌≡◌, ℕ, ◌+◌, ◌<◌, ◌≤◌, sym, ap, subst, ◌∙◌, arith, List, [], ◌∷◌, ◌++◌, length, take, get_or, All}
 use Rattle.std.proofs.lemmas.List.{map-append}
-use Rattle.std.proofs.lemmas.List.Elements.{All-push, All-nil}
+use Rattle.std.proofs.lemmas.List.Elements.{All-push}
 use Rattle.board.specs.Board.{PlainBoard}
 use Rattle.rules.specs.declared.goal.Goal.{Goal}
 use Rattle.rules.specs.Squares.{Ply}
@@ -12,7 +12,7 @@ use Rattle.trees.proofs.Forcing.{forced_within}
 use Rattle.solutions.specs.declared.variation.Variation.{Variation}
 use Rattle.solutions.specs.Lines.{IsMet}
 use Rattle.solutions.specs.Solutions.{TellsVariation, IsVariation, replies_of, ListsVariations}
-use Rattle.solutions.proofs.Lists.{PicksMoves, pick_none, pick_one, pick_skip, pick_all}
+use Rattle.solutions.proofs.Lists.{PicksMoves, pick_one, pick_skip, pick_all}
 use Rattle.solutions.proofs.Forcing.{met_here}
 
 -- of these replies exactly those that are met within n plies, each with its variation
@@ -21,9 +21,6 @@ pub record VariesOver {A : Type 0} (goal : Goal) (q : PlainBoard) (n : ℕ) (xs 
   pub each : All (IsVariation goal q) variations
 
 module _ {A : Type 0} (goal : Goal) (q : PlainBoard) (n : ℕ) (xs : List Ply) where
-  pub vary_none : (variations : List (Variation A)) → variations ≡ [] → VariesOver goal q n (take 0 xs) variations
-  vary_none variations none = subst (VariesOver goal q n (take 0 xs)) (sym none) (record { picks = pick_none q (IsMet goal q n) xs; each = All-nil (IsVariation goal q) })
-
   module _ (lists : ListsLawful q xs) (variations : List (Variation A)) (i : ℕ) (r : Ply) (within : i < length xs) (is : r ≡ get_or xs i r) (p : PlainBoard) (move : IsMove q r p) (so_far : VariesOver goal q n (take i xs) variations) where
     -- the reply is met
     pub vary_one : (v : Variation A) (more : List (Variation A)) → more ≡ variations ++ v ∷ [] → v.reply ≡ r → v.plies ≤ n → TellsVariation goal p v → VariesOver goal q n (take (i + 1) xs) more
