@@ -1,18 +1,13 @@
 //! The replies that one thread gives, from the text of a position: those of the program, for whoever can start no thread.
-ghost use Rattle.std.specs.Prelude.{◌≡◌, ◌≤◌, [], IfErr, IfOk, None, Ok, Err, vec_items};
+ghost use Rattle.std.specs.Prelude.{◌≡◌, [], IfErr, IfOk, None, Ok, Err, vec_items};
 ghost use Rattle.slots.specs.Promise.{IsSeatOf};
-ghost use Rattle.decision.specs.Answer.{IsFewest};
-ghost use Rattle.trees.specs.Best.{IsBest};
-ghost use Rattle.wintree.specs.Plan.{Plan};
-ghost use Rattle.wintree.specs.Text.{text as tree_words};
-ghost use Rattle.command_line.specs.declared.line.Action.TheVariants.{Solve, Keys, Moves, Tree, Check};
-ghost use Rattle.replies.specs.Outcome.{Gives, FindsKeys, Solves};
+ghost use Rattle.command_line.specs.declared.line.Action.TheVariants.{Solve, Keys, Moves, Tree as TreeAction, Check};
+ghost use Rattle.replies.specs.Outcome.{Gives, FindsKeys, FindsTree, Solves};
 ghost use Rattle.rounds.specs.Limits.{IsRefusal};
 ghost use Rattle.searcher.specs.Problems.{IsProblemOf};
-ghost use Rattle.replies.specs.Output.{fault_of, IsOutput, ShowsAnswer, ShowsKeys, ShowsPlanFound, ShowsMoves, ShowsCheck};
-ghost use Rattle.refusals.specs.Reply.{answered, line_of};
+ghost use Rattle.replies.specs.Output.{fault_of, IsOutput, ShowsMoves, ShowsCheck};
 
-use answer_texts::{answer_text, keys_text, moves_text};
+use answer_texts::moves_text;
 use board::Position;
 use command_line::Limits;
 use decision::Answer;
@@ -20,12 +15,13 @@ use devices::without_line_feed;
 use entry::MateLore;
 use moves::{Goal, lawful, read_sound};
 use refusals::Refusal;
-use replies::{MOST_INPUT, Search, none_line, refusal_of, search_of, tree_line, verdict_text};
+use replies::{MOST_INPUT, Search, answer_line, key_lines, plan_line, search_of, verdict_text};
 use rounds::{SolveFault, make_table_in};
 use searcher::{Key, Problem, keys_alone, solve_alone};
 use slots::{Seat, Slots};
 use std::alloc::Allocator;
-use trees::{Wanted, build_tree};
+use trees::build_tree;
+use wintree::Tree;
 
 /// What is solved, a table and a seat there, for the caller's own thread.
 fn lent_alone<A: Allocator + Copy>(
@@ -84,79 +80,36 @@ fn keys_found_alone<A: Allocator + Copy>(
     Ok(keys)
 }
 
-fn keys_shown<A: Allocator + Copy>(
+/// The best tree within the limits, or none where nothing is forced.
+fn tree_found_alone<A: Allocator + Copy>(
     alloc: A,
     position: &Position,
     goal: Goal,
     limits: Limits,
-) -> Result<Vec<u8, A>, Refusal>
-    ensures { Gives vec_items (ShowsKeys goal position.now limits) result }
+) -> Result<Option<Tree<A>>, SolveFault>
+    ensures { FindsTree goal position.now limits result }
 {
-    match keys_found_alone(alloc, position, goal, limits) {
-        Ok(keys) => Ok(keys_text(alloc, limits.limit, keys.as_slice())?.into_bytes()),
-        Err(fault) => Err(refusal_of(fault)),
-    }
-}
-
-fn answer_shown<A: Allocator + Copy>(
-    alloc: A,
-    position: &Position,
-    goal: Goal,
-    limits: Limits,
-) -> Result<Vec<u8, A>, Refusal>
-    ensures { Gives vec_items (ShowsAnswer goal position.now limits) result }
-{
-    match searched_alone(alloc, position, goal, limits) {
-        Ok((answer, _table, _seat)) => Ok(answer_text(alloc, goal, answer)?.into_bytes()),
-        Err(fault) => Err(refusal_of(fault)),
-    }
-}
-
-fn plan_shown<A: Allocator + Copy>(
-    alloc: A,
-    position: &Position,
-    goal: Goal,
-    limits: Limits,
-) -> Result<Vec<u8, A>, Refusal>
-    ensures { Gives vec_items (ShowsPlanFound goal position.now limits) result }
-{
-    let (answer, table, mut seat) = match searched_alone(alloc, position, goal, limits) {
-        Ok(found) => found,
-        Err(fault) => return Err(refusal_of(fault)),
+    let (answer, table, mut seat) = searched_alone(alloc, position, goal, limits)?;
+    let Answer::Mate { plies, .. } = answer else {
+        return Ok(None);
     };
-    match answer {
-        Answer::Mate { plies, .. } => {
-            let wanted = Wanted {
-                position,
-                goal,
-                plies,
-            };
-            plan_line_alone(alloc, &wanted, &table, &mut seat)
-        }
-        Answer::NoneWithin(limit) => none_line(alloc, limit),
+    match build_tree(alloc, &table, &mut seat, position, goal, plies) {
+        Ok(tree) => Ok(Some(tree)),
+        Err(_) => Err(SolveFault::NoMemory),
     }
 }
 
-/// The best tree of so many plies, on one line.
-fn plan_line_alone<A: Allocator, B: Allocator + Copy>(
-    alloc: B,
-    wanted: &Wanted<'_>,
-    table: &Slots<MateLore, A>,
-    seat: &mut Seat,
-) -> Result<Vec<u8, B>, Refusal>
-    requires seat { IsSeatOf table.now seat.old }
-    requires plies { wanted.now.plies ≤ 63 }
-    requires fewest { IsFewest wanted.now.goal wanted.now.position.now wanted.now.plies }
-    ensures { Gives vec_items (λ reply. (plan : Plan) × IsBest wanted.now.goal wanted.now.position.now plan
-        × (reply ≡ answered (line_of (tree_words plan)))) result }
+/// The answer within the limits.
+fn answer_found_alone<A: Allocator + Copy>(
+    alloc: A,
+    position: &Position,
+    goal: Goal,
+    limits: Limits,
+) -> Result<Answer, SolveFault>
+    ensures { Solves goal position.now limits result }
 {
-    let Wanted {
-        position,
-        goal,
-        plies,
-    } = *wanted;
-    let tree = build_tree(alloc, table, seat, position, goal, plies)?;
-    Ok(tree_line(alloc, &tree)?)
+    let (answer, _table, _seat) = searched_alone(alloc, position, goal, limits)?;
+    Ok(answer)
 }
 
 fn moves_shown<A: Allocator>(alloc: A, position: &Position) -> Result<Vec<u8, A>, Refusal>
@@ -211,7 +164,11 @@ pub(crate) fn solve_reply<A: Allocator + Copy>(
     ensures { Gives vec_items (IsOutput (record { fen = fen.entry; action = Solve goal limits }) []) result }
 {
     let position = read_sound(fen)?;
-    answer_shown(alloc, &position, goal, limits)
+    answer_line(
+        alloc,
+        goal,
+        answer_found_alone(alloc, &position, goal, limits),
+    )
 }
 
 /// The reply of `keys`, searched by the caller's own thread alone.
@@ -224,7 +181,8 @@ pub(crate) fn keys_reply<A: Allocator + Copy>(
     ensures { Gives vec_items (IsOutput (record { fen = fen.entry; action = Keys goal limits }) []) result }
 {
     let position = read_sound(fen)?;
-    keys_shown(alloc, &position, goal, limits)
+    let found = keys_found_alone(alloc, &position, goal, limits);
+    key_lines(alloc, limits.limit, found)
 }
 
 /// The reply of `tree`, searched by the caller's own thread alone.
@@ -234,8 +192,9 @@ pub(crate) fn tree_reply<A: Allocator + Copy>(
     goal: Goal,
     limits: Limits,
 ) -> Result<Vec<u8, A>, Refusal>
-    ensures { Gives vec_items (IsOutput (record { fen = fen.entry; action = Tree goal limits }) []) result }
+    ensures { Gives vec_items (IsOutput (record { fen = fen.entry; action = TreeAction goal limits }) []) result }
 {
     let position = read_sound(fen)?;
-    plan_shown(alloc, &position, goal, limits)
+    let found = tree_found_alone(alloc, &position, goal, limits);
+    plan_line(alloc, limits.limit, found)
 }

@@ -1,20 +1,13 @@
 -- A reply, from what its parts give.
-use Rattle.std.proofs.Common.{◌≡◌, ◌∙◌, ◌≤◌, ◌⊎◌, ℕ, nat_lt, MatchBool, List, [], Option, None, Some, Result, Ok, Err, IsErr, IsErrAnd, length, inl, inr, refl, sym, ap, subst}
+use Rattle.std.proofs.Common.{◌≡◌, ◌≤◌, ◌⊎◌, ℕ, nat_lt, MatchBool, List, [], Option, Some, Result, Ok, Err, IsErr, IsErrAnd, length, inl, inr, refl, sym, ap, subst}
 use Rattle.std.proofs.lemmas.Bool.{le-ltb, lt-ltb}
 use Rattle.board.specs.Board.{PlainBoard}
 use Rattle.board.specs.declared.fault.FenFault.{FenFault}
 use Rattle.rules.specs.Reading.{IsSoundFault}
-use Rattle.rules.specs.declared.goal.Goal.{Goal}
 use Rattle.devices.specs.Input.{IsInput, IsTooLong, OfInput}
 use Rattle.replies.specs.Outcome.{Gives, GivesIfRead, GivesReply, trouble_of}
-use Rattle.answer_texts.specs.Answers.{none_text}
-use Rattle.replies.specs.Output.{fault_of, ShowsPlanFound, IsSoundText, IsOutput, ShowsCommand, input_of}
-use Rattle.refusals.specs.Reply.{Reply, answered, refused, line_of}
-use Rattle.decision.specs.Answer.{IsFewest, ForcesNothing}
-use Rattle.trees.specs.Best.{IsBest}
-use Rattle.wintree.specs.Plan.{Plan}
-use Rattle.wintree.specs.Text.{text as plan_text}
-use Rattle.command_line.specs.declared.line.Limits.{Limits}
+use Rattle.replies.specs.Output.{IsSoundText, IsOutput, ShowsCommand, input_of}
+use Rattle.refusals.specs.Reply.{Reply, answered, refused}
 use Rattle.refusals.specs.Refusal.{refusal_of_fen}
 use Rattle.command_line.specs.declared.line.Line.{Line}
 use Rattle.command_line.specs.declared.line.Action.{Action}
@@ -108,24 +101,10 @@ input_unread bytes most ShowsCommand known (Err (Refused refusal)) input.NoMemor
 input_unread bytes most ShowsCommand known (Err (Refused refusal)) input.ReadFailed long err = absurd cc
 input_unread bytes most ShowsCommand known (Err ReadFailed) fault long err = of_any known _ (λ read. tt)
 
--- ---- plans
+-- ---- replies
 
 -- what is given is given for what follows of it
 pub gives_weaker : {B : Type 0} (bytes : B → List ℕ) (P Q : Reply → Type 0) (r : Result B Refusal) → ((reply : Reply) → P reply → Q reply) → Gives bytes P r → Gives bytes Q r
 gives_weaker bytes P Q (Ok text) so gives = so (answered (bytes text)) gives
 gives_weaker bytes P Q (Err refusal) so (inl none) = inl none
 gives_weaker bytes P Q (Err refusal) so (inr shows) = inr (so (refused refusal) shows)
-
--- the best plan of the fewest plies is the one to be shown
-pub best_gives : {B : Type 0} (bytes : B → List ℕ) (goal : Goal) (b : PlainBoard) (limits : Limits) (plies : ℕ) (r : Result B Refusal) → fault_of limits ≡ None
-    → plies ≤ limits.limit → IsFewest goal b plies
-    → Gives bytes (λ reply. (plan : Plan) × IsBest goal b plan × (reply ≡ answered (line_of (plan_text plan)))) r → Gives bytes (ShowsPlanFound goal b limits) r
-best_gives bytes goal b limits plies r none within fewest = gives_weaker bytes _ (ShowsPlanFound goal b limits) r
-    (λ reply shown. rw none (inl (plies, within, fewest, shown)))
-
--- where nothing is forced, that is to be shown
-pub none_gives : {B : Type 0} (bytes : B → List ℕ) (goal : Goal) (b : PlainBoard) (limits : Limits) (within : ℕ) (r : Result B Refusal) → fault_of limits ≡ None
-    → within ≡ limits.limit → ForcesNothing goal b limits.limit → Gives bytes (λ reply. reply ≡ answered (none_text within)) r
-    → Gives bytes (ShowsPlanFound goal b limits) r
-none_gives bytes goal b limits within r none same nothing = gives_weaker bytes _ (ShowsPlanFound goal b limits) r
-    (λ reply shown. rw none (inr (nothing, shown ∙ ap (λ (n : ℕ). answered (none_text n)) same)))

@@ -1,13 +1,15 @@
 -- How the work on a reply may end.
-use Rattle.std.specs.Prelude.{◌≡◌, ◌⊎◌, ⊤, ℕ, List, Option, None, Some, Result, Ok, Err, Vec}
+use Rattle.std.specs.Prelude.{◌≡◌, ◌≤◌, ◌⊎◌, ⊤, ℕ, List, Option, None, Some, Result, Ok, Err, Vec}
 use Rattle.board.specs.Board.{PlainBoard}
 use Rattle.rules.specs.declared.goal.Goal.{Goal}
 use Rattle.decision.specs.declared.answer.Answer.{Answer}
 use Rattle.rounds.specs.declared.task.SolveFault.{SolveFault}
 use Rattle.rounds.specs.declared.task.SolveFault.TheVariants as solve
 use Rattle.searcher.specs.declared.keys.Key.{Key}
-use Rattle.decision.specs.Answer.{IsAnswer}
+use Rattle.decision.specs.Answer.{IsAnswer, IsFewest, ForcesNothing}
 use Rattle.searcher.specs.Keys.{ListsKeys}
+use Rattle.trees.specs.Best.{IsBest}
+use Rattle.wintree.specs.Plan.{Plan}
 use Rattle.devices.specs.Input.{OfInput}
 use Rattle.replies.specs.Output.{fault_of, input_of, IsOutput}
 use Rattle.refusals.specs.Reply.{Reply, answered, refused}
@@ -29,6 +31,12 @@ Solves goal b limits (Err fault) = (fault_of limits ≡ Some fault) ⊎ ((fault_
 abbrev pub FindsKeys : {A : Type 0} → Goal → PlainBoard → Limits → Result (Vec Key A) SolveFault → Type 0
 FindsKeys goal b limits (Ok keys) = (fault_of limits ≡ None) × ListsKeys goal b limits.limit keys.items
 FindsKeys goal b limits (Err fault) = (fault_of limits ≡ Some fault) ⊎ ((fault_of limits ≡ None) × (fault ≡ solve.NoMemory))
+
+-- the same of the best plan, or that nothing is forced within the limit
+abbrev pub FindsTree : Goal → PlainBoard → Limits → Result (Option Plan) SolveFault → Type 0
+FindsTree goal b limits (Ok (Some plan)) = (fault_of limits ≡ None) × IsBest goal b plan × ((plies : ℕ) × (plies ≤ limits.limit) × IsFewest goal b plies)
+FindsTree goal b limits (Ok None) = (fault_of limits ≡ None) × ForcesNothing goal b limits.limit
+FindsTree goal b limits (Err fault) = (fault_of limits ≡ Some fault) ⊎ ((fault_of limits ≡ None) × (fault ≡ solve.NoMemory))
 
 -- a text is that of an answer, and a refusal is right or is want of memory
 abbrev pub Gives : {B : Type 0} → (B → List ℕ) → (Reply → Type 0) → Result B Refusal → Type 0

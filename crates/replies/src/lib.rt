@@ -12,7 +12,7 @@ pub use certified::verified;
 pub use first::first_reply;
 pub use played::after_reply;
 pub use replying::{
-    MOST_INPUT, Search, Told, none_line, reply, reply_told, search_of, searched_within, tree_line,
-    verdict_text,
+    MOST_INPUT, Search, Told, answer_line, key_lines, none_line, plan_line, reply, reply_told,
+    search_of, searched_within, tree_line, verdict_text,
 };
 pub use trouble::{Trouble, refusal_of};

@@ -1,14 +1,15 @@
 //! The reply to a line: the text of its answer, or why there is none.
 ghost use Rattle.std.specs.Prelude.{◌≡◌, ◌⊎◌, ◌+◌, ◌<◌, ◌≤◌, All, Err, IfErr, IfOk, None, Ok, length, min, vec_items};
+ghost use Rattle.board.specs.Board.{PlainBoard};
+ghost use Rattle.rules.specs.declared.goal.Goal.{Goal};
+ghost use Rattle.command_line.specs.declared.line.Limits.{Limits};
 ghost use Rattle.slots.specs.Promise.{IsSeatOf};
 ghost use Rattle.rounds.specs.Limits.{IsRefusal};
 ghost use Rattle.rounds.specs.Seats.{AreSeats};
-ghost use Rattle.wintree.specs.Plan.{Plan, depth};
+ghost use Rattle.wintree.specs.Plan.{depth};
 ghost use Rattle.wintree.specs.Text.{text as tree_words};
-ghost use Rattle.decision.specs.Answer.{IsFewest};
-ghost use Rattle.trees.specs.Best.{IsBest};
 ghost use Rattle.devices.specs.Input.{OfInput};
-ghost use Rattle.replies.specs.Outcome.{Solves, FindsKeys, Gives, GivesIfRead, GivesReply, reads_failed};
+ghost use Rattle.replies.specs.Outcome.{Solves, FindsKeys, FindsTree, Gives, GivesIfRead, GivesReply, reads_failed};
 ghost use Rattle.answer_texts.specs.Answers.{none_text};
 ghost use Rattle.replies.specs.Output.{ShowsAnswer, ShowsKeys, ShowsPlanFound, ShowsTree, ShowsCheck, MayRead, fault_of};
 ghost use Rattle.refusals.specs.Reply.{answered, line_of};
@@ -165,82 +166,75 @@ fn keys_within<R: Threads + Wait + Sync, T: Gate>(
     keys_over(rt, told.alloc, &task, &table, &mut seats)
 }
 
-/// The fewest plies to the goal and the first move.
-fn solve_text<R: Threads + Wait + Sync, T: Gate>(
+/// The best tree within the limits, or none where nothing is forced.
+fn tree_within<R: Threads + Wait + Sync, T: Gate>(
     rt: &R,
     told: &Told<'_, T>,
     position: &Position,
     goal: Goal,
     limits: Limits,
-) -> Result<Vec<u8>, Refusal>
-    ensures { Gives vec_items (ShowsAnswer goal position.now limits) result }
+) -> Result<Option<Tree>, SolveFault>
+    ensures { FindsTree goal position.now limits result }
 {
-    match answer_within(rt, told, position, goal, limits) {
-        Ok(answer) => Ok(answer_text(told.alloc, goal, answer)?.into_bytes()),
-        Err(fault) => Err(refusal_of(fault)),
-    }
-}
-
-/// The first moves that force the goal, each with the plies that it takes.
-fn found_keys<R: Threads + Wait + Sync, T: Gate>(
-    rt: &R,
-    told: &Told<'_, T>,
-    position: &Position,
-    goal: Goal,
-    limits: Limits,
-) -> Result<Vec<u8>, Refusal>
-    ensures { Gives vec_items (ShowsKeys goal position.now limits) result }
-{
-    match keys_within(rt, told, position, goal, limits) {
-        Ok(keys) => Ok(keys_text(told.alloc, limits.limit, keys.as_slice())?.into_bytes()),
-        Err(fault) => Err(refusal_of(fault)),
-    }
-}
-
-/// The tree that shows the answer, on one line, or that there is none.
-fn plan_text<R: Threads + Wait + Sync, T: Gate>(
-    rt: &R,
-    told: &Told<'_, T>,
-    position: &Position,
-    goal: Goal,
-    limits: Limits,
-) -> Result<Vec<u8>, Refusal>
-    ensures { Gives vec_items (ShowsPlanFound goal position.now limits) result }
-{
-    let (answer, table, mut seats) = match searched_within(rt, told, position, goal, limits) {
-        Ok(found) => found,
-        Err(fault) => return Err(refusal_of(fault)),
+    let (answer, table, mut seats) = searched_within(rt, told, position, goal, limits)?;
+    let Answer::Mate { plies, .. } = answer else {
+        return Ok(None);
     };
-    match answer {
-        Answer::Mate { plies, .. } => {
-            let wanted = Wanted {
-                position,
-                goal,
-                plies,
-            };
-            plan_line(rt, told.alloc, &wanted, &table, &mut seats)
-        }
-        Answer::NoneWithin(limit) => none_line(told.alloc, limit),
+    let wanted = Wanted {
+        position,
+        goal,
+        plies,
+    };
+    match build_tree_over(rt, told.alloc, &wanted, &table, &mut seats) {
+        Ok(tree) => Ok(Some(tree)),
+        Err(_) => Err(SolveFault::NoMemory),
     }
 }
 
-/// The best tree of so many plies, on one line.
-fn plan_line<R: Threads + Wait + Sync>(
-    rt: &R,
-    alloc: Global,
-    wanted: &Wanted<'_>,
-    table: &Slots<MateLore>,
-    seats: &mut Vec<Seat>,
-) -> Result<Vec<u8>, Refusal>
-    requires some { 0 < length seats.old.items }
-    requires seats { All (IsSeatOf table.now) seats.old.items }
-    requires plies { wanted.now.plies ≤ 63 }
-    requires fewest { IsFewest wanted.now.goal wanted.now.position.now wanted.now.plies }
-    ensures { Gives vec_items (λ reply. (plan : Plan) × IsBest wanted.now.goal wanted.now.position.now plan
-        × (reply ≡ answered (line_of (tree_words plan)))) result }
+/// What is printed of an answer that was found, whoever searched: the fewest plies to the goal and the first move.
+pub fn answer_line<A: Allocator>(
+    alloc: A,
+    goal: Goal,
+    found: Result<Answer, SolveFault>,
+) -> Result<Vec<u8, A>, Refusal>
+    ensures { (b : PlainBoard) (limits : Limits) → Solves goal b limits found
+        → Gives vec_items (ShowsAnswer goal b limits) result }
 {
-    let tree = build_tree_over(rt, alloc, wanted, table, seats)?;
-    Ok(tree_line(alloc, &tree)?)
+    match found {
+        Ok(answer) => Ok(answer_text(alloc, goal, answer)?.into_bytes()),
+        Err(fault) => Err(refusal_of(fault)),
+    }
+}
+
+/// What is printed of keys that were found within this limit, whoever searched: each with the plies that it takes.
+pub fn key_lines<A: Allocator, B: Allocator>(
+    alloc: A,
+    limit: u32,
+    found: Result<Vec<Key, B>, SolveFault>,
+) -> Result<Vec<u8, A>, Refusal>
+    ensures { (goal : Goal) (b : PlainBoard) (limits : Limits) → limits.limit ≡ limit
+        → FindsKeys goal b limits found → Gives vec_items (ShowsKeys goal b limits) result }
+{
+    match found {
+        Ok(keys) => Ok(keys_text(alloc, limit, keys.as_slice())?.into_bytes()),
+        Err(fault) => Err(refusal_of(fault)),
+    }
+}
+
+/// What is printed of a tree that was found within this limit, whoever searched: the tree on one line, or that there is none.
+pub fn plan_line<A: Allocator, B: Allocator>(
+    alloc: A,
+    limit: u32,
+    found: Result<Option<Tree<B>>, SolveFault>,
+) -> Result<Vec<u8, A>, Refusal>
+    ensures { (goal : Goal) (b : PlainBoard) (limits : Limits) → limits.limit ≡ limit
+        → FindsTree goal b limits found → Gives vec_items (ShowsPlanFound goal b limits) result }
+{
+    match found {
+        Ok(Some(tree)) => Ok(tree_line(alloc, &tree)?),
+        Ok(None) => Ok(none_text(alloc, limit)?.into_bytes()),
+        Err(fault) => Err(refusal_of(fault)),
+    }
 }
 
 /// That there is no tree, on one line.
@@ -336,14 +330,23 @@ pub fn reply_told<R: Threads + Wait + Sync, T: Gate, S: Source>(
     let alloc = told.alloc;
     let position = read_sound(line.fen)?;
     match line.action {
-        Action::Solve(goal, limits) => Ok(solve_text(rt, told, &position, goal, limits)?),
-        Action::Keys(goal, limits) => Ok(found_keys(rt, told, &position, goal, limits)?),
+        Action::Solve(goal, limits) => {
+            let found = answer_within(rt, told, &position, goal, limits);
+            Ok(answer_line(alloc, goal, found)?)
+        },
+        Action::Keys(goal, limits) => {
+            let found = keys_within(rt, told, &position, goal, limits);
+            Ok(key_lines(alloc, limits.limit, found)?)
+        },
         Action::Moves => {
             let moves = lawful(&position);
             Ok(moves_text(alloc, moves.as_slice())?.into_bytes())
         }
         Action::Show(drawing) => Ok(drawn(alloc, &position, drawing)?.into_bytes()),
-        Action::Tree(goal, limits) => Ok(plan_text(rt, told, &position, goal, limits)?),
+        Action::Tree(goal, limits) => {
+            let found = tree_within(rt, told, &position, goal, limits);
+            Ok(plan_line(alloc, limits.limit, found)?)
+        },
         Action::Check(goal) => check_text(alloc, &position, goal, reader),
     }
 }

@@ -8,50 +8,50 @@ use Rattle.replies.proofs.replying.reply_told.Goals as goal
 pub returns-in_err-position-clause-given : goal.returns-in_err-position-clause-given
 returns-in_err-position-clause-given g c = fault_gives _ c.args.line.now _ _ c.in_err-position.field-0.0 c.in_err-position.ensures.fault c.from_residual.ensures
 
-pub returns-in_err-solve_text-in-Solve-clause-given : goal.returns-in_err-solve_text-in-Solve-clause-given
-returns-in_err-solve_text-in-Solve-clause-given g c =
+pub returns-in_err-answer_line-in-Solve-clause-given : goal.returns-in_err-answer_line-in-Solve-clause-given
+returns-in_err-answer_line-in-Solve-clause-given g c =
     let sound : IsSoundText c.args.line.now.fen.now c.in_ok-position.position = search rules in
     gives_unread vec_items c.args.line.now (g.S.Source.remaining c.args.reader.now) c.in_ok-position.position (Solve c.in-Solve.goal c.in-Solve.limits)
-    c.from_residual-in_err-solve_text-in-Solve.result sound c.in-Solve.is refl
+    c.from_residual-in_err-answer_line-in-Solve.result sound c.in-Solve.is refl
     (refusal_gives vec_items (ShowsAnswer c.in-Solve.goal c.in_ok-position.position c.in-Solve.limits)
-    c.from_residual-in_err-solve_text-in-Solve.result c.in_err-solve_text-in-Solve.field-0.0 c.in_err-solve_text-in-Solve.ensures
-    c.from_residual-in_err-solve_text-in-Solve.ensures)
+    c.from_residual-in_err-answer_line-in-Solve.result c.in_err-answer_line-in-Solve.field-0.0 (c.in_err-answer_line-in-Solve.ensures c.in_ok-position.position c.in-Solve.limits c.answer_within-found.ensures)
+    c.from_residual-in_err-answer_line-in-Solve.ensures)
 
-pub returns-in_ok-solve_text-in-Solve-clause-given : goal.returns-in_ok-solve_text-in-Solve-clause-given
-returns-in_ok-solve_text-in-Solve-clause-given g c =
+pub returns-in_ok-answer_line-in-Solve-clause-given : goal.returns-in_ok-answer_line-in-Solve-clause-given
+returns-in_ok-answer_line-in-Solve-clause-given g c =
     let sound : IsSoundText c.args.line.now.fen.now c.in_ok-position.position = search rules in
     gives_unread vec_items c.args.line.now (g.S.Source.remaining c.args.reader.now) c.in_ok-position.position (Solve c.in-Solve.goal c.in-Solve.limits)
-    (Ok c.in_ok-solve_text-in-Solve.field-0) sound c.in-Solve.is refl c.in_ok-solve_text-in-Solve.ensures
+    (Ok c.in_ok-answer_line-in-Solve.field-0) sound c.in-Solve.is refl (c.in_ok-answer_line-in-Solve.ensures c.in_ok-position.position c.in-Solve.limits c.answer_within-found.ensures)
 
-pub returns-in_err-found_keys-in-Keys-clause-given : goal.returns-in_err-found_keys-in-Keys-clause-given
-returns-in_err-found_keys-in-Keys-clause-given g c =
+pub returns-in_err-key_lines-in-Keys-clause-given : goal.returns-in_err-key_lines-in-Keys-clause-given
+returns-in_err-key_lines-in-Keys-clause-given g c =
     let sound : IsSoundText c.args.line.now.fen.now c.in_ok-position.position = search rules in
     gives_unread vec_items c.args.line.now (g.S.Source.remaining c.args.reader.now) c.in_ok-position.position (Keys c.in-Keys.goal c.in-Keys.limits)
-    c.from_residual-in_err-found_keys-in-Keys.result sound c.in-Keys.is refl
+    c.from_residual-in_err-key_lines-in-Keys.result sound c.in-Keys.is refl
     (refusal_gives vec_items (ShowsKeys c.in-Keys.goal c.in_ok-position.position c.in-Keys.limits)
-    c.from_residual-in_err-found_keys-in-Keys.result c.in_err-found_keys-in-Keys.field-0.0 c.in_err-found_keys-in-Keys.ensures
-    c.from_residual-in_err-found_keys-in-Keys.ensures)
+    c.from_residual-in_err-key_lines-in-Keys.result c.in_err-key_lines-in-Keys.field-0.0 (c.in_err-key_lines-in-Keys.ensures c.in-Keys.goal c.in_ok-position.position c.in-Keys.limits refl c.keys_within-found.ensures)
+    c.from_residual-in_err-key_lines-in-Keys.ensures)
 
-pub returns-in_ok-found_keys-in-Keys-clause-given : goal.returns-in_ok-found_keys-in-Keys-clause-given
-returns-in_ok-found_keys-in-Keys-clause-given g c =
+pub returns-in_ok-key_lines-in-Keys-clause-given : goal.returns-in_ok-key_lines-in-Keys-clause-given
+returns-in_ok-key_lines-in-Keys-clause-given g c =
     let sound : IsSoundText c.args.line.now.fen.now c.in_ok-position.position = search rules in
     gives_unread vec_items c.args.line.now (g.S.Source.remaining c.args.reader.now) c.in_ok-position.position (Keys c.in-Keys.goal c.in-Keys.limits)
-    (Ok c.in_ok-found_keys-in-Keys.field-0) sound c.in-Keys.is refl c.in_ok-found_keys-in-Keys.ensures
+    (Ok c.in_ok-key_lines-in-Keys.field-0) sound c.in-Keys.is refl (c.in_ok-key_lines-in-Keys.ensures c.in-Keys.goal c.in_ok-position.position c.in-Keys.limits refl c.keys_within-found.ensures)
 
-pub returns-in_err-plan_text-in-Tree-clause-given : goal.returns-in_err-plan_text-in-Tree-clause-given
-returns-in_err-plan_text-in-Tree-clause-given g c =
+pub returns-in_err-plan_line-in-Tree-clause-given : goal.returns-in_err-plan_line-in-Tree-clause-given
+returns-in_err-plan_line-in-Tree-clause-given g c =
     let sound : IsSoundText c.args.line.now.fen.now c.in_ok-position.position = search rules in
     gives_unread vec_items c.args.line.now (g.S.Source.remaining c.args.reader.now) c.in_ok-position.position (Tree c.in-Tree.goal c.in-Tree.limits)
-    c.from_residual-in_err-plan_text-in-Tree.result sound c.in-Tree.is refl
+    c.from_residual-in_err-plan_line-in-Tree.result sound c.in-Tree.is refl
     (refusal_gives vec_items (ShowsPlanFound c.in-Tree.goal c.in_ok-position.position c.in-Tree.limits)
-    c.from_residual-in_err-plan_text-in-Tree.result c.in_err-plan_text-in-Tree.field-0.0 c.in_err-plan_text-in-Tree.ensures
-    c.from_residual-in_err-plan_text-in-Tree.ensures)
+    c.from_residual-in_err-plan_line-in-Tree.result c.in_err-plan_line-in-Tree.field-0.0 (c.in_err-plan_line-in-Tree.ensures c.in-Tree.goal c.in_ok-position.position c.in-Tree.limits refl c.tree_within-found.ensures)
+    c.from_residual-in_err-plan_line-in-Tree.ensures)
 
-pub returns-in_ok-plan_text-in-Tree-clause-given : goal.returns-in_ok-plan_text-in-Tree-clause-given
-returns-in_ok-plan_text-in-Tree-clause-given g c =
+pub returns-in_ok-plan_line-in-Tree-clause-given : goal.returns-in_ok-plan_line-in-Tree-clause-given
+returns-in_ok-plan_line-in-Tree-clause-given g c =
     let sound : IsSoundText c.args.line.now.fen.now c.in_ok-position.position = search rules in
     gives_unread vec_items c.args.line.now (g.S.Source.remaining c.args.reader.now) c.in_ok-position.position (Tree c.in-Tree.goal c.in-Tree.limits)
-    (Ok c.in_ok-plan_text-in-Tree.field-0) sound c.in-Tree.is refl c.in_ok-plan_text-in-Tree.ensures
+    (Ok c.in_ok-plan_line-in-Tree.field-0) sound c.in-Tree.is refl (c.in_ok-plan_line-in-Tree.ensures c.in-Tree.goal c.in_ok-position.position c.in-Tree.limits refl c.tree_within-found.ensures)
 
 pub returns-in-Check-clause-given : goal.returns-in-Check-clause-given
 returns-in-Check-clause-given g c =
