@@ -1,9 +1,10 @@
 //! A certificate as it is made, line by line.
-ghost use Rattle.std.specs.Prelude.{◌≡◌, ◌<◌, ◌≤◌, ◌++◌, ◌∷◌, [], IfOk, IfSome, List};
+ghost use Rattle.std.specs.Prelude.{◌≡◌, ◌<◌, ◌≤◌, ◌++◌, ◌∷◌, [], IfOk, IfSome, List, OnOk};
 ghost use Rattle.rules.specs.Moves.{IsLawful};
 ghost use Rattle.slots.specs.Promise.{IsSeatOf};
 ghost use Rattle.verifying.specs.Words.{line_text};
 ghost use Rattle.certifying.specs.Lines.{claim_line};
+ghost use Rattle.certifying.specs.Making.{IsOfAnswer, first_move, first_plies};
 ghost use Rattle.verifying.specs.declared.words.Word.{Word as TheWord};
 
 use crate::choosing::Chooser;
@@ -33,7 +34,8 @@ pub struct Certificate {
 
 /// The plies of the first claim: a mate's, or else the greatest odd number within the limit.
 fn first_plies(answer: Answer) -> u8
-    ensures { result ≤ 63 }
+    ensures value { result ≡ first_plies answer }
+    ensures most { result ≤ 63 }
 {
     match answer {
         Answer::Mate { plies, .. } => plies.min(MOST_LIMIT),
@@ -42,7 +44,9 @@ fn first_plies(answer: Answer) -> u8
 }
 
 /// The first move of a mate.
-fn first_move(answer: &Answer) -> Option<Move> {
+fn first_move(answer: &Answer) -> Option<Move>
+    ensures { result ≡ first_move answer.now }
+{
     match *answer {
         Answer::Mate { first, .. } => Some(first),
         Answer::NoneWithin(_) => None,
@@ -60,6 +64,7 @@ impl Certificate {
         answer: Answer,
     ) -> Result<Certificate, AllocError>
         requires { IsSeatOf slots seat }
+        ensures { IfOk result (λ certificate. IsOfAnswer certificate root answer) }
     {
         let chooser = Chooser {
             alloc,
@@ -82,7 +87,11 @@ impl Certificate {
     }
 
     /// A part begins, whose first claim is of so many plies at the root, if there are any.
-    fn begin_part(&mut self, plies: u8) -> Result<(), AllocError> {
+    fn begin_part(&mut self, plies: u8) -> Result<(), AllocError>
+        ensures root { OnOk result (self.new.root ≡ self.old.root) }
+        ensures plies { OnOk result (self.new.plies ≡ self.old.plies) }
+        ensures first { OnOk result (self.new.first ≡ self.old.first) }
+    {
         self.next = 0;
         self.claims = Claims::new(self.chooser.alloc);
         if plies > 0 {

@@ -17,13 +17,13 @@ use command_line::{Action, Limits, Line};
 use devices::{Failed, Source};
 use entry::MateLore;
 use moves::{Goal, read_sound};
-use progress::{Course, Setting, Watch, show};
+use progress::{Course, Setting, Watch, shown};
 use replies::{Told, Trouble, reply, reply_told, search_of, searched_within};
 use rounds::{Gate, NoGate, SolveFault, Task, keys_over, solve_over};
 use slots::{Seat, Slots};
 use std::sync::Wait;
 use std::sync::atomic::{AtomicU64, Ordering};
-use std::thread::{Threads, join};
+use std::thread::Threads;
 use std::time::{Clock, Instant};
 
 /// What a run is given, and whether it shows how far a search is.
@@ -104,24 +104,6 @@ fn watch_of<R: Clock + AllocGlobal>(host: &Host<'_, R>, line: &Line<'_>) -> Opti
     host.watch(&position, course, slots)
 }
 
-/// The reply to a line that reads no input, told to the watch.
-fn reply_watched<R: Threads + Wait + Sync + AllocGlobal>(
-    rt: &R,
-    watch: &Watch,
-    line: &Line<'_>,
-) -> Result<Vec<u8>, Trouble>
-    ensures given { GivesReply vec_items line.now (Some []) result }
-    ensures counts { reads_failed result ≡ 0 }
-{
-    let told = Told {
-        alloc: rt.alloc(),
-        gate: watch,
-    };
-    let text = reply_told(rt, &told, line, &mut Nothing);
-    watch.finish();
-    text
-}
-
 /// The reply to a line that reads no input, with a thread beside it that shows its search.
 fn reply_beside<R: Threads + Wait + Eprint + Clock + Sync + AllocGlobal>(
     rt: &R,
@@ -133,15 +115,20 @@ fn reply_beside<R: Threads + Wait + Eprint + Clock + Sync + AllocGlobal>(
 {
     // a closure that holds a `Line` has no contract, for its lifetime
     let Line { fen, action } = *line;
-    let (_, text) = join(
+    shown(
         rt,
-        || show(rt, watch),
+        watch,
         move || -> Result<Vec<u8>, Trouble>
             ensures { GivesReply vec_items (record { fen = fen.entry; action = action }) (Some []) result
                 × (reads_failed result ≡ 0) }
-        { reply_watched(rt, watch, &Line { fen, action }) },
-    );
-    text
+        {
+            let told = Told {
+                alloc: rt.alloc(),
+                gate: watch,
+            };
+            reply_told(rt, &told, &Line { fen, action }, &mut Nothing)
+        },
+    )
 }
 
 /// The text that answers a line, as `reply` gives it, with a sign of life where one is asked for.
@@ -183,25 +170,6 @@ pub fn find_over<R: Threads + Wait + Sync + AllocGlobal, T: Gate>(
     }
 }
 
-/// The same, told to its gate. The seats come back.
-fn find_watched<R: Threads + Wait + Sync + AllocGlobal>(
-    rt: &R,
-    keys: bool,
-    task: &Task<'_, Watch>,
-    slots: &Slots<MateLore>,
-    mut seats: Vec<Seat>,
-) -> (Result<Found, SolveFault>, Vec<Seat>)
-    requires { All (IsSeatOf slots.now) seats.items }
-    ensures found { IfOk result.0 (IsFoundAt keys task.now.goal task.now.position.now task.now.limit) }
-    ensures accepted { IfOk result.0 (λ _. task_fault task.now.limit (length seats.items) ≡ None) }
-    ensures refused { IfErr result.0 (IsTaskRefusal task.now.limit (length seats.items)) }
-    ensures seats { AreSeats slots.now (length seats.items) result.1.items }
-{
-    let found = find_over(rt, keys, task, slots, &mut seats);
-    task.gate.finish();
-    (found, seats)
-}
-
 /// What a task finds, and its seats, with a thread beside it that shows the search.
 pub fn find_beside<R: Threads + Wait + Eprint + Clock + Sync + AllocGlobal>(
     rt: &R,
@@ -222,9 +190,9 @@ pub fn find_beside<R: Threads + Wait + Eprint + Clock + Sync + AllocGlobal>(
         limit,
         gate,
     } = *task;
-    let (_, found) = join(
+    shown(
         rt,
-        || show(rt, gate),
+        gate,
         move || -> (Result<Found, SolveFault>, Vec<Seat>)
             requires { All (IsSeatOf slots.now) seats.items }
             ensures { IfOk result.0 (IsFoundAt keys goal position.entry.now limit)
@@ -238,10 +206,11 @@ pub fn find_beside<R: Threads + Wait + Eprint + Clock + Sync + AllocGlobal>(
                 limit,
                 gate,
             };
-            find_watched(rt, keys, &task, slots, seats)
+            let mut seats = seats;
+            let found = find_over(rt, keys, &task, slots, &mut seats);
+            (found, seats)
         },
-    );
-    found
+    )
 }
 
 /// The answer at a position, told to the gate.
@@ -267,21 +236,6 @@ fn search_told<R: Threads + Wait + Sync + AllocGlobal, T: Gate>(
     })
 }
 
-/// The same, told to a watch, whose search is over then.
-fn searched_watched<R: Threads + Wait + Sync + AllocGlobal>(
-    rt: &R,
-    watch: &Watch,
-    position: &Position,
-    goal: Goal,
-    limits: Limits,
-) -> Result<Searched, SolveFault>
-    ensures { SolvesOver goal position.now limits result }
-{
-    let found = search_told(rt, watch, position, goal, limits);
-    watch.finish();
-    found
-}
-
 /// The answer at a position, with a thread beside it that shows the search.
 fn searched_beside<R: Threads + Wait + Eprint + Clock + Sync + AllocGlobal>(
     rt: &R,
@@ -292,14 +246,13 @@ fn searched_beside<R: Threads + Wait + Eprint + Clock + Sync + AllocGlobal>(
 ) -> Result<Searched, SolveFault>
     ensures { SolvesOver goal position.now limits result }
 {
-    let (_, found) = join(
+    shown(
         rt,
-        || show(rt, watch),
+        watch,
         move || -> Result<Searched, SolveFault>
             ensures { SolvesOver goal position.entry.now limits result }
-        { searched_watched(rt, watch, position, goal, limits) },
-    );
-    found
+        { search_told(rt, watch, position, goal, limits) },
+    )
 }
 
 /// The answer at a position, with a sign of life where one is asked for.

@@ -7,4 +7,4 @@ mod watch;
 
 pub use place::{WINS, first_named};
 pub use sign::{CLEARED, Sign, Work, drawn, left_behind};
-pub use watch::{Course, Setting, Watch, show, watch_keeps_on};
+pub use watch::{Course, Setting, Watch, shown, watch_keeps_on};

@@ -16,7 +16,7 @@ use slots::{Seat, Slots};
 use std::alloc::{AllocError, Global};
 use std::sync::Wait;
 use std::sync::atomic::{AtomicU64, Ordering};
-use std::thread::Parker;
+use std::thread::{Parker, Threads, join};
 use std::time::{Clock, Duration, Instant};
 
 /// A job of a search for keys that wins: it is decided, and the search goes on.
@@ -109,7 +109,7 @@ impl Watch {
     }
 
     /// Says that the search is over.
-    pub fn finish(&self) {
+    fn finish(&self) {
         self.over.store(1, Ordering::SeqCst);
         self.parker.unpark();
     }
@@ -238,7 +238,7 @@ fn draw<R: Eprint>(rt: &R, watch: &Watch, seconds: u64) {
 }
 
 /// Shows a search from its first second on until it is over. It alone writes on standard error as long as it runs.
-pub fn show<R: Wait + Eprint + Clock>(rt: &R, watch: &Watch) {
+fn show<R: Wait + Eprint + Clock>(rt: &R, watch: &Watch) {
     let mut told = 0;
     let mut shows = false;
     for _ in rt.forever() {
@@ -260,4 +260,29 @@ pub fn show<R: Wait + Eprint + Clock>(rt: &R, watch: &Watch) {
     if shows {
         let _ = eprint!(rt; "{CLEARED}");
     }
+}
+
+/// What the work gives, with a thread beside it that shows the search which it tells the watch of, from its first second on until the work
+/// is done.
+pub fn shown<R: Threads + Wait + Eprint + Clock + Sync, T, F: FnOnce() -> T>(
+    rt: &R,
+    watch: &Watch,
+    work: F,
+) -> T
+    requires { F.pre work }
+    ensures { F.post work result }
+{
+    let (_, found) = join(
+        rt,
+        || show(rt, watch),
+        move || -> T
+            requires { F.pre work }
+            ensures { F.post work result }
+        {
+            let found = work();
+            watch.finish();
+            found
+        },
+    );
+    found
 }
