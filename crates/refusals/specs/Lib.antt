@@ -1,3 +1,4 @@
 -- to be believed
 pub mod Refusal
 pub mod Reply
+pub mod Sentences

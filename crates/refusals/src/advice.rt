@@ -1,5 +1,11 @@
 //! What standard error is told of a refusal: one sentence, which says what to write instead.
+ghost use Rattle.std.specs.Prelude.{◌≡◌, ◌≢◌, ℕ, OnOk, IfSome};
+ghost use Rattle.std.specs.Io.KnownBytes.{Appends};
+ghost use Rattle.refusals.specs.Sentences.{AppendsLine, AppendsText, Says, SaysLine, beginning_of, grammar_sentence, length_sentence, limit_sentence, memory_sentence, sentence_of};
+ghost use Rattle.refusals.specs.declared.refusal.Refusal.TheVariants.{Grammar};
+
 use crate::board_text::{self, Board};
+use crate::escaping::write_escaped;
 use crate::kings::{Check, check_of};
 use crate::refusal::Refusal;
 use crate::spelling::{Parting, Slip, leaves_well, moves_of, slip_of};
@@ -32,24 +38,40 @@ pub struct Refused<'a> {
     pub asking: Asking<'a>,
 }
 
-impl Refused<'_> {
-    fn is_line(&self) -> bool {
-        matches!(self.asking, Asking::Line(_))
+impl Asking<'_> {
+    fn is_line(self) -> bool {
+        matches!(self, Asking::Line(_))
+    }
+}
+
+/// What the line begins with.
+fn write_beginning<E: Write>(errors: &mut E, asking: Asking<'_>) -> io::Result<()>
+    ensures { OnOk result (Appends (E.contents errors.old) (E.contents errors.new) (beginning_of asking.entry)) }
+{
+    match asking {
+        Asking::Line(number) => write!(errors, "error: line {number}: "),
+        _ => errors.write_all(b"error: "),
     }
 }
 
 /// Tells in one sentence why something was refused, and what to write instead.
-pub fn advise<E: Write>(errors: &mut E, refused: &Refused<'_>) -> io::Result<()> {
-    match refused.asking {
-        Asking::Line(number) => write!(errors, "error: line {number}: ")?,
-        _ => errors.write_all(b"error: ")?,
-    }
+pub fn advise<E: Write>(errors: &mut E, refused: &Refused<'_>) -> io::Result<()>
+    ensures line { OnOk result (AppendsLine (beginning_of refused.now.asking)
+        (E.contents errors.old) (E.contents errors.new)) }
+    ensures says { OnOk result (SaysLine refused.now.refusal refused.now.asking
+        (E.contents errors.old) (E.contents errors.new)) }
+{
+    write_beginning(errors, refused.asking)?;
     write_sentence(errors, refused)?;
     errors.write_all(b"\n")
 }
 
 /// What is wrong, and what to write instead, without the line's number and its end.
-pub fn write_sentence<E: Write>(errors: &mut E, refused: &Refused<'_>) -> io::Result<()> {
+pub fn write_sentence<E: Write>(errors: &mut E, refused: &Refused<'_>) -> io::Result<()>
+    ensures text { OnOk result (AppendsText (E.contents errors.old) (E.contents errors.new)) }
+    ensures says { OnOk result (Says refused.now.refusal refused.now.asking
+        (E.contents errors.old) (E.contents errors.new)) }
+{
     match refused.refusal {
         Refusal::Fields | Refusal::Shape | Refusal::Letter | Refusal::Side => {
             advise_text(errors, refused)
@@ -59,24 +81,23 @@ pub fn write_sentence<E: Write>(errors: &mut E, refused: &Refused<'_>) -> io::Re
         Refusal::Units => advise_units(errors, &Board::of(refused.fen)),
         Refusal::PawnRank => advise_pawn(errors, &Board::of(refused.fen)),
         Refusal::OtherInCheck => advise_check(errors, refused.fen),
-        Refusal::TooLong => errors.write_all(length_advice(refused.is_line())),
         Refusal::Grammar(offset) => advise_grammar(errors, offset),
-        Refusal::Limit if refused.is_line() => errors.write_all(
-            b"behind ; dm a line has its moves, 1 to 32: write one of these",
-        ),
-        Refusal::Answer => errors.write_all(answer_advice(refused.asking).as_bytes()),
-        Refusal::NoMemory => errors.write_all(memory_advice(refused.asking).as_bytes()),
-        other => errors.write_all(values_advice(other).as_bytes()),
+        other => errors.write_all(plain_advice(other, refused.asking).as_bytes()),
     }
 }
 
-/// The sentence of a refusal that rests on no text.
-fn values_advice(refusal: Refusal) -> &'static str {
+/// The sentence of a refusal that rests on no text of a position, and names no place.
+fn plain_advice(refusal: Refusal, asking: Asking<'_>) -> &'static str
+    ensures { ((offset : ℕ) → refusal ≢ Grammar offset)
+        → IfSome (sentence_of refusal asking.entry) (λ sentence. result.now ≡ sentence) }
+{
     match refusal {
+        Refusal::TooLong => length_advice(asking),
+        Refusal::Limit => limit_advice(asking),
+        Refusal::Answer => answer_advice(asking),
+        Refusal::NoMemory => memory_advice(asking),
         Refusal::Move =>
             "no lawful move has this name: a move is two squares and what a pawn becomes, as c4c5q",
-        Refusal::Limit =>
-            "--limit is 1 to 63 plies: a mate in M moves is --limit 2M-1, or --mate M, 1 to 32",
         Refusal::Workers => "--workers is 1 to 16",
         Refusal::Slots => "--slots is 1 to 1048576",
         Refusal::Deep =>
@@ -86,7 +107,28 @@ fn values_advice(refusal: Refusal) -> &'static str {
     }
 }
 
-fn memory_advice(asking: Asking<'_>) -> &'static str {
+fn limit_advice(asking: Asking<'_>) -> &'static str
+    ensures { result.now ≡ limit_sentence asking.entry }
+{
+    match asking {
+        Asking::Line(_) => "behind ; dm a line has its moves, 1 to 32: write one of these",
+        _ => "--limit is 1 to 63 plies: a mate in M moves is --limit 2M-1, or --mate M, 1 to 32",
+    }
+}
+
+fn length_advice(asking: Asking<'_>) -> &'static str
+    ensures { result.now ≡ length_sentence asking.entry }
+{
+    match asking {
+        Asking::Line(_) => "a line has at most 256 bytes",
+        _ =>
+            "a tree has at most 1048576 bytes, its line feed counted, and a line of a certificate 8192",
+    }
+}
+
+fn memory_advice(asking: Asking<'_>) -> &'static str
+    ensures { result.now ≡ memory_sentence asking.entry }
+{
     match asking {
         Asking::Search | Asking::Line(_) =>
             "memory is wanting: a search takes less with fewer --slots or --workers",
@@ -138,10 +180,14 @@ fn line_advice(goal: Goal, line: &[u8]) -> &'static str {
 }
 
 /// How a text is to be written, or else what is wrong with its board or its side.
-fn advise_text<E: Write>(errors: &mut E, refused: &Refused<'_>) -> io::Result<()> {
+fn advise_text<E: Write>(errors: &mut E, refused: &Refused<'_>) -> io::Result<()>
+    ensures { OnOk result (AppendsText (E.contents errors.old) (E.contents errors.new)) }
+{
     match slip_of(refused.fen) {
         Some(Slip::Tail(tail) | Slip::Rest(_, tail))
-            if refused.is_line() && moves_of(tail).is_some() => { advise_moves(errors, tail) }
+            if refused.asking.is_line() && moves_of(tail).is_some() => {
+            advise_moves(errors, tail)
+        }
         Some(slip) => {
             advise_slip(errors, slip)?;
             advise_rest_of_board(errors, leaves_well(refused.fen, slip))
@@ -151,17 +197,21 @@ fn advise_text<E: Write>(errors: &mut E, refused: &Refused<'_>) -> io::Result<()
 }
 
 /// That a line's moves are written otherwise.
-fn advise_moves<E: Write>(errors: &mut E, tail: &[u8]) -> io::Result<()> {
+fn advise_moves<E: Write>(errors: &mut E, tail: &[u8]) -> io::Result<()>
+    ensures { OnOk result (AppendsText (E.contents errors.old) (E.contents errors.new)) }
+{
     let moves = moves_of(tail).unwrap_or(1);
     write!(
         errors,
-        "a line has its moves behind its position: write ' ; dm {moves}' in place of '{}'",
-        tail.escape_ascii()
-    )
+        "a line has its moves behind its position: write ' ; dm {moves}'"
+    )?;
+    write_escaped(errors, " in place of '", tail, "'")
 }
 
 /// Where another fault is left in the board, that there is one.
-fn advise_rest_of_board<E: Write>(errors: &mut E, is_well: bool) -> io::Result<()> {
+fn advise_rest_of_board<E: Write>(errors: &mut E, is_well: bool) -> io::Result<()>
+    ensures { OnOk result (AppendsText (E.contents errors.old) (E.contents errors.new)) }
+{
     if is_well {
         Ok(())
     } else {
@@ -169,7 +219,9 @@ fn advise_rest_of_board<E: Write>(errors: &mut E, is_well: bool) -> io::Result<(
     }
 }
 
-fn advise_slip<E: Write>(errors: &mut E, slip: Slip<'_>) -> io::Result<()> {
+fn advise_slip<E: Write>(errors: &mut E, slip: Slip<'_>) -> io::Result<()>
+    ensures { OnOk result (AppendsText (E.contents errors.old) (E.contents errors.new)) }
+{
     match slip {
         Slip::Foreign(place, bytes, is_needless) => {
             advise_foreign(errors, place, bytes, is_needless)
@@ -207,21 +259,23 @@ fn advise_foreign<E: Write>(
     place: usize,
     bytes: &[u8],
     is_needless: bool,
-) -> io::Result<()> {
+) -> io::Result<()>
+    ensures { OnOk result (AppendsText (E.contents errors.old) (E.contents errors.new)) }
+{
     write!(
         errors,
-        "character {place} is not ASCII: {} '{}'",
-        foreign_advice(is_needless),
-        bytes.escape_ascii()
-    )
+        "character {place} is not ASCII: {}",
+        foreign_advice(is_needless)
+    )?;
+    write_escaped(errors, " '", bytes, "'")
 }
 
 fn parting_advice(parting: Parting) -> &'static str {
     match parting {
-        Parting::Around => "blanks stand around the position",
-        Parting::Tab => "a tab or a line end stands behind the board",
-        Parting::Spaces => "several spaces stand behind the board",
-        Parting::Nothing => "no space stands behind the board",
+        Parting::Around => "blanks stand around the position: write '",
+        Parting::Tab => "a tab or a line end stands behind the board: write '",
+        Parting::Spaces => "several spaces stand behind the board: write '",
+        Parting::Nothing => "no space stands behind the board: write '",
     }
 }
 
@@ -230,21 +284,21 @@ fn advise_parting<E: Write>(
     parting: Parting,
     board: &[u8],
     side: &[u8],
-) -> io::Result<()> {
-    write!(
-        errors,
-        "{}: write '{} {}'",
-        parting_advice(parting),
-        board.escape_ascii(),
-        side.escape_ascii()
-    )
+) -> io::Result<()>
+    ensures { OnOk result (AppendsText (E.contents errors.old) (E.contents errors.new)) }
+{
+    write_escaped(errors, parting_advice(parting), board, " ")?;
+    write_escaped(errors, "", side, "'")
 }
 
-fn advise_tail<E: Write>(errors: &mut E, tail: &[u8]) -> io::Result<()> {
-    write!(
+fn advise_tail<E: Write>(errors: &mut E, tail: &[u8]) -> io::Result<()>
+    ensures { OnOk result (AppendsText (E.contents errors.old) (E.contents errors.new)) }
+{
+    write_escaped(
         errors,
-        "the side to move is w or b: leave out '{}' behind it",
-        tail.escape_ascii()
+        "the side to move is w or b: leave out '",
+        tail,
+        "' behind it",
     )
 }
 
@@ -259,17 +313,21 @@ fn count_word(count: usize) -> &'static str {
     }
 }
 
-fn advise_rest<E: Write>(errors: &mut E, count: usize, rest: &[u8]) -> io::Result<()> {
+fn advise_rest<E: Write>(errors: &mut E, count: usize, rest: &[u8]) -> io::Result<()>
+    ensures { OnOk result (AppendsText (E.contents errors.old) (E.contents errors.new)) }
+{
     write!(
         errors,
-        "a position has two fields, the board and the side: here are {}; leave out '{}'",
-        count_word(count),
-        rest.escape_ascii()
-    )
+        "a position has two fields, the board and the side: here are {}; leave out",
+        count_word(count)
+    )?;
+    write_escaped(errors, " '", rest, "'")
 }
 
 /// What is wrong with the board or the side of a text that has both, and a space between them.
-fn advise_part<E: Write>(errors: &mut E, refused: &Refused<'_>) -> io::Result<()> {
+fn advise_part<E: Write>(errors: &mut E, refused: &Refused<'_>) -> io::Result<()>
+    ensures { OnOk result (AppendsText (E.contents errors.old) (E.contents errors.new)) }
+{
     let board = Board::of(refused.fen);
     match refused.refusal {
         Refusal::Shape => advise_shape(errors, &board),
@@ -278,7 +336,9 @@ fn advise_part<E: Write>(errors: &mut E, refused: &Refused<'_>) -> io::Result<()
     }
 }
 
-fn advise_shape<E: Write>(errors: &mut E, board: &Board<'_>) -> io::Result<()> {
+fn advise_shape<E: Write>(errors: &mut E, board: &Board<'_>) -> io::Result<()>
+    ensures { OnOk result (AppendsText (E.contents errors.old) (E.contents errors.new)) }
+{
     match board.width() {
         Some(width) => advise_ranks(errors, board, width),
         None => advise_widths(errors, board),
@@ -286,7 +346,9 @@ fn advise_shape<E: Write>(errors: &mut E, board: &Board<'_>) -> io::Result<()> {
 }
 
 /// That there are too few ranks, or too many, of the squares that a game has.
-fn advise_ranks<E: Write>(errors: &mut E, board: &Board<'_>, width: usize) -> io::Result<()> {
+fn advise_ranks<E: Write>(errors: &mut E, board: &Board<'_>, width: usize) -> io::Result<()>
+    ensures { OnOk result (AppendsText (E.contents errors.old) (E.contents errors.new)) }
+{
     write!(
         errors,
         "here are {} ranks of {width} squares: write {width} ranks, as {} has",
@@ -296,7 +358,9 @@ fn advise_ranks<E: Write>(errors: &mut E, board: &Board<'_>, width: usize) -> io
     advise_rest_of_board(errors, board.has_letters_of(width))
 }
 
-fn advise_widths<E: Write>(errors: &mut E, board: &Board<'_>) -> io::Result<()> {
+fn advise_widths<E: Write>(errors: &mut E, board: &Board<'_>) -> io::Result<()>
+    ensures { OnOk result (AppendsText (E.contents errors.old) (E.contents errors.new)) }
+{
     let ranks = board.ranks;
     match (board.other_width(), board.uneven_rank()) {
         (None, Some(uneven)) if ranks == 5 || ranks == 6 => advise_uneven(errors, board, uneven),
@@ -317,9 +381,11 @@ fn advise_widths<E: Write>(errors: &mut E, board: &Board<'_>) -> io::Result<()> 
 fn advise_uneven<E: Write>(
     errors: &mut E,
     board: &Board<'_>,
-    (rank, width): (usize, usize),
-) -> io::Result<()> {
-    let ranks = board.ranks;
+    uneven: (usize, usize),
+) -> io::Result<()>
+    ensures { OnOk result (AppendsText (E.contents errors.old) (E.contents errors.new)) }
+{
+    let (ranks, (rank, width)) = (board.ranks, uneven);
     write!(
         errors,
         "a board of {ranks} ranks has {ranks} squares in each: here rank {rank} has {width}"
@@ -345,19 +411,27 @@ fn units_of(ranks: usize) -> &'static str {
     }
 }
 
+/// What a rank has that it can't have.
+fn write_rank<E: Write>(errors: &mut E, rank: usize, bytes: &[u8]) -> io::Result<()>
+    ensures { OnOk result (AppendsText (E.contents errors.old) (E.contents errors.new)) }
+{
+    write!(errors, "rank {rank} has ")?;
+    write_escaped(errors, "'", bytes, "': ")
+}
+
 /// Which letter is no unit's, and where.
-fn write_letter<E: Write>(errors: &mut E, board: &Board<'_>) -> io::Result<()> {
+fn write_letter<E: Write>(errors: &mut E, board: &Board<'_>) -> io::Result<()>
+    ensures { OnOk result (AppendsText (E.contents errors.old) (E.contents errors.new)) }
+{
     match board.foreign_letter() {
-        Some((rank, letter)) => write!(
-            errors,
-            "rank {rank} has '{}': ",
-            [letter].as_slice().escape_ascii()
-        ),
+        Some((rank, letter)) => write_rank(errors, rank, [letter].as_slice()),
         None => Ok(()),
     }
 }
 
-fn advise_letter<E: Write>(errors: &mut E, board: &Board<'_>) -> io::Result<()> {
+fn advise_letter<E: Write>(errors: &mut E, board: &Board<'_>) -> io::Result<()>
+    ensures { OnOk result (AppendsText (E.contents errors.old) (E.contents errors.new)) }
+{
     write_letter(errors, board)?;
     let (game, letters) = (game_of(board.ranks), units_of(board.ranks));
     write!(
@@ -367,14 +441,18 @@ fn advise_letter<E: Write>(errors: &mut E, board: &Board<'_>) -> io::Result<()> 
 }
 
 /// Which run of empty squares is no single digit, and where.
-fn write_run<E: Write>(errors: &mut E, board: &Board<'_>) -> io::Result<()> {
+fn write_run<E: Write>(errors: &mut E, board: &Board<'_>) -> io::Result<()>
+    ensures { OnOk result (AppendsText (E.contents errors.old) (E.contents errors.new)) }
+{
     match board.split_run() {
-        Some((rank, run)) => write!(errors, "rank {rank} has '{}': ", run.escape_ascii()),
+        Some((rank, run)) => write_rank(errors, rank, run),
         None => Ok(()),
     }
 }
 
-fn advise_run<E: Write>(errors: &mut E, board: &Board<'_>) -> io::Result<()> {
+fn advise_run<E: Write>(errors: &mut E, board: &Board<'_>) -> io::Result<()>
+    ensures { OnOk result (AppendsText (E.contents errors.old) (E.contents errors.new)) }
+{
     write_run(errors, board)?;
     write!(
         errors,
@@ -383,16 +461,16 @@ fn advise_run<E: Write>(errors: &mut E, board: &Board<'_>) -> io::Result<()> {
     )
 }
 
-fn advise_side<E: Write>(errors: &mut E, fen: &[u8]) -> io::Result<()> {
+fn advise_side<E: Write>(errors: &mut E, fen: &[u8]) -> io::Result<()>
+    ensures { OnOk result (AppendsText (E.contents errors.old) (E.contents errors.new)) }
+{
     let side = board_text::after_board(fen);
-    write!(
-        errors,
-        "the side to move is w or b: here is '{}'",
-        side.escape_ascii()
-    )
+    write_escaped(errors, "the side to move is w or b: here is '", side, "'")
 }
 
-fn advise_kings<E: Write>(errors: &mut E, board: &Board<'_>) -> io::Result<()> {
+fn advise_kings<E: Write>(errors: &mut E, board: &Board<'_>) -> io::Result<()>
+    ensures { OnOk result (AppendsText (E.contents errors.old) (E.contents errors.new)) }
+{
     let white = board_text::count_of(board.text, b'K');
     let black = board_text::count_of(board.text, b'k');
     write!(
@@ -401,7 +479,9 @@ fn advise_kings<E: Write>(errors: &mut E, board: &Board<'_>) -> io::Result<()> {
     )
 }
 
-fn advise_units<E: Write>(errors: &mut E, board: &Board<'_>) -> io::Result<()> {
+fn advise_units<E: Write>(errors: &mut E, board: &Board<'_>) -> io::Result<()>
+    ensures { OnOk result (AppendsText (E.contents errors.old) (E.contents errors.new)) }
+{
     let game = game_of(board.ranks);
     let most = if board.ranks == 6 { 12 } else { 10 };
     let (white, black) = (board.units(true), board.units(false));
@@ -411,7 +491,9 @@ fn advise_units<E: Write>(errors: &mut E, board: &Board<'_>) -> io::Result<()> {
     )
 }
 
-fn advise_pawn<E: Write>(errors: &mut E, board: &Board<'_>) -> io::Result<()> {
+fn advise_pawn<E: Write>(errors: &mut E, board: &Board<'_>) -> io::Result<()>
+    ensures { OnOk result (AppendsText (E.contents errors.old) (E.contents errors.new)) }
+{
     let rank = if board.first_rank_has_pawn() {
         1
     } else {
@@ -424,7 +506,9 @@ fn advise_pawn<E: Write>(errors: &mut E, board: &Board<'_>) -> io::Result<()> {
     )
 }
 
-fn advise_check<E: Write>(errors: &mut E, fen: &[u8]) -> io::Result<()> {
+fn advise_check<E: Write>(errors: &mut E, fen: &[u8]) -> io::Result<()>
+    ensures { OnOk result (AppendsText (E.contents errors.old) (E.contents errors.new)) }
+{
     match check_of(fen) {
         Check::Touching(white, black) => write!(
             errors,
@@ -438,7 +522,9 @@ fn advise_check<E: Write>(errors: &mut E, fen: &[u8]) -> io::Result<()> {
 }
 
 /// With the other side to move the position is taken.
-fn advise_one<E: Write>(errors: &mut E, mover: Side) -> io::Result<()> {
+fn advise_one<E: Write>(errors: &mut E, mover: Side) -> io::Result<()>
+    ensures { OnOk result (AppendsText (E.contents errors.old) (E.contents errors.new)) }
+{
     let (mover, other, side) = match mover {
         Side::White => ("White", "Black", 'b'),
         Side::Black => ("Black", "White", 'w'),
@@ -449,15 +535,9 @@ fn advise_one<E: Write>(errors: &mut E, mover: Side) -> io::Result<()> {
     )
 }
 
-fn length_advice(is_line: bool) -> &'static [u8] {
-    if is_line {
-        b"a line has at most 256 bytes"
-    } else {
-        b"a tree has at most 1048576 bytes, its line feed counted, and a line of a certificate 8192"
-    }
-}
-
-fn advise_grammar<E: Write>(errors: &mut E, offset: usize) -> io::Result<()> {
+fn advise_grammar<E: Write>(errors: &mut E, offset: usize) -> io::Result<()>
+    ensures { OnOk result (Appends (E.contents errors.old) (E.contents errors.new) (grammar_sentence offset)) }
+{
     match offset {
         0 => errors.write_all(
             b"the input begins with no move: where `tree` wrote no tree, there is none to check",

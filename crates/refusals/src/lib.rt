@@ -1,8 +1,9 @@
 //! Why a line isn't answered: by the name that is printed, and in a sentence that names a change after which it is.
-#![tactic(auto)]
+#![tactic(auto, using(crate::proofs::Telling::telling))]
 
 mod advice;
 mod board_text;
+mod escaping;
 mod kings;
 mod moving;
 mod refusal;

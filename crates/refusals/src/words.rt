@@ -1,4 +1,8 @@
 //! What is told of words that are no line: one change after which they are.
+ghost use Rattle.std.specs.Prelude.{◌≡◌, ◌⊎◌, OnOk};
+ghost use Rattle.std.specs.Io.KnownBytes.{Appends};
+ghost use Rattle.refusals.specs.Sentences.{AppendsLine, AppendsText, error_beginning, limits_text};
+
 use crate::board_text;
 use std::io::{self, Write};
 
@@ -360,20 +364,33 @@ fn range_of(option: &str) -> (&'static str, &'static str) {
     }
 }
 
-fn write_number<E: Write>(errors: &mut E, option: &str, value: &str) -> io::Result<()> {
+fn write_number<E: Write>(errors: &mut E, option: &str, value: &str) -> io::Result<()>
+    ensures { OnOk result (AppendsText (E.contents errors.old) (E.contents errors.new)) }
+{
     let (range, number) = range_of(option);
     write!(
         errors,
-        "error: {option} is a number from {range}: write {number} in place of '{value}'\n"
+        "{option} is a number from {range}: write {number} in place of '{value}'"
     )
 }
 
-fn write_missing<E: Write>(errors: &mut E, option: &str) -> io::Result<()> {
+fn write_missing<E: Write>(errors: &mut E, option: &str) -> io::Result<()>
+    ensures { OnOk result (AppendsText (E.contents errors.old) (E.contents errors.new)) }
+{
     let (range, number) = range_of(option);
     write!(
         errors,
-        "error: {option} is a number from {range}: write {number} behind it\n"
+        "{option} is a number from {range}: write {number} behind it"
     )
+}
+
+/// What is counted by an option of another name.
+fn counted_advice(option: &str) -> &'static str {
+    match option {
+        "--moves" => "moves of the attacker are counted by --mate: ",
+        "--threads" => "threads are counted by --workers: ",
+        _ => "",
+    }
 }
 
 /// How an option is written that is called otherwise here.
@@ -382,63 +399,69 @@ fn write_called<E: Write>(
     name: &str,
     option: &str,
     is_missing: bool,
-) -> io::Result<()> {
-    match option {
-        "--moves" => errors.write_all(b"error: moves of the attacker are counted by --mate: ")?,
-        "--threads" => errors.write_all(b"error: threads are counted by --workers: ")?,
-        _ => errors.write_all(b"error: ")?,
-    }
+) -> io::Result<()>
+    ensures { OnOk result (AppendsText (E.contents errors.old) (E.contents errors.new)) }
+{
+    errors.write_all(counted_advice(option).as_bytes())?;
     match name {
-        _ if !is_missing => write!(errors, "write {name} in place of {option}\n"),
-        "--goal" => write!(errors, "write {name} mate in place of {option}\n"),
+        _ if !is_missing => write!(errors, "write {name} in place of {option}"),
+        "--goal" => write!(errors, "write {name} mate in place of {option}"),
         _ => {
             let (_, number) = range_of(name);
-            write!(errors, "write {name} {number} in place of {option}\n")
+            write!(errors, "write {name} {number} in place of {option}")
         }
     }
 }
 
-/// An option, with a number behind it where one is named.
-fn write_option<E: Write>(errors: &mut E, option: &str, value: &str) -> io::Result<()> {
-    write!(errors, "leave out {option}")?;
-    if value.is_empty() {
-        Ok(())
+/// What stands between an option and its value.
+fn gap_before(value: &str) -> &'static str {
+    if value.is_empty() { "" } else { " " }
+}
+
+fn more_advice(more: bool) -> &'static str {
+    if more {
+        ", and the other options of a search"
     } else {
-        write!(errors, " {value}")
+        ""
     }
 }
 
 fn write_no_search<E: Write>(
     errors: &mut E,
     command: &str,
-    (option, value): (&str, &str),
+    told: (&str, &str),
     more: bool,
-) -> io::Result<()> {
-    write!(errors, "error: {command} makes no search: ")?;
-    write_option(errors, option, value)?;
-    if more {
-        errors.write_all(b", and the other options of a search\n")
-    } else {
-        errors.write_all(b"\n")
-    }
+) -> io::Result<()>
+    ensures { OnOk result (AppendsText (E.contents errors.old) (E.contents errors.new)) }
+{
+    let (option, value) = told;
+    write!(
+        errors,
+        "{command} makes no search: leave out {option}{}{value}{}",
+        gap_before(value),
+        more_advice(more)
+    )
 }
 
-fn write_again<E: Write>(errors: &mut E, stays: &str, option: &str, value: &str) -> io::Result<()> {
-    write!(errors, "error: {stays} stands there already: ")?;
-    write_option(errors, option, value)?;
-    errors.write_all(b"\n")
+fn write_again<E: Write>(errors: &mut E, stays: &str, option: &str, value: &str) -> io::Result<()>
+    ensures { OnOk result (AppendsText (E.contents errors.old) (E.contents errors.new)) }
+{
+    write!(
+        errors,
+        "{stays} stands there already: leave out {option}{}{value}",
+        gap_before(value)
+    )
 }
 
-fn write_hint<E: Write>(errors: &mut E, hint: Hint<'_>) -> io::Result<()> {
+fn write_hint<E: Write>(errors: &mut E, hint: Hint<'_>) -> io::Result<()>
+    ensures { OnOk result (AppendsText (E.contents errors.old) (E.contents errors.new)) }
+{
     match hint {
         Hint::Cut(board, side) => write!(
             errors,
-            "error: a position is one word, so quote it: '{board} {side}'\n"
+            "a position is one word, so quote it: '{board} {side}'"
         ),
-        Hint::Dashes(name) => write!(
-            errors,
-            "error: {name} is a command: write it without dashes\n"
-        ),
+        Hint::Dashes(name) => write!(errors, "{name} is a command: write it without dashes"),
         Hint::Number(option, value) => write_number(errors, option, value),
         Hint::Missing(option) => write_missing(errors, option),
         Hint::Called(name, option, is_missing) => write_called(errors, name, option, is_missing),
@@ -451,36 +474,51 @@ fn write_hint<E: Write>(errors: &mut E, hint: Hint<'_>) -> io::Result<()> {
 }
 
 /// That a word stands where another kind of word does.
-fn write_place<E: Write>(errors: &mut E, hint: Hint<'_>) -> io::Result<()> {
+fn write_place<E: Write>(errors: &mut E, hint: Hint<'_>) -> io::Result<()>
+    ensures { OnOk result (AppendsText (E.contents errors.old) (E.contents errors.new)) }
+{
     match hint {
         Hint::Name(name) => write!(
             errors,
-            "error: batch reads positions from its input: write '< {name}' in place of '{name}'\n"
+            "batch reads positions from its input: write '< {name}' in place of '{name}'"
         ),
         Hint::Limit(number) => write!(
             errors,
-            "error: a limit stands behind its option: write '--limit {number}' in place of '{number}'\n"
+            "a limit stands behind its option: write '--limit {number}' in place of '{number}'"
         ),
         Hint::Before(option) => write!(
             errors,
-            "error: options stand behind the command: write it before {option}\n"
+            "options stand behind the command: write it before {option}"
         ),
         _ => errors.write_all(
-            b"error: batch reads positions from its input: write solve in place of batch for one position\n",
+            b"batch reads positions from its input: write solve in place of batch for one position",
         ),
     }
 }
 
+fn write_hint_line<E: Write>(errors: &mut E, hint: Hint<'_>) -> io::Result<()>
+    ensures { OnOk result (AppendsLine error_beginning (E.contents errors.old) (E.contents errors.new)) }
+{
+    errors.write_all(b"error: ")?;
+    write_hint(errors, hint)?;
+    errors.write_all(b"\n")
+}
+
 /// Tells of words that are refused what is to be written instead, where that can be seen.
-pub fn advise_words<E: Write>(errors: &mut E, words: &[String]) -> io::Result<()> {
+pub fn advise_words<E: Write>(errors: &mut E, words: &[String]) -> io::Result<()>
+    ensures { OnOk result ((errors.new ≡ errors.old)
+        ⊎ AppendsLine error_beginning (E.contents errors.old) (E.contents errors.new)) }
+{
     match hint_of(words) {
-        Some(hint) => write_hint(errors, hint),
+        Some(hint) => write_hint_line(errors, hint),
         None => Ok(()),
     }
 }
 
 /// Tells of a search that has both limits, or none.
-pub fn advise_limit<E: Write>(errors: &mut E, has_both: bool) -> io::Result<()> {
+pub fn advise_limit<E: Write>(errors: &mut E, has_both: bool) -> io::Result<()>
+    ensures { OnOk result (Appends (E.contents errors.old) (E.contents errors.new) (limits_text has_both)) }
+{
     if has_both {
         errors.write_all(b"error: --limit and --mate say the same: leave one of them out\n")
     } else {
