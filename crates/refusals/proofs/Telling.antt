@@ -2,7 +2,7 @@
 use Rattle.std.proofs.Common.{◌≡◌, ℕ, List, [], ◌∷◌, ◌++◌, Option, None, Some, Result, OnOk, IfSome, ap, sym, subst, ◌∙◌, append_assoc, append-nil}
 use Rattle.std.proofs.lemmas.Result.{on_ok_weaker}
 use Rattle.std.specs.Io.KnownBytes.{Appends}
-use Rattle.refusals.specs.Sentences.{AppendsLine, AppendsText, Says, SaysLine, beginning_of, line_behind, sentence_of}
+use Rattle.refusals.specs.Sentences.{AppendsLine, AppendsText, AppendsSentence, AppendsSentenceLine, beginning_of, line_behind, sentence_of}
 use Rattle.refusals.specs.declared.advice.Asking.{Asking}
 use Rattle.refusals.specs.declared.refusal.Refusal.{Refusal}
 
@@ -49,16 +49,16 @@ some_line : (o : Option (List ℕ)) (u v w x : Option (List ℕ)) (a : List ℕ)
 some_line None u v w x a h k l = tt
 some_line (Some b) u v w x a h k l = line_of u v w x a b h k l
 
-pub says_then : {T E : Type 0} (r : Result T E) (refusal : Refusal) (asking : Asking) (u v w x : Option (List ℕ)) → Appends u v (beginning_of asking) → Says refusal asking v w → OnOk r (Appends w x (10 ∷ [])) → OnOk r (SaysLine refusal asking u x)
-says_then r refusal asking u v w x h k l =
+pub sentence_line_then : {T E : Type 0} (r : Result T E) (refusal : Refusal) (asking : Asking) (u v w x : Option (List ℕ)) → Appends u v (beginning_of asking) → AppendsSentence refusal asking v w → OnOk r (Appends w x (10 ∷ [])) → OnOk r (AppendsSentenceLine refusal asking u x)
+sentence_line_then r refusal asking u v w x h k l =
     on_ok_weaker r (λ (m : Appends w x (10 ∷ [])). some_line (sentence_of refusal asking) u v w x (beginning_of asking) h k m) l
 
-some_says : (o : Option (List ℕ)) (u v : Option (List ℕ)) (a : List ℕ) → IfSome o (λ b. a ≡ b) → Appends u v a → IfSome o (Appends u v)
-some_says None u v a h k = tt
-some_says (Some b) u v a h k = subst (Appends u v) h k
+some_sentence : (o : Option (List ℕ)) (u v : Option (List ℕ)) (a : List ℕ) → IfSome o (λ b. a ≡ b) → Appends u v a → IfSome o (Appends u v)
+some_sentence None u v a h k = tt
+some_sentence (Some b) u v a h k = subst (Appends u v) h k
 
 -- the sentence that is said is the one that is appended
-pub says_of : {T E : Type 0} (r : Result T E) (refusal : Refusal) (asking : Asking) (u v : Option (List ℕ)) (a : List ℕ) → IfSome (sentence_of refusal asking) (λ b. a ≡ b) → OnOk r (Appends u v a) → OnOk r (Says refusal asking u v)
-says_of r refusal asking u v a h k = on_ok_weaker r (λ (m : Appends u v a). some_says (sentence_of refusal asking) u v a h m) k
+pub sentence_is : {T E : Type 0} (r : Result T E) (refusal : Refusal) (asking : Asking) (u v : Option (List ℕ)) (a : List ℕ) → IfSome (sentence_of refusal asking) (λ b. a ≡ b) → OnOk r (Appends u v a) → OnOk r (AppendsSentence refusal asking u v)
+sentence_is r refusal asking u v a h k = on_ok_weaker r (λ (m : Appends u v a). some_sentence (sentence_of refusal asking) u v a h m) k
 
-pub ruleset telling = (text_then, text_of, text_none, ok_then, ok_of_then, line_then, says_then, says_of)
+pub ruleset telling = (text_then, text_of, text_none, ok_then, ok_of_then, line_then, sentence_line_then, sentence_is)

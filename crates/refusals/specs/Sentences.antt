@@ -1,5 +1,5 @@
 -- What standard error is told.
-use Rattle.std.specs.Prelude.{◌≡◌, ℕ, Bool, true, false, ◌==◌, if◌then◌else◌, List, [], ◌∷◌, ◌++◌, codes, Option, Some, None, IfSome}
+use Rattle.std.specs.Prelude.{ℕ, Bool, true, false, ◌==◌, if◌then◌else◌, List, [], ◌∷◌, ◌++◌, codes, Option, Some, None, IfSome}
 use Rattle.std.specs.Fmt.{decimal}
 use Rattle.std.specs.Io.KnownBytes.{Appends}
 use Rattle.board.specs.declared.game.Side.{Side}
@@ -79,12 +79,12 @@ sentence_of NoMemory asking = Some (memory_sentence asking)
 sentence_of _ _ = None
 
 -- that sentence is appended, where there is one
-abbrev pub Says : Refusal → Asking → Option (List ℕ) → Option (List ℕ) → Type 0
-Says refusal asking old new = IfSome (sentence_of refusal asking) (Appends old new)
+abbrev pub AppendsSentence : Refusal → Asking → Option (List ℕ) → Option (List ℕ) → Type 0
+AppendsSentence refusal asking old new = IfSome (sentence_of refusal asking) (Appends old new)
 
 -- the same on a line of its own
-abbrev pub SaysLine : Refusal → Asking → Option (List ℕ) → Option (List ℕ) → Type 0
-SaysLine refusal asking old new =
+abbrev pub AppendsSentenceLine : Refusal → Asking → Option (List ℕ) → Option (List ℕ) → Type 0
+AppendsSentenceLine refusal asking old new =
     IfSome (sentence_of refusal asking) (λ sentence. Appends old new (line_behind (beginning_of asking) sentence))
 
 -- what is said of a search that has both limits, or none

@@ -1,7 +1,7 @@
 //! What standard error is told of a refusal: one sentence, which says what to write instead.
 ghost use Rattle.std.specs.Prelude.{◌≡◌, ◌≢◌, ℕ, OnOk, IfSome};
 ghost use Rattle.std.specs.Io.KnownBytes.{Appends};
-ghost use Rattle.refusals.specs.Sentences.{AppendsLine, AppendsText, Says, SaysLine, beginning_of, grammar_sentence, length_sentence, limit_sentence, memory_sentence, sentence_of};
+ghost use Rattle.refusals.specs.Sentences.{AppendsLine, AppendsText, AppendsSentence, AppendsSentenceLine, beginning_of, grammar_sentence, length_sentence, limit_sentence, memory_sentence, sentence_of};
 ghost use Rattle.refusals.specs.declared.refusal.Refusal.TheVariants.{Grammar};
 
 use crate::board_text::{self, Board};
@@ -58,7 +58,7 @@ fn write_beginning<E: Write>(errors: &mut E, asking: Asking<'_>) -> io::Result<(
 pub fn advise<E: Write>(errors: &mut E, refused: &Refused<'_>) -> io::Result<()>
     ensures line { OnOk result (AppendsLine (beginning_of refused.now.asking)
         (E.contents errors.old) (E.contents errors.new)) }
-    ensures says { OnOk result (SaysLine refused.now.refusal refused.now.asking
+    ensures sentence { OnOk result (AppendsSentenceLine refused.now.refusal refused.now.asking
         (E.contents errors.old) (E.contents errors.new)) }
 {
     write_beginning(errors, refused.asking)?;
@@ -69,7 +69,7 @@ pub fn advise<E: Write>(errors: &mut E, refused: &Refused<'_>) -> io::Result<()>
 /// What is wrong, and what to write instead, without the line's number and its end.
 pub fn write_sentence<E: Write>(errors: &mut E, refused: &Refused<'_>) -> io::Result<()>
     ensures text { OnOk result (AppendsText (E.contents errors.old) (E.contents errors.new)) }
-    ensures says { OnOk result (Says refused.now.refusal refused.now.asking
+    ensures sentence { OnOk result (AppendsSentence refused.now.refusal refused.now.asking
         (E.contents errors.old) (E.contents errors.new)) }
 {
     match refused.refusal {
