@@ -4,6 +4,7 @@ import importlib.machinery
 import importlib.util
 import os
 import re
+import shlex
 import shutil
 import subprocess
 import sys
@@ -11,6 +12,14 @@ from typing import NamedTuple, Optional
 
 TOP = os.path.dirname(os.path.dirname(os.path.abspath(__file__)))
 SHOWN = 300
+# The programs by the names of their crates, and the commands of each. The first, which tools are given, has all other words too. The launcher
+# has the same list.
+FIRST = "minimate"
+PROGRAMS = {
+    FIRST: ["solve", "tree", "keys", "check", "moves", "show", "after", "batch"],
+    "verify": ["verify"],
+    "compose": ["solution", "certify"],
+}
 # The variable by which the C library is told what it reads at a program's start, and its name for large pages.
 TUNABLES, LARGE_PAGES = "GLIBC_TUNABLES", "glibc.malloc.hugetlb"
 
@@ -85,12 +94,37 @@ def need(tool):
 
 
 def find_program(path):
-    """The launcher builds, if need be; then what it would start is run, so that it needn't look at the sources each time."""
+    """What isn't built is built, as by the launcher; then what that would start is run, so that nobody looks at the sources each time."""
     if path:
         return executable(path)
-    if subprocess.run([os.path.join(TOP, "minimate"), "moves", "k5/6/6/6/6/5K w"], stdout=subprocess.DEVNULL, check=False).returncode:
-        stop("./minimate can't be run")
+    if subprocess.run([sys.executable, os.path.join(TOP, "tools", "build_program"), "--all"], check=False).returncode:
+        stop("the programs can't be built")
     return os.path.join(TOP, "out", "minimate")
+
+
+def program_named(words):
+    """The name of the program that has these words: their first one says it alone, and what is no command is the first program's."""
+    command = os.fsdecode(words[0]) if words else ""
+    return next((name for name, commands in PROGRAMS.items() if command in commands), FIRST)
+
+
+def program_of(program, name):
+    """The program of this name, where this is the first: it stands beside that, or, of crates/X/out/X, in its own crate's folder."""
+    folder, own = os.path.split(os.path.abspath(program))
+    beside = os.path.join(folder, name)
+    if not os.path.isfile(beside) and folder.endswith(os.path.join(os.sep, own, "out")):
+        beside = os.path.join(os.path.dirname(os.path.dirname(folder)), name, "out", name)
+    return program if name == FIRST else executable(beside)
+
+
+def started(program, *words):
+    """What the launcher starts for these words, where this is the first program."""
+    return [program_of(program, program_named(words)), *words]
+
+
+def shell_line(program, launcher, line):
+    """A shell's line in which the programs stand, by their paths, for the launcher's name before a command."""
+    return re.sub(rf"{re.escape(launcher)} (?=(\S*))", lambda it: f"{shlex.quote(started(program, it[1])[0])} ", line)
 
 
 def launched(environment):

@@ -1,10 +1,12 @@
-"""How far the proofs of the program are, on standard error: a line that is written anew at a terminal, and a line a minute elsewhere."""
+"""How far the proofs of a program are, on standard error: a line that is written anew at a terminal, and a line a minute elsewhere."""
 
 import os
 import sys
 import threading
 import time
 from typing import NamedTuple
+
+import checking
 
 SHARES = os.path.join(os.path.dirname(os.path.abspath(__file__)), "proof_shares.tsv")
 
@@ -43,8 +45,8 @@ def counted(count, what):
 class Progress:
     """Tells of the proofs until it is left."""
 
-    def __init__(self, proofs, is_first):
-        self.proofs, self.is_first, self.at_terminal = proofs, is_first, sys.stderr.isatty()
+    def __init__(self, proofs, programs, is_first):
+        self.proofs, self.programs, self.is_first, self.at_terminal = proofs, programs, is_first, sys.stderr.isatty()
         self.shares = read_shares()
         # How many crates were done when last one was, and when that was.
         self.done, self.done_at = 0, time.monotonic()
@@ -75,7 +77,8 @@ class Progress:
         what = f"{counted(self.functions_of(names), 'function')} in {counted(len(names), 'crate')}"
         left = counted(minutes(self.left()), "minute")
         on = f"on {counted(processors(), 'idle processor')}, less where the toolchain has kept some"
-        return f"building for the first time: {what} are proved first, some {left} {on} .."
+        which = "" if checking.FIRST in self.programs else f" {' and '.join(self.programs)}"
+        return f"building{which} for the first time: {what} are proved first, some {left} {on} .."
 
     def left(self):
         """Seconds that the rest may take: the longest chain of crates that stand on each other, or all that is left over all processors,

@@ -60,6 +60,11 @@ def reached(crates, name):
     return [*found, name]
 
 
+def all_reached(crates, names):
+    """The same of each of these, each crate once."""
+    return list(dict.fromkeys(it for name in names for it in reached(crates, name)))
+
+
 def sources_of(top, name, parts=PARTS):
     """All files of a crate that are proved, and their folders, since a file that was removed counts by its folder."""
     for part in parts:
@@ -101,7 +106,7 @@ def lay_out(top, names, folder, lines=None):
     """Makes a repository of these crates and of those that they stand on: their sources, and their lines of crates.txt, but for those given here.
     No crate of tests is there, and no wrong body, so `rt ci` does no more than they need. Answers the crates, lowest first."""
     crates = read_crates(top)
-    found = list(dict.fromkeys(it for name in names for it in reached(crates, name)))
+    found = all_reached(crates, names)
     # By it `rt` sees that the repository begins here.
     os.makedirs(os.path.join(folder, ".git"))
     shutil.copyfile(os.path.join(top, "HANDLES"), os.path.join(folder, "HANDLES"))
@@ -251,11 +256,11 @@ def run(kit, words, folder, has_said, hold=contextlib.nullcontext):
 
 
 class Proofs:
-    """The proofs of the crates that one stands on, and of itself, by one run of `rt ci` in a folder of their own."""
+    """The proofs of these crates, and of those that they stand on, by one run of `rt ci` in a folder of their own."""
 
-    def __init__(self, kit, top, name, folder, hold=contextlib.nullcontext):
-        self.kit, self.folder, self.hold = kit, folder, hold
-        self.crates, self.names = read_crates(top), lay_out(top, [name], folder)
+    def __init__(self, kit, top, names, folder, hold=contextlib.nullcontext):
+        self.kit, self.top, self.folder, self.hold = kit, top, folder, hold
+        self.crates, self.names = read_crates(top), lay_out(top, names, folder)
         self.done = []
 
     def run(self, log):

@@ -14,18 +14,18 @@ READING = ("check", "verify", "batch")
 class Trial:
     """`rt try` runs the program in a thread of its own, until this is left, in a copy of its own: `rt ci` is to have the other for itself."""
 
-    def __init__(self, kit, top, room, words, tell):
-        self.kit, self.top, self.tell = kit, top, tell
+    def __init__(self, proofs, name, room, words, tell):
+        self.proofs, self.name, self.tell = proofs, name, tell
         self.folder = os.path.join(room, "trial")
         self.words = [it for it in words if it != "--progress"]
         self.process, self.thread, self.is_left = None, None, False
 
     def __enter__(self):
         if self.words and self.words[0] not in READING:
-            proving.lay_out(self.top, ["minimate"], self.folder)
+            proving.lay_out(self.proofs.top, [self.name], self.folder)
             how = {"stdin": subprocess.DEVNULL, "stdout": subprocess.PIPE, "stderr": subprocess.DEVNULL, "start_new_session": True}
-            words = [self.kit.rt, "try", "--", *self.words]
-            self.process = subprocess.Popen(words, cwd=os.path.join(self.folder, "crates", "minimate"), errors="replace", **how)
+            words = [self.proofs.kit.rt, "try", "--", *self.words]
+            self.process = subprocess.Popen(words, cwd=os.path.join(self.folder, "crates", self.name), errors="replace", **how)
             self.thread = threading.Thread(target=self.tell_answer, daemon=True)
             self.thread.start()
         return self
