@@ -7,6 +7,7 @@ import time
 from typing import NamedTuple
 
 import checking
+import proving
 
 SHARES = os.path.join(os.path.dirname(os.path.abspath(__file__)), "proof_shares.tsv")
 
@@ -56,7 +57,7 @@ class Progress:
 
     def __enter__(self):
         self.tell(self.what_begins())
-        self.thread.start()
+        proving.start_deaf(self.thread)
         return self
 
     def __exit__(self, *_):

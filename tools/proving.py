@@ -88,6 +88,13 @@ def end_tidily():
     signal.signal(signal.SIGTERM, lambda number, _: sys.exit(128 + number))
 
 
+def start_deaf(thread):
+    """Starts a thread that no signal is handed to: each is to wake the first thread, which may be waiting for a line of `rt`."""
+    before = signal.pthread_sigmask(signal.SIG_BLOCK, (signal.SIGHUP, signal.SIGINT, signal.SIGTERM))
+    thread.start()
+    signal.pthread_sigmask(signal.SIG_SETMASK, before)
+
+
 @contextlib.contextmanager
 def own_folder(hold=contextlib.nullcontext):
     """A new folder, which is gone again afterwards. While `hold` is entered no signal is heard."""

@@ -27,7 +27,7 @@ class Trial:
             words = [self.proofs.kit.rt, "try", "--", *self.words]
             self.process = subprocess.Popen(words, cwd=os.path.join(self.folder, "crates", self.name), errors="replace", **how)
             self.thread = threading.Thread(target=self.tell_answer, daemon=True)
-            self.thread.start()
+            proving.start_deaf(self.thread)
         return self
 
     def tell_answer(self):
