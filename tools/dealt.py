@@ -41,7 +41,7 @@ class Dealt:
     def ask_here(self, command, limit, *words):
         """What the program answers here. A refusal ends all."""
         try:
-            ran = checking.run([self.program, *self.call(command, limit), *words], timeout=None)
+            ran = checking.run(checking.started(self.program, *self.call(command, limit), *words), timeout=None)
         except (OSError, ValueError) as fault:
             raise dealing.Fault(f"{self.program} can't be run: {fault}") from None
         if ran.status != 0:
@@ -67,9 +67,9 @@ class Dealt:
         return dealing.Machines(self.options.hosts, self.options.jobs, self.options.retries)
 
     def line(self, command, limit, *words):
-        """A task, as a shell takes it."""
-        program = self.options.remote if self.options.hosts else self.program
-        return shlex.join([program, *self.call(command, limit), *words])
+        """A task, as a shell takes it. On other machines the launcher picks the program."""
+        task = [*self.call(command, limit), *words]
+        return shlex.join([self.options.remote, *task] if self.options.hosts else checking.started(self.program, *task))
 
     def command(self):
         """What a task is asked: an answer, or its certificate."""
@@ -84,7 +84,8 @@ class Dealt:
         if not self.options.certify:
             return ended.output
         first, feed, _ = ended.output.partition("\n")
-        ran = checking.run([self.program, "verify", f"--goal={self.goal}", "--", fen], ended.output.encode(), timeout=None)
+        words = checking.started(self.program, "verify", f"--goal={self.goal}", "--", fen)
+        ran = checking.run(words, ended.output.encode(), timeout=None)
         if (ran.output, ran.status) != ((first + feed).encode(), 0):
             said = (ran.error or ran.output).decode(errors="replace").strip()
             raise dealing.Fault(f"{line}: the certificate that came back from {ended.where()} proves no answer: {said}")

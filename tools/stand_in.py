@@ -1,7 +1,9 @@
-"""Programs that stand in for minimate in tests: each notes its calls, does what it is told, and answers as the program does."""
+"""Programs that stand in for minimate in tests: each notes its calls, does what it is told, and answers as the program of its name does."""
 
 import os
 from typing import NamedTuple
+
+import checking
 
 
 class Hold(NamedTuple):
@@ -31,12 +33,13 @@ NOT_PROVED = Hold('if [ "$1" = certify ] && [ -n "$PARALLEL_SEQ" ]; then echo "n
 
 
 def make(program, room, hold, port="", at=""):
-    """A new folder with such a program, whose path is given back. `calls` beside it has a line for each call."""
+    """A new folder with such programs, the first one's path. `calls` beside it has a line for each call."""
     os.mkdir(room)
-    path = os.path.join(room, "minimate")
     note = 'echo "${SSH_CONNECTION##* } $*" >> "$room/calls"'
-    lines = ["#!/bin/sh", f"room='{room}'", f"program='{program}'", note, hold.lines.replace("PORT", str(port)).replace("AT", at)]
-    with open(path, "w", encoding="utf-8") as file:
-        file.write("\n".join([*lines, 'exec "$program" "$@"', ""]))
-    os.chmod(path, 0o755)
-    return path
+    for name in checking.PROGRAMS:
+        own = checking.program_of(program, name)
+        lines = ["#!/bin/sh", f"room='{room}'", f"program='{own}'", note, hold.lines.replace("PORT", str(port)).replace("AT", at)]
+        with open(os.path.join(room, name), "w", encoding="utf-8") as file:
+            file.write("\n".join([*lines, 'exec "$program" "$@"', ""]))
+        os.chmod(os.path.join(room, name), 0o755)
+    return os.path.join(room, checking.FIRST)
