@@ -5,7 +5,7 @@ use Rattle.rules.specs.declared.goal.Goal.{Goal}
 use Rattle.command_line.specs.declared.line.Action.{Action}
 use Rattle.command_line.specs.declared.line.Limits.{Limits}
 use Rattle.command_line.specs.declared.line.Line.{Line}
-use Rattle.replies.specs.Outcome.{Gives}
+use Rattle.endings.specs.Outcome.{Gives}
 use Rattle.replies.specs.Output.{IsOutput}
 use Rattle.refusals.specs.Reply.{Reply, answered, refused}
 use Rattle.refusals.specs.declared.refusal.Refusal.{Refusal}

@@ -1,7 +1,7 @@
 -- What the call for a certificate answers.
 use Rattle.std.specs.Prelude.{ℕ, Bool, List}
 use Rattle.std.specs.Borrow.{Bor}
-use Rattle.replies.specs.Verdict.{IsVerdict}
+use Rattle.verdicts.specs.Verdict.{IsVerdict}
 use Rattle.calls.specs.Calls.{Puts, goal_of}
 
 -- the reply is that of `minimate verify` for this goal, with the certificate as its input

@@ -2,7 +2,8 @@
 ghost use Rattle.std.specs.Prelude.{◌≡◌, [], IfErr, IfOk, None, Ok, Err, vec_items};
 ghost use Rattle.slots.specs.Promise.{IsSeatOf};
 ghost use Rattle.command_line.specs.declared.line.Action.TheVariants.{Solve, Keys, Moves, Tree as TreeAction, Check};
-ghost use Rattle.replies.specs.Outcome.{Gives, FindsKeys, FindsTree, Solves};
+ghost use Rattle.endings.specs.Outcome.{Gives};
+ghost use Rattle.replies.specs.Outcome.{FindsKeys, FindsTree, Solves};
 ghost use Rattle.rounds.specs.Limits.{IsRefusal};
 ghost use Rattle.searcher.specs.Problems.{IsProblemOf};
 ghost use Rattle.replies.specs.Output.{fault_of, IsOutput, ShowsMoves, ShowsCheck};

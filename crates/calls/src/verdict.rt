@@ -1,16 +1,17 @@
 //! What a certificate proves, by the checker that trusts no solver.
 ghost use Rattle.std.specs.Prelude.{vec_items};
-ghost use Rattle.replies.specs.Outcome.{Gives};
-ghost use Rattle.replies.specs.Verdict.{IsVerdict};
+ghost use Rattle.endings.specs.Outcome.{Gives};
+ghost use Rattle.verdicts.specs.Verdict.{IsVerdict};
 ghost use Rattle.calls.specs.Certificates.{AnswersVerify};
 
 use crate::answering::{goal_of, put_reply};
 use crate::text::Text;
 use command_line::Subject;
+use endings::Trouble;
 use moves::Goal;
 use refusals::Refusal;
-use replies::{Trouble, verified};
 use std::alloc::Allocator;
+use verdicts::verified;
 
 /// The reply of `verify` to the certificate of this text.
 fn verify_reply<A: Allocator + Copy>(

@@ -18,15 +18,15 @@ use Rattle.devices.specs.Device.{AppendsBeginning}
 use Rattle.devices.specs.Input.{OfInput, failed_reads, without_line_feed}
 use Rattle.devices.specs.declared.transfer.InputFault.{InputFault}
 use Rattle.devices.specs.declared.transfer.InputFault.TheVariants as input
-use Rattle.replies.specs.Output.{IsSoundText, fault_of, refusal_of_solve}
+use Rattle.endings.specs.Outcome.{IsSoundText}
+use Rattle.replies.specs.Output.{fault_of, refusal_of_solve}
 use Rattle.refusals.specs.Refusal.{refusal_of_fen}
 use Rattle.refusals.specs.declared.refusal.Refusal.{Refusal}
-use Rattle.refusals.specs.declared.refusal.Refusal.TheVariants.{TooLong}
 use Rattle.answer_texts.specs.Said.{said_in}
 use Rattle.console.specs.Batch.{AnswersLines, EndsBatch, HasReplyText, IsAskedReply, IsLineReply, RunsBatch, answered_lines, joined, left_out, lines_of, onto}
 use Rattle.console.specs.Desk.{Fails, GivesAsked, GivesFound, GivesNext, IsFirstOf, IsAskedRefusal, PassesOver, RepliesTo, SameSolver, Step, TakesAnswered, TakesLines, TakesStep, stop_of}
 use Rattle.devices.specs.Lines.{HasNoFeed, IsFed, IsLastOf, IsReadAs, TakesLine, left_of}
-use Rattle.console.specs.Run.{Ending, Finishes, Refuses, Run, no_memory}
+use Rattle.endings.specs.Run.{Ending, Finishes, Refuses, Run, no_memory}
 use Rattle.rounds.specs.declared.task.SolveFault.{SolveFault}
 use Rattle.rounds.specs.declared.task.SolveFault.TheVariants as solve
 use Rattle.console.specs.declared.batch.Solver.{Solver}
@@ -386,15 +386,6 @@ batch_unread s step input.NoMemory grown reads writes =
 pub fresh_left : (u : Unread) (known : Option (List ℕ)) → u.from ≡ 0 → u.to ≡ 0 → left_of u known ≡ known
 fresh_left u None from to = refl
 fresh_left u (Some xs) from to = let none : u.to - u.from ≡ 0 = omega (arith, from, to) in ap (λ k. Some (take k (drop u.from u.chunk) ++ xs)) none
-
--- a text is written behind another
-pub finishes_after : (a b c : Option (List ℕ)) (old mid new status asked : ℕ) (text more : List ℕ) → Appends a b text → mid ≡ old + 0
-    → Finishes (record { before = b; after = c; failed_writes = new - mid; status = status }) more asked
-    → Finishes (record { before = a; after = c; failed_writes = new - old; status = status }) (text ++ more) asked
-finishes_after a b c old mid new status asked text more written same (inl (whole, none, is)) =
-    inl (Appends-trans a b c text more written whole, omega (arith, same, none), is)
-finishes_after a b c old mid new status asked text more written same (inr ((taken, rest, cut, grown), one, four)) =
-    inr ((text ++ taken, rest, ap (λ l. text ++ l) cut ∙ sym (append_assoc text taken rest), Appends-trans a b c text taken written grown), omega (arith, same, one), four)
 
 -- the limits are searched, and lines were answered
 pub batch_ran : (s : Solver) (batch : Batch) (run : Run) (left : Option (List ℕ)) (texts : List (List ℕ)) → fault_of s.batch.limits ≡ None

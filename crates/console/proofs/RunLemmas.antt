@@ -6,10 +6,8 @@ use Rattle.refusals.specs.Reply.{Reply, refused}
 use Rattle.refusals.specs.Refusal.{refusal_status}
 use Rattle.refusals.specs.declared.refusal.Refusal.{Refusal}
 use Rattle.refusals.specs.declared.refusal.Refusal.TheVariants.{Fields, Shape, Letter, Run as RunOfDigits, Side, Kings, Units, PawnRank, OtherInCheck, Move, Limit, Workers, Slots, TooLong, Grammar, Deep, Answer, Claim, NoMemory}
-use Rattle.console.specs.Run.{Run, Writes, HasReply, no_memory, RunsLine, Finishes, Refuses}
-use Rattle.console.specs.Verifying.{RunsVerify}
-use Rattle.command_line.specs.declared.line.Subject.{Subject}
-use Rattle.replies.specs.Verdict.{IsVerdict}
+use Rattle.endings.specs.Run.{Run, Writes, no_memory, Finishes, Refuses}
+use Rattle.console.specs.Run.{HasReply, RunsLine}
 use Rattle.command_line.specs.declared.line.Line.{Line}
 use Rattle.devices.proofs.InputLemmas.{of_input_then}
 
@@ -118,16 +116,3 @@ run_of_refusal line run refusal unread known (inl wrote) = elim (refusal_cases r
   | inr other ↦ run_of_reply line run (refused refusal) unread (inr other.1)
       (of_input_then (input_of line.action run.input) _ _ known (λ input is. elim is [ inl e ↦ absurd (other.0 e) | inr output ↦ output ])) wrote
 ]
-
--- ---- a run of `verify`
-
--- a run that wrote a refusal of a certificate, or the line for want of memory
-pub verify_refused : (subject : Subject) (run : Run) (refusal : Refusal) → run.failed_reads ≡ 0
-    → OfInput run.input (λ input. (refusal ≡ NoMemory) ⊎ IsVerdict subject input (refused refusal))
-    → Refuses run.ending refusal → RunsVerify subject run
-verify_refused subject run refusal unread known (inr wrote) = inr (inl (unread, wrote))
-verify_refused subject run refusal unread (input, same, inl is) (inl wrote) =
-    inr (inl (unread, subst (λ r. Finishes run.ending (refused r).text (refused r).status) is wrote))
-verify_refused subject run refusal unread (input, same, inr verdict) (inl wrote) = inl (unread, (input, same, (refused refusal, verdict, wrote)))
-
--- ---- a run of `after`

@@ -4,11 +4,10 @@ use Rattle.std.specs.List.{AllZip, flat_map}
 use Rattle.board.specs.Board.{PlainBoard}
 use Rattle.board.specs.declared.fault.FenFault.{FenFault}
 use Rattle.rules.specs.Reading.{IsSoundFault}
-use Rattle.rules.specs.declared.goal.Goal.{Goal}
-use Rattle.command_line.specs.declared.line.Limits.{Limits}
 use Rattle.devices.specs.Input.{OfInput, without_line_feed}
-use Rattle.replies.specs.Output.{IsSoundText, ShowsAnswer, fault_of, refusal_of_solve}
-use Rattle.refusals.specs.Reply.{Reply, line_of, refused}
+use Rattle.endings.specs.Outcome.{IsSoundText}
+use Rattle.replies.specs.Output.{fault_of, refusal_of_solve}
+use Rattle.refusals.specs.Reply.{line_of}
 use Rattle.refusals.specs.Refusal.{refusal_of_fen}
 use Rattle.refusals.specs.declared.refusal.Refusal.TheVariants.{TooLong}
 use Rattle.answer_texts.specs.Said.{is_remark, said_in}
@@ -17,7 +16,7 @@ use Rattle.answer_texts.specs.Forms.{IsFoundText, IsRefusalText}
 use Rattle.answer_texts.specs.declared.asked.Asked.{Asked}
 use Rattle.answer_texts.specs.declared.asked.Batch.{Batch}
 use Rattle.answer_texts.specs.declared.asked.Found.{Found}
-use Rattle.console.specs.Run.{Run, Writes, Finishes, Refuses, no_memory}
+use Rattle.endings.specs.Run.{Run, Finishes, Refuses, no_memory, EndsUnread}
 
 -- ---- lines
 
@@ -32,12 +31,6 @@ lines_of [] = []
 lines_of (x ∷ xs) = if x == 10 then (x ∷ []) ∷ lines_of xs else onto x (lines_of xs)
 
 -- ---- replies
-
--- the reply to a solve of the position of this text
-abbrev pub ShowsPosition : Goal → Limits → List ℕ → Reply → Type 0
-ShowsPosition goal limits text reply =
-    ((b : PlainBoard) × IsSoundText text b × ShowsAnswer goal b limits reply)
-    ⊎ ((fault : FenFault) × IsSoundFault text fault × (reply ≡ refused (refusal_of_fen fault)))
 
 -- what is written for a position: what was found of it, or the refusal of the limit
 abbrev pub IsFoundReply : Batch → Asked → PlainBoard → List ℕ → Type 0
@@ -95,10 +88,6 @@ abbrev pub AnswersLines : Batch → ℕ → List (List ℕ) → List (List ℕ) 
 AnswersLines batch status texts lines =
     (front : List (List ℕ)) × (rest : List (List ℕ)) × (lines ≡ front ++ rest) × AllZip (IsLineReply batch) front texts
     × (status ≡ 0 → rest ≡ [])
-
--- a read failed, after all of the text was written
-abbrev pub EndsUnread : Run → List ℕ → Type 0
-EndsUnread run text = (run.failed_reads ≡ 1) × (run.ending.failed_writes ≡ 0) × (run.ending.status ≡ 4) × Writes run.ending text
 
 -- how the writing of the text ended: well, by a failed read, or for want of memory; the first and the last perhaps by a failed write
 abbrev pub EndsBatch : Run → List ℕ → Type 0

@@ -13,7 +13,8 @@ use Rattle.devices.specs.Input.{OfInput}
 use Rattle.board.specs.Board.{PlainBoard}
 use Rattle.board.specs.declared.fault.FenFault.{FenFault}
 use Rattle.rules.specs.Reading.{IsSoundFault}
-use Rattle.replies.specs.Output.{IsSoundText, fault_of, refusal_of_solve}
+use Rattle.endings.specs.Outcome.{IsSoundText}
+use Rattle.replies.specs.Output.{fault_of, refusal_of_solve}
 use Rattle.refusals.specs.Refusal.{refusal_of_fen}
 use Rattle.refusals.specs.declared.refusal.Refusal.{Refusal}
 use Rattle.refusals.specs.declared.refusal.Refusal.TheVariants as refusal

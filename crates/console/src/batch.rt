@@ -9,8 +9,7 @@ ghost use Rattle.answer_texts.specs.Forms.{IsRefusalText};
 ghost use Rattle.console.specs.Desk.{Finds, GivesAsked, GivesFound, GivesNext, IsDesk, IsSolver, OpensDesk, PassesOver, SameSolver, TakesAnswered, TakesLines, TakesStep, step_of, stop_of};
 ghost use Rattle.console.specs.declared.batch.Stop.TheVariants.{NoMemory, WriteFailed};
 
-use crate::beside::{Host, find_beside, find_over};
-use crate::over::tell_if_over;
+use crate::beside::{find_beside, find_over};
 use answer_texts::{
     Asked, Batch, Found, asked_in, found_text, is_remark, limit_of, refused_object, said_in,
 };
@@ -22,6 +21,7 @@ use moves::read_sound;
 use refusals::{Asking, Refusal, Refused, advise, refused_text, write_sentence};
 use replies::{refusal_of, search_of};
 use rounds::{NoGate, SolveFault, Task, make_table};
+use searches::{Host, tell_if_over};
 use slots::{Seat, Slots};
 use std::alloc::{AllocError, Global};
 use std::io::Write;

@@ -4,63 +4,24 @@ ghost use Rattle.slots.specs.Promise.{IsSeatOf};
 ghost use Rattle.answer_texts.specs.Asking.{IsFoundAt};
 ghost use Rattle.rounds.specs.Limits.{task_fault, IsTaskRefusal};
 ghost use Rattle.rounds.specs.Seats.{AreSeats};
-ghost use Rattle.replies.specs.Outcome.{GivesReply, reads_failed};
+ghost use Rattle.replies.specs.Outcome.{GivesReply};
 ghost use Rattle.replies.specs.Output.{input_of, MayRead};
-ghost use Rattle.console.specs.Solving.{SolvesOver};
-ghost use Rattle.progress.specs.Signs.{IsLastRound};
+ghost use Rattle.endings.specs.Outcome.{reads_failed};
 
-use crate::searched::Searched;
-use crate::tally::Tally;
 use answer_texts::Found;
-use board::Position;
-use command_line::{Action, Limits, Line};
+use command_line::{Action, Line};
 use devices::{Failed, Source};
+use endings::Trouble;
 use entry::MateLore;
-use moves::{Goal, read_sound};
-use progress::{Course, Setting, Watch, shown};
-use replies::{Told, Trouble, reply, reply_told, search_of, searched_within};
-use rounds::{Gate, NoGate, SolveFault, Task, keys_over, solve_over};
+use moves::read_sound;
+use progress::{Course, Watch, shown};
+use replies::{Told, reply, reply_told};
+use rounds::{Gate, SolveFault, Task, keys_over, solve_over};
+use searches::{Host, last_round};
 use slots::{Seat, Slots};
 use std::sync::Wait;
-use std::sync::atomic::{AtomicU64, Ordering};
 use std::thread::Threads;
-use std::time::{Clock, Instant};
-
-/// What a run is given, and whether it shows how far a search is.
-#[derive(Drop)]
-pub struct Host<'a, R> {
-    pub rt: &'a R,
-    pub shows: bool,
-    /// The number of a batch's line, and 0 where there is no batch.
-    pub line: AtomicU64,
-    pub tally: Tally,
-}
-
-impl<R: Clock + AllocGlobal> Host<'_, R> {
-    /// A watch over a search at a position that begins now, if it is to be shown.
-    pub fn watch(&self, position: &Position, course: Course, slots: u32) -> Option<Watch> {
-        if !self.shows {
-            return None;
-        }
-        let start = Instant::now(self.rt).ok()?;
-        let line = match self.line.load(Ordering::SeqCst) {
-            0 => None,
-            number => Some(number),
-        };
-        let setting = Setting { line, slots };
-        Watch::new(self.rt.alloc(), start, setting, position, course).ok()
-    }
-
-    /// The same for an answer, or for keys.
-    pub fn watch_of(&self, position: &Position, keys: bool, limits: Limits) -> Option<Watch> {
-        let course = if keys {
-            Course::Keys(last_round(limits))
-        } else {
-            Course::Rounds
-        };
-        self.watch(position, course, limits.slots)
-    }
-}
+use std::time::Clock;
 
 /// An input without a byte.
 #[derive(Drop)]
@@ -74,14 +35,6 @@ impl Source for Nothing {
     fn read(&mut self, _buffer: &mut [u8]) -> Result<usize, Failed> {
         Ok(0)
     }
-}
-
-/// The last round up to the limit.
-fn last_round(limits: Limits) -> u8
-    ensures { 0 < limits.limit → limits.limit < 256 → IsLastRound limits.limit result }
-{
-    let limit = search_of(limits).limit;
-    limit - (1 - limit % 2).min(limit)
 }
 
 /// How the action searches, if it does, and the slots of its table.
@@ -211,61 +164,4 @@ pub fn find_beside<R: Threads + Wait + Eprint + Clock + Sync + AllocGlobal>(
             (found, seats)
         },
     )
-}
-
-/// The answer at a position, told to the gate.
-fn search_told<R: Threads + Wait + Sync + AllocGlobal, T: Gate>(
-    rt: &R,
-    gate: &T,
-    position: &Position,
-    goal: Goal,
-    limits: Limits,
-) -> Result<Searched, SolveFault>
-    ensures { SolvesOver goal position.now limits result }
-{
-    let told = Told {
-        alloc: rt.alloc(),
-        gate,
-    };
-    let (answer, slots, mut seats) = searched_within(rt, &told, position, goal, limits)?;
-    let seat = seats.take_last();
-    Ok(Searched {
-        answer,
-        slots,
-        seat,
-    })
-}
-
-/// The answer at a position, with a thread beside it that shows the search.
-fn searched_beside<R: Threads + Wait + Eprint + Clock + Sync + AllocGlobal>(
-    rt: &R,
-    watch: &Watch,
-    position: &Position,
-    goal: Goal,
-    limits: Limits,
-) -> Result<Searched, SolveFault>
-    ensures { SolvesOver goal position.now limits result }
-{
-    shown(
-        rt,
-        watch,
-        move || -> Result<Searched, SolveFault>
-            ensures { SolvesOver goal position.entry.now limits result }
-        { search_told(rt, watch, position, goal, limits) },
-    )
-}
-
-/// The answer at a position, with a sign of life where one is asked for.
-pub fn searched_at<R: Threads + Wait + Eprint + Clock + Sync + AllocGlobal>(
-    host: &Host<'_, R>,
-    position: &Position,
-    goal: Goal,
-    limits: Limits,
-) -> Result<Searched, SolveFault>
-    ensures { SolvesOver goal position.now limits result }
-{
-    match host.watch_of(position, false, limits) {
-        Some(watch) => searched_beside(host.rt, &watch, position, goal, limits),
-        None => search_told(host.rt, &NoGate, position, goal, limits),
-    }
 }

@@ -1,26 +1,11 @@
-//! What is told of a search for a side that is mated or stalemated already.
-ghost use Rattle.std.specs.Prelude.{◌≡◌, ◌⊎◌, ◌↔◌, IfSome, IsTrue};
-ghost use Rattle.console.specs.Order.{IsOver, IsSearch, SearchesOver};
+//! What is told of a line that is a search.
+ghost use Rattle.std.specs.Prelude.{◌≡◌, ◌⊎◌, ◌↔◌, IsTrue};
+ghost use Rattle.console.specs.Order.{IsSearch, SearchesOver};
 
-use board::Position;
 use command_line::{Action, Line};
-use moves::{Board, has_lawful_move, read_sound};
-use refusals::{Asking, advise_over};
+use refusals::Asking;
+use searches::tell_if_over;
 use std::io::Write;
-
-/// The position of a text where the side to move has no lawful move.
-fn over_at(fen: &[u8]) -> Option<Position>
-    ensures { IfSome result (λ _. IsOver fen.now) }
-{
-    let Ok(position) = read_sound(fen) else {
-        return None;
-    };
-    if has_lawful_move(&Board::of(&position)) {
-        None
-    } else {
-        Some(position)
-    }
-}
 
 fn searches(action: Action) -> bool
     ensures { IsTrue result ↔ IsSearch action }
@@ -37,15 +22,6 @@ pub fn asking_of(action: Action) -> Asking<'static> {
         Asking::Search
     } else {
         Asking::Plain
-    }
-}
-
-/// Tells where a search at the position of this text is over, in a batch with the number of its line.
-pub fn tell_if_over<E: Write>(errors: &mut E, fen: &[u8], line: Option<u64>)
-    ensures { IsOver fen.now ⊎ (errors.new ≡ errors.old) }
-{
-    if let Some(position) = over_at(fen) {
-        let _ = advise_over(errors, &position, line);
     }
 }
 

@@ -1,36 +1,26 @@
 //! A run of the program over any reader and writer.
 ghost use Rattle.std.specs.Prelude.{◌≡◌, ◌⊎◌, ◌<◌, None, map};
-ghost use Rattle.board.specs.Board.{PlainBoard};
-ghost use Rattle.decision.specs.declared.answer.Answer.{Answer};
-ghost use Rattle.verifying.specs.Checking.{HasTaken};
 ghost use Rattle.replies.specs.Output.{fault_of, MayRead};
+ghost use Rattle.endings.specs.Run.{ending_of, run_of, EndsReply, MayTell, Refuses};
+ghost use Rattle.endings.specs.Words.{MeansSome, RunsWords};
 ghost use Rattle.console.specs.Batch.{RunsBatch};
-ghost use Rattle.console.specs.Order.{IsOver, MayReadFor, RunsWords, SearchesOver, TellsMore};
-ghost use Rattle.console.specs.Verifying.{RunsVerify, MayReadAbout};
-ghost use Rattle.console.specs.Certifying.{WritesCertificate, WritesClaims};
-ghost use Rattle.console.specs.Claims.{HasAnswerLine};
+ghost use Rattle.console.specs.Order.{MayReadOf, RunsOrder, SearchesOver, TellsMore};
 ghost use Rattle.console.specs.Playing.{WritesAfter};
-ghost use Rattle.console.specs.Solving.{EndsReply, IsSolutionReply, WritesReply};
-ghost use Rattle.console.specs.Run.{ending_of, run_of, MayTell, Refuses, RunsLine};
+ghost use Rattle.console.specs.Run.{RunsLine};
 
 use crate::batch::{Desk, Stop, answer_batch, left_out};
-use crate::beginning::Input;
-use crate::beside::{Host, reply_shown};
-use crate::certificate::{Begun, Cut, begin, write_claims};
-use crate::ending::{
-    ANSWERED, REFUSED_WORDS, fail_to_read, fail_to_write, finish, give_up_for_memory,
-    has_no_answer, refuse,
-};
-use crate::over::{asking_of, tell_if_line_is_over, tell_if_over};
-use crate::problem::solution_reply;
-use crate::tally::Tally;
+use crate::beside::reply_shown;
+use crate::over::{asking_of, tell_if_line_is_over};
 use answer_texts::Batch;
-use command_line::{
-    Limits, Line, LineFault, Manner, Order, Played, Subject, Telling, asks_progress, read_order,
+use command_line::{Line, LineFault, Manner, Order, Played, asks_progress, read_order};
+use devices::{Sink, Source};
+use endings::{
+    ANSWERED, REFUSED_WORDS, Trouble, fail_to_read, fail_to_write, finish, give_up_for_memory,
+    has_no_answer, refuse, refuse_and_tell, search_refused,
 };
-use devices::{Sink, Source, write_all};
 use refusals::{Asking, Refusal, Refused, advise, advise_move};
-use replies::{Trouble, after_reply, first_reply, refusal_of, verified};
+use replies::{after_reply, first_reply, refusal_of};
+use searches::{Host, Tally, host_of};
 use std::convert::AsStr;
 use std::io::{self, Write, sink};
 use std::sync::Wait;
@@ -94,46 +84,6 @@ fn run_line_on<
     }
 }
 
-/// Writes why there is no answer, and tells it with a sentence.
-fn refuse_and_tell<R: AllocGlobal, K: Sink, E: Write>(
-    rt: &R,
-    writer: &mut K,
-    errors: &mut E,
-    refused: &Refused<'_>,
-) -> u8
-    requires { K.failures writer.old < u64.MAX }
-    ensures refuses { Refuses (ending_of K.contents K.failures writer.old writer.new result) refused.now.refusal }
-    ensures silent { MayTell result ⊎ (errors.new ≡ errors.old) }
-{
-    let status = refuse(rt.alloc(), writer, errors, refused.refusal);
-    if has_no_answer(status) {
-        let _ = advise(errors, refused);
-    }
-    status
-}
-
-/// What was refused to a search at the position of this text.
-fn search_refused(fen: &[u8], refusal: Refusal) -> Refused<'_>
-    ensures { result.refusal ≡ refusal }
-{
-    Refused {
-        refusal,
-        fen,
-        asking: Asking::Search,
-    }
-}
-
-/// What was refused to a certificate that begins so.
-fn proof_refused<'a>(subject: &Subject<'a>, beginning: &'a [u8], refusal: Refusal) -> Refused<'a>
-    ensures { result.refusal ≡ refusal }
-{
-    Refused {
-        refusal,
-        fen: subject.fen,
-        asking: Asking::Proof(subject.goal, beginning),
-    }
-}
-
 /// Answers the lines of a batch, or refuses its limits.
 pub fn run_batch<
     R: Threads + Wait + Eprint + Clock + Sync + AllocGlobal,
@@ -158,87 +108,6 @@ pub fn run_batch<
             let refused = search_refused(b"", refusal_of(fault));
             refuse_and_tell(host.rt, writer, errors, &refused)
         }
-    }
-}
-
-/// Answers what the certificate of the input proves. `errors` is told why it was refused.
-fn run_verify<R: AllocGlobal, S: Source + Input, K: Sink, E: Write>(
-    rt: &R,
-    subject: &Subject<'_>,
-    reader: &mut S,
-    writer: &mut K,
-    errors: &mut E,
-) -> u8
-    requires reads { S.failures reader.old < u64.MAX }
-    requires writes { K.failures writer.old < u64.MAX }
-    ensures unread { MayReadAbout subject.now ⊎ (reader.new ≡ reader.old) }
-    ensures runs { RunsVerify subject.now (run_of S.remaining S.failures reader.old reader.new
-        (ending_of K.contents K.failures writer.old writer.new result)) }
-    ensures silent { MayTell result ⊎ (errors.new ≡ errors.old) }
-{
-    match verified(rt.alloc(), subject, reader) {
-        Ok(text) => finish(writer, errors, text.as_slice(), ANSWERED),
-        Err(Trouble::Refused(refusal)) => {
-            let refused = proof_refused(subject, reader.beginning(), refusal);
-            refuse_and_tell(rt, writer, errors, &refused)
-        }
-        Err(Trouble::ReadFailed) => fail_to_read(errors),
-    }
-}
-
-/// Answers a position as `solve` does, with the answer's certificate. `errors` is told why it was refused.
-fn run_certify<R: Threads + Wait + Eprint + Clock + Sync + AllocGlobal, K: Sink, E: Write>(
-    host: &Host<'_, R>,
-    subject: &Subject<'_>,
-    limits: Limits,
-    writer: &mut K,
-    errors: &mut E,
-) -> u8
-    requires { K.failures writer.old < u64.MAX }
-    ensures runs { WritesCertificate subject.now limits (ending_of K.contents K.failures writer.old writer.new result) }
-    ensures silent { MayTell result ⊎ IsOver subject.now.fen.now ⊎ (errors.new ≡ errors.old) }
-{
-    match begin(host, subject, limits) {
-        Ok(begun) => {
-            tell_if_over(errors, subject.fen, None);
-            write_begun(host.rt, subject, begun, writer, errors)
-        }
-        Err(refusal) => {
-            let refused = search_refused(subject.fen, refusal);
-            refuse_and_tell(host.rt, writer, errors, &refused)
-        }
-    }
-}
-
-/// Writes the answer's line and the lines of claims, and behind them why the next isn't taken, if it isn't.
-fn write_begun<R: AllocGlobal, K: Sink, E: Write>(
-    rt: &R,
-    subject: &Subject<'_>,
-    begun: Begun,
-    writer: &mut K,
-    errors: &mut E,
-) -> u8
-    requires begun { HasTaken begun.certificate.checker }
-    requires writes { K.failures writer.old < u64.MAX }
-    ensures writes { (b : PlainBoard) (answer : Answer) → HasAnswerLine subject.now.goal b answer begun
-        → WritesClaims subject.now.goal b answer (ending_of K.contents K.failures writer.old writer.new result) }
-    ensures silent { MayTell result ⊎ (errors.new ≡ errors.old) }
-{
-    let Begun {
-        line,
-        mut certificate,
-    } = begun;
-    match write_all(writer, line.as_slice()) {
-        Ok(()) => match write_claims(&mut certificate, writer) {
-            None => ANSWERED,
-            Some(Cut::NoMemory) => give_up_for_memory(writer, errors),
-            Some(Cut::Refused(refusal)) => {
-                let why = proof_refused(subject, b"", refusal);
-                refuse_and_tell(rt, writer, errors, &why)
-            }
-            Some(Cut::WriteFailed) => fail_to_write(errors),
-        },
-        Err(_) => fail_to_write(errors),
     }
 }
 
@@ -309,32 +178,6 @@ fn run_after<R: AllocGlobal, K: Sink, E: Write>(
     write_played(rt, played, writer, errors, reply)
 }
 
-/// Answers the solution of a position. `errors` is told why it was refused.
-fn run_solution<R: Threads + Wait + Eprint + Clock + Sync + AllocGlobal, K: Sink, E: Write>(
-    host: &Host<'_, R>,
-    subject: &Subject<'_>,
-    asked: (Limits, Telling),
-    writer: &mut K,
-    errors: &mut E,
-) -> u8
-    requires { K.failures writer.old < u64.MAX }
-    ensures runs { WritesReply (IsSolutionReply subject.now asked.1 asked.0)
-        (ending_of K.contents K.failures writer.old writer.new result) }
-    ensures silent { MayTell result ⊎ IsOver subject.now.fen.now ⊎ (errors.new ≡ errors.old) }
-{
-    let (limits, telling) = asked;
-    match solution_reply(host, subject, limits, telling) {
-        Ok(text) => {
-            tell_if_over(errors, subject.fen, None);
-            finish(writer, errors, text.as_slice(), ANSWERED)
-        }
-        Err(refusal) => {
-            let refused = search_refused(subject.fen, refusal);
-            refuse_and_tell(host.rt, writer, errors, &refused)
-        }
-    }
-}
-
 /// The host of a batch of this manner, and whether the words ask for a sign of life.
 fn batch_host<'a, R: Clock, W: AsStr>(rt: &'a R, words: &[W], manner: Manner) -> Host<'a, R> {
     Host {
@@ -345,30 +188,20 @@ fn batch_host<'a, R: Clock, W: AsStr>(rt: &'a R, words: &[W], manner: Manner) ->
     }
 }
 
-/// The host, and whether the words ask for a sign of life.
-fn host_of<'a, R, W: AsStr>(rt: &'a R, words: &[W]) -> Host<'a, R> {
-    Host {
-        rt,
-        shows: asks_progress(words),
-        line: AtomicU64::new(0),
-        tally: Tally::quiet(),
-    }
-}
-
-/// Answers what the words ask for. The first word is the program's name.
+/// Answers what the words ask for, where no other program does. The first word is the program's name.
 pub fn run<
     R: Threads + Wait + Eprint + Clock + Sync + AllocGlobal,
     W: AsStr,
-    S: Source + Input,
+    S: Source,
     K: Sink,
     E: Write,
 >(rt: &R, words: &[W], reader: &mut S, writer: &mut K, errors: &mut E) -> u8
     requires reads { S.failures reader.old < u64.MAX }
     requires writes { K.failures writer.old < u64.MAX }
-    ensures unread { MayReadFor (map W.text words.now) ⊎ (reader.new ≡ reader.old) }
-    ensures runs { RunsWords (map W.text words.now) (run_of S.remaining S.failures reader.old reader.new
+    ensures unread { MeansSome MayReadOf (map W.text words.now) ⊎ (reader.new ≡ reader.old) }
+    ensures runs { RunsWords RunsOrder (map W.text words.now) (run_of S.remaining S.failures reader.old reader.new
         (ending_of K.contents K.failures writer.old writer.new result)) }
-    ensures silent { MayTell result ⊎ TellsMore (map W.text words.now) ⊎ (errors.new ≡ errors.old) }
+    ensures silent { MayTell result ⊎ MeansSome TellsMore (map W.text words.now) ⊎ (errors.new ≡ errors.old) }
 {
     match read_order(rt.alloc(), words) {
         Ok(Order::One(line)) => run_line_on(&host_of(rt, words), &line, reader, writer, errors),
@@ -385,19 +218,13 @@ pub fn run<
                 errors,
             )
         }
-        Ok(Order::Verify(subject)) => run_verify(rt, &subject, reader, writer, errors),
-        Ok(Order::Certify(subject, limits)) => {
-            run_certify(&host_of(rt, words), &subject, limits, writer, errors)
-        }
         Ok(Order::After(played)) => run_after(rt, &played, writer, errors),
         Ok(Order::TreeAfter(played, goal, limits)) => {
             let reply = first_reply(rt.alloc(), &played, goal, limits);
             write_played(rt, &played, writer, errors, reply)
         }
-        Ok(Order::Solution(subject, limits, telling)) => {
-            let host = host_of(rt, words);
-            run_solution(&host, &subject, (limits, telling), writer, errors)
-        }
+        // those are answered by programs of their own
+        Ok(Order::Verify(_) | Order::Certify(..) | Order::Solution(..)) => REFUSED_WORDS,
         Err(LineFault::Words) => REFUSED_WORDS,
         Err(LineFault::NoMemory) => give_up_for_memory(writer, errors),
     }

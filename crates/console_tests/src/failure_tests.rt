@@ -1,9 +1,9 @@
 //! Readers and writers that fail, that take little, or that are not to be asked.
 ghost use Rattle.std.specs.Prelude.{◌≡◌, None, Some};
 
-use crate::whole_runs::{run_quietly, words_of};
-use console::{Input, run};
+use crate::whole_runs::{run, run_quietly, words_of};
 use devices::{Counted, Failed, Sink, Source};
+use endings::Input;
 use std::process::Abort;
 use std::sync::Wait;
 use std::thread::Threads;

@@ -46,6 +46,37 @@ fn tell_of<R: Threads + Wait + Abort + AllocGlobal + Eprint + Clock + Sync>(
     }
 }
 
+/// Runs the words between the commas, and a last one, by the composer's program.
+fn tell_composer<R: Threads + Wait + Abort + AllocGlobal + Eprint + Clock + Sync>(
+    rt: &R,
+    words: &str,
+    last: &str,
+) -> Told {
+    let mut writer = Counted::new(Vec::new(rt.alloc()));
+    let mut errors = Vec::new(rt.alloc());
+    let words = Ok(owned(rt, words, last));
+    let status = composing::run_program(rt, words, &mut writer, &mut errors);
+    Told {
+        status,
+        output: writer.device,
+        errors,
+    }
+}
+
+/// Runs the words between the commas, and a last one, by the checker's program, over an input.
+fn tell_checker<R: Abort + AllocGlobal>(rt: &R, words: &str, last: &str, input: &[u8]) -> Told {
+    let mut reader = Counted::new(input);
+    let mut writer = Counted::new(Vec::new(rt.alloc()));
+    let mut errors = Vec::new(rt.alloc());
+    let words = Ok(owned(rt, words, last));
+    let status = verdicts::run_program(rt, words, &mut reader, &mut writer, &mut errors);
+    Told {
+        status,
+        output: writer.device,
+        errors,
+    }
+}
+
 /// Runs the words between the commas, and a last one, with a tree for an input.
 fn tell<R: Threads + Wait + Abort + AllocGlobal + Eprint + Clock + Sync>(
     rt: &R,
@@ -562,7 +593,7 @@ fn tells_of_a_side_without_moves(rt: HostRuntime) {
     );
     let tree = tell(&rt, "minimate,tree,--limit,2", "K4r/6/1k4/6/6/6 w");
     expect(&rt, &tree, 0, "none within 2\n", "White is mated already\n");
-    let solution = tell(&rt, "minimate,solution,--limit,3", "K4r/6/1k4/6/6/6 w");
+    let solution = tell_composer(&rt, "minimate,solution,--limit,3", "K4r/6/1k4/6/6/6 w");
     expect(
         &rt,
         &solution,
@@ -570,7 +601,7 @@ fn tells_of_a_side_without_moves(rt: HostRuntime) {
         "none within 3\n",
         "White is mated already\n",
     );
-    let certificate = tell(&rt, "minimate,certify,--limit,1", "k5/2Q3/6/6/6/5K b");
+    let certificate = tell_composer(&rt, "minimate,certify,--limit,1", "k5/2Q3/6/6/6/5K b");
     expect(
         &rt,
         &certificate,
@@ -597,4 +628,34 @@ fn tells_of_a_side_without_moves(rt: HostRuntime) {
         "refused: Workers\n",
         "error: --workers is 1 to 16\n",
     );
+}
+
+// A program that is asked for what another answers says so.
+#[test]
+fn names_another_programs_command(rt: HostRuntime) {
+    let here = tell(&rt, "minimate,verify", FEN);
+    let said = "error: verify is another program's: write minimate verify\n";
+    expect(&rt, &here, 2, "", said);
+    let solution = tell(&rt, "minimate,solution,--limit,3", FEN);
+    let said = "error: solution is another program's: write minimate solution\n";
+    expect(&rt, &solution, 2, "", said);
+    let composer = tell_composer(&rt, "minimate,solve,--limit,1", FEN);
+    let said = "error: solve is another program's: write minimate solve\n";
+    expect(&rt, &composer, 2, "", said);
+    let checker = tell_checker(&rt, "minimate,certify,--limit,1", FEN, b"");
+    let said = "error: certify is another program's: write minimate certify\n";
+    expect(&rt, &checker, 2, "", said);
+}
+
+// What is wrong with words is told by each program alike.
+#[test]
+fn tells_of_words_by_each_program(rt: HostRuntime) {
+    let both = "error: --limit and --mate say the same: leave one of them out\n";
+    let words = "minimate,certify,--limit,3,--mate,2";
+    expect(&rt, &tell_composer(&rt, words, FEN), 2, "", both);
+    let goal = "error: the goal is neither `mate` nor `stale`\n";
+    let words = "minimate,verify,--goal,x";
+    expect(&rt, &tell_checker(&rt, words, FEN, b""), 2, "", goal);
+    let proved = tell_checker(&rt, "minimate,verify", FEN, b"none within 2\n\n");
+    expect(&rt, &proved, 0, "none within 2\n", "");
 }

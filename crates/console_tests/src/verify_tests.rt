@@ -1,7 +1,7 @@
 //! Certificates on the input, made by hand. Their letters are places among lawful moves.
-use crate::whole_runs::expect_with;
-use console::{Keeping, run};
+use crate::whole_runs::{expect_with, run};
 use devices::Counted;
+use endings::Keeping;
 use std::process::Abort;
 use std::sync::Wait;
 use std::thread::Threads;
@@ -119,5 +119,41 @@ fn explains_first_lines(rt: HostRuntime) {
         ),
     ] {
         expect_sentence(&rt, &stale, text, sentence);
+    }
+}
+
+/// Expects a program to do nothing for words that are another's.
+fn expect_nothing<R: Abort>(rt: &R, status: u8, written: &[u8], told: &[u8]) {
+    assert_eq!(rt; status, 2);
+    assert_eq!(rt; written, b"".as_slice());
+    assert_eq!(rt; told, b"".as_slice());
+}
+
+// Each command is one program's.
+#[test]
+fn does_nothing_for_another_programs_words(rt: HostRuntime) {
+    let verify = ["minimate", "verify", ROOK];
+    let solve = ["minimate", "solve", "--limit", "1", ROOK];
+    let solution = ["minimate", "solution", "--limit", "1", ROOK];
+    let certify = ["minimate", "certify", "--limit", "1", ROOK];
+    for words in [verify.as_slice(), &solution, &certify] {
+        let mut reader = Counted::new(MATE);
+        let mut writer = Counted::new(Vec::new(rt.alloc()));
+        let mut errors = Vec::new(rt.alloc());
+        let status = console::run(&rt, words, &mut reader, &mut writer, &mut errors);
+        expect_nothing(&rt, status, writer.device.as_slice(), errors.as_slice());
+    }
+    for words in [solve.as_slice(), &solution, &certify] {
+        let mut reader = Counted::new(MATE);
+        let mut writer = Counted::new(Vec::new(rt.alloc()));
+        let mut errors = Vec::new(rt.alloc());
+        let status = verdicts::run(&rt, words, &mut reader, &mut writer, &mut errors);
+        expect_nothing(&rt, status, writer.device.as_slice(), errors.as_slice());
+    }
+    for words in [solve.as_slice(), &verify] {
+        let mut writer = Counted::new(Vec::new(rt.alloc()));
+        let mut errors = Vec::new(rt.alloc());
+        let status = composing::run(&rt, words, &mut writer, &mut errors);
+        expect_nothing(&rt, status, writer.device.as_slice(), errors.as_slice());
     }
 }

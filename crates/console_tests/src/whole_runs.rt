@@ -1,12 +1,32 @@
 //! Whole runs over devices in memory, as the tests expect them, and tables of them.
 ghost use Rattle.std.specs.Prelude.{◌<◌};
 
-use console::{Input, run};
 use devices::{Counted, Sink, Source};
+use endings::Input;
+use std::io::Write;
 use std::process::Abort;
 use std::sync::Wait;
 use std::thread::Threads;
 use std::time::Clock;
+
+/// Runs the words by the program that answers their command, as the launcher does.
+pub fn run<
+    R: Threads + Wait + AllocGlobal + Eprint + Clock + Sync,
+    S: Source + Input,
+    K: Sink,
+    E: Write,
+>(rt: &R, words: &[&str], reader: &mut S, writer: &mut K, errors: &mut E) -> u8
+    requires reads { S.failures reader.old < u64.MAX }
+    requires writes { K.failures writer.old < u64.MAX }
+{
+    match words.get(1) {
+        Some(word) if *word == "verify" => verdicts::run(rt, words, reader, writer, errors),
+        Some(word) if *word == "solution" || *word == "certify" => {
+            composing::run(rt, words, writer, errors)
+        }
+        _ => console::run(rt, words, reader, writer, errors),
+    }
+}
 
 /// Runs the words, whatever standard error is told.
 pub fn run_quietly<

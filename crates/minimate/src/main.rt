@@ -1,7 +1,7 @@
 //! Forced mates in minichess: the program.
 #![tactic(auto)]
 
-use console::{Keeping, run_program};
+use console::run_program;
 use devices::Counted;
 use std::process::ExitCode;
 use std::{env, io};
@@ -14,7 +14,7 @@ fn words(rt: &HostRuntime) -> io::Result<Vec<String>> {
 
 fn main(rt: HostRuntime) -> ExitCode {
     let words = words(&rt);
-    let mut reader = Keeping::new(Counted::new(rt.stdin()));
+    let mut reader = Counted::new(rt.stdin());
     let mut writer = Counted::new(rt.stdout());
     let mut errors = rt.stderr();
     ExitCode::from(run_program(&rt, words, &mut reader, &mut writer, &mut errors))

@@ -22,7 +22,8 @@ use Rattle.command_line.specs.declared.line.Limits.{Limits}
 use Rattle.command_line.specs.declared.line.Action.TheVariants.{Solve, Tree, Check}
 use Rattle.devices.specs.Input.{without_line_feed}
 use Rattle.answer_texts.specs.Answers.{answer_text, checked_text}
-use Rattle.replies.specs.Output.{fault_of, ShowsAnswer, ShowsBest, ShowsPlanFound, ShowsTree, ShowsCheck, ShowsCommand, IsSoundText, IsOutput}
+use Rattle.replies.specs.Output.{fault_of, ShowsAnswer, ShowsBest, ShowsPlanFound, ShowsTree, ShowsCheck, ShowsCommand, IsOutput}
+use Rattle.endings.specs.Outcome.{IsSoundText}
 use Rattle.refusals.specs.Reply.{Reply, answered, line_of}
 use Rattle.text_laws.proofs.Faults.{no_sound_fault}
 use Rattle.answer_laws.proofs.OneAnswer.{one_fewest}

@@ -3,7 +3,7 @@ use Rattle.std.proofs.Common.{◌≡◌, ℕ, List, Option, Some, IfSome, sym, a
 use Rattle.command_line.specs.declared.line.Line.{Line}
 use Rattle.devices.specs.Input.{OfInput}
 use Rattle.refusals.specs.Reply.{Reply}
-use Rattle.console.specs.Run.{Run, Writes}
+use Rattle.endings.specs.Run.{Run, Writes}
 use Rattle.output_laws.specs.Runs.{RunsToEnd}
 use Rattle.output_laws.proofs.Shown.{one_output}
 

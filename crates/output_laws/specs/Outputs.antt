@@ -10,7 +10,8 @@ use Rattle.command_line.specs.declared.line.Limits.{Limits}
 use Rattle.command_line.specs.declared.line.Action.{Action}
 use Rattle.command_line.specs.declared.line.Action.TheVariants.{Solve, Keys, Tree, Check}
 use Rattle.answer_texts.specs.Answers.{answer_text, checked_text}
-use Rattle.replies.specs.Output.{fault_of, IsSoundText, IsOutput}
+use Rattle.replies.specs.Output.{fault_of, IsOutput}
+use Rattle.endings.specs.Outcome.{IsSoundText}
 use Rattle.refusals.specs.Reply.{Reply, answered}
 
 -- a line has one output for an input

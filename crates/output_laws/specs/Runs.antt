@@ -2,7 +2,8 @@
 use Rattle.std.specs.Prelude.{◌≡◌, ◌⊎◌, ℕ, List, Some}
 use Rattle.command_line.specs.declared.line.Line.{Line}
 use Rattle.replies.specs.Output.{input_of}
-use Rattle.console.specs.Run.{Run, RunsLine, Writes}
+use Rattle.endings.specs.Run.{Run, Writes}
+use Rattle.console.specs.Run.{RunsLine}
 
 -- the run is one of the line, answers or refuses it, and what the line reads of its input is known
 pub record RunsToEnd (line : Line) (input : List ℕ) (run : Run) : Type 0 where

@@ -16,9 +16,9 @@ use Rattle.command_line.specs.declared.line.Limits.{Limits}
 use Rattle.command_line.specs.declared.line.Played.{Played}
 use Rattle.refusals.specs.Reply.{Reply, answered, line_of}
 use Rattle.refusals.specs.declared.refusal.Refusal.{Refusal}
-use Rattle.replies.specs.Outcome.{Gives}
+use Rattle.endings.specs.Outcome.{Gives, IsSoundText}
 use Rattle.answer_texts.specs.Answers.{none_text}
-use Rattle.replies.specs.Output.{IsSoundText, fault_of}
+use Rattle.replies.specs.Output.{fault_of}
 use Rattle.replies.proofs.ReplyLemmas.{gives_weaker}
 
 -- ---- a reply

@@ -1,4 +1,3 @@
 pub mod ReplyLemmas
-pub mod VerdictLemmas
 mod PlayingLemmas
 mod FirstLemmas

@@ -5,8 +5,9 @@ use Rattle.board.specs.Board.{PlainBoard}
 use Rattle.board.specs.declared.fault.FenFault.{FenFault}
 use Rattle.rules.specs.Reading.{IsSoundFault}
 use Rattle.devices.specs.Input.{IsInput, IsTooLong, OfInput}
-use Rattle.replies.specs.Outcome.{Gives, GivesIfRead, GivesReply, trouble_of}
-use Rattle.replies.specs.Output.{IsSoundText, IsOutput, ShowsCommand, input_of}
+use Rattle.endings.specs.Outcome.{Gives, GivesIfRead, trouble_of, IsSoundText}
+use Rattle.replies.specs.Outcome.{GivesReply}
+use Rattle.replies.specs.Output.{IsOutput, ShowsCommand, input_of}
 use Rattle.refusals.specs.Reply.{Reply, answered, refused}
 use Rattle.refusals.specs.Refusal.{refusal_of_fen}
 use Rattle.command_line.specs.declared.line.Line.{Line}
@@ -15,17 +16,10 @@ use Rattle.refusals.specs.declared.refusal.Refusal.{Refusal}
 use Rattle.refusals.specs.declared.refusal.Refusal.TheVariants.{NoMemory, TooLong}
 use Rattle.devices.specs.declared.transfer.InputFault.{InputFault}
 use Rattle.devices.specs.declared.transfer.InputFault.TheVariants as input
-use Rattle.replies.specs.declared.trouble.Trouble.{Trouble}
-use Rattle.replies.specs.declared.trouble.Trouble.TheVariants.{Refused, ReadFailed}
+use Rattle.endings.specs.declared.trouble.Trouble.{Trouble}
+use Rattle.endings.specs.declared.trouble.Trouble.TheVariants.{Refused, ReadFailed}
 use Rattle.devices.proofs.InputLemmas.{of_any, of_input_then}
-
--- a refusal that is right, or is want of memory, is given
-pub refusal_gives : {B : Type 0} (bytes : B → List ℕ) (Is : Reply → Type 0) (r : Result B Trouble) (refusal : Refusal) → (refusal ≡ NoMemory) ⊎ Is (refused refusal)
-    → IsErr r × IsErrAnd r (λ trouble. trouble ≡ Refused refusal) → GivesIfRead bytes Is r
-refusal_gives bytes Is (Ok b) refusal right err = absurd err.1
-refusal_gives bytes Is (Err (Refused other)) refusal right err =
-    let same : refusal ≡ other = cc in subst (λ x. (x ≡ NoMemory) ⊎ Is (refused x)) same right
-refusal_gives bytes Is (Err ReadFailed) refusal right err = tt
+use Rattle.endings.proofs.EndingLemmas.{refusal_gives}
 
 -- a text of a fault is refused, whatever the input
 pub fault_gives : {B : Type 0} (bytes : B → List ℕ) (line : Line) (known : Option (List ℕ)) (r : Result B Trouble) (fault : FenFault)

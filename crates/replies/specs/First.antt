@@ -17,7 +17,8 @@ use Rattle.refusals.specs.Reply.{Reply, answered, refused, line_of}
 use Rattle.refusals.specs.Refusal.{refusal_of_fen}
 use Rattle.refusals.specs.declared.refusal.Refusal.TheVariants.{Move}
 use Rattle.answer_texts.specs.Answers.{none_text}
-use Rattle.replies.specs.Output.{IsSoundText, fault_of, refusal_of_solve}
+use Rattle.endings.specs.Outcome.{IsSoundText}
+use Rattle.replies.specs.Output.{fault_of, refusal_of_solve}
 use Rattle.replies.specs.Playing.{NamesNone}
 
 -- the text of that plan, or that there is none within the limit

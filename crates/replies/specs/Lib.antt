@@ -1,7 +1,6 @@
 -- to be believed
 pub mod Drawings
 pub mod Output
-pub mod Verdict
 pub mod Playing
 pub mod First
 pub mod Outcome

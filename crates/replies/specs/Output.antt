@@ -1,12 +1,10 @@
 -- What the program writes for a line, and the status that it ends with.
 use Rattle.std.specs.Prelude.{◌≡◌, ◌⊎◌, ℕ, List, [], ◌≢◌, ◌≤◌, nat_lt, length, Option, Some, MatchBool, MatchOption, SomeIff}
 use Rattle.board.specs.declared.fault.FenFault.{FenFault}
-use Rattle.board.specs.Board.{PlainBoard, IsPosition}
-use Rattle.board.specs.Fen.{IsFenText}
+use Rattle.board.specs.Board.{PlainBoard}
 use Rattle.rules.specs.declared.goal.Goal.{Goal}
 use Rattle.rules.specs.declared.goal.Goal.TheVariants as goal
 use Rattle.rules.specs.Order.{ListsLawful}
-use Rattle.rules.specs.Reach.{IsSound}
 use Rattle.rules.specs.Reading.{IsSoundFault}
 use Rattle.rules.specs.Squares.{Ply}
 use Rattle.decision.specs.declared.answer.Answer.{Answer}
@@ -34,6 +32,7 @@ use Rattle.command_line.specs.declared.line.Action.{Action}
 use Rattle.command_line.specs.declared.line.Action.TheVariants.{Solve, Keys, Moves, Show, Tree, Check}
 use Rattle.refusals.specs.declared.refusal.Refusal.{Refusal}
 use Rattle.refusals.specs.declared.refusal.Refusal.TheVariants.{TooLong, Limit, Workers, Slots, NoMemory}
+use Rattle.endings.specs.Outcome.{IsSoundText}
 
 -- ---- the reply to each command, at a position
 
@@ -109,10 +108,6 @@ ShowsCommand b (Tree goal limits) input reply = ShowsPlanFound goal b limits rep
 ShowsCommand b (Check goal) input reply = ShowsCheck goal b input reply
 
 -- ---- the output of a line
-
--- the text is that of this position, and the side that isn't to move is out of check
-abbrev pub IsSoundText : List ℕ → PlainBoard → Type 0
-IsSoundText text b = IsPosition b × IsFenText text b × IsSound b
 
 -- the reply to a line with this input: its command's at the sound position of its text, or the refusal of its text's fault
 abbrev pub IsOutput : Line → List ℕ → Reply → Type 0

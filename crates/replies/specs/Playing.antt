@@ -7,7 +7,7 @@ use Rattle.rules.specs.MoveText.{move_text}
 use Rattle.rules.specs.Moves.{IsMove, IsLawful}
 use Rattle.rules.specs.Reading.{IsSoundFault}
 use Rattle.rules.specs.Squares.{Ply}
-use Rattle.replies.specs.Output.{IsSoundText}
+use Rattle.endings.specs.Outcome.{IsSoundText}
 use Rattle.refusals.specs.Reply.{Reply, answered, refused, line_of}
 use Rattle.refusals.specs.Refusal.{refusal_of_fen}
 use Rattle.refusals.specs.declared.refusal.Refusal.TheVariants.{Move}

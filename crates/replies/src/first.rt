@@ -4,12 +4,12 @@ ghost use Rattle.slots.specs.Promise.{IsSeatOf};
 ghost use Rattle.rounds.specs.Limits.{IsRefusal};
 ghost use Rattle.searcher.specs.Roots.{IsRoot, IsJobOf};
 ghost use Rattle.replies.specs.First.{IsFirstReply, NamesJob, ShowsFirst, ShowsJob};
-ghost use Rattle.replies.specs.Outcome.{Gives};
+ghost use Rattle.endings.specs.Outcome.{Gives};
 ghost use Rattle.replies.specs.Output.{fault_of};
 ghost use Rattle.replies.specs.Playing.{NamesNone};
 
+use crate::refusal::refusal_of;
 use crate::replying::{Search, none_line, search_of, tree_line};
-use crate::trouble::refusal_of;
 use board::Position;
 use command_line::{Limits, Played};
 use decision::{Memory, Never, Scout};

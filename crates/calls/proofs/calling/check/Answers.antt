@@ -1,7 +1,7 @@
 use Rattle.std.proofs.Common.{subst, vec_items}
 use Rattle.command_line.specs.declared.line.Action.TheVariants.{Check}
 use Rattle.rules.specs.declared.goal.Goal.{Goal}
-use Rattle.replies.specs.Outcome.{Gives}
+use Rattle.endings.specs.Outcome.{Gives}
 use Rattle.replies.specs.Output.{IsOutput}
 use Rattle.calls.specs.Calls.{goal_of}
 use Rattle.calls.proofs.CallLemmas.{answers}

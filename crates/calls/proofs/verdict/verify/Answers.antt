@@ -1,7 +1,7 @@
 use Rattle.std.proofs.Common.{subst, vec_items}
 use Rattle.rules.specs.declared.goal.Goal.{Goal}
-use Rattle.replies.specs.Outcome.{Gives}
-use Rattle.replies.specs.Verdict.{IsVerdict}
+use Rattle.endings.specs.Outcome.{Gives}
+use Rattle.verdicts.specs.Verdict.{IsVerdict}
 use Rattle.calls.specs.Calls.{goal_of}
 use Rattle.calls.proofs.CallLemmas.{puts}
 use Rattle.calls.proofs.verdict.verify.Goals as goal

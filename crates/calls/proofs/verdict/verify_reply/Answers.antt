@@ -1,7 +1,7 @@
 use Rattle.std.proofs.Common.{◌⊎◌, ◌≡◌, List, ℕ, sym, subst, vec_items}
 use Rattle.refusals.specs.Reply.{answered, refused}
 use Rattle.refusals.specs.declared.refusal.Refusal.TheVariants.{NoMemory}
-use Rattle.replies.specs.Verdict.{IsVerdict}
+use Rattle.verdicts.specs.Verdict.{IsVerdict}
 use Rattle.calls.proofs.verdict.verify_reply.Goals as goal
 
 pub returns-in-Ok : goal.returns-in-Ok

@@ -1,5 +1,5 @@
 use Rattle.std.proofs.Common.{rules}
-use Rattle.replies.specs.Output.{IsSoundText}
+use Rattle.endings.specs.Outcome.{IsSoundText}
 use Rattle.console.proofs.BatchLemmas.{asked_fault, asked_gives}
 use Rattle.console.proofs.batch.answered_text.Goals as goal
 

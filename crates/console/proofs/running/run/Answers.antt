@@ -1,14 +1,14 @@
 use Rattle.std.proofs.Common.{inl, inr, refl, arith}
 use Rattle.std.proofs.KnownBytes.{Appends-nil}
-use Rattle.command_line.specs.declared.line.Order.TheVariants.{Certify, One, Solution, TreeAfter}
+use Rattle.command_line.specs.declared.line.Order.TheVariants.{One, TreeAfter}
 use Rattle.replies.specs.First.{IsFirstReply}
-use Rattle.console.proofs.SolvingLemmas.{reply_ran}
+use Rattle.endings.proofs.EndingLemmas.{reply_ran}
 use Rattle.console.proofs.running.run.Goals as goal
 
 pub returns-in-Err-Words-clause-runs : goal.returns-in-Err-Words-clause-runs
 returns-in-Err-Words-clause-runs g c =
     let words = c.in-Err-Words in
-    inl (words.ensures.refused words.field-0-is, refl, Appends-nil _, omega arith)
+    inl (words.ensures.refused words.field-0-is, (refl, Appends-nil _, omega arith))
 
 pub returns-in-Ok-One-clause-silent : goal.returns-in-Ok-One-clause-silent
 returns-in-Ok-One-clause-silent g c =
@@ -16,37 +16,10 @@ returns-in-Ok-One-clause-silent g c =
     elim c.run_line_on.ensures.silent [
       | inl told ↦ inl told
       | inr rest ↦ elim rest [
-        | inl over ↦ inr (inl (inr (One one.line, rw one.field-0-is at one.ensures.order, over)))
+        | inl over ↦ inr (inl (One one.line, rw one.field-0-is at one.ensures.order, over))
         | inr same ↦ inr (inr same)
       ]
     ]
-
-pub returns-in-Ok-Certify-clause-silent : goal.returns-in-Ok-Certify-clause-silent
-returns-in-Ok-Certify-clause-silent g c =
-    let one = c.in-Ok-Certify in
-    elim c.run_certify.ensures.silent [
-      | inl told ↦ inl told
-      | inr rest ↦ elim rest [
-        | inl over ↦ inr (inl (inr (Certify one.subject one.limits, rw one.field-0-is at one.ensures.order, over)))
-        | inr same ↦ inr (inr same)
-      ]
-    ]
-
-pub returns-in-Ok-Solution-clause-silent : goal.returns-in-Ok-Solution-clause-silent
-returns-in-Ok-Solution-clause-silent g c =
-    let one = c.in-Ok-Solution in
-    elim c.run_solution.ensures.silent [
-      | inl told ↦ inl told
-      | inr rest ↦ elim rest [
-        | inl over ↦ inr (inl (inr (Solution one.subject one.limits one.telling, rw one.field-0-is at one.ensures.order, over)))
-        | inr same ↦ inr (inr same)
-      ]
-    ]
-
-pub returns-in-Ok-Solution-clause-runs : goal.returns-in-Ok-Solution-clause-runs
-returns-in-Ok-Solution-clause-runs g c =
-    let one = c.in-Ok-Solution in
-    inr (inr (Solution one.subject one.limits one.telling, rw one.field-0-is at one.ensures.order, (omega arith, c.run_solution.ensures.runs)))
 
 pub returns-in-Ok-TreeAfter-clause-runs : goal.returns-in-Ok-TreeAfter-clause-runs
 returns-in-Ok-TreeAfter-clause-runs g c =

@@ -1,5 +1,5 @@
 use Rattle.replies.specs.Playing.{IsAfterReply}
-use Rattle.console.proofs.SolvingLemmas.{reply_ran}
+use Rattle.endings.proofs.EndingLemmas.{reply_ran}
 use Rattle.console.proofs.running.run_after.Goals as goal
 
 pub returns-clause-runs : goal.returns-clause-runs

@@ -1,5 +1,6 @@
 use Rattle.std.proofs.Common.{arith, inl, inr, refl}
-use Rattle.console.proofs.BatchLemmas.{answers_with, batch_ran, batch_refused, finishes_after, fresh_left, gave_up}
+use Rattle.console.proofs.BatchLemmas.{answers_with, batch_ran, batch_refused, fresh_left, gave_up}
+use Rattle.endings.proofs.EndingLemmas.{finishes_after}
 use Rattle.devices.specs.Lines.{left_of}
 use Rattle.console.proofs.running.run_batch.Goals as goal
 

@@ -1,8 +1,10 @@
 use Rattle.std.proofs.Common.{◌∙◌, ap, refl, rules, Ok, vec_items}
-use Rattle.replies.specs.Output.{IsSoundText, ShowsAnswer, ShowsKeys, ShowsPlanFound}
+use Rattle.endings.specs.Outcome.{IsSoundText}
+use Rattle.replies.specs.Output.{ShowsAnswer, ShowsKeys, ShowsPlanFound}
 use Rattle.refusals.specs.Reply.{answered}
 use Rattle.command_line.specs.declared.line.Action.TheVariants.{Solve, Keys, Moves, Show, Tree, Check}
-use Rattle.replies.proofs.ReplyLemmas.{fault_gives, gives_reply, gives_unread, refusal_gives}
+use Rattle.replies.proofs.ReplyLemmas.{fault_gives, gives_reply, gives_unread}
+use Rattle.endings.proofs.EndingLemmas.{refusal_gives}
 use Rattle.replies.proofs.replying.reply_told.Goals as goal
 
 pub returns-in_err-position-clause-given : goal.returns-in_err-position-clause-given

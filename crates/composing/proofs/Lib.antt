@@ -1,0 +1,2 @@
+mod CertifyLemmas
+mod SolutionLemmas

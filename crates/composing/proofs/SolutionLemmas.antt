@@ -1,0 +1,40 @@
+-- A solution, from what its parts give.
+use Rattle.std.proofs.Common.{◌≡◌, ◌≤◌, ℕ, List, None, Result, Vec, inl, refl, subst, sym, vec_items}
+use Rattle.std.specs.declared.alloc.Global.{Global}
+use Rattle.board.specs.Board.{PlainBoard}
+use Rattle.rules.specs.declared.goal.Goal.{Goal}
+use Rattle.decision.specs.Answer.{IsFewest}
+use Rattle.command_line.specs.declared.line.Limits.{Limits}
+use Rattle.command_line.specs.declared.line.Subject.{Subject}
+use Rattle.command_line.specs.declared.line.Telling.{Telling}
+use Rattle.refusals.specs.Reply.{answered}
+use Rattle.refusals.specs.declared.refusal.Refusal.{Refusal}
+use Rattle.endings.specs.Outcome.{Gives, IsSoundText}
+use Rattle.replies.specs.Output.{fault_of}
+use Rattle.algebraic.specs.declared.naming.Notation.{Notation}
+use Rattle.solutions.specs.declared.solution.Solution.{Solution}
+use Rattle.solutions.specs.Solutions.{IsSolution}
+use Rattle.solution_text.specs.Text.{IsSolutionText}
+use Rattle.composing.specs.Solution.{IsPublished, IsSolutionReply, ShowsSolution, extras_of, notation_of}
+use Rattle.replies.proofs.ReplyLemmas.{gives_weaker}
+
+-- the text of the solution of the position's root is published
+pub published_text : (goal : Goal) (b : PlainBoard) (telling : Telling) (notation : Notation) (solution : Solution Global) (text written : List ℕ)
+    → IsSolution goal b (extras_of telling) solution → notation ≡ notation_of goal telling → IsSolutionText notation b solution written → text ≡ written
+    → IsPublished goal b telling text
+published_text goal b telling notation solution text written is same_notation is_text same_text = (
+  solution,
+  is,
+  subst (λ t. IsSolutionText (notation_of goal telling) b solution t) (sym same_text) (subst (λ n. IsSolutionText n b solution written) same_notation is_text),
+)
+
+-- the solution is shown
+pub published_shown : (goal : Goal) (b : PlainBoard) (telling : Telling) (limits : Limits) (plies : ℕ) (text : List ℕ) → fault_of limits ≡ None → plies ≤ limits.limit
+    → IsFewest goal b plies → IsPublished goal b telling text → ShowsSolution goal b telling limits (answered text)
+published_shown goal b telling limits plies text none within fewest is = rw none (inl (plies, within, fewest, (text, is, refl)))
+
+-- what is shown at the sound position is the reply
+pub solution_at_text : (subject : Subject) (telling : Telling) (limits : Limits) (b : PlainBoard) (r : Result (Vec ℕ Global) Refusal) → IsSoundText subject.fen.now b
+    → Gives vec_items (ShowsSolution subject.goal b telling limits) r → Gives vec_items (IsSolutionReply subject telling limits) r
+solution_at_text subject telling limits b r sound gives =
+    gives_weaker vec_items (ShowsSolution subject.goal b telling limits) (IsSolutionReply subject telling limits) r (λ reply shows. inl (b, sound, shows)) gives

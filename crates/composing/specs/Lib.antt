@@ -1,0 +1,6 @@
+-- to be believed
+pub mod Solution
+pub mod Certifying
+pub mod Order
+-- inside
+pub mod Claims

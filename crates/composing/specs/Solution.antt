@@ -1,0 +1,63 @@
+-- What `solution` writes.
+use Rattle.std.specs.Prelude.{◌≡◌, ◌⊎◌, ◌≤◌, ℕ, List, Bool, true, false, MatchOption}
+use Rattle.std.specs.declared.alloc.Global.{Global}
+use Rattle.board.specs.declared.fault.FenFault.{FenFault}
+use Rattle.board.specs.Board.{PlainBoard}
+use Rattle.rules.specs.declared.goal.Goal.{Goal}
+use Rattle.rules.specs.Reading.{IsSoundFault}
+use Rattle.decision.specs.Answer.{IsFewest, ForcesNothing}
+use Rattle.algebraic.specs.declared.naming.Notation.{Notation}
+use Rattle.algebraic.specs.declared.symbols.Symbols.{Symbols}
+use Rattle.algebraic.specs.declared.symbols.Symbols.TheVariants.{Letters, Figurines}
+use Rattle.solutions.specs.declared.extras.Extras.{Extras}
+use Rattle.solutions.specs.declared.solution.Solution.{Solution}
+use Rattle.solutions.specs.Solutions.{IsSolution}
+use Rattle.solution_text.specs.Text.{IsSolutionText}
+use Rattle.command_line.specs.declared.line.Limits.{Limits}
+use Rattle.command_line.specs.declared.line.Subject.{Subject}
+use Rattle.command_line.specs.declared.line.Telling.{Telling}
+use Rattle.refusals.specs.Reply.{Reply, answered, refused}
+use Rattle.refusals.specs.Refusal.{refusal_of_fen}
+use Rattle.answer_texts.specs.Answers.{none_text}
+use Rattle.endings.specs.Outcome.{IsSoundText}
+use Rattle.replies.specs.Output.{fault_of, refusal_of_solve}
+use Rattle.endings.specs.Run.{Run, WritesReply}
+
+-- what is asked for beside the keys
+abbrev pub extras_of : Telling → Extras
+extras_of telling = record { set_play = telling.set_play; tries = telling.tries }
+
+-- by which symbols units are named
+abbrev pub symbols_of : Bool → Symbols
+symbols_of true = Figurines
+symbols_of false = Letters
+
+-- how moves are named
+abbrev pub notation_of : Goal → Telling → Notation
+notation_of goal telling = record { symbols = symbols_of telling.figurines; goal = goal }
+
+-- the text is that of the solution of the position
+abbrev pub IsPublished : Goal → PlainBoard → Telling → List ℕ → Type 0
+IsPublished goal b telling text =
+    (solution : Solution Global) × IsSolution goal b (extras_of telling) solution × IsSolutionText (notation_of goal telling) b solution text
+
+-- the solution, where the goal is forced in some number of plies up to the limit, or that it is in none
+abbrev pub ShowsPublished : Goal → PlainBoard → Telling → ℕ → Reply → Type 0
+ShowsPublished goal b telling limit reply =
+    ((plies : ℕ) × (plies ≤ limit) × IsFewest goal b plies × ((text : List ℕ) × IsPublished goal b telling text × (reply ≡ answered text)))
+    ⊎ (ForcesNothing goal b limit × (reply ≡ answered (none_text limit)))
+
+-- the same, or the refusal of the first value that is outside its limits
+abbrev pub ShowsSolution : Goal → PlainBoard → Telling → Limits → Reply → Type 0
+ShowsSolution goal b telling limits reply =
+    MatchOption (fault_of limits) (ShowsPublished goal b telling limits.limit reply) (λ fault. reply ≡ refused (refusal_of_solve fault))
+
+-- the same at the sound position of the text, or the refusal of the text's fault
+abbrev pub IsSolutionReply : Subject → Telling → Limits → Reply → Type 0
+IsSolutionReply subject telling limits reply =
+    ((b : PlainBoard) × IsSoundText subject.fen.now b × ShowsSolution subject.goal b telling limits reply)
+    ⊎ ((fault : FenFault) × IsSoundFault subject.fen.now fault × (reply ≡ refused (refusal_of_fen fault)))
+
+-- the run is one of a solution, which reads nothing
+abbrev pub RunsSolution : Subject → Telling → Limits → Run → Type 0
+RunsSolution subject telling limits run = (run.failed_reads ≡ 0) × WritesReply (IsSolutionReply subject telling limits) run.ending

@@ -1,0 +1,11 @@
+//! What a composer's program writes: the solution of a problem, and an answer with its certificate; and that program, over any words
+//! and a writer.
+#![tactic(auto)]
+
+mod certificate;
+mod problem;
+mod program;
+mod running;
+
+pub use program::run_program;
+pub use running::run;

@@ -1,0 +1,141 @@
+//! A run of the composer's program over any words and writer.
+ghost use Rattle.std.specs.Prelude.{◌≡◌, ◌⊎◌, ◌<◌, map};
+ghost use Rattle.board.specs.Board.{PlainBoard};
+ghost use Rattle.decision.specs.declared.answer.Answer.{Answer};
+ghost use Rattle.verifying.specs.Checking.{HasTaken};
+ghost use Rattle.endings.specs.Run.{ending_of, readerless, MayTell, WritesReply};
+ghost use Rattle.endings.specs.Words.{MeansSome, RunsWords};
+ghost use Rattle.searches.specs.Searching.{IsOver};
+ghost use Rattle.composing.specs.Certifying.{WritesCertificate, WritesClaims};
+ghost use Rattle.composing.specs.Claims.{HasAnswerLine};
+ghost use Rattle.composing.specs.Order.{ComposesOrder, ComposesOver};
+ghost use Rattle.composing.specs.Solution.{IsSolutionReply};
+
+use crate::certificate::{Begun, Cut, begin, write_claims};
+use crate::problem::solution_reply;
+use command_line::{Limits, LineFault, Order, Subject, Telling, read_order};
+use devices::{Sink, write_all};
+use endings::{
+    ANSWERED, REFUSED_WORDS, fail_to_write, finish, give_up_for_memory, proof_refused,
+    refuse_and_tell, search_refused,
+};
+use searches::{Host, host_of, tell_if_over};
+use std::convert::AsStr;
+use std::io::Write;
+use std::sync::Wait;
+use std::thread::Threads;
+use std::time::Clock;
+
+/// Answers a position as `solve` does, with the answer's certificate. `errors` is told why it was refused.
+fn run_certify<R: Threads + Wait + Eprint + Clock + Sync + AllocGlobal, K: Sink, E: Write>(
+    host: &Host<'_, R>,
+    subject: &Subject<'_>,
+    limits: Limits,
+    writer: &mut K,
+    errors: &mut E,
+) -> u8
+    requires { K.failures writer.old < u64.MAX }
+    ensures runs { WritesCertificate subject.now limits (ending_of K.contents K.failures writer.old writer.new result) }
+    ensures silent { MayTell result ⊎ IsOver subject.now.fen.now ⊎ (errors.new ≡ errors.old) }
+{
+    match begin(host, subject, limits) {
+        Ok(begun) => {
+            tell_if_over(errors, subject.fen, None);
+            write_begun(host.rt, subject, begun, writer, errors)
+        }
+        Err(refusal) => {
+            let refused = search_refused(subject.fen, refusal);
+            refuse_and_tell(host.rt, writer, errors, &refused)
+        }
+    }
+}
+
+/// Writes the answer's line and the lines of claims, and behind them why the next isn't taken, if it isn't.
+fn write_begun<R: AllocGlobal, K: Sink, E: Write>(
+    rt: &R,
+    subject: &Subject<'_>,
+    begun: Begun,
+    writer: &mut K,
+    errors: &mut E,
+) -> u8
+    requires begun { HasTaken begun.certificate.checker }
+    requires writes { K.failures writer.old < u64.MAX }
+    ensures writes { (b : PlainBoard) (answer : Answer) → HasAnswerLine subject.now.goal b answer begun
+        → WritesClaims subject.now.goal b answer (ending_of K.contents K.failures writer.old writer.new result) }
+    ensures silent { MayTell result ⊎ (errors.new ≡ errors.old) }
+{
+    let Begun {
+        line,
+        mut certificate,
+    } = begun;
+    match write_all(writer, line.as_slice()) {
+        Ok(()) => match write_claims(&mut certificate, writer) {
+            None => ANSWERED,
+            Some(Cut::NoMemory) => give_up_for_memory(writer, errors),
+            Some(Cut::Refused(refusal)) => {
+                let why = proof_refused(subject, b"", refusal);
+                refuse_and_tell(rt, writer, errors, &why)
+            }
+            Some(Cut::WriteFailed) => fail_to_write(errors),
+        },
+        Err(_) => fail_to_write(errors),
+    }
+}
+
+/// Answers the solution of a position. `errors` is told why it was refused.
+fn run_solution<R: Threads + Wait + Eprint + Clock + Sync + AllocGlobal, K: Sink, E: Write>(
+    host: &Host<'_, R>,
+    subject: &Subject<'_>,
+    asked: (Limits, Telling),
+    writer: &mut K,
+    errors: &mut E,
+) -> u8
+    requires { K.failures writer.old < u64.MAX }
+    ensures runs { WritesReply (IsSolutionReply subject.now asked.1 asked.0)
+        (ending_of K.contents K.failures writer.old writer.new result) }
+    ensures silent { MayTell result ⊎ IsOver subject.now.fen.now ⊎ (errors.new ≡ errors.old) }
+{
+    let (limits, telling) = asked;
+    match solution_reply(host, subject, limits, telling) {
+        Ok(text) => {
+            tell_if_over(errors, subject.fen, None);
+            finish(writer, errors, text.as_slice(), ANSWERED)
+        }
+        Err(refusal) => {
+            let refused = search_refused(subject.fen, refusal);
+            refuse_and_tell(host.rt, writer, errors, &refused)
+        }
+    }
+}
+
+/// Answers what the words ask for, if that is `solution` or `certify`. The first word is the program's name.
+pub fn run<R: Threads + Wait + Eprint + Clock + Sync + AllocGlobal, W: AsStr, K: Sink, E: Write>(
+    rt: &R,
+    words: &[W],
+    writer: &mut K,
+    errors: &mut E,
+) -> u8
+    requires writes { K.failures writer.old < u64.MAX }
+    ensures runs { RunsWords ComposesOrder (map W.text words.now)
+        (readerless (ending_of K.contents K.failures writer.old writer.new result)) }
+    ensures silent { MayTell result ⊎ MeansSome ComposesOver (map W.text words.now) ⊎ (errors.new ≡ errors.old) }
+{
+    match read_order(rt.alloc(), words) {
+        Ok(Order::Certify(subject, limits)) => {
+            run_certify(&host_of(rt, words), &subject, limits, writer, errors)
+        }
+        Ok(Order::Solution(subject, limits, telling)) => {
+            let host = host_of(rt, words);
+            run_solution(&host, &subject, (limits, telling), writer, errors)
+        }
+        Ok(
+            Order::One(_)
+            | Order::Batch(..)
+            | Order::Verify(_)
+            | Order::After(_)
+            | Order::TreeAfter(..),
+        ) => REFUSED_WORDS,
+        Err(LineFault::Words) => REFUSED_WORDS,
+        Err(LineFault::NoMemory) => give_up_for_memory(writer, errors),
+    }
+}

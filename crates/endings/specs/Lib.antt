@@ -1,0 +1,4 @@
+-- to be believed
+pub mod Run
+pub mod Outcome
+pub mod Words

@@ -1,0 +1,38 @@
+-- How the work on a reply may end.
+use Rattle.std.specs.Prelude.{◌≡◌, ◌⊎◌, ⊤, ℕ, List, Result, Ok, Err}
+use Rattle.board.specs.Board.{PlainBoard, IsPosition}
+use Rattle.refusals.specs.Reply.{Reply, answered, refused}
+use Rattle.refusals.specs.declared.refusal.Refusal.{Refusal}
+use Rattle.refusals.specs.declared.refusal.Refusal.TheVariants.{TooLong, NoMemory}
+use Rattle.devices.specs.declared.transfer.InputFault.{InputFault}
+use Rattle.devices.specs.declared.transfer.InputFault.TheVariants as input
+use Rattle.endings.specs.declared.trouble.Trouble.{Trouble}
+use Rattle.endings.specs.declared.trouble.Trouble.TheVariants.{Refused, ReadFailed}
+use Rattle.board.specs.Fen.{IsFenText}
+use Rattle.rules.specs.Reach.{IsSound}
+
+-- the text is that of this position, and the side that isn't to move is out of check
+abbrev pub IsSoundText : List ℕ → PlainBoard → Type 0
+IsSoundText text b = IsPosition b × IsFenText text b × IsSound b
+
+-- a text is that of an answer, and a refusal is right or is want of memory
+abbrev pub Gives : {B : Type 0} → (B → List ℕ) → (Reply → Type 0) → Result B Refusal → Type 0
+Gives bytes Is (Ok text) = Is (answered (bytes text))
+Gives bytes Is (Err refusal) = (refusal ≡ NoMemory) ⊎ Is (refused refusal)
+
+-- the same, where a failed read says nothing
+abbrev pub GivesIfRead : {B : Type 0} → (B → List ℕ) → (Reply → Type 0) → Result B Trouble → Type 0
+GivesIfRead bytes Is (Ok text) = Is (answered (bytes text))
+GivesIfRead bytes Is (Err (Refused refusal)) = (refusal ≡ NoMemory) ⊎ Is (refused refusal)
+GivesIfRead bytes Is (Err ReadFailed) = ⊤
+
+-- how many reads failed
+abbrev pub reads_failed : {B : Type 0} → Result B Trouble → ℕ
+reads_failed (Err ReadFailed) = 1
+reads_failed _ = 0
+
+-- the trouble of each fault of the input
+abbrev pub trouble_of : InputFault → Trouble
+trouble_of input.ReadFailed = ReadFailed
+trouble_of input.TooLong = Refused TooLong
+trouble_of input.NoMemory = Refused NoMemory

@@ -1,0 +1,17 @@
+//! How a run of a program ends, whatever it was asked: what is written last, what standard error is told, and the status.
+#![tactic(auto)]
+
+mod beginning;
+mod ending;
+mod telling;
+mod trouble;
+mod words;
+
+pub use beginning::{Input, Keeping};
+pub use ending::{
+    ANSWERED, REFUSED_WORDS, fail_to_read, fail_to_write, finish, give_up_for_memory,
+    has_no_answer, refuse,
+};
+pub use telling::{proof_refused, refuse_and_tell, search_refused};
+pub use trouble::Trouble;
+pub use words::{end_wordless, explain_if_refused};

@@ -1,0 +1,54 @@
+//! A refusal that is written, and told with a sentence.
+ghost use Rattle.std.specs.Prelude.{◌≡◌, ◌⊎◌, ◌<◌};
+ghost use Rattle.endings.specs.Run.{ending_of, MayTell, Refuses};
+
+use crate::ending::{has_no_answer, refuse};
+use command_line::Subject;
+use devices::Sink;
+use refusals::{Asking, Refusal, Refused, advise};
+use std::alloc::Global;
+use std::io::Write;
+
+/// Writes why there is no answer, and tells it with a sentence.
+pub fn refuse_and_tell<R: AllocGlobal, K: Sink, E: Write>(
+    rt: &R,
+    writer: &mut K,
+    errors: &mut E,
+    refused: &Refused<'_>,
+) -> u8
+    requires { K.failures writer.old < u64.MAX }
+    ensures refuses { Refuses (ending_of K.contents K.failures writer.old writer.new result) refused.now.refusal }
+    ensures silent { MayTell result ⊎ (errors.new ≡ errors.old) }
+{
+    let status = refuse(rt.alloc(), writer, errors, refused.refusal);
+    if has_no_answer(status) {
+        let _ = advise(errors, refused);
+    }
+    status
+}
+
+/// What was refused to a search at the position of this text.
+pub fn search_refused(fen: &[u8], refusal: Refusal) -> Refused<'_>
+    ensures { result.refusal ≡ refusal }
+{
+    Refused {
+        refusal,
+        fen,
+        asking: Asking::Search,
+    }
+}
+
+/// What was refused to a certificate that begins so.
+pub fn proof_refused<'a>(
+    subject: &Subject<'a>,
+    beginning: &'a [u8],
+    refusal: Refusal,
+) -> Refused<'a>
+    ensures { result.refusal ≡ refusal }
+{
+    Refused {
+        refusal,
+        fen: subject.fen,
+        asking: Asking::Proof(subject.goal, beginning),
+    }
+}

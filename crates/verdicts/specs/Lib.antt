@@ -1,0 +1,4 @@
+-- to be believed
+pub mod Verdict
+pub mod Verifying
+pub mod Order

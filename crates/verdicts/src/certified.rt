@@ -1,0 +1,62 @@
+//! The reply to a certificate: the answer that it proves, or why it proves none.
+ghost use Rattle.std.specs.Prelude.{◌≡◌, ◌⊎◌, ◌+◌, ◌<◌, vec_items};
+ghost use Rattle.board.specs.Board.{PlainBoard};
+ghost use Rattle.devices.specs.Input.{OfInput};
+ghost use Rattle.endings.specs.Outcome.{GivesIfRead, reads_failed, IsSoundText};
+ghost use Rattle.verdicts.specs.Verdict.{ShowsProved, GivesVerdict, trouble_of_certificate};
+
+use answer_texts::answer_text;
+use board::Position;
+use command_line::Subject;
+use devices::Source;
+use endings::Trouble;
+use moves::{Board, Goal, read_sound};
+use refusals::Refusal;
+use std::alloc::Allocator;
+use verifying::{Fault, verify_input};
+
+/// The trouble of each fault of a certificate.
+fn trouble_of_certificate(fault: Fault) -> Trouble
+    ensures { result ≡ trouble_of_certificate fault }
+{
+    match fault {
+        Fault::Answer => Trouble::Refused(Refusal::Answer),
+        Fault::Claim(line) => Trouble::Refused(Refusal::Claim(line)),
+        Fault::TooLong => Trouble::Refused(Refusal::TooLong),
+        Fault::NoMemory => Trouble::Refused(Refusal::NoMemory),
+        Fault::ReadFailed => Trouble::ReadFailed,
+    }
+}
+
+/// The answer that the certificate of the input proves, as it is printed.
+fn verified_at<S: Source, A: Allocator + Copy>(
+    alloc: A,
+    position: &Position,
+    goal: Goal,
+    reader: &mut S,
+) -> Result<Vec<u8, A>, Trouble>
+    requires { S.failures reader.old < u64.MAX }
+    ensures shown { OfInput (S.remaining reader.old)
+        (λ input. GivesIfRead vec_items (ShowsProved goal position.now input) result) }
+    ensures counts { S.failures reader.new ≡ S.failures reader.old + reads_failed result }
+{
+    match verify_input(alloc, &Board::of(position), goal, reader) {
+        Ok(answer) => Ok(answer_text(alloc, goal, answer)?.into_bytes()),
+        Err(fault) => Err(trouble_of_certificate(fault)),
+    }
+}
+
+/// The text that answers a certificate, which is read where the position is sound, as far as to its first fault.
+pub fn verified<S: Source, A: Allocator + Copy>(
+    alloc: A,
+    subject: &Subject<'_>,
+    reader: &mut S,
+) -> Result<Vec<u8, A>, Trouble>
+    requires { S.failures reader.old < u64.MAX }
+    ensures given { GivesVerdict vec_items subject.now (S.remaining reader.old) result }
+    ensures asked { ((b : PlainBoard) × IsSoundText subject.now.fen.now b) ⊎ (reader.new ≡ reader.old) }
+    ensures counts { S.failures reader.new ≡ S.failures reader.old + reads_failed result }
+{
+    let position = read_sound(subject.fen)?;
+    verified_at(alloc, &position, subject.goal, reader)
+}
