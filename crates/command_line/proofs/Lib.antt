@@ -1,2 +1,3 @@
 mod OneMore
+mod Found
 mod Names

@@ -1,9 +1,15 @@
--- What the program's commands are made of.
-use Rattle.std.specs.Prelude.{◌≡◌, ◌≢◌, Some, codes, false}
-use Rattle.clap.specs.Words.{App, Rule, Text, app_of, new_rule, rule_of}
+-- What the program's commands are made of, and what is read of their names.
+use Rattle.std.specs.Prelude.{◌≡◌, ◌≢◌, Option, MatchOption, Bool, codes, false, map, true}
+use Rattle.clap.specs.Walk.{texts}
+use Rattle.clap.specs.Words.{App, Rule, Text, app_of, new_app, rule_of}
 use Rattle.clap.specs.declared.builder.arg.Arg.{Arg}
 use Rattle.clap.specs.declared.builder.command.Command.{Command}
 use Rattle.clap.specs.declared.builder.command.Command.TheViews.{out-Command as fields_of}
+use Rattle.command_line.specs.Program.{flag_rule, number_rule, search_rules, text_rule, with_rules, word_rule}
+use Rattle.command_line.specs.declared.help.Argument.{Argument}
+use Rattle.command_line.specs.declared.help.Form.{Form}
+use Rattle.command_line.specs.declared.help.Form.TheVariants.{Word, Flag, Value, Number}
+use Rattle.command_line.specs.declared.help.Verb.{Verb}
 
 -- the argument has this rule, and holds for its command alone
 pub record IsLocalArg (rule : Rule) (arg : Arg) : Type 0 where
@@ -15,12 +21,38 @@ pub record IsLocal (app : App) (command : Command) : Type 0 where
   pub is_app : app_of command ≡ app
   pub local : (fields_of command).has_globals ≡ false
 
--- one value after `--name`
-abbrev pub option_rule : Text → Rule
-option_rule name = record (new_rule name) { long = Some name; value_names = 1 }
+-- the rule of an argument of that name and form
+abbrev pub form_rule : Text → Form → Rule
+form_rule name Word = word_rule name
+form_rule name Flag = flag_rule name
+form_rule name (Value value given) = text_rule name (texts given.now)
+form_rule name (Number value given) = number_rule name (texts given.now)
 
--- no command of this name searches at a position
-pub record NamesNoSearch (name : Text) : Type 0 where
-  pub solve : name ≢ codes "solve"
-  pub keys : name ≢ codes "keys"
-  pub tree : name ≢ codes "tree"
+-- the rule of an argument of the table
+abbrev pub rule_in : Argument → Rule
+rule_in argument = form_rule argument.name.now argument.form
+
+-- with the options of a search, where it searches
+abbrev pub prepared_app : Bool → App → App
+prepared_app true app = with_rules app search_rules
+prepared_app false app = app
+
+-- a command of the table
+abbrev pub verb_app : Verb → App
+verb_app verb = with_rules (prepared_app verb.searches (new_app verb.name.now)) (map rule_in verb.own.now)
+
+-- what was read is meant, or nothing is
+abbrev pub Reads : {X : Type 0} → (X → Type 0) → Option X → Type 0
+Reads Means read = MatchOption read ((x : _) → Means x → ⊥) Means
+
+-- a name that isn't one of the commands without a goal
+pub record TakesGoal (name : Text) : Type 0 where
+  pub moves : name ≢ codes "moves"
+  pub show : name ≢ codes "show"
+  pub after : name ≢ codes "after"
+
+-- nor one without limits, but perhaps `batch`
+pub record TakesLimits (name : Text) : Type 0 where
+  pub aims : TakesGoal name
+  pub check : name ≢ codes "check"
+  pub verify : name ≢ codes "verify"

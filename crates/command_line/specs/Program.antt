@@ -1,136 +1,99 @@
 -- The commands, as `clap` reads them.
-use Rattle.std.specs.Prelude.{[], ◌∷◌, Some, true, codes, pos}
+use Rattle.std.specs.Prelude.{List, [], ◌∷◌, ◌++◌, Some, true, codes, pos}
 use Rattle.clap.specs.Words.{App, Rule, Text, new_app, new_rule, with_rule, with_subcommand}
 use Rattle.clap.specs.declared.builder.action.ArgAction.TheVariants.{SetTrue}
 use Rattle.clap.specs.declared.builder.value_parser.ValueParser.TheVariants as parser
 
 -- one word that must be there
-abbrev pub fen_rule : Rule
-fen_rule = record (new_rule (codes "FEN")) { required = true }
-
--- one word behind the position that must be there
-abbrev pub move_rule : Rule
-move_rule = record (new_rule (codes "MOVE")) { required = true }
-
--- a number of 32 bits after `--name`
-abbrev pub number_rule : Text → Rule
-number_rule name = record (new_rule name) {
-  long = Some name;
-  value_names = 1;
-  parser = Some (parser.Signed (pos 0) (pos 4294967295));
-}
-
--- the limit, in plies
-abbrev pub limit_rule : Rule
-limit_rule = number_rule (codes "limit")
-
--- the limit, in moves of the attacker
-abbrev pub mate_rule : Rule
-mate_rule = number_rule (codes "mate")
-
--- the workers, 2 where they are not given
-abbrev pub workers_rule : Rule
-workers_rule = record (number_rule (codes "workers")) { defaults = codes "2" ∷ [] }
-
--- the slots, 64 where they are not given
-abbrev pub slots_rule : Rule
-slots_rule = record (number_rule (codes "slots")) { defaults = codes "64" ∷ [] }
-
--- a word after `--goal`, `mate` where none is given
-abbrev pub goal_rule : Rule
-goal_rule = record (new_rule (codes "goal")) {
-  long = Some (codes "goal");
-  value_names = 1;
-  defaults = codes "mate" ∷ [];
-}
+abbrev pub word_rule : Text → Rule
+word_rule name = record (new_rule name) { required = true }
 
 -- `--name`, which takes no value
 abbrev pub flag_rule : Text → Rule
 flag_rule name = record (new_rule name) { long = Some name; action = Some SetTrue }
 
--- `--progress`, which takes no value
-abbrev pub progress_rule : Rule
-progress_rule = flag_rule (codes "progress")
+-- a text after `--name`, and what is taken where none is given, if something is
+abbrev pub text_rule : Text → List Text → Rule
+text_rule name given = record (new_rule name) { long = Some name; value_names = 1; defaults = given }
 
--- with the options of a search: `(--limit N | --mate M) [--workers K] [--slots S] [--goal GOAL] [--progress]`
-abbrev pub limits_app : App → App
-limits_app app =
-    with_rule (with_rule (with_rule (with_rule (with_rule (with_rule app limit_rule) mate_rule) workers_rule) slots_rule) goal_rule) progress_rule
+-- a number of 32 bits after `--name`, likewise
+abbrev pub number_rule : Text → List Text → Rule
+number_rule name given = record (text_rule name given) { parser = Some (parser.Signed (pos 0) (pos 4294967295)) }
 
--- a command of this name with the options of a search, and a position
-abbrev pub search_app : Text → App
-search_app name = with_rule (limits_app (new_app name)) fen_rule
+-- the position
+abbrev pub fen_rule : Rule
+fen_rule = word_rule (codes "FEN")
 
--- the first move of a tree
-abbrev pub first_rule : Rule
-first_rule = record (new_rule (codes "first")) { long = Some (codes "first"); value_names = 1 }
+-- a word after `--goal`, `mate` where none is given
+abbrev pub goal_rule : Rule
+goal_rule = text_rule (codes "goal") (codes "mate" ∷ [])
+
+-- the options of a search: `(--limit N | --mate M) [--workers K] [--slots S] [--goal GOAL] [--progress]`, with 2 workers and 64 slots where they are not given
+abbrev pub search_rules : List Rule
+search_rules = number_rule (codes "limit") [] ∷ number_rule (codes "mate") [] ∷ number_rule (codes "workers") (codes "2" ∷ []) ∷ number_rule (codes "slots") (codes "64" ∷ [])
+    ∷ goal_rule ∷ flag_rule (codes "progress") ∷ []
+
+-- with these arguments too, in turn
+abbrev pub with_rules : App → List Rule → App
+with_rules app [] = app
+with_rules app (rule ∷ rules) = with_rules (with_rule app rule) rules
+
+-- a command of this name with the options of a search, a position, and more
+abbrev pub search_app : Text → List Rule → App
+search_app name more = with_rules (new_app name) (search_rules ++ fen_rule ∷ more)
 
 -- `solve`, `keys`, `tree` and `certify` search at a position; `tree` may be given a first move
 abbrev pub solve_app : App
-solve_app = search_app (codes "solve")
+solve_app = search_app (codes "solve") []
 
 abbrev pub keys_app : App
-keys_app = search_app (codes "keys")
+keys_app = search_app (codes "keys") []
 
 abbrev pub tree_app : App
-tree_app = with_rule (search_app (codes "tree")) first_rule
+tree_app = search_app (codes "tree") (text_rule (codes "first") [] ∷ [])
 
 abbrev pub certify_app : App
-certify_app = search_app (codes "certify")
+certify_app = search_app (codes "certify") []
 
 -- `solution [--set] [--tries] [--figurines] FEN`, and the options of a search
 abbrev pub solution_app : App
-solution_app = with_rule (with_rule (with_rule (search_app (codes "solution")) (flag_rule (codes "set"))) (flag_rule (codes "tries"))) (flag_rule (codes "figurines"))
-
--- a command of this name with a goal, and a position
-abbrev pub checking_app : Text → App
-checking_app name = with_rule (with_rule (new_app name) goal_rule) fen_rule
+solution_app = search_app (codes "solution") (flag_rule (codes "set") ∷ flag_rule (codes "tries") ∷ flag_rule (codes "figurines") ∷ [])
 
 -- `check [--goal GOAL] FEN`
 abbrev pub check_app : App
-check_app = checking_app (codes "check")
+check_app = with_rules (new_app (codes "check")) (goal_rule ∷ fen_rule ∷ [])
 
 -- `verify [--goal GOAL] FEN`
 abbrev pub verify_app : App
-verify_app = checking_app (codes "verify")
+verify_app = with_rules (new_app (codes "verify")) (goal_rule ∷ fen_rule ∷ [])
 
 -- `moves FEN`
 abbrev pub moves_app : App
-moves_app = with_rule (new_app (codes "moves")) fen_rule
+moves_app = with_rules (new_app (codes "moves")) (fen_rule ∷ [])
 
 -- `show [--svg] [--unicode] [--black] FEN`
 abbrev pub show_app : App
-show_app = with_rule (with_rule (with_rule (with_rule (new_app (codes "show"))
-    (flag_rule (codes "svg"))) (flag_rule (codes "unicode"))) (flag_rule (codes "black"))) fen_rule
+show_app = with_rules (new_app (codes "show")) (flag_rule (codes "svg") ∷ flag_rule (codes "unicode") ∷ flag_rule (codes "black") ∷ fen_rule ∷ [])
 
 -- `after FEN MOVE`
 abbrev pub after_app : App
-after_app = with_rule (with_rule (new_app (codes "after")) fen_rule) move_rule
-
--- `--echo`, which takes no value
-abbrev pub echo_rule : Rule
-echo_rule = flag_rule (codes "echo")
-
--- the lines of the input
-abbrev pub lines_rule : Rule
-lines_rule = number_rule (codes "lines")
-
--- the lines at the beginning of the input that are left out
-abbrev pub skip_rule : Rule
-skip_rule = number_rule (codes "skip")
+after_app = with_rules (new_app (codes "after")) (fen_rule ∷ word_rule (codes "MOVE") ∷ [])
 
 -- `batch [--echo] [--keys] [--json] [--lines L] [--skip L]`, and the options of a search
 abbrev pub batch_app : App
-batch_app = with_rule (with_rule (with_rule (with_rule (with_rule (limits_app (new_app (codes "batch")))
-    echo_rule) (flag_rule (codes "keys"))) (flag_rule (codes "json"))) lines_rule) skip_rule
+batch_app = with_rules (new_app (codes "batch")) (search_rules
+    ++ flag_rule (codes "echo") ∷ flag_rule (codes "keys") ∷ flag_rule (codes "json") ∷ number_rule (codes "lines") [] ∷ number_rule (codes "skip") [] ∷ [])
 
 -- the program without its commands
 abbrev pub bare_app : App
 bare_app = let new = new_app (codes "minimate") in
     record new { top = record new.top { has_version = true; subcommand_required = true } }
 
+-- with these commands too, in turn
+abbrev pub with_commands : App → List App → App
+with_commands app [] = app
+with_commands app (command ∷ commands) = with_commands (with_subcommand app command.top) commands
+
 -- the program, whose first word is one of its commands
 abbrev pub program : App
-program =
-    with_subcommand (with_subcommand (with_subcommand (with_subcommand (with_subcommand (with_subcommand (with_subcommand (with_subcommand (with_subcommand (with_subcommand (with_subcommand bare_app
-    solve_app.top) keys_app.top) tree_app.top) solution_app.top) check_app.top) verify_app.top) certify_app.top) moves_app.top) show_app.top) after_app.top) batch_app.top
+program = with_commands bare_app (solve_app ∷ keys_app ∷ tree_app ∷ solution_app ∷ check_app ∷ verify_app ∷ certify_app ∷ moves_app ∷ show_app ∷ after_app ∷ batch_app ∷ [])

@@ -3,6 +3,7 @@
 
 mod help;
 mod line;
+mod making;
 mod reading;
 
 pub use line::{Action, Drawing, Limits, Line, Manner, Order, Played, Subject, Telling};

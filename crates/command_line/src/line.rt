@@ -1,5 +1,5 @@
 //! An order: what the words of a command line mean.
-use moves::Goal;
+use rules::Goal;
 
 /// What the words of a command line ask for.
 #[derive(Clone, Copy)]

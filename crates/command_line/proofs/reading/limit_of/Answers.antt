@@ -1,55 +1,38 @@
-use Rattle.std.proofs.Common.{◌≡◌, ◌∙◌, Option, None, Some, IfNone, MatchOption, codes, sym}
-use Rattle.std.proofs.lemmas.Option.{IfSome_then}
-use Rattle.clap.specs.Words.{Text, found_of}
-use Rattle.clap.proofs.WalkLemmas.{first_value-rows}
+use Rattle.std.proofs.Common.{◌≡◌, ℕ, List, Option, None, Some, MatchOption, codes}
+use Rattle.clap.specs.Words.{Row, Text, first_of, found_of, rows_of}
+use Rattle.command_line.specs.Making.{Reads}
+use Rattle.command_line.specs.Words.{HasLimit, HasNumber, HasNumberIfGiven, plies_of}
+use Rattle.command_line.proofs.Found.{no_text}
 use Rattle.command_line.proofs.reading.limit_of.Goals as goal
 
--- nothing was found
-from_none : (o : Option Text) (P Q : Type 0) → o ≡ None → MatchOption o P (λ _. Q) → P
-from_none None P Q is has = has
-from_none (Some t) P Q is has = cc
+at_none : (P Q : ℕ → Type 0) (o : Option Text) (r : Option ℕ) → o ≡ None → Reads P r → Reads (λ n. MatchOption o (P n) (λ _. Q n)) r
+at_none P Q None r is reads = reads
+at_none P Q (Some t) r is reads = cc
 
-to_none : (o : Option Text) (P Q : Type 0) → o ≡ None → P → MatchOption o P (λ _. Q)
-to_none None P Q is has = has
-to_none (Some t) P Q is has = cc
+at_some : (P Q : ℕ → Type 0) (o : Option Text) (t : Text) (r : Option ℕ) → o ≡ Some t → Reads Q r → Reads (λ n. MatchOption o (P n) (λ _. Q n)) r
+at_some P Q None t r is reads = cc
+at_some P Q (Some s) t r is reads = reads
 
--- a text was found
-from_some : (o : Option Text) (t : Text) (P Q : Type 0) → o ≡ Some t → MatchOption o P (λ _. Q) → Q
-from_some None t P Q is has = cc
-from_some (Some s) t P Q is has = has
+-- the limit in moves, where none in plies is given
+abbrev InMoves : List Row → ℕ → Type 0
+InMoves rows n = (first_of (codes "limit") rows ≡ None) × ((moves : ℕ) × HasNumber (codes "mate") rows moves × (n ≡ plies_of moves))
 
-to_some : (o : Option Text) (t : Text) (P Q : Type 0) → o ≡ Some t → Q → MatchOption o P (λ _. Q)
-to_some None t P Q is has = cc
-to_some (Some s) t P Q is has = has
+in_plies : (rows : List Row) (r : Option ℕ) → first_of (codes "mate") rows ≡ None → HasNumberIfGiven (codes "limit") rows r → Reads (HasLimit rows) r
+in_plies rows r is reads = at_none (HasNumber (codes "limit") rows) (InMoves rows) (first_of (codes "mate") rows) r is reads
 
-if_none : {X P Q : Type 0} (r : Option X) → IfNone r P → (P → Q) → IfNone r Q
-if_none None is so = so is
-if_none (Some x) is so = tt
+in_moves : (rows : List Row) (t : Text) (r : Option ℕ) → first_of (codes "mate") rows ≡ Some t → Reads (InMoves rows) r → Reads (HasLimit rows) r
+in_moves rows t r is reads = at_some (HasNumber (codes "limit") rows) (InMoves rows) (first_of (codes "mate") rows) t r is reads
 
-found_twice : (o : Option Text) (t : Text) → o ≡ Some t → o ≡ None → ⊥
-found_twice o t is none = cc
+pub returns-in-None : goal.returns-in-None
+returns-in-None c = in_plies (rows_of (found_of c.args.values.now)) c.number_of.result c.in-None.ensures c.number_of.ensures
 
-pub returns-in-None-clause-some : goal.returns-in-None-clause-some
-returns-in-None-clause-some c = IfSome_then c.number_of.result c.number_of.ensures.some
-    (λ n has. to_none _ _ _ (sym (first_value-rows (found_of c.args.matches.now) (codes "mate")) ∙ sym c.in-None.ensures) has)
+pub returns-in_ok-number_of-in-None-text_of : goal.returns-in_ok-number_of-in-None-text_of
+returns-in_ok-number_of-in-None-text_of c = in_moves (rows_of (found_of c.args.values.now)) _ (Some c.plies_of.result) c.in-Some.ensures
+    (c.in-None-text_of.ensures, (c.in_ok-number_of-in-None-text_of.field-0, c.in_ok-number_of-in-None-text_of.ensures, c.plies_of.ensures))
 
-pub returns-in-None-clause-none : goal.returns-in-None-clause-none
-returns-in-None-clause-none c = if_none c.number_of.result c.number_of.ensures.none
-    (λ none n has. none n (from_none _ _ _ (sym (first_value-rows (found_of c.args.matches.now) (codes "mate")) ∙ sym c.in-None.ensures) has))
+pub returns-in_err-number_of-in-None-text_of : goal.returns-in_err-number_of-in-None-text_of
+returns-in_err-number_of-in-None-text_of c = rw c.from_residual.ensures
+    (in_moves (rows_of (found_of c.args.values.now)) _ None c.in-Some.ensures (λ n has. c.in_err-number_of-in-None-text_of.ensures has.1.0 has.1.1))
 
-pub returns-in_ok-number_of-in-None-get_str-clause-some : goal.returns-in_ok-number_of-in-None-get_str-clause-some
-returns-in_ok-number_of-in-None-get_str-clause-some c = to_some _ _ _ _
-    (sym (first_value-rows (found_of c.args.matches.now) (codes "mate")) ∙ sym c.in-Some.ensures) (
-      sym (first_value-rows (found_of c.args.matches.now) (codes "limit")) ∙ sym c.in-None-get_str.ensures,
-      (c.in_ok-number_of-in-None-get_str.field-0, c.in_ok-number_of-in-None-get_str.ensures.some, c.plies_of.ensures),
-    )
-
-pub returns-in_err-number_of-in-None-get_str-clause-none : goal.returns-in_err-number_of-in-None-get_str-clause-none
-returns-in_err-number_of-in-None-get_str-clause-none c = rw c.from_residual.ensures (λ n has.
-    let moves = from_some _ _ _ _ (sym (first_value-rows (found_of c.args.matches.now) (codes "mate")) ∙ sym c.in-Some.ensures) has in
-    c.in_err-number_of-in-None-get_str.ensures.none moves.1.0 moves.1.1)
-
-pub returns-in-Some-get_str-clause-none : goal.returns-in-Some-get_str-clause-none
-returns-in-Some-get_str-clause-none c = λ n has.
-    let moves = from_some _ _ _ _ (sym (first_value-rows (found_of c.args.matches.now) (codes "mate")) ∙ sym c.in-Some.ensures) has in
-    found_twice _ _ (sym (first_value-rows (found_of c.args.matches.now) (codes "limit")) ∙ sym c.in-Some-get_str.ensures) moves.0
+pub returns-in-Some-text_of : goal.returns-in-Some-text_of
+returns-in-Some-text_of c = in_moves (rows_of (found_of c.args.values.now)) _ None c.in-Some.ensures (λ n has. no_text _ _ has.0 c.in-Some-text_of.ensures)

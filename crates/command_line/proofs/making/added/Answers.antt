@@ -1,7 +1,7 @@
 use Rattle.std.proofs.lemmas.Result.{IfOk-at_ok, IfOk-weaker}
 use Rattle.command_line.specs.Making.{IsLocal}
 use Rattle.command_line.proofs.OneMore.{one_command}
-use Rattle.command_line.proofs.reading.added.Goals as goal
+use Rattle.command_line.proofs.making.added.Goals as goal
 
 pub returns : goal.returns
 returns c = λ app sub is has.

@@ -1,6 +1,0 @@
-use Rattle.std.proofs.lemmas.Result.{IfOk-weaker}
-use Rattle.command_line.proofs.OneMore.{one_argument}
-use Rattle.command_line.proofs.reading.moves_command.Goals as goal
-
-pub returns : goal.returns
-returns c = IfOk-weaker c.arg.result _ _ (λ made adds. one_argument _ _ _ made _ c.named.ensures c.fen.ensures adds) c.arg.ensures
