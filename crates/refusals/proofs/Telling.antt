@@ -16,17 +16,17 @@ text_then (Some xs) (Some ys) (Some zs) h k = record {
   appended = k.appended ∙ ap (λ (t : List ℕ). t ++ k.text) h.appended ∙ append_assoc xs h.text k.text;
 }
 
--- a text, and then one where a result is `Ok`
-pub ok_then : {T E : Type 0} (r : Result T E) (u v w : Option (List ℕ)) → AppendsText u v → OnOk r (AppendsText v w) → OnOk r (AppendsText u w)
-ok_then r u v w h k = on_ok_weaker r (λ (t : AppendsText v w). text_then u v w h t) k
-
 -- known bytes that grow by a text
 pub text_of : (u v : Option (List ℕ)) (a : List ℕ) → Appends u v a → AppendsText u v
 text_of u v a h = record { text = a; appended = h }
 
--- the same where the second text is known
-pub ok_of_then : {T E : Type 0} (r : Result T E) (u v w : Option (List ℕ)) (b : List ℕ) → AppendsText u v → OnOk r (Appends v w b) → OnOk r (AppendsText u w)
-ok_of_then r u v w b h k = on_ok_weaker r (λ (t : Appends v w b). text_then u v w h (text_of v w b t)) k
+-- the same where a result is `Ok`
+pub ok_text : {T E : Type 0} (r : Result T E) (u v : Option (List ℕ)) (a : List ℕ) → OnOk r (Appends u v a) → OnOk r (AppendsText u v)
+ok_text r u v a h = on_ok_weaker r (λ (t : Appends u v a). text_of u v a t) h
+
+-- a text, and then one where a result is `Ok`
+pub ok_then : {T E : Type 0} (r : Result T E) (u v w : Option (List ℕ)) → AppendsText u v → OnOk r (AppendsText v w) → OnOk r (AppendsText u w)
+ok_then r u v w h k = on_ok_weaker r (λ (t : AppendsText v w). text_then u v w h t) k
 
 -- known bytes that stay as they are
 pub text_none : (u : Option (List ℕ)) → AppendsText u u
@@ -61,4 +61,4 @@ some_sentence (Some b) u v a h k = subst (Appends u v) h k
 pub sentence_is : {T E : Type 0} (r : Result T E) (refusal : Refusal) (asking : Asking) (u v : Option (List ℕ)) (a : List ℕ) → IfSome (sentence_of refusal asking) (λ b. a ≡ b) → OnOk r (Appends u v a) → OnOk r (AppendsSentence refusal asking u v)
 sentence_is r refusal asking u v a h k = on_ok_weaker r (λ (m : Appends u v a). some_sentence (sentence_of refusal asking) u v a h m) k
 
-pub ruleset telling = (text_then, text_of, text_none, ok_then, ok_of_then, line_then, sentence_line_then, sentence_is)
+pub ruleset telling = (text_then, text_of, text_none, ok_text, ok_then, line_then, sentence_line_then, sentence_is)

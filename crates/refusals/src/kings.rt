@@ -1,17 +1,9 @@
 //! What is wrong with a position whose side to move could take the king.
+use crate::sentence::Part::{On, Text};
+use crate::sentence::Sentence;
+use crate::sentence::Sentence::{Plain, Three, Two};
 use board::{Kind, Position, Side, Unit, read_fen};
 use moves::{Square, in_check};
-
-/// Why the side that isn't to move is in check.
-#[derive(Clone, Copy)]
-pub enum Check {
-    /// The kings stand next to each other, White's first.
-    Touching(Square, Square),
-    /// Both kings are in check, whichever side is to move.
-    Both,
-    /// Its king alone is, and this side is to move.
-    One(Side),
-}
 
 fn king_square(position: &Position, side: Side) -> Option<Square> {
     let game = position.game();
@@ -31,26 +23,35 @@ fn touch(one: Square, other: Square) -> bool {
     one.file.abs_diff(other.file) <= 1 && one.rank.abs_diff(other.rank) <= 1
 }
 
-fn check_at(position: &Position) -> Check {
-    let mover = position.mover();
-    if in_check(position, mover) {
-        Check::Both
-    } else {
-        Check::One(mover)
-    }
+/// That the king of the other side is in check: with that side to move the position is taken.
+fn other_in_check<'a>(mover: Side) -> Sentence<'a> {
+    let (mover, other, side) = match mover {
+        Side::White => (Text("White"), Text("Black"), Text("b")),
+        Side::Black => (Text("Black"), Text("White"), Text("w")),
+    };
+    Three(
+        "% is in check, and % is to move: write % for the side, or move a unit",
+        (other, mover, side),
+    )
 }
 
 /// Why a text is refused for a check.
-pub fn check_of(fen: &[u8]) -> Check {
+pub fn check_sentence(fen: &[u8]) -> Sentence<'_> {
     // A text that is refused for a check is a position's.
     let Ok(position) = read_fen(fen) else {
-        return Check::One(Side::White);
+        return other_in_check(Side::White);
     };
     match (
         king_square(&position, Side::White),
         king_square(&position, Side::Black),
     ) {
-        (Some(white), Some(black)) if touch(white, black) => Check::Touching(white, black),
-        _ => check_at(&position),
+        (Some(white), Some(black)) if touch(white, black) => Two(
+            "the kings stand next to each other, on % and %: move one of them away",
+            (On(white), On(black)),
+        ),
+        _ if in_check(&position, position.mover()) => Plain(
+            "both kings are in check: move the king of the side that is not to move, or what checks it",
+        ),
+        _ => other_in_check(position.mover()),
     }
 }

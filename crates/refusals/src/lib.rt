@@ -3,10 +3,10 @@
 
 mod advice;
 mod board_text;
-mod escaping;
 mod kings;
 mod moving;
 mod refusal;
+mod sentence;
 mod spelling;
 mod words;
 

@@ -2,25 +2,32 @@
 ghost use Rattle.std.specs.Prelude.{◌≡◌, OnOk, codes};
 ghost use Rattle.std.specs.Io.KnownBytes.{Appends};
 ghost use Rattle.rules.specs.Reach.{IsInCheck};
-ghost use Rattle.refusals.specs.Sentences.{AppendsLine, AppendsText, error_beginning, over_text, side_text};
+ghost use Rattle.refusals.specs.Sentences.{AppendsLine, error_beginning, over_text, side_text};
 
-use crate::escaping::write_escaped;
-use board::{Position, Side, Unit};
+use crate::sentence::Part::{Bytes, Moves, On, Text};
+use crate::sentence::Sentence::{Four, One, Two};
+use crate::sentence::{Sentence, write_line};
+use board::{Game, Position, Side, Unit};
 use moves::{Move, Square, in_check, lawful, read_sound};
 use std::io::{self, Write};
 
 /// The square of two bytes, if it is one of the board's.
-fn square_of(position: &Position, text: &[u8]) -> Option<Square> {
-    let width = position.game().width();
-    match text {
-        [file, rank] => {
-            let (file, rank) = (file.checked_sub(b'a')?, rank.checked_sub(b'1')?);
-            if file < width && rank < width {
-                Some(Square { file, rank })
-            } else {
-                None
-            }
-        }
+fn square_of(game: Game, file: u8, rank: u8) -> Option<Square> {
+    let (file, rank) = (file.checked_sub(b'a')?, rank.checked_sub(b'1')?);
+    if file < game.width() && rank < game.width() {
+        Some(Square { file, rank })
+    } else {
+        None
+    }
+}
+
+/// The square that a move's name begins with, if it is written as one is.
+fn origin_of(game: Game, name: &[u8]) -> Option<Square> {
+    let [file, rank, to_file, to_rank, becomes @ ..] = name else {
+        return None;
+    };
+    match (becomes, square_of(game, *to_file, *to_rank)) {
+        ([] | [b'q' | b'r' | b'b' | b'n'], Some(_)) => square_of(game, *file, *rank),
         _ => None,
     }
 }
@@ -34,18 +41,6 @@ fn unit_on(position: &Position, square: Square) -> Option<Unit> {
     }
 }
 
-/// The squares that a move's name begins with, if it is written as one is.
-fn squares_of(position: &Position, name: &[u8]) -> Option<(Square, Square)> {
-    let (squares, becomes) = name.split_at(name.len().min(4));
-    match becomes {
-        [] | [b'q' | b'r' | b'b' | b'n'] => {
-            let (from, to) = squares.split_at(squares.len().min(2));
-            Some((square_of(position, from)?, square_of(position, to)?))
-        }
-        _ => None,
-    }
-}
-
 fn side_word(side: Side) -> &'static str
     ensures { result.now ≡ side_text side }
 {
@@ -55,68 +50,31 @@ fn side_word(side: Side) -> &'static str
     }
 }
 
-/// Tells the move behind a blank, if it is from this square.
-fn write_move<E: Write>(errors: &mut E, m: &Move, from: Square) -> io::Result<()>
-    ensures { OnOk result (AppendsText (E.contents errors.old) (E.contents errors.new)) }
-{
-    if m.from == from {
-        write!(errors, " {m}")
-    } else {
-        Ok(())
-    }
-}
-
-fn write_moves<E: Write>(errors: &mut E, moves: &[Move], from: Square) -> io::Result<()>
-    ensures { OnOk result (AppendsText (E.contents errors.old) (E.contents errors.new)) }
-{
-    for m in moves {
-        write_move(errors, m, from)?;
-    }
-    Ok(())
-}
-
-/// Tells what the unit on a square may play.
-fn advise_unit<E: Write>(errors: &mut E, position: &Position, from: Square) -> io::Result<()>
-    ensures { OnOk result (AppendsText (E.contents errors.old) (E.contents errors.new)) }
-{
-    let moves = lawful(position);
-    if moves.as_slice().iter().any(|m| m.from == from) {
-        errors.write_all(b"that isn't lawful: write one of")?;
-        write_moves(errors, moves.as_slice(), from)
-    } else {
-        write!(errors, "the unit on {from} has no lawful move")
-    }
-}
-
-/// Tells why no lawful move goes from a square to another.
-fn advise_from<E: Write>(errors: &mut E, position: &Position, from: Square) -> io::Result<()>
-    ensures { OnOk result (AppendsText (E.contents errors.old) (E.contents errors.new)) }
-{
-    match unit_on(position, from) {
-        None => write!(errors, "nothing stands on {from}"),
-        Some(unit) if unit.side != position.mover() => write!(
-            errors,
-            "{} is to move, and the unit on {from} is {}'s",
-            side_word(position.mover()),
-            side_word(unit.side)
-        ),
-        Some(_) => advise_unit(errors, position, from),
-    }
-}
-
-/// The name, and why no lawful move has it.
-fn write_reason<E: Write>(errors: &mut E, fen: &[u8], name: &[u8]) -> io::Result<()>
-    ensures { OnOk result (AppendsText (E.contents errors.old) (E.contents errors.new)) }
-{
-    write_escaped(errors, "'", name, "': ")?;
-    let Ok(position) = read_sound(fen) else {
-        return errors.write_all(b"there is no position to play at");
+/// Why none of the lawful moves has this name.
+fn move_sentence<'a>(position: &Position, moves: &'a [Move], name: &'a [u8]) -> Sentence<'a> {
+    let Some(from) = origin_of(position.game(), name) else {
+        return One(
+            "'%': a move is two squares of the board, and what a pawn becomes, as c4c5 or c5c6q",
+            Bytes(name),
+        );
     };
-    match squares_of(&position, name) {
-        Some((from, _)) => advise_from(errors, &position, from),
-        None => errors.write_all(
-            b"a move is two squares of the board, and what a pawn becomes, as c4c5 or c5c6q",
+    let (name, square) = (Bytes(name), On(from));
+    match unit_on(position, from) {
+        None => Two("'%': nothing stands on %", (name, square)),
+        Some(unit) if unit.side != position.mover() => Four(
+            "'%': % is to move, and the unit on % is %'s",
+            (
+                name,
+                Text(side_word(position.mover())),
+                square,
+                Text(side_word(unit.side)),
+            ),
         ),
+        Some(_) if moves.iter().any(|m| m.from == from) => Two(
+            "'%': that isn't lawful: write one of%",
+            (name, Moves(moves, from)),
+        ),
+        Some(_) => Two("'%': the unit on % has no lawful move", (name, square)),
     }
 }
 
@@ -124,9 +82,12 @@ fn write_reason<E: Write>(errors: &mut E, fen: &[u8], name: &[u8]) -> io::Result
 pub fn advise_move<E: Write>(errors: &mut E, fen: &[u8], name: &[u8]) -> io::Result<()>
     ensures { OnOk result (AppendsLine error_beginning (E.contents errors.old) (E.contents errors.new)) }
 {
-    errors.write_all(b"error: ")?;
-    write_reason(errors, fen, name)?;
-    errors.write_all(b"\n")
+    let Ok(position) = read_sound(fen) else {
+        let sentence = One("'%': there is no position to play at", Bytes(name));
+        return write_line(errors, &sentence);
+    };
+    let moves = lawful(&position);
+    write_line(errors, &move_sentence(&position, moves.as_slice(), name))
 }
 
 /// How the game ended for the side to move, which has no lawful move.

@@ -1,41 +1,8 @@
 //! How a text is misspelt, whatever its board and its side say.
-ghost use Rattle.std.specs.Prelude.{◌≤◌, length};
-
-use crate::board_text::{self, Board};
-
-/// What parts the board and the side where no single space does.
-#[derive(Clone, Copy)]
-pub enum Parting {
-    /// A space, with blanks around the position.
-    Around,
-    /// Blanks of another kind.
-    Tab,
-    Spaces,
-    Nothing,
-}
-
-/// What is to be mended first in how a text is written.
-#[derive(Clone, Copy)]
-pub enum Slip<'a> {
-    /// Nothing but blanks.
-    Empty,
-    /// A byte order mark at the beginning.
-    Mark,
-    /// The first character that isn't ASCII, its place from 1, and whether the text is well without it.
-    Foreign(usize, &'a [u8], bool),
-    /// Eight ranks of eight squares.
-    Chess,
-    /// Blanks between the ranks.
-    Inside,
-    /// How board and side are parted, and what they are.
-    Parted(Parting, &'a [u8], &'a [u8]),
-    /// A board, and no side.
-    NoSide,
-    /// What stands at the side's letter.
-    Tail(&'a [u8]),
-    /// How many fields there are, and those behind the second.
-    Rest(usize, &'a [u8]),
-}
+use crate::board_text::{Board, count_of};
+use crate::sentence::Part::{Bytes, Number, Text};
+use crate::sentence::Sentence::{Four, One, Plain, Three, Two};
+use crate::sentence::{Part, Sentence};
 
 /// The first two words of a text, with the blanks before and between them and with what stands behind.
 #[derive(Clone, Copy)]
@@ -49,92 +16,120 @@ struct Layout<'a> {
     from_side: &'a [u8],
 }
 
-/// Whether this is a space, a tab, or an end of a line or of a page.
-fn is_blank(c: u8) -> bool {
-    c == b' ' || (b'\t' <= c && c <= b'\r')
-}
+/// A space, a tab, and the ends of a line or of a page.
+const BLANKS: &[u8] = b" \t\n\x0b\x0c\r";
 
-/// How many blanks the text begins with, or how many other bytes.
-fn run_length(text: &[u8], of_blanks: bool) -> usize
-    ensures { result ≤ length text.now }
-{
+/// What may stand around the moves of a line.
+const IDLE: &[u8] = b" \t\n\x0b\x0c\r;-";
+
+/// The run of these bytes that the text begins with, or of other ones, and what stands behind it.
+fn split_run<'a>(text: &'a [u8], bytes: &[u8], is_of_these: bool) -> (&'a [u8], &'a [u8]) {
     for (i, c) in text.iter().enumerate() {
-        if is_blank(*c) != of_blanks {
-            return i;
+        if bytes.contains(c) != is_of_these {
+            return text.split_at(i);
         }
     }
-    text.len()
+    text.split_at(text.len())
 }
 
-/// How many words the text has.
-fn count_words(text: &[u8]) -> usize {
-    let mut count: usize = 0;
-    let mut after_blank = true;
-    for c in text {
-        if after_blank && !is_blank(*c) {
-            count = count.saturating_add(1);
-        }
-        after_blank = is_blank(*c);
-    }
-    count
+fn is_side(word: &[u8]) -> bool {
+    matches!(word, b"w" | b"b")
 }
 
-/// How many bytes the first character has.
-fn character_length(text: &[u8]) -> usize
-    ensures { result ≤ length text.now }
-{
-    for (i, c) in text.iter().enumerate() {
-        if i > 0 && (*c < 0x80 || *c >= 0xc0) {
-            return i;
-        }
-    }
-    text.len()
-}
-
-/// The first character that isn't ASCII.
-fn foreign_slip(text: &[u8], is_needless: bool) -> Option<Slip<'_>> {
-    for (i, c) in text.iter().enumerate() {
-        if *c >= 0x80 {
-            let rest = &text[i..];
-            let end = character_length(rest);
-            return Some(Slip::Foreign(i.saturating_add(1), &rest[..end], is_needless));
-        }
-    }
-    None
-}
-
-/// The board and the side's letter, if that is a board.
-fn stuck<'a>(board: &'a [u8], side: &'static [u8]) -> Option<Slip<'a>> {
-    if Board::of(board).has_shape() {
-        Some(Slip::Parted(Parting::Nothing, board, side))
+/// The number that is said behind a side in another way than a batch reads it, as `;dm 2`, ` ; dm 02` or EPD's ` - - dm 2;`.
+fn moves_of(tail: &[u8]) -> Option<u32> {
+    let (_, words) = split_run(tail, IDLE, true);
+    let [b'd', b'm', number @ ..] = words else {
+        return None;
+    };
+    let (_, number) = split_run(number, BLANKS, true);
+    let (digits, behind) = split_run(number, IDLE, false);
+    let (_, more) = split_run(behind, IDLE, true);
+    if more.is_empty() {
+        str::from_utf8(digits).ok()?.parse::<u32>().ok()
     } else {
         None
     }
 }
 
-/// A board with the side's letter at its end, and no side behind it.
-fn stuck_side<'a>(word: &'a [u8], side: &[u8]) -> Option<Slip<'a>> {
-    match word {
-        _ if matches!(side, b"w" | b"b") => None,
-        [board @ .., b'w'] => stuck(board, b"w"),
-        [board @ .., b'b'] => stuck(board, b"b"),
-        _ => None,
+/// Where another fault is left in the board, that there is one.
+pub fn other_fault<'a>(is_well: bool) -> Part<'a> {
+    Text(if is_well {
+        ""
+    } else {
+        "; the board has a fault too"
+    })
+}
+
+/// That a board and a side are to be parted by one space alone.
+fn parted<'a>(what: &'a str, board: &'a [u8], side: &'a [u8]) -> Sentence<'a> {
+    let fault = other_fault(Board::of(board).is_well());
+    Four(
+        "%: write '% %'%",
+        (Text(what), Bytes(board), Bytes(side), fault),
+    )
+}
+
+/// The number of fields where so many stand behind the second, in a word where there are few.
+fn fields_word(behind: &[u8]) -> &'static str {
+    let (mut count, mut text) = (2usize, behind);
+    for _ in 0..behind.len() {
+        let (_, words) = split_run(text, BLANKS, true);
+        if !words.is_empty() {
+            count = count.saturating_add(1);
+        }
+        let (_, behind) = split_run(words, BLANKS, false);
+        text = behind;
+    }
+    match count {
+        3 => "three",
+        4 => "four",
+        5 => "five",
+        6 => "six",
+        _ => "more",
     }
 }
 
-/// Whether it begins with a byte that is no blank, no letter and no digit.
-fn begins_with_sign(text: &[u8]) -> bool {
-    match text {
-        [c, ..] => !is_blank(*c) && !c.is_ascii_alphanumeric(),
-        [] => false,
+/// The first character that isn't ASCII, behind the count of bytes before it.
+fn foreign_character(text: &[u8]) -> (usize, &[u8]) {
+    let (mut before, mut end) = (0usize, 0usize);
+    for (i, c) in text.iter().enumerate() {
+        if end == 0 && *c < 0x80 {
+            before = i.saturating_add(1);
+        } else if end == 0 || (0x80 <= *c && *c < 0xc0) {
+            end = i.saturating_add(1);
+        } else {
+            break;
+        }
     }
+    let (text, _) = text.split_at(end.min(text.len()));
+    let (_, character) = text.split_at(before.min(text.len()));
+    (before, character)
+}
+
+/// That a character is not ASCII.
+fn foreign_sentence(text: &[u8], is_needless: bool) -> Sentence<'_> {
+    let (before, character) = foreign_character(text);
+    let change = if is_needless {
+        "leave out"
+    } else {
+        "write a letter, a digit, / or a space for"
+    };
+    Three(
+        "character % is not ASCII: % '%'",
+        (
+            Number(before.saturating_add(1)),
+            Text(change),
+            Bytes(character),
+        ),
+    )
 }
 
 fn layout_of(text: &[u8]) -> Layout<'_> {
-    let (before, text) = text.split_at(run_length(text, true));
-    let (board, text) = text.split_at(run_length(text, false));
-    let (gap, from_side) = text.split_at(run_length(text, true));
-    let (side, rest) = from_side.split_at(run_length(from_side, false));
+    let (before, text) = split_run(text, BLANKS, true);
+    let (board, text) = split_run(text, BLANKS, false);
+    let (gap, from_side) = split_run(text, BLANKS, true);
+    let (side, rest) = split_run(from_side, BLANKS, false);
     Layout {
         before,
         board,
@@ -145,52 +140,66 @@ fn layout_of(text: &[u8]) -> Layout<'_> {
     }
 }
 
+/// The most bytes of a board, with some to spare.
+const MOST_BOARD: usize = 64;
+
+/// Puts a word behind so many bytes, as far as there is room. Answers how many bytes there are then.
+fn put(room: &mut [u8; MOST_BOARD], count: usize, word: &[u8]) -> usize {
+    let mut count = count;
+    for c in word {
+        if count < MOST_BOARD {
+            room[count] = *c;
+            count += 1;
+        }
+    }
+    count
+}
+
 impl<'a> Layout<'a> {
     /// How board and side are parted, where not by one space alone.
-    fn parting(self) -> Option<Parting> {
-        if board_text::count_of(self.gap, b' ') != self.gap.len() {
-            return Some(Parting::Tab);
+    fn parting(self) -> Option<&'static str> {
+        let (_, behind) = split_run(self.rest, BLANKS, true);
+        if count_of(self.gap, b' ', b' ') != self.gap.len() {
+            Some("a tab or a line end stands behind the board")
+        } else if self.gap.len() > 1 {
+            Some("several spaces stand behind the board")
+        } else if !self.before.is_empty() || (behind.is_empty() && !self.rest.is_empty()) {
+            Some("blanks stand around the position")
+        } else {
+            None
         }
-        if self.gap.len() > 1 {
-            return Some(Parting::Spaces);
-        }
-        let idle = run_length(self.rest, true) == self.rest.len() && !self.rest.is_empty();
-        if idle || !self.before.is_empty() {
-            return Some(Parting::Around);
-        }
-        None
     }
 
-    /// What stands behind the side's letter.
-    fn behind_side(self) -> Option<Slip<'a>> {
-        match self.from_side {
-            [b'w' | b'b', tail @ ..] if begins_with_sign(tail) => Some(Slip::Tail(tail)),
-            _ if self.rest.is_empty() => None,
-            _ => Some(Slip::Rest(count_words(self.rest).saturating_add(2), self.rest)),
+    /// What stands behind the side's letter: a sign and what follows, or else the words behind the second.
+    fn behind_side(self, is_line: bool) -> Option<Sentence<'a>> {
+        let fault = other_fault(Board::of(self.board).is_well());
+        let (is_stuck, tail) = match self.from_side {
+            [b'w' | b'b', c, ..] if !BLANKS.contains(c) && !c.is_ascii_alphanumeric() => {
+                (true, &self.from_side[1..])
+            }
+            _ => (false, self.rest),
+        };
+        match moves_of(tail) {
+            Some(moves) if is_line => Some(Two(
+                "a line has its moves behind its position: write ' ; dm %' in place of '%'",
+                (Number(moves as usize), Bytes(tail)),
+            )),
+            _ if is_stuck => Some(Two(
+                "the side to move is w or b: leave out '%' behind it%",
+                (Bytes(tail), fault),
+            )),
+            _ if tail.is_empty() => None,
+            _ => Some(Three(
+                "a position has two fields, the board and the side: here are %; leave out '%'%",
+                (Text(fields_word(tail)), Bytes(tail), fault),
+            )),
         }
     }
 
     /// Whether the second word is more of the board: it has a slash, or it is no side, and one stands behind it.
     fn is_split(self) -> bool {
-        if self.side.contains(&b'/') {
-            return true;
-        }
-        let (_, rest) = self.rest.split_at(run_length(self.rest, true));
-        !matches!(self.side, b"w" | b"b") && matches!(rest, b"w" | b"b")
-    }
-
-    /// What is wrong with the side and what stands around it.
-    fn side_slip(self) -> Option<Slip<'a>> {
-        if self.side.is_empty() {
-            return Some(Slip::NoSide);
-        }
-        if self.is_split() && !Board::of(self.board).has_shape() {
-            return Some(Slip::Inside);
-        }
-        match self.parting() {
-            Some(parting) => Some(Slip::Parted(parting, self.board, self.side)),
-            None => self.behind_side(),
-        }
+        let (_, rest) = split_run(self.rest, BLANKS, true);
+        self.side.contains(&b'/') || (!is_side(self.side) && is_side(rest))
     }
 
     /// Whether the words are well without characters that aren't ASCII.
@@ -202,124 +211,66 @@ impl<'a> Layout<'a> {
         }
     }
 
-    /// What is wrong with text that is ASCII.
-    fn slip(self) -> Option<Slip<'a>> {
-        if self.board.is_empty() {
-            return Some(Slip::Empty);
-        }
-        if Board::of(self.board).is_of_chess() {
-            return Some(Slip::Chess);
-        }
-        match stuck_side(self.board, self.side) {
-            Some(slip) => Some(slip),
-            None => self.side_slip(),
-        }
-    }
-}
-
-/// The most bytes of a board, with some to spare.
-const MOST_BOARD: usize = 64;
-
-/// Puts what is no blank behind so many bytes, as far as there is room. Answers how many bytes there are then.
-fn put(room: &mut [u8; MOST_BOARD], count: usize, text: &[u8]) -> usize {
-    let mut count = count;
-    for c in text {
-        if !is_blank(*c) && count < MOST_BOARD {
-            room[count] = *c;
-            count += 1;
-        }
-    }
-    count
-}
-
-/// Whether it begins with a blank, and behind that a side alone.
-fn begins_with_side(text: &[u8]) -> bool {
-    match text {
-        [blank, b'w' | b'b'] => is_blank(*blank),
-        [blank, b'w' | b'b', next, ..] => is_blank(*blank) && is_blank(*next),
-        _ => false,
-    }
-}
-
-/// What stands before the first side.
-fn before_side(text: &[u8]) -> &[u8] {
-    for i in 0..text.len() {
-        if begins_with_side(&text[i..]) {
-            return &text[..i];
-        }
-    }
-    text
-}
-
-impl Layout<'_> {
-    /// Whether the board is well once the blanks in it are left out.
+    /// Whether the board is well once the blanks in it are left out: it ends before a word that is a side.
     fn joins_well(self) -> bool {
         let mut room = [0u8; MOST_BOARD];
         let count = put(&mut room, 0, self.board);
-        let count = put(&mut room, count, self.side);
-        let count = put(&mut room, count, before_side(self.rest));
+        let mut count = put(&mut room, count, self.side);
+        let mut text = self.rest;
+        for _ in 0..self.rest.len() {
+            let (_, words) = split_run(text, BLANKS, true);
+            let (word, behind) = split_run(words, BLANKS, false);
+            if is_side(word) {
+                break;
+            }
+            count = put(&mut room, count, word);
+            text = behind;
+        }
         Board::of(&room[..count.min(MOST_BOARD)]).is_well()
     }
-}
 
-/// Whether the board is well once the slip is mended, as far as can be seen.
-pub fn leaves_well(text: &[u8], slip: Slip<'_>) -> bool {
-    match slip {
-        Slip::Parted(_, board, _) => Board::of(board).is_well(),
-        Slip::NoSide | Slip::Tail(_) | Slip::Rest(..) => Board::of(layout_of(text).board).is_well(),
-        Slip::Inside => layout_of(text).joins_well(),
-        _ => true,
-    }
-}
-
-fn is_idle(c: u8) -> bool {
-    is_blank(c) || c == b';' || c == b'-'
-}
-
-/// How many blanks, semicolons and dashes the text begins with.
-fn idle_length(text: &[u8]) -> usize
-    ensures { result ≤ length text.now }
-{
-    for (i, c) in text.iter().enumerate() {
-        if !is_idle(*c) {
-            return i;
+    /// What is wrong with text that is ASCII.
+    fn slip(self, is_line: bool) -> Option<Sentence<'a>> {
+        let board = Board::of(self.board);
+        let (stuck, letter) = self.board.split_at(self.board.len().saturating_sub(1));
+        if self.board.is_empty() {
+            return Some(Plain("there is no position: write one, as k5/6/1K4/6/6/5R w"));
         }
-    }
-    text.len()
-}
-
-/// The bytes without blanks, semicolons and dashes around them.
-fn trimmed(text: &[u8]) -> &[u8] {
-    let (_, rest) = text.split_at(idle_length(text));
-    let mut end: usize = 0;
-    for (i, c) in rest.iter().enumerate() {
-        if !is_idle(*c) {
-            end = i.saturating_add(1);
+        if board.ranks == 8 && board.has_width(8) {
+            return Some(Plain(
+                "a board of 8 ranks is chess's: Los Alamos chess has 6 ranks of 6 squares, Gardner minichess 5 of 5",
+            ));
         }
-    }
-    &rest[..end.min(rest.len())]
-}
-
-/// The moves that are said behind a side in another way than a batch reads them, as `;dm 2`, ` ; dm 02` or EPD's ` - - dm 2;`.
-pub fn moves_of(tail: &[u8]) -> Option<u32> {
-    match trimmed(tail) {
-        [b'd', b'm', number @ ..] => {
-            let (_, digits) = number.split_at(run_length(number, true));
-            str::from_utf8(digits).ok()?.parse::<u32>().ok()
+        if is_side(letter) && !is_side(self.side) && Board::of(stuck).has_shape() {
+            return Some(parted("no space stands behind the board", stuck, letter));
         }
-        _ => None,
+        if self.side.is_empty() {
+            return Some(One(
+                "a position has two fields, the board and the side: here is one; write ' w' or ' b' behind the board%",
+                other_fault(board.is_well()),
+            ));
+        }
+        if self.is_split() && !board.has_shape() {
+            return Some(One(
+                "blanks stand inside the board: leave them out%",
+                other_fault(self.joins_well()),
+            ));
+        }
+        match self.parting() {
+            Some(what) => Some(parted(what, self.board, self.side)),
+            None => self.behind_side(is_line),
+        }
     }
 }
 
 /// What is to be mended first in how a text is written whose fields, board or side are refused.
-pub fn slip_of(text: &[u8]) -> Option<Slip<'_>> {
-    if text.starts_with(b"\xef\xbb\xbf") {
-        return Some(Slip::Mark);
-    }
+pub fn slip_of(text: &[u8], is_line: bool) -> Option<Sentence<'_>> {
     let layout = layout_of(text);
-    if layout.board.is_ascii() && layout.side.is_ascii() {
-        layout.slip()
+    if text.starts_with(b"\xef\xbb\xbf") {
+        Some(Plain("the text begins with a byte order mark: leave out these three bytes"))
+    } else if layout.board.is_ascii() && layout.side.is_ascii() {
+        layout.slip(is_line)
     } else {
-        foreign_slip(text, layout.needs_none())
+        Some(foreign_sentence(text, layout.needs_none()))
     }
 }
