@@ -2,9 +2,9 @@
 use crate::solving::solved;
 use crate::tables::position;
 use certifying::Certificate;
-use decision::{Answer, Question};
 use entry::MateLore;
 use moves::{Board, Goal};
+use problems::{Answer, Question};
 use slots::Slots;
 use std::alloc::{AllocError, Global};
 use std::process::Abort;

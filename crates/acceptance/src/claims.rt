@@ -1,7 +1,7 @@
 //! Certificates worked out by hand. Of two lone kings neither mates, so any reply escapes.
 use board::Kind;
-use decision::Answer;
 use moves::{Board, Goal, Move, Square, read_sound};
+use problems::Answer;
 use std::alloc::Global;
 use std::process::Abort;
 use verifying::{Fault, verify};

@@ -4,7 +4,7 @@ use crate::composing::{ALL, solution_in};
 use crate::tables::position;
 use algebraic::{Notation, Symbols};
 use moves::Goal;
-use searcher::Root;
+use problems::Root;
 use solution_text::solution_text;
 use solutions::Extras;
 use std::process::Abort;

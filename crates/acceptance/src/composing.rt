@@ -1,14 +1,15 @@
 //! Solutions of problems, as tools/check_solution works them out: its rules and its search share no line with the program.
 ghost use Rattle.std.specs.Prelude.{IfOk};
-ghost use Rattle.searcher.specs.Roots.{IsRoot};
+ghost use Rattle.problems.specs.Roots.{IsRoot};
 ghost use Rattle.solutions.specs.Solutions.{IsSolution};
 
 use crate::tables::{last_seat, position};
 use board::Side;
-use decision::{Answer, Memory, Never, Scout};
+use decision::{Memory, Never, Scout};
 use entry::MateLore;
 use moves::{Board, Goal, Move};
-use searcher::{Halt, Root, Searcher, solve_by};
+use problems::{Answer, Root};
+use searcher::{Halt, Searcher, solve_by};
 use slots::Slots;
 use solutions::{Extras, KeyPlay, Solution, Threats, Try, Variation, passed, solution_of};
 use std::alloc::{AllocError, Global};

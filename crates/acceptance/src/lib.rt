@@ -22,6 +22,10 @@ mod leaves;
 #[cfg(test)]
 mod mates;
 #[cfg(test)]
+mod order_at_first;
+#[cfg(test)]
+mod orders;
+#[cfg(test)]
 mod perft;
 #[cfg(test)]
 mod rules_of_play;

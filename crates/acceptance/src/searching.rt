@@ -2,12 +2,11 @@
 //! c4c5, which alone mates in three plies: a6a5 is then the one reply, and b1a1 mates.
 
 use crate::tables::{last_seat, position};
-use decision::{Answer, Memory, Never, Scout};
+use decision::{Memory, Never, Scout};
 use entry::MateLore;
 use moves::{Board, Goal, Move, Square};
-use searcher::{
-    Key, Problem, Root, Searcher, keys_alone, least_win, plies_of, solve_alone, solve_board_alone,
-};
+use problems::{Answer, Key, Problem, Root};
+use searcher::{Searcher, keys_alone, least_win, plies_of, solve_alone, solve_board_alone};
 use slots::Slots;
 
 const ROOK_MATES_IN_THREE: &str = "k5/6/2K3/6/6/1R4 w";

@@ -1,11 +1,12 @@
 //! Answers of a solve.
 ghost use Rattle.std.specs.Prelude.{IfOk};
-ghost use Rattle.decision.specs.Answer.{IsAnswer};
+ghost use Rattle.problems.specs.Answer.{IsAnswer};
 
 use board::Position;
-use decision::Answer;
 use moves::{Goal, read_sound};
-use rounds::{NoGate, SolveFault, solve};
+use problems::Answer;
+use rounds::{SolveFault, solve};
+use searcher::NoGate;
 use std::alloc::{AllocError, Global};
 use std::sync::Wait;
 use std::test::Fail;

@@ -8,9 +8,10 @@ ghost use Rattle.slots.specs.Promise.{IsSeatOf, AllNew};
 ghost use Rattle.entry.specs.Truth.{IsTruePacking};
 
 use board::{Position, Side};
-use decision::{Decision, Memory, Question, Scout, Stop, decide, decide_on, decide_until};
+use decision::{Decision, Memory, Scout, Stop, decide, decide_on, decide_until};
 use entry::{Entry, Interval, MateLore, interval_laws, key_of, meet, pack};
 use moves::{Board, Goal, read_sound};
+use problems::Question;
 use slots::{Probe, Seat, Slots, Store};
 use std::alloc::Global;
 use std::process::Abort;

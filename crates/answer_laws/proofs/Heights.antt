@@ -9,8 +9,8 @@ use Rattle.rules.specs.declared.goal.Goal.{Goal}
 use Rattle.rules.specs.Squares.{Place, Ply, IsOnBoard}
 use Rattle.rules.specs.Moves.{IsPromotion, IsPromoted, IsMove}
 use Rattle.rules.proofs.Keeps.{to_on_board}
-use Rattle.decision.specs.declared.answer.Answer.TheVariants.{Mate}
-use Rattle.decision.specs.Answer.{IsFewest, IsLeastWin, IsAnswer}
+use Rattle.problems.specs.declared.answer.Answer.TheVariants.{Mate}
+use Rattle.problems.specs.Answer.{IsFewest, IsLeastWin, IsAnswer}
 use Rattle.wintree.specs.Plan.{Plan, ends, splits, Replies, last, more, depth, deepest, IsPly, IsPlan, ArePlans}
 use Rattle.wintree.specs.Text.{text, TreeText}
 use Rattle.wintree.specs.Wins.{Wins, EachWins, height, highest}

@@ -8,11 +8,11 @@ use Rattle.rules.specs.Forces.{Forces}
 use Rattle.rules.specs.Order.{IsPlyBefore}
 use Rattle.rules.specs.Squares.{Ply}
 use Rattle.rules.proofs.Forcing.{same_side-self}
-use Rattle.decision.specs.declared.answer.Answer.TheVariants.{Mate}
-use Rattle.decision.specs.Answer.{Wins, IsAnswer}
-use Rattle.decision.proofs.Winning.{forced_by}
-use Rattle.searcher.specs.declared.keys.Key.{Key}
-use Rattle.searcher.specs.Keys.{Takes, ListsKeys}
+use Rattle.problems.specs.declared.answer.Answer.TheVariants.{Mate}
+use Rattle.problems.specs.Answer.{Wins, IsAnswer}
+use Rattle.problems.proofs.Winning.{forced_by}
+use Rattle.problems.specs.declared.key.Key.{Key}
+use Rattle.problems.specs.Keys.{Takes, ListsKeys}
 use Rattle.wintree.proofs.Listings.{among_first, among_more}
 use Rattle.trees.proofs.Forcing.{fewest_most, some_ply}
 use Rattle.answer_laws.specs.Answers.{sooner, soonest, answer_of, IsNoBetter}

@@ -3,11 +3,11 @@ use Rattle.std.proofs.Common.{◌≡◌, ℕ, List, sym, ap, ap₂, ◌∙◌, s
 use Rattle.board.specs.Board.{PlainBoard}
 use Rattle.rules.specs.declared.goal.Goal.{Goal}
 use Rattle.rules.specs.Order.{IsPlyBefore}
-use Rattle.decision.specs.declared.answer.Answer.{Answer}
-use Rattle.decision.specs.declared.answer.Answer.TheVariants.{Mate, NoneWithin}
-use Rattle.decision.specs.Answer.{IsFewest, IsLeastWin, IsAnswer}
-use Rattle.searcher.specs.declared.keys.Key.{Key}
-use Rattle.searcher.specs.Keys.{ListsKeys}
+use Rattle.problems.specs.declared.answer.Answer.{Answer}
+use Rattle.problems.specs.declared.answer.Answer.TheVariants.{Mate, NoneWithin}
+use Rattle.problems.specs.Answer.{IsFewest, IsLeastWin, IsAnswer}
+use Rattle.problems.specs.declared.key.Key.{Key}
+use Rattle.problems.specs.Keys.{ListsKeys}
 use Rattle.wintree.proofs.Listings.{lower_once}
 use Rattle.trees.proofs.Forcing.{fewest_most}
 use Rattle.answer_laws.proofs.Listings.{one_listing}

@@ -5,10 +5,10 @@ use Rattle.rules.specs.declared.goal.Goal.{Goal}
 use Rattle.rules.specs.Squares.{Ply}
 use Rattle.rules.specs.Moves.{IsMove}
 use Rattle.rules.specs.Forces.{Forces}
-use Rattle.decision.specs.declared.answer.Answer.TheVariants.{Mate, NoneWithin}
-use Rattle.decision.specs.Answer.{Wins, IsFewest, ForcesNothing}
-use Rattle.searcher.specs.declared.keys.Key.{Key}
-use Rattle.searcher.specs.Keys.{Takes}
+use Rattle.problems.specs.declared.answer.Answer.TheVariants.{Mate, NoneWithin}
+use Rattle.problems.specs.Answer.{Wins, IsFewest, ForcesNothing}
+use Rattle.problems.specs.declared.key.Key.{Key}
+use Rattle.problems.specs.Keys.{Takes}
 use Rattle.laws.specs.Turnings.{Turning, turned_move, IsTurned, MayTurn}
 use Rattle.laws.proofs.Squares.{back_of, back_of-twice}
 use Rattle.laws.proofs.Turned.{IsTurned-back, MayTurn-back}

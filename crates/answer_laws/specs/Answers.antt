@@ -4,11 +4,11 @@ use Rattle.board.specs.Board.{PlainBoard}
 use Rattle.rules.specs.declared.goal.Goal.{Goal}
 use Rattle.rules.specs.Squares.{Ply}
 use Rattle.rules.specs.Order.{IsPlyBefore}
-use Rattle.decision.specs.declared.answer.Answer.{Answer}
-use Rattle.decision.specs.declared.answer.Answer.TheVariants.{Mate, NoneWithin}
-use Rattle.decision.specs.Answer.{IsAnswer}
-use Rattle.searcher.specs.declared.keys.Key.{Key}
-use Rattle.searcher.specs.Keys.{ListsKeys}
+use Rattle.problems.specs.declared.answer.Answer.{Answer}
+use Rattle.problems.specs.declared.answer.Answer.TheVariants.{Mate, NoneWithin}
+use Rattle.problems.specs.Answer.{IsAnswer}
+use Rattle.problems.specs.declared.key.Key.{Key}
+use Rattle.problems.specs.Keys.{ListsKeys}
 
 -- a question has one answer
 abbrev pub OneAnswer : Type 0

@@ -4,8 +4,8 @@ use Rattle.board.specs.Board.{PlainBoard}
 use Rattle.rules.specs.declared.goal.Goal.{Goal}
 use Rattle.rules.specs.Squares.{Ply}
 use Rattle.rules.specs.Forces.{Forces}
-use Rattle.decision.specs.declared.answer.Answer.TheVariants.{Mate}
-use Rattle.decision.specs.Answer.{IsFewest, IsAnswer}
+use Rattle.problems.specs.declared.answer.Answer.TheVariants.{Mate}
+use Rattle.problems.specs.Answer.{IsFewest, IsAnswer}
 use Rattle.wintree.specs.Plan.{Plan, ends, splits, depth}
 use Rattle.wintree.specs.Text.{text, TreeText}
 use Rattle.wintree.specs.Wins.{Wins, height}

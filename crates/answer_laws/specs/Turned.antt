@@ -3,11 +3,11 @@ use Rattle.std.specs.Prelude.{◌≡◌, ◌↔◌, ℕ, List, Contains, Option,
 use Rattle.board.specs.declared.game.Game.{Game}
 use Rattle.board.specs.Board.{PlainBoard}
 use Rattle.rules.specs.declared.goal.Goal.{Goal}
-use Rattle.decision.specs.declared.answer.Answer.{Answer}
-use Rattle.decision.specs.declared.answer.Answer.TheVariants.{Mate, NoneWithin}
-use Rattle.decision.specs.Answer.{IsFewest, ForcesNothing, IsAnswer}
-use Rattle.searcher.specs.declared.keys.Key.{Key}
-use Rattle.searcher.specs.Keys.{ListsKeys}
+use Rattle.problems.specs.declared.answer.Answer.{Answer}
+use Rattle.problems.specs.declared.answer.Answer.TheVariants.{Mate, NoneWithin}
+use Rattle.problems.specs.Answer.{IsFewest, ForcesNothing, IsAnswer}
+use Rattle.problems.specs.declared.key.Key.{Key}
+use Rattle.problems.specs.Keys.{ListsKeys}
 use Rattle.laws.specs.Turnings.{Turning, turned_move, IsTurned, files_mirror, sides_mirror}
 use Rattle.laws.specs.Laws.{WhereTurned, StaysTurned}
 

@@ -7,9 +7,9 @@ use Rattle.json.specs.Print.{quoted}
 use Rattle.rules.specs.declared.goal.Goal.{Goal}
 use Rattle.rules.specs.declared.goal.Goal.TheVariants as goal
 use Rattle.rules.specs.MoveText.{move_text}
-use Rattle.decision.specs.declared.answer.Answer.{Answer as TheAnswer}
-use Rattle.decision.specs.declared.answer.Answer.TheVariants.{Mate, NoneWithin}
-use Rattle.searcher.specs.declared.keys.Key.{Key}
+use Rattle.problems.specs.declared.answer.Answer.{Answer as TheAnswer}
+use Rattle.problems.specs.declared.answer.Answer.TheVariants.{Mate, NoneWithin}
+use Rattle.problems.specs.declared.key.Key.{Key}
 use Rattle.command_line.specs.Words.{goal_word}
 use Rattle.devices.specs.Input.{without_line_feed}
 use Rattle.refusals.specs.Refusal.{refusal_text}

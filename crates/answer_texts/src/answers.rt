@@ -3,9 +3,8 @@ ghost use Rattle.std.specs.Prelude.{◌≡◌, IfOk, string_bytes};
 ghost use Rattle.std.specs.List.{flat_map};
 ghost use Rattle.answer_texts.specs.Answers.{answer_text, checked_text, key_text, keys_text, moves_text, none_text};
 
-use decision::Answer;
 use moves::{Goal, Move};
-use searcher::Key;
+use problems::{Answer, Key};
 use std::alloc::{AllocError, Allocator};
 use std::fmt::Write;
 

@@ -1,8 +1,7 @@
 //! What a batch, and a line of one, is asked.
 use command_line::{Limits, Manner};
-use decision::Answer;
 use moves::Goal;
-use searcher::Key;
+use problems::{Answer, Key};
 
 /// What a batch is asked of each position.
 #[derive(Clone, Copy)]

@@ -3,8 +3,7 @@ ghost use Rattle.std.specs.Prelude.{◌≡◌, ◌↔◌, ◌<◌, All, IfOk, Is
 ghost use Rattle.answer_texts.specs.Asking.{IsAskedIn, IsJudged, TakesPlies, limit_of};
 
 use crate::asked::{Asked, Found};
-use decision::Answer;
-use searcher::Key;
+use problems::{Answer, Key};
 use std::alloc::{AllocError, Global};
 
 /// What a line that is no remark asks.

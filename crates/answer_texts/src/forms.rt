@@ -8,7 +8,7 @@ use crate::asking::{judged, limit_of};
 use crate::objects::{found_object, string_of};
 use devices::without_line_feed;
 use moves::Goal;
-use searcher::Key;
+use problems::Key;
 use std::alloc::{AllocError, Global};
 use std::fmt::Write;
 

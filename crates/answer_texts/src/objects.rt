@@ -5,9 +5,9 @@ ghost use Rattle.answer_texts.specs.Forms.{answer_members, answer_word, found_me
 
 use crate::asked::Found;
 use crate::forms::keys_listed;
-use decision::Answer;
 use json::Writer;
 use moves::Goal;
+use problems::Answer;
 use refusals::Refusal;
 use std::alloc::{AllocError, Global};
 

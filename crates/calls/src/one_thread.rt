@@ -5,20 +5,20 @@ ghost use Rattle.command_line.specs.declared.line.Action.TheVariants.{Solve, Key
 ghost use Rattle.endings.specs.Outcome.{Gives};
 ghost use Rattle.replies.specs.Outcome.{FindsKeys, FindsTree, Solves};
 ghost use Rattle.rounds.specs.Limits.{IsRefusal};
-ghost use Rattle.searcher.specs.Problems.{IsProblemOf};
+ghost use Rattle.problems.specs.Problems.{IsProblemOf};
 ghost use Rattle.replies.specs.Output.{fault_of, IsOutput, ShowsMoves, ShowsCheck};
 
 use answer_texts::moves_text;
 use board::Position;
 use command_line::Limits;
-use decision::Answer;
 use devices::without_line_feed;
 use entry::MateLore;
 use moves::{Goal, lawful, read_sound};
+use problems::{Answer, Key, Problem};
 use refusals::Refusal;
 use replies::{MOST_INPUT, Search, answer_line, key_lines, plan_line, search_of, verdict_text};
 use rounds::{SolveFault, make_table_in};
-use searcher::{Key, Problem, keys_alone, solve_alone};
+use searcher::{keys_alone, solve_alone};
 use slots::{Seat, Slots};
 use std::alloc::Allocator;
 use trees::build_tree;

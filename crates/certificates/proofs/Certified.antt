@@ -8,10 +8,10 @@ use Rattle.rules.specs.Order.{promotion_number, IsPlyBefore}
 use Rattle.rules.specs.Forces.{Forces}
 use Rattle.rules.proofs.Lists.{IsNumbered-lawful, same_ply, split3}
 use Rattle.rules.proofs.Forcing.{same_side-self, Forces-even, twice, twice-double}
-use Rattle.decision.specs.declared.answer.Answer.{Answer}
-use Rattle.decision.specs.declared.answer.Answer.TheVariants.{Mate, NoneWithin}
-use Rattle.decision.specs.Answer.{Wins, ForcesNothing, IsAnswer}
-use Rattle.decision.proofs.Winning.{forced_by, nothing_at_once}
+use Rattle.problems.specs.declared.answer.Answer.{Answer}
+use Rattle.problems.specs.declared.answer.Answer.TheVariants.{Mate, NoneWithin}
+use Rattle.problems.specs.Answer.{Wins, ForcesNothing, IsAnswer}
+use Rattle.problems.proofs.Winning.{forced_by, nothing_at_once}
 use Rattle.certificates.specs.declared.claim.Claim.{Claim}
 use Rattle.certificates.specs.Claims.{AllHold, AllWon}
 use Rattle.certificates.specs.Answers.{IsOdd, HasClaim, ShowsMate, ShowsNone, IsUpTo, Certifies}

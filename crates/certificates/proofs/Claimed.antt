@@ -10,8 +10,8 @@ use Rattle.rules.specs.Moves.{IsMove, IsLawful}
 use Rattle.rules.specs.Forces.{IsReached, Forces}
 use Rattle.rules.proofs.Keeps.{mover-after}
 use Rattle.rules.proofs.Forcing.{to_other, turn-own, same_side-self, Forces-more}
-use Rattle.decision.specs.Answer.{Wins, ForcesNothing}
-use Rattle.decision.proofs.Winning.{forced_by}
+use Rattle.problems.specs.Answer.{Wins, ForcesNothing}
+use Rattle.problems.proofs.Winning.{forced_by}
 use Rattle.certificates.specs.declared.claim.Claim.{Claim}
 use Rattle.certificates.specs.Claims.{FailsBy, AllHold, MetBy, WinsBy, AllWon}
 use Rattle.board.proofs.RankText.{on_true as on_own, on_false as on_other}

@@ -4,9 +4,9 @@ use Rattle.board.specs.Board.{PlainBoard}
 use Rattle.rules.specs.declared.goal.Goal.{Goal}
 use Rattle.rules.specs.Squares.{Ply}
 use Rattle.rules.specs.Order.{IsPlyBefore}
-use Rattle.decision.specs.declared.answer.Answer.{Answer}
-use Rattle.decision.specs.declared.answer.Answer.TheVariants.{Mate, NoneWithin}
-use Rattle.decision.specs.Answer.{IsAnswer}
+use Rattle.problems.specs.declared.answer.Answer.{Answer}
+use Rattle.problems.specs.declared.answer.Answer.TheVariants.{Mate, NoneWithin}
+use Rattle.problems.specs.Answer.{IsAnswer}
 use Rattle.certificates.specs.declared.claim.Claim.{Claim}
 use Rattle.certificates.specs.Claims.{FailsBy, AllHold, WinsBy, AllWon}
 

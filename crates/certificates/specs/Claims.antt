@@ -5,7 +5,7 @@ use Rattle.rules.specs.declared.goal.Goal.{Goal}
 use Rattle.rules.specs.Squares.{Ply}
 use Rattle.rules.specs.Moves.{IsMove, IsLawful}
 use Rattle.rules.specs.Forces.{IsReached, Forces}
-use Rattle.decision.specs.Answer.{ForcesNothing}
+use Rattle.problems.specs.Answer.{ForcesNothing}
 use Rattle.certificates.specs.declared.claim.Claim.{Claim}
 
 -- ---- no claims: the attacker forces the goal within no number of plies up to the claim's

@@ -1,9 +1,9 @@
 -- What a certificate is about before its first line of claims is made.
 use Rattle.std.specs.Prelude.{◌≡◌, ℕ, ◌-◌, ◌%◌, Option, None, Some, min}
 use Rattle.rules.specs.Squares.{Ply}
-use Rattle.decision.specs.declared.answer.Answer.{Answer}
-use Rattle.decision.specs.declared.answer.Answer.TheVariants.{Mate, NoneWithin}
-use Rattle.decision.specs.declared.question.Question.{Question}
+use Rattle.problems.specs.declared.answer.Answer.{Answer}
+use Rattle.problems.specs.declared.answer.Answer.TheVariants.{Mate, NoneWithin}
+use Rattle.problems.specs.declared.question.Question.{Question}
 use Rattle.certifying.specs.declared.certificate.Certificate.{Certificate}
 
 -- the plies of the first claim: a mate's, or the greatest odd number within the limit; 63 at most

@@ -1,7 +1,7 @@
 //! A certificate of which nothing is handed out that the checker doesn't take.
 ghost use Rattle.std.specs.Prelude.{◌≡◌, IfErr, IfNone, IfOk, IfSome, List, ℕ};
 ghost use Rattle.certifying.specs.Lines.{claim_line};
-ghost use Rattle.decision.specs.declared.answer.Answer.{Answer as TheAnswer};
+ghost use Rattle.problems.specs.declared.answer.Answer.{Answer as TheAnswer};
 ghost use Rattle.verifying.specs.Checking.{HasTaken, IsProvedBy, RefusesMore, TakesMore};
 ghost use Rattle.verifying.specs.declared.fault.Fault.TheVariants.{NoMemory};
 ghost use Rattle.verifying.specs.declared.words.Word.{Word as TheWord};

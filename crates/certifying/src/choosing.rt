@@ -4,9 +4,10 @@ ghost use Rattle.rules.specs.Moves.{IsLawful};
 ghost use Rattle.slots.specs.Promise.{IsSeatOf};
 
 use arrayvec::ArrayVec;
-use decision::{Memory, Question, in_order, is_forced};
+use decision::{Memory, in_order, is_forced};
 use entry::MateLore;
 use moves::Move;
+use problems::Question;
 use slots::{Seat, Slots};
 use std::alloc::Global;
 

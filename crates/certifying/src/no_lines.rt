@@ -3,8 +3,8 @@ ghost use Rattle.std.specs.Prelude.{◌≡◌, ◌<◌, ◌≤◌, All, IfSome, 
 ghost use Rattle.rules.specs.Moves.{IsLawful};
 
 use crate::choosing::Chooser;
-use decision::Question;
 use moves::{Move, lawful_on};
+use problems::Question;
 use std::alloc::{AllocError, Global};
 use verifying::{Claims, LEAF, Word, place_of};
 

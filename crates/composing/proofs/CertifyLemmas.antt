@@ -1,9 +1,7 @@
 -- Lines of claims, one after another, and a run that writes them.
-use Rattle.std.proofs.Common.{◌≡◌, ◌∙◌, ◌+◌, ◌-◌, ◌*◌, ◌/◌, ◌%◌, ◌<◌, ◌≤◌, ◌⊎◌, ◌||◌, ℕ, zero, suc, List, [], ◌∷◌, ◌++◌, Bool, true, false, cond, Option, None, Some, Result, Ok, Err, IsErr, IsErrAnd, vec_items, refl, sym, ap, subst, append_assoc, arith, inl, inr}
-use Rattle.std.proofs.Math.Dec.{ltb}
+use Rattle.std.proofs.Common.{◌≡◌, ◌∙◌, ◌+◌, ◌-◌, ◌*◌, ◌/◌, ◌%◌, ◌⊎◌, ℕ, zero, suc, List, [], ◌∷◌, ◌++◌, Bool, Option, None, Result, Ok, Err, IsErr, IsErrAnd, vec_items, refl, sym, ap, subst, append_assoc, arith, inl, inr}
 use Rattle.std.proofs.KnownBytes.{Appends-nil, Appends-trans}
-use Rattle.std.proofs.lemmas.Bool.{cases_eq, or_parts}
-use Rattle.std.proofs.lemmas.Bool.Decides.{nat_tests}
+use Rattle.std.proofs.lemmas.Bool.{cases_eq}
 use Rattle.std.proofs.lemmas.List.{append-nil}
 use Rattle.std.proofs.lemmas.Grind.{flat_map-append}
 use Rattle.std.specs.declared.alloc.Global.{Global}
@@ -12,13 +10,12 @@ use Rattle.board.specs.Board.{PlainBoard}
 use Rattle.rules.specs.declared.goal.Goal.{Goal}
 use Rattle.rules.specs.Forces.{Forces}
 use Rattle.rules.proofs.Forcing.{same_side-self, Forces-even, twice, twice-double}
-use Rattle.decision.specs.declared.answer.Answer.{Answer}
-use Rattle.decision.specs.declared.answer.Answer.TheVariants.{Mate, NoneWithin}
-use Rattle.decision.specs.Answer.{IsAnswer, IsFewest}
-use Rattle.decision.proofs.Winning.{nothing_at_once}
+use Rattle.problems.specs.declared.answer.Answer.{Answer}
+use Rattle.problems.specs.declared.answer.Answer.TheVariants.{Mate, NoneWithin}
+use Rattle.problems.specs.Answer.{IsAnswer, IsFewest}
+use Rattle.problems.proofs.Winning.{nothing_at_once}
 use Rattle.certificates.specs.Answers.{IsOdd}
-use Rattle.rounds.specs.declared.task.SolveFault.TheVariants.{Limit}
-use Rattle.rounds.specs.Limits.{limits_fault}
+use Rattle.rounds.proofs.Limits.{limit_within}
 use Rattle.command_line.specs.declared.line.Limits.{Limits}
 use Rattle.command_line.specs.declared.line.Subject.{Subject}
 use Rattle.devices.specs.Device.{AppendsBeginning}
@@ -40,7 +37,7 @@ use Rattle.endings.specs.Outcome.{IsSoundText}
 use Rattle.replies.specs.Output.{fault_of}
 use Rattle.verdicts.specs.Verdict.{IsRefusedFor}
 use Rattle.verdicts.proofs.VerdictLemmas.{answer_line}
-use Rattle.searches.specs.Searching.{ShowsPosition}
+use Rattle.replies.specs.Searching.{ShowsPosition}
 use Rattle.composing.specs.Certifying.{WritesCertificate, WritesClaims}
 use Rattle.composing.specs.Claims.{AddsAll, AddsClaims, BeginsAt, BeginsCertificate, HasAnswerLine, CutsClaims, StopsClaims, EndsWriting, Writing, WritesLines, cut_of}
 use Rattle.endings.specs.Run.{Ending, Finishes, Refuses, no_memory}
@@ -50,21 +47,6 @@ use Rattle.composing.specs.declared.certificate.Cut.{Cut}
 use Rattle.composing.specs.declared.certificate.Cut.TheVariants.{WriteFailed, NoMemory, Refused}
 
 -- ---- the first line
-
-some_or_none : {X : Type 0} (r : Bool) (x : X) (rest : Option X) → cond r (Some x) rest ≡ None → r ≡ false
-some_or_none true x rest e = cc
-some_or_none false x rest e = refl
-
-pub limit_within : (limit workers slots : ℕ) → limits_fault limit workers slots ≡ None → (0 < limit) × (limit ≤ 63)
-limit_within limit workers slots e =
-    let neither = or_parts (ltb limit 1) (ltb 63 limit) (some_or_none (ltb limit 1 || ltb 63 limit) Limit _ e) in
-    (at_least limit neither.0, at_most limit neither.1)
-  where
-    at_least : (n : ℕ) → ltb n 1 ≡ false → 0 < n
-    at_least n h = grind (arith, nat_tests)
-
-    at_most : (n : ℕ) → ltb 63 n ≡ false → n ≤ 63
-    at_most n h = grind (arith, nat_tests)
 
 halved : (n : ℕ) → ((half : ℕ) × (n ≡ 2 * half + 1)) ⊎ ((half : ℕ) × (n ≡ 2 * half))
 halved n = elim (cases_eq (n % 2) 1) as (λ _. ((half : ℕ) × (n ≡ 2 * half + 1)) ⊎ ((half : ℕ) × (n ≡ 2 * half))) [

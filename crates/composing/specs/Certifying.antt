@@ -2,8 +2,8 @@
 use Rattle.std.specs.Prelude.{◌≡◌, ◌⊎◌, ℕ, List, ◌++◌, None}
 use Rattle.board.specs.Board.{PlainBoard}
 use Rattle.rules.specs.declared.goal.Goal.{Goal}
-use Rattle.decision.specs.declared.answer.Answer.{Answer}
-use Rattle.decision.specs.Answer.{IsAnswer}
+use Rattle.problems.specs.declared.answer.Answer.{Answer}
+use Rattle.problems.specs.Answer.{IsAnswer}
 use Rattle.command_line.specs.declared.line.Limits.{Limits}
 use Rattle.command_line.specs.declared.line.Subject.{Subject}
 use Rattle.certifying.specs.Lines.{claim_lines}
@@ -15,7 +15,7 @@ use Rattle.replies.specs.Output.{fault_of}
 use Rattle.verdicts.specs.Verdict.{IsRefusedFor}
 use Rattle.verifying.specs.declared.words.Word.{Word}
 use Rattle.verifying.specs.Certificate.{IsCertificate}
-use Rattle.searches.specs.Searching.{ShowsPosition}
+use Rattle.replies.specs.Searching.{ShowsPosition}
 use Rattle.endings.specs.Run.{Ending, Run, Finishes, Refuses, no_memory}
 
 -- the text is written, and with status 0 it is a certificate of the answer; or want of memory is told behind it; or behind it stands why the checker doesn't take what comes next: no certificate goes on so

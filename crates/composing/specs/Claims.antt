@@ -4,8 +4,8 @@ use Rattle.std.specs.declared.alloc.Global.{Global}
 use Rattle.std.specs.Io.KnownBytes.{Appends}
 use Rattle.board.specs.Board.{PlainBoard}
 use Rattle.rules.specs.declared.goal.Goal.{Goal}
-use Rattle.decision.specs.declared.answer.Answer.{Answer}
-use Rattle.decision.specs.Answer.{IsAnswer}
+use Rattle.problems.specs.declared.answer.Answer.{Answer}
+use Rattle.problems.specs.Answer.{IsAnswer}
 use Rattle.devices.specs.Device.{AppendsBeginning}
 use Rattle.command_line.specs.declared.line.Limits.{Limits}
 use Rattle.command_line.specs.declared.line.Subject.{Subject}
@@ -24,7 +24,7 @@ use Rattle.answer_texts.specs.Answers.{answer_text}
 use Rattle.endings.specs.Outcome.{IsSoundText}
 use Rattle.replies.specs.Output.{ShowsAnswer, fault_of}
 use Rattle.verdicts.specs.Verdict.{IsRefusedFor}
-use Rattle.searches.specs.Searching.{ShowsPosition}
+use Rattle.replies.specs.Searching.{ShowsPosition}
 use Rattle.composing.specs.declared.certificate.Begun.{Begun}
 use Rattle.composing.specs.declared.certificate.Cut.{Cut}
 use Rattle.composing.specs.declared.certificate.Cut.TheVariants.{WriteFailed, NoMemory, Refused}

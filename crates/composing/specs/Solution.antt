@@ -5,7 +5,7 @@ use Rattle.board.specs.declared.fault.FenFault.{FenFault}
 use Rattle.board.specs.Board.{PlainBoard}
 use Rattle.rules.specs.declared.goal.Goal.{Goal}
 use Rattle.rules.specs.Reading.{IsSoundFault}
-use Rattle.decision.specs.Answer.{IsFewest, ForcesNothing}
+use Rattle.problems.specs.Answer.{IsFewest, ForcesNothing}
 use Rattle.algebraic.specs.declared.naming.Notation.{Notation}
 use Rattle.algebraic.specs.declared.symbols.Symbols.{Symbols}
 use Rattle.algebraic.specs.declared.symbols.Symbols.TheVariants.{Letters, Figurines}

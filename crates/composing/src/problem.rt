@@ -1,19 +1,19 @@
 //! The solution of a problem: the answer by all threads, and then what follows it, by one seat over the same table.
 ghost use Rattle.std.specs.Prelude.{◌≡◌, ◌≤◌, IfOk, vec_items};
-ghost use Rattle.decision.specs.Answer.{IsFewest};
+ghost use Rattle.problems.specs.Answer.{IsFewest};
 ghost use Rattle.endings.specs.Outcome.{Gives};
-ghost use Rattle.searcher.specs.Roots.{IsRoot};
+ghost use Rattle.problems.specs.Roots.{IsRoot};
 ghost use Rattle.composing.specs.Solution.{IsPublished, IsSolutionReply, ShowsSolution, notation_of};
 
 use algebraic::{Notation, Symbols};
 use board::Position;
 use command_line::{Limits, Subject, Telling};
-use decision::{Answer, Memory, Never, Scout};
+use decision::{Memory, Never, Scout};
 use moves::{Goal, read_sound};
+use problems::{Answer, Root};
 use refusals::Refusal;
-use replies::{none_line, refusal_of};
-use searcher::{Halt, Root, Searcher};
-use searches::{Host, Searched, searched_at};
+use replies::{Host, Searched, none_line, refusal_of, searched_at};
+use searcher::{Halt, Searcher};
 use solution_text::solution_text;
 use solutions::{Extras, solution_of};
 use std::alloc::{AllocError, Global};

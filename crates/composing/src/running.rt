@@ -1,11 +1,11 @@
 //! A run of the composer's program over any words and writer.
 ghost use Rattle.std.specs.Prelude.{◌≡◌, ◌⊎◌, ◌<◌, map};
 ghost use Rattle.board.specs.Board.{PlainBoard};
-ghost use Rattle.decision.specs.declared.answer.Answer.{Answer};
+ghost use Rattle.problems.specs.declared.answer.Answer.{Answer};
 ghost use Rattle.verifying.specs.Checking.{HasTaken};
 ghost use Rattle.endings.specs.Run.{ending_of, readerless, MayTell, WritesReply};
 ghost use Rattle.endings.specs.Words.{MeansSome, RunsWords};
-ghost use Rattle.searches.specs.Searching.{IsOver};
+ghost use Rattle.replies.specs.Searching.{IsOver};
 ghost use Rattle.composing.specs.Certifying.{WritesCertificate, WritesClaims};
 ghost use Rattle.composing.specs.Claims.{HasAnswerLine};
 ghost use Rattle.composing.specs.Order.{ComposesOrder, ComposesOver};
@@ -19,7 +19,7 @@ use endings::{
     ANSWERED, REFUSED_WORDS, fail_to_write, finish, give_up_for_memory, proof_refused,
     refuse_and_tell, search_refused,
 };
-use searches::{Host, host_of, tell_if_over};
+use replies::{Host, host_of, tell_if_over};
 use std::convert::AsStr;
 use std::io::Write;
 use std::sync::Wait;

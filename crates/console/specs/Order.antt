@@ -8,7 +8,7 @@ use Rattle.command_line.specs.declared.line.Action.TheVariants.{Solve, Keys, Tre
 use Rattle.endings.specs.Run.{Run}
 use Rattle.endings.specs.Words.{DoesNothing}
 use Rattle.replies.specs.Output.{MayRead, fault_of}
-use Rattle.searches.specs.Searching.{IsOver}
+use Rattle.replies.specs.Searching.{IsOver}
 use Rattle.console.specs.Batch.{RunsBatch}
 use Rattle.console.specs.Playing.{RunsAfter, RunsFirst}
 use Rattle.console.specs.Run.{RunsLine}

@@ -4,7 +4,7 @@ ghost use Rattle.console.specs.Order.{IsSearch, SearchesOver};
 
 use command_line::{Action, Line};
 use refusals::Asking;
-use searches::tell_if_over;
+use replies::tell_if_over;
 use std::io::Write;
 
 fn searches(action: Action) -> bool

@@ -19,8 +19,7 @@ use endings::{
     has_no_answer, refuse, refuse_and_tell, search_refused,
 };
 use refusals::{Asking, Refusal, Refused, advise, advise_move};
-use replies::{after_reply, first_reply, refusal_of};
-use searches::{Host, Tally, host_of};
+use replies::{Host, Tally, after_reply, first_reply, host_of, refusal_of};
 use std::convert::AsStr;
 use std::io::{self, Write, sink};
 use std::sync::Wait;

@@ -10,8 +10,9 @@ use Rattle.entry.specs.Bounds.{Bounds}
 use Rattle.decision.specs.declared.decision.Decision.{Decision}
 use Rattle.decision.specs.declared.caller.Caller.{Caller}
 use Rattle.decision.specs.Callers.{GoesOn, adds}
-use Rattle.decision.specs.declared.question.Question.{Question}
-use Rattle.decision.specs.Questions.{question, IsForced, LeadsTo, entry_for, entry_words, key_for, first_slot, Settles, said, IsMetWith}
+use Rattle.problems.specs.declared.question.Question.{Question}
+use Rattle.problems.specs.Questions.{question, IsForced, LeadsTo}
+use Rattle.decision.specs.Questions.{entry_for, entry_words, key_for, first_slot, Settles, said, IsMetWith}
 use Rattle.decision.specs.Decisions.{Asks, IsAsked, IsProbeOf, OffersBoth, AsksBelow, IsDecided}
 use Rattle.decision.specs.Decisions.Asks.{first_decides, one_slot, second_decides, neither_decides}
 use Rattle.decision.proofs.Callers.{adds_more, named_before}

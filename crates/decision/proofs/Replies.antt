@@ -16,9 +16,10 @@ use Rattle.entry.specs.Truth.{IsRight, IsTruePacking}
 use Rattle.entry.specs.Laws.{MeetingIsRight}
 use Rattle.entry.proofs.Questions.{one_entry}
 use Rattle.entry.proofs.Truths.{hit_right, yes_right, no_right, raise}
-use Rattle.decision.specs.declared.question.Question.{Question}
+use Rattle.problems.specs.declared.question.Question.{Question}
 use Rattle.decision.specs.Turned.{HaveOneAnswer}
-use Rattle.decision.specs.Questions.{IsForced, IsKnownOf, entry_for, entry_words, key_for, EndsBy, Says, RepliesThat, Settles, said, IsMetWith, IsTrueHit, Tells}
+use Rattle.problems.specs.Questions.{IsForced}
+use Rattle.decision.specs.Questions.{IsKnownOf, entry_for, entry_words, key_for, EndsBy, Says, RepliesThat, Settles, said, IsMetWith, IsTrueHit, Tells}
 
 -- a hit with the key is whole
 pub whole_of : (key : List ℕ) (reply : Probe) → HitFits key_words IsTruePacking (Asked key reply) → IsTrueHit reply

@@ -6,18 +6,17 @@ use Rattle.std.proofs.lemmas.List.{get_or-set_same, get_or-set_other, length-set
 use Rattle.board.specs.declared.game.Unit.{Unit as Man}
 use Rattle.board.specs.Games.{squares_of}
 use Rattle.board.specs.Board.{PlainBoard, board_of, unit_on, IsPosition, MayStandOn}
-use Rattle.rules.specs.Squares.{Place, IsOnBoard, square_number, unit_at}
+use Rattle.rules.specs.Squares.{Place, IsOnBoard, square_number, unit_at, Ply}
 use Rattle.rules.proofs.Listed.{same_number, number_within}
 use Rattle.laws.specs.Turnings.{Turning as Way, turned_place, turned_units, IsTurned}
 use Rattle.laws.proofs.Squares.{back_of, turned_on_board, turned_back}
 use Rattle.laws.proofs.Forced.{Forces-turned, Forces-back}
 use Rattle.decision.specs.declared.turning.Turning.{Turning}
-use Rattle.decision.specs.declared.question.Question.{Question}
-use Rattle.decision.specs.Questions.{question, IsForced}
+use Rattle.problems.specs.declared.question.Question.{Question}
+use Rattle.problems.specs.Questions.{question, IsForced}
 use Rattle.decision.specs.Turned.{way_of, IsTurnedWell, HaveOneAnswer, AnswersAfter}
-use Rattle.decision.specs.Below.{Goes, IsAsSaid, IsPassed, IsCut}
-use Rattle.decision.proofs.Below.{passed_next}
-use Rattle.rules.specs.Squares.{Ply}
+use Rattle.problems.specs.Tried.{Goes, IsAsSaid, IsPassed, IsCut}
+use Rattle.problems.proofs.Tried.{passed_next}
 use Rattle.moves.proofs.Packing.{within_36, replicate_none}
 
 -- the units of the squares below n stand where their squares come to lie, and none past the board

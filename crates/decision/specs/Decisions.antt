@@ -12,8 +12,9 @@ use Rattle.slots.specs.Machine.{call}
 use Rattle.entry.specs.Bounds.{Bounds}
 use Rattle.decision.specs.declared.decision.Decision.{Decision}
 use Rattle.decision.specs.Calls.{BeginsWith, EndsWith}
-use Rattle.decision.specs.declared.question.Question.{Question}
-use Rattle.decision.specs.Questions.{question, IsForced, entry_for, entry_words, key_for, first_slot, Settles, said, IsMetWith}
+use Rattle.problems.specs.declared.question.Question.{Question}
+use Rattle.problems.specs.Questions.{question, IsForced}
+use Rattle.decision.specs.Questions.{entry_for, entry_words, key_for, first_slot, Settles, said, IsMetWith}
 
 -- The key is asked in its first slot, and then in its second, if the table has it, where the first reply doesn't decide n. The reply that counts is the one that decides n, else the first slot's
 pub data Asks (key : List ℕ) (slot slots n number : ℕ) (counts : Probe) (calls : List Call) : Type 0 where

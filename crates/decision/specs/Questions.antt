@@ -1,11 +1,5 @@
 -- What is asked of the table, and what its replies say.
 use Rattle.std.specs.Prelude.{◌≡◌, ℕ, ◌+◌, ◌*◌, ◌/◌, ◌<◌, ◌≤◌, Bool, true, false, List, [], ◌∷◌, Option, Some, None}
-use Rattle.board.specs.declared.game.Side.{Side}
-use Rattle.board.specs.Board.{PlainBoard}
-use Rattle.rules.specs.declared.goal.Goal.{Goal}
-use Rattle.rules.specs.Squares.{Ply}
-use Rattle.rules.specs.Moves.{IsMove}
-use Rattle.rules.specs.Forces.{Forces}
 use Rattle.slots.specs.declared.calls.Probe.{Probe}
 use Rattle.slots.specs.declared.calls.Probe.TheVariants.{Hit}
 use Rattle.entry.specs.declared.entries.Entry.{Entry}
@@ -13,19 +7,7 @@ use Rattle.entry.specs.Bounds.{Bounds, bounds_of, meeting}
 use Rattle.entry.specs.Packing.{Packing, entry_of, first_word, second_word, third_word}
 use Rattle.entry.specs.Keys.{key_words, slot_number}
 use Rattle.entry.specs.Truth.{IsRight, IsTruePacking}
-use Rattle.decision.specs.declared.question.Question.{Question}
-
--- whether the attacker forces the goal from the position
-abbrev pub question : PlainBoard → Side → Goal → Question
-question b attacker goal = record { position = b; attacker = attacker; goal = goal }
-
--- the attacker forces the goal within n plies
-abbrev pub IsForced : Question → ℕ → Type 0
-IsForced q n = Forces q.goal q.attacker q.position n
-
--- the move leads to the other question: the same, of the position after it
-abbrev pub LeadsTo : Question → Ply → Question → Type 0
-LeadsTo q m other = (b : PlainBoard) × IsMove q.position m b × (other ≡ question b q.attacker q.goal)
+use Rattle.problems.specs.declared.question.Question.{Question}
 
 -- the entry that gives the question this interval
 abbrev pub entry_for : Question → Bounds → Entry

@@ -5,8 +5,8 @@ use Rattle.rules.specs.Squares.{Ply}
 use Rattle.rules.specs.Moves.{IsMove}
 use Rattle.laws.specs.Turnings.{Turning as Way, IsTurned, MayTurn}
 use Rattle.decision.specs.declared.turning.Turning.{Turning}
-use Rattle.decision.specs.declared.question.Question.{Question}
-use Rattle.decision.specs.Questions.{question, IsForced}
+use Rattle.problems.specs.declared.question.Question.{Question}
+use Rattle.problems.specs.Questions.{question, IsForced}
 
 -- the turning, with the sides as they are
 abbrev pub way_of : Turning → Way

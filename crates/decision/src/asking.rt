@@ -12,8 +12,9 @@ ghost use Rattle.decision.specs.Questions.{key_for, first_slot, RepliesThat, Set
 ghost use Rattle.decision.specs.Decisions.{Asks, IsAsked, IsProbeOf};
 
 use crate::caller::Caller;
-use crate::question::{NOTHING, Question};
+use crate::image::{NOTHING, image, table_key};
 use entry::{Interval, MateLore, interval_laws, interval_of, meet, slot_of};
+use problems::Question;
 use slots::{Probe, Slots};
 use std::alloc::Allocator;
 
@@ -125,7 +126,7 @@ pub(crate) fn ask_near<A: Allocator>(caller: &mut Caller<'_, A>, q: &Question, n
     ensures hit { HitFits key_words IsTruePacking (Asked (key_for q.now) result) }
     ensures position { IsPosition q.now.position }
 {
-    let key = q.key();
+    let key = table_key(q);
     let slot = first_slot(caller.slots, key);
     ask(caller, key, slot, n)
 }
@@ -151,8 +152,7 @@ fn look_turned<A: Allocator>(caller: &mut Caller<'_, A>, q: &Question, n: u8) ->
     ensures goes_on { GoesOn caller.old caller.new }
     ensures right { IsKnownOf q.now result }
 {
-    let image = q.image();
-    look_far(caller, &image, n)
+    look_far(caller, &image(q), n)
 }
 
 /// What the table knows of the question, which is turned, in the far slots: no others stand there.
@@ -160,7 +160,7 @@ pub(crate) fn look_far<A: Allocator>(caller: &mut Caller<'_, A>, q: &Question, n
     ensures goes_on { GoesOn caller.old caller.new }
     ensures right { IsKnownOf q.now result }
 {
-    let key = q.key();
+    let key = table_key(q);
     let slot = far_slot(caller.slots, key);
     let reply = ask(caller, key, slot, n);
     told(q, reply)

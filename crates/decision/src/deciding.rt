@@ -11,7 +11,8 @@ ghost use Rattle.entry.specs.Keys.{key_words};
 ghost use Rattle.entry.specs.Truth.{IsTruePacking};
 ghost use Rattle.decision.specs.Calls.{added, Continues, KnowsCalls};
 ghost use Rattle.decision.specs.Callers.{adds, GoesOn, Searches};
-ghost use Rattle.decision.specs.Questions.{question, key_for, IsForced, IsKnownOf};
+ghost use Rattle.problems.specs.Questions.{question, IsForced};
+ghost use Rattle.decision.specs.Questions.{key_for, IsKnownOf};
 ghost use Rattle.decision.specs.Below.{IsFound};
 ghost use Rattle.decision.specs.Decisions.{Decides, AsksBelow, IsDecided};
 
@@ -19,11 +20,11 @@ use crate::asking::{ask_near, decided, look_far, settled};
 use crate::caller::Caller;
 use crate::decision::Decision;
 use crate::first::try_moves;
+use crate::image::image;
 use crate::lead::{Lead, Rooms};
 use crate::leaf::{answer_now, short_leaf};
 use crate::memory::Memory;
 use crate::order::order_into;
-use crate::question::Question;
 use crate::scout::{Never, Scout, Stop};
 use crate::searching::search_from;
 use crate::storing::{keep, known_after};
@@ -31,6 +32,7 @@ use arrayvec::ArrayVec;
 use board::{Position, Side};
 use entry::{Interval, MateLore};
 use moves::{Board, Goal};
+use problems::Question;
 use slots::{Probe, Seat, Slots};
 use std::alloc::Allocator;
 
@@ -311,7 +313,7 @@ pub fn is_forced_until<S: Stop, A: Allocator>(
         return Some(short_leaf(&mut scout.memory, q, n));
     }
     let mut caller = Caller { slots, seat };
-    ask_until(&mut caller, scout, &q.image(), n)
+    ask_until(&mut caller, scout, &image(q), n)
 }
 
 /// `is_forced_until`, where nothing stops it. Where the table knows the answer, no memory is made for a search.
@@ -330,7 +332,7 @@ pub fn is_forced<A: Allocator>(
         return short_alone(q, n);
     }
     let mut caller = Caller { slots, seat };
-    ask_alone(&mut caller, &q.image(), n)
+    ask_alone(&mut caller, &image(q), n)
 }
 
 /// Whether the attacker forces the goal from the position within n plies, whatever the table holds and whatever its other callers

@@ -3,18 +3,19 @@ ghost use Rattle.std.specs.Prelude.{◌≡◌, ◌<◌, ◌≤◌, ◌↔◌, Is
 ghost use Rattle.rules.specs.Moves.{IsLawful};
 ghost use Rattle.slots.specs.Promise.{slots_of, number};
 ghost use Rattle.decision.specs.Callers.{adds, Searches};
-ghost use Rattle.decision.specs.Questions.{IsForced};
-ghost use Rattle.decision.specs.Below.{TellsOfTried, Asked};
+ghost use Rattle.problems.specs.Questions.{IsForced};
+ghost use Rattle.problems.specs.Tried.{TellsOfTried};
+ghost use Rattle.decision.specs.Below.{Asked};
 ghost use Rattle.decision.specs.Decisions.{IsAsked};
 
 use crate::asking::{decided, look};
 use crate::caller::Caller;
 use crate::lead::Lead;
-use crate::question::Question;
 use crate::scout::Stop;
 use crate::searching::search_in_rounds;
 use crate::storing::keep;
 use moves::Move;
+use problems::Question;
 use std::alloc::Allocator;
 
 /// The answer for n plies. The table is asked first, and what is found is stored last.

@@ -2,10 +2,10 @@
 
 use crate::memory::Memory;
 use crate::order::{Costed, order_into};
-use crate::question::Question;
 use crate::scout::Scout;
 use arrayvec::ArrayVec;
 use moves::Move;
+use problems::Question;
 
 /// Lists that are used position after position, since a new one is cleared.
 #[derive(Drop)]
@@ -23,7 +23,7 @@ pub(crate) struct Lead<'a, S> {
 }
 
 impl Rooms {
-    ghost use Rattle.decision.specs.Orders.{ListsAll};
+    ghost use Rattle.problems.specs.Tried.{ListsAll};
 
     /// The lists are empty.
     pub(crate) fn new() -> Rooms {

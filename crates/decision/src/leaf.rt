@@ -1,14 +1,14 @@
 //! The last three plies, with no table and no key.
 ghost use Rattle.std.specs.Prelude.{◌≡◌, ◌≤◌, ◌↔◌, IsTrue, IfSome, true, false};
 ghost use Rattle.rules.specs.Forces.{IsReached};
-ghost use Rattle.decision.specs.Questions.{IsForced};
-ghost use Rattle.decision.specs.Below.{is_own};
+ghost use Rattle.problems.specs.Questions.{IsForced};
+ghost use Rattle.problems.specs.Tried.{is_own};
 
 use crate::lead::Rooms;
 use crate::memory::Memory;
-use crate::question::Question;
 use arrayvec::ArrayVec;
 use moves::{Board, Goal, Move, has_lawful_move, list_lawful, mover_in_check, reaches_at_once};
+use problems::Question;
 
 /// Whether the side to move is where the goal wants it.
 fn is_reached(board: &Board, goal: Goal) -> bool

@@ -22,7 +22,7 @@ pub(crate) fn pair_of(m: Move) -> usize
 }
 
 impl Memory {
-    ghost use Rattle.decision.specs.Memories.{IsBlank};
+    ghost use Rattle.decision.specs.Memories.{IsBlank, Remembers};
 
     /// Nothing is remembered.
     pub fn new() -> Memory
@@ -33,6 +33,19 @@ impl Memory {
             latest: None,
             earlier: None,
             expanded: 0,
+        }
+    }
+
+    /// So often each pair of squares has won, by plies, and no more is remembered.
+    pub fn of(won: [u8; 1296]) -> Memory
+        ensures { Remembers won result }
+    {
+        let (latest, earlier, expanded) = (None, None, 0);
+        Memory {
+            won,
+            latest,
+            earlier,
+            expanded,
         }
     }
 

@@ -2,13 +2,14 @@
 ghost use Rattle.std.specs.Prelude.{◌≡◌, ◌<◌, ◌≤◌, [], ◌++◌, All, IfSome, length, map};
 ghost use Rattle.std.specs.List.Sorted.{IsPermutation};
 ghost use Rattle.rules.specs.Moves.{IsLawful};
-ghost use Rattle.decision.specs.Orders.{ListsAll, moves_of};
+ghost use Rattle.problems.specs.Tried.{ListsAll};
+ghost use Rattle.decision.specs.Orders.{moves_of};
 
 use crate::memory::Memory;
-use crate::question::Question;
 use arrayvec::ArrayVec;
 use board::{Kind, Side};
 use moves::{Board, Move, after, count_lawful, list_lawful, mover_in_check};
+use problems::Question;
 
 /// A move, and what counts against it: those of less cost are tried first.
 #[derive(Clone, Copy, Default)]

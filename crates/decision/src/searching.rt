@@ -4,20 +4,21 @@ ghost use Rattle.std.specs.Prelude.{◌≡◌, ◌<◌, ◌≤◌, ◌-◌, ◌�
 ghost use Rattle.arrayvec.specs.ArrayVec.{array_vec_len};
 ghost use Rattle.rules.specs.Moves.{IsLawful};
 ghost use Rattle.decision.specs.Callers.{GoesOn, Searches};
-ghost use Rattle.decision.specs.Questions.{IsForced, IsKnownOf};
-ghost use Rattle.decision.specs.Below.{is_own, IsCut, TellsOfTried};
-ghost use Rattle.decision.specs.Orders.{ListsAll};
+ghost use Rattle.problems.specs.Questions.{IsForced};
+ghost use Rattle.decision.specs.Questions.{IsKnownOf};
+ghost use Rattle.problems.specs.Tried.{is_own, IsCut, TellsOfTried, ListsAll};
 
 use crate::asking::{decided, look_far};
 use crate::caller::Caller;
+use crate::image::image_after;
 use crate::lead::Lead;
 use crate::leaf::{answer_now, leaf};
-use crate::question::Question;
 use crate::scout::Stop;
 use crate::storing::{keep_far, known_with};
 use arrayvec::ArrayVec;
 use entry::Interval;
 use moves::Move;
+use problems::Question;
 use std::alloc::Allocator;
 
 /// The most plies of the leaf.
@@ -42,7 +43,7 @@ fn is_cut<A: Allocator>(caller: &mut Caller<'_, A>, q: &Question, n: u8, moves: 
     }
     let own = q.is_own_turn();
     for m in moves {
-        let below = q.turned_after(*m);
+        let below = image_after(q, *m);
         let known = look_far(caller, &below, n - 1);
         match decided(known, n - 1) {
             Some(yes) if yes == own => return true,
@@ -68,7 +69,7 @@ fn try_below<S: Stop, A: Allocator>(
 {
     let own = q.is_own_turn();
     for m in moves {
-        let yes = visit(caller, lead, &q.turned_after(*m), n - 1)?;
+        let yes = visit(caller, lead, &image_after(q, *m), n - 1)?;
         if yes == own {
             lead.scout.memory.remember(*m, n, own);
             return Some(own);

@@ -9,13 +9,15 @@ ghost use Rattle.entry.specs.Keys.{key_words};
 ghost use Rattle.entry.specs.Truth.{IsTruePacking};
 ghost use Rattle.decision.specs.Calls.{KnowsCalls};
 ghost use Rattle.decision.specs.Callers.{GoesOn, adds};
-ghost use Rattle.decision.specs.Questions.{key_for, entry_for, entry_words, first_slot, said, IsForced, IsMetWith, IsTrueHit, IsKnownOf, Says, Tells};
+ghost use Rattle.decision.specs.Questions.{key_for, entry_for, entry_words, first_slot, said, IsMetWith, IsTrueHit, IsKnownOf, Says, Tells};
+ghost use Rattle.problems.specs.Questions.{IsForced};
 ghost use Rattle.decision.specs.Decisions.{OffersBoth};
 
 use crate::asking::{far_slot, first_slot, known};
 use crate::caller::Caller;
-use crate::question::Question;
+use crate::image::{image, table_key};
 use entry::{Interval, interval_laws, meet, pack_board};
+use problems::Question;
 use slots::{Probe, Store};
 use std::alloc::Allocator;
 
@@ -112,10 +114,9 @@ pub(crate) fn keep<A: Allocator>(caller: &mut Caller<'_, A>, q: &Question, known
     ensures kept { OffersBoth (first_slot (key_for q.now) (slots_of caller.old.slots.now))
         (slots_of caller.old.slots.now) (number caller.old.seat.now) (entry_words (entry_for q.now known)) (adds caller.old caller.new) }
 {
-    let image = q.image();
-    keep_far(caller, &image, known);
+    keep_far(caller, &image(q), known);
     let words = pack_board(&q.position, q.attacker, q.goal, known);
-    let slot = first_slot(caller.slots, q.key());
+    let slot = first_slot(caller.slots, table_key(q));
     offer(caller, slot, words);
 }
 
@@ -124,7 +125,7 @@ pub(crate) fn keep_far<A: Allocator>(caller: &mut Caller<'_, A>, q: &Question, k
     requires { IsKnownOf q.now known }
     ensures { GoesOn caller.old caller.new }
 {
-    let key = q.key();
+    let key = table_key(q);
     let entry = pack_board(&q.position, q.attacker, q.goal, known);
     offer_far(caller, far_slot(caller.slots, key), entry);
 }

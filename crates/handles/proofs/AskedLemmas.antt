@@ -2,10 +2,10 @@
 use Rattle.std.proofs.Common.{◌≡◌, ℕ, List, Bool, sym, subst, Option, None, Some}
 use Rattle.board.specs.Board.{PlainBoard}
 use Rattle.rules.specs.declared.goal.Goal.{Goal}
-use Rattle.searcher.specs.Roots.{IsLimit}
-use Rattle.decision.specs.declared.answer.Answer.{Answer}
-use Rattle.decision.specs.declared.answer.Answer.TheVariants as answer
-use Rattle.decision.specs.Answer.{IsAnswer}
+use Rattle.problems.specs.Roots.{IsLimit}
+use Rattle.problems.specs.declared.answer.Answer.{Answer}
+use Rattle.problems.specs.declared.answer.Answer.TheVariants as answer
+use Rattle.problems.specs.Answer.{IsAnswer}
 use Rattle.solver.specs.declared.solver.Solver.{Solver}
 use Rattle.solver.specs.Stopping.{IsStopped, Hears}
 use Rattle.handles.specs.declared.found.Found.{Found}

@@ -13,10 +13,10 @@ use Rattle.rules.specs.Reach.{IsSound}
 use Rattle.rules.specs.Reading.{IsSoundFault}
 use Rattle.slots.specs.Promise.{slots_of}
 use Rattle.stops.specs.Promise.{requests}
-use Rattle.searcher.specs.Roots.{IsLimit}
-use Rattle.decision.specs.declared.answer.Answer.{Answer}
-use Rattle.decision.specs.declared.answer.Answer.TheVariants as answer
-use Rattle.decision.specs.Answer.{IsAnswer}
+use Rattle.problems.specs.Roots.{IsLimit}
+use Rattle.problems.specs.declared.answer.Answer.{Answer}
+use Rattle.problems.specs.declared.answer.Answer.TheVariants as answer
+use Rattle.problems.specs.Answer.{IsAnswer}
 use Rattle.solver.specs.declared.solver.Solver.{Solver}
 use Rattle.solver.specs.declared.listening.StopSource.{StopSource}
 use Rattle.solver.specs.Stopping.{IsStopped, Hears}

@@ -2,7 +2,7 @@
 use Rattle.std.specs.Prelude.{◌≡◌, ◌⊎◌, ℕ, ◌<◌, ◌≤◌, List, [], ◌∷◌, ◌++◌, length, drop, Result, Ok, Err}
 use Rattle.searcher.specs.declared.halt.Halt.{Halt}
 use Rattle.searcher.specs.declared.halt.Halt.TheVariants.{Stopped, NoMemory}
-use Rattle.searcher.specs.declared.keys.Key.{Key}
+use Rattle.problems.specs.declared.key.Key.{Key}
 use Rattle.handles.specs.declared.writing.Told.{Told}
 
 -- the number of each reason why a search ended without an answer

@@ -4,10 +4,10 @@ use Rattle.board.specs.declared.fault.FenFault.{FenFault}
 use Rattle.board.specs.Board.{PlainBoard}
 use Rattle.rules.specs.declared.goal.Goal.{Goal}
 use Rattle.rules.specs.Reading.{IsSoundFault}
-use Rattle.decision.specs.Answer.{IsFewest, ForcesNothing}
-use Rattle.searcher.specs.declared.keys.Key.{Key}
-use Rattle.searcher.specs.Keys.{ListsKeys}
-use Rattle.searcher.specs.Roots.{IsLimit}
+use Rattle.problems.specs.Answer.{IsFewest, ForcesNothing}
+use Rattle.problems.specs.declared.key.Key.{Key}
+use Rattle.problems.specs.Keys.{ListsKeys}
+use Rattle.problems.specs.Roots.{IsLimit}
 use Rattle.trees.specs.Best.{IsBest}
 use Rattle.wintree.specs.Plan.{Plan}
 use Rattle.wintree.specs.Text.{text as plan_text}

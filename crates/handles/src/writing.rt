@@ -12,10 +12,10 @@ use crate::asking::{
 };
 use crate::handle::SolverHandle;
 use answer_texts::keys_text;
-use decision::Answer;
 use moves::read_sound;
+use problems::{Answer, Key, Problem};
 use replies::{none_line, tree_line};
-use searcher::{Halt, Key, Problem};
+use searcher::Halt;
 use solver::Solver;
 use std::alloc::Global;
 

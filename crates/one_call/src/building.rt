@@ -1,14 +1,16 @@
 //! The building of a tree. After want of memory the table and the seat serve the next decision.
 ghost use Rattle.std.specs.Prelude.{◌≤◌};
 ghost use Rattle.slots.specs.Promise.{IsSeatOf};
-ghost use Rattle.decision.specs.Answer.{IsFewest};
+ghost use Rattle.problems.specs.Answer.{IsFewest};
 
 use crate::solving::root;
 use board::{Position, Side};
-use decision::{Answer, decide};
+use decision::decide;
 use entry::MateLore;
 use moves::Goal;
-use rounds::{NoGate, solve};
+use problems::Answer;
+use rounds::solve;
+use searcher::NoGate;
 use slots::{Seat, Slots};
 use std::alloc::Global;
 use std::sync::Wait;

@@ -3,9 +3,10 @@ ghost use Rattle.slots.specs.Promise.{IsSeatOf};
 
 use crate::solving::root;
 use board::{Position, Side};
-use decision::{Memory, Never, Question, Scout, decide, decide_on, decide_until};
+use decision::{Memory, Never, Scout, decide, decide_on, decide_until};
 use entry::MateLore;
 use moves::{Board, Goal};
+use problems::Question;
 use slots::{Seat, Slots};
 use std::alloc::Global;
 

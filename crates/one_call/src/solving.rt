@@ -4,10 +4,12 @@ ghost use Rattle.std.specs.Prelude.{All};
 ghost use Rattle.slots.specs.Promise.{IsSeatOf};
 
 use board::{Position, Side, read_fen};
-use decision::{Answer, decide};
+use decision::decide;
 use entry::MateLore;
 use moves::{Goal, Move, Square};
-use rounds::{NoGate, SolveFault, Task, make_table, solve, solve_over};
+use problems::Answer;
+use rounds::{SolveFault, Task, make_table, solve, solve_over};
+use searcher::NoGate;
 use slots::{Seat, Slots};
 use std::alloc::Global;
 use std::sync::Wait;

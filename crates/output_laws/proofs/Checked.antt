@@ -1,18 +1,14 @@
 -- What is checked of what was printed.
-use Rattle.std.proofs.Common.{◌≡◌, ◌≤◌, ◌-◌, ℕ, List, [], ◌∷◌, Bool, true, false, ◌||◌, cond, length, take, get_or, Option, None, Some, length-append, refl, sym, ap, subst, ◌∙◌, inl, inr, arith}
-use Rattle.std.proofs.Math.Dec.{ltb}
-use Rattle.std.proofs.lemmas.Bool.{le-ltb, or_parts, eq-eqb}
-use Rattle.std.proofs.lemmas.Bool.Decides.{nat_tests}
+use Rattle.std.proofs.Common.{◌≡◌, ◌≤◌, ◌-◌, ℕ, List, [], ◌∷◌, cond, length, take, get_or, Some, length-append, refl, sym, ap, subst, ◌∙◌, inl, inr, arith}
+use Rattle.std.proofs.lemmas.Bool.{le-ltb, eq-eqb}
 use Rattle.std.proofs.lemmas.List.{take_at, get_or-append_right}
 use Rattle.board.specs.Board.{PlainBoard}
 use Rattle.board.proofs.FenParts.{one_board}
 use Rattle.rules.specs.declared.goal.Goal.{Goal}
 use Rattle.rules.specs.Squares.{Ply}
-use Rattle.decision.specs.declared.answer.Answer.{Answer}
-use Rattle.decision.specs.declared.answer.Answer.TheVariants.{Mate, NoneWithin}
-use Rattle.decision.specs.Answer.{IsFewest, IsAnswer}
-use Rattle.rounds.specs.declared.task.SolveFault.TheVariants.{Limit}
-use Rattle.rounds.specs.Limits.{limits_fault}
+use Rattle.problems.specs.declared.answer.Answer.{Answer}
+use Rattle.problems.specs.declared.answer.Answer.TheVariants.{Mate, NoneWithin}
+use Rattle.problems.specs.Answer.{IsFewest, IsAnswer}
 use Rattle.wintree.specs.Plan.{Plan}
 use Rattle.wintree.specs.Text.{text as plan_text}
 use Rattle.trees.specs.Best.{IsBest}
@@ -22,6 +18,7 @@ use Rattle.command_line.specs.declared.line.Limits.{Limits}
 use Rattle.command_line.specs.declared.line.Action.TheVariants.{Solve, Tree, Check}
 use Rattle.devices.specs.Input.{without_line_feed}
 use Rattle.answer_texts.specs.Answers.{answer_text, checked_text}
+use Rattle.rounds.proofs.Limits.{limit_within}
 use Rattle.replies.specs.Output.{fault_of, ShowsAnswer, ShowsBest, ShowsPlanFound, ShowsTree, ShowsCheck, ShowsCommand, IsOutput}
 use Rattle.endings.specs.Outcome.{IsSoundText}
 use Rattle.refusals.specs.Reply.{Reply, answered, line_of}
@@ -30,20 +27,6 @@ use Rattle.answer_laws.proofs.OneAnswer.{one_fewest}
 use Rattle.answer_laws.proofs.Heights.{best_is_read}
 use Rattle.output_laws.specs.Outputs.{IsForcedWithin}
 use Rattle.output_laws.proofs.Shown.{in_none}
-
--- ---- limits
-
-some_or_none : {X : Type 0} (r : Bool) (x : X) (rest : Option X) → cond r (Some x) rest ≡ None → r ≡ false
-some_or_none true x rest e = cc
-some_or_none false x rest e = refl
-
-most_limit : (limit workers slots : ℕ) → limits_fault limit workers slots ≡ None → limit ≤ 63
-most_limit limit workers slots e =
-    let neither = or_parts (ltb limit 1) (ltb 63 limit) (some_or_none (ltb limit 1 || ltb 63 limit) Limit _ e) in
-    at_most limit neither.1
-  where
-    at_most : (n : ℕ) → ltb 63 n ≡ false → n ≤ 63
-    at_most n h = grind (arith, nat_tests)
 
 -- ---- a line at its sound position
 
@@ -96,7 +79,7 @@ tree_is_checked tree check goal limits plies input printed forced same is_tree i
     let b = forced.board in
     let shown : ShowsPlanFound goal b limits printed = subst (λ a. ShowsCommand b a input printed) is_tree (shown_at tree input printed b forced.sound output) in
     let found = plan_shown goal b limits.limit plies printed forced.within forced.fewest (in_none (fault_of limits) _ _ forced.taken shown) in
-    let low : plies ≤ 63 = omega (arith, forced.within, most_limit limits.limit limits.workers limits.slots forced.taken) in
+    let low : plies ≤ 63 = omega (arith, forced.within, (limit_within limits.limit limits.workers limits.slots forced.taken).1) in
     let shows : ShowsCheck goal b printed.text (answered (checked_text (Some plies))) =
     check_shown goal b printed.text (plan_text found.0) (answered (checked_text (Some plies))) (ap (λ (r : Reply). r.text) found.2) short (checked goal b plies found.0 low forced.fewest found.1) in
     inl (b, subst (λ fen. IsSoundText fen b) (sym same) forced.sound, subst (λ a. ShowsCommand b a printed.text (answered (checked_text (Some plies)))) (sym is_check) shows)

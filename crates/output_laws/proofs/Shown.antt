@@ -5,11 +5,11 @@ use Rattle.board.specs.Board.{PlainBoard}
 use Rattle.board.proofs.FenParts.{one_board}
 use Rattle.rules.specs.declared.goal.Goal.{Goal}
 use Rattle.rules.specs.Reading.{IsSoundFault}
-use Rattle.decision.specs.declared.answer.Answer.{Answer}
-use Rattle.decision.specs.Answer.{IsAnswer}
-use Rattle.searcher.specs.declared.keys.Key.{Key}
+use Rattle.problems.specs.declared.answer.Answer.{Answer}
+use Rattle.problems.specs.Answer.{IsAnswer}
+use Rattle.problems.specs.declared.key.Key.{Key}
 use Rattle.rounds.specs.declared.task.SolveFault.{SolveFault}
-use Rattle.searcher.specs.Keys.{ListsKeys}
+use Rattle.problems.specs.Keys.{ListsKeys}
 use Rattle.wintree.specs.Plan.{Plan}
 use Rattle.wintree.specs.Text.{text as plan_text}
 use Rattle.wintree.specs.Wins.{Wins, height}

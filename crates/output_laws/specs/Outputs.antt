@@ -3,8 +3,8 @@ use Rattle.std.specs.Prelude.{◌≡◌, ℕ, ◌≤◌, List, length, None, Som
 use Rattle.board.specs.Board.{PlainBoard}
 use Rattle.rules.specs.declared.goal.Goal.{Goal}
 use Rattle.rules.specs.Squares.{Ply}
-use Rattle.decision.specs.declared.answer.Answer.TheVariants.{Mate}
-use Rattle.decision.specs.Answer.{IsFewest}
+use Rattle.problems.specs.declared.answer.Answer.TheVariants.{Mate}
+use Rattle.problems.specs.Answer.{IsFewest}
 use Rattle.command_line.specs.declared.line.Line.{Line}
 use Rattle.command_line.specs.declared.line.Limits.{Limits}
 use Rattle.command_line.specs.declared.line.Action.{Action}

@@ -1,7 +1,7 @@
 //! What is known of a search while it lasts, and the thread that shows it on standard error.
 ghost use Rattle.std.specs.Prelude.{◌≡◌, ◌↔◌, ◌<◌, ◌≤◌, ℕ, IfOk, IfSome, IsTrue, string_bytes, vec_len};
 ghost use Rattle.atomic_table.specs.Seated.{TableId};
-ghost use Rattle.rounds.specs.Going.{KeepsOn};
+ghost use Rattle.searcher.specs.Gates.{KeepsOn};
 ghost use Rattle.progress.specs.Text.{drawn_text, sign_text};
 ghost use Rattle.progress.specs.declared.sign.Sign.{Sign};
 ghost use Rattle.progress.specs.Signs.{DrawsFirst, IsRoundAfter, IsSignOf, IsTargetOf, WatchesSearch};
@@ -11,7 +11,7 @@ use crate::sign::{CLEARED, Sign, Work, drawn, left_behind};
 use board::Position;
 use entry::MateLore;
 use moves::{Move, lawful};
-use rounds::{Ended, Gate};
+use searcher::{Ended, Gate};
 use slots::{Seat, Slots};
 use std::alloc::{AllocError, Global};
 use std::sync::Wait;

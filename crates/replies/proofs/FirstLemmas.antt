@@ -10,8 +10,8 @@ use Rattle.replies.specs.First.{IsFirstReply, NamesJob, ShowsFirst, ShowsJob, Sh
 use Rattle.std.specs.declared.alloc.Global.{Global}
 use Rattle.std.proofs.lemmas.Option.{get_or_from_slice_get}
 use Rattle.wintree.specs.Text.{text as plan_text}
-use Rattle.searcher.specs.Roots.{IsJobOf}
-use Rattle.searcher.specs.declared.root.Root.{Root}
+use Rattle.problems.specs.Roots.{IsJobOf}
+use Rattle.problems.specs.declared.root.Root.{Root}
 use Rattle.command_line.specs.declared.line.Limits.{Limits}
 use Rattle.command_line.specs.declared.line.Played.{Played}
 use Rattle.refusals.specs.Reply.{Reply, answered, line_of}

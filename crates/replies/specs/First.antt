@@ -7,7 +7,7 @@ use Rattle.rules.specs.MoveText.{move_text}
 use Rattle.rules.specs.Moves.{IsLawful}
 use Rattle.rules.specs.Reading.{IsSoundFault}
 use Rattle.rules.specs.Squares.{Ply}
-use Rattle.searcher.specs.declared.root.Root.{Root}
+use Rattle.problems.specs.declared.root.Root.{Root}
 use Rattle.wintree.specs.Plan.{Plan}
 use Rattle.wintree.specs.Text.{text as plan_text}
 use Rattle.trees.specs.First.{IsOpened, TakesNone}

@@ -2,12 +2,12 @@
 use Rattle.std.specs.Prelude.{◌≡◌, ◌≤◌, ◌⊎◌, ℕ, List, Option, None, Some, Result, Ok, Err, Vec}
 use Rattle.board.specs.Board.{PlainBoard}
 use Rattle.rules.specs.declared.goal.Goal.{Goal}
-use Rattle.decision.specs.declared.answer.Answer.{Answer}
+use Rattle.problems.specs.declared.answer.Answer.{Answer}
 use Rattle.rounds.specs.declared.task.SolveFault.{SolveFault}
 use Rattle.rounds.specs.declared.task.SolveFault.TheVariants as solve
-use Rattle.searcher.specs.declared.keys.Key.{Key}
-use Rattle.decision.specs.Answer.{IsAnswer, IsFewest, ForcesNothing}
-use Rattle.searcher.specs.Keys.{ListsKeys}
+use Rattle.problems.specs.declared.key.Key.{Key}
+use Rattle.problems.specs.Answer.{IsAnswer, IsFewest, ForcesNothing}
+use Rattle.problems.specs.Keys.{ListsKeys}
 use Rattle.trees.specs.Best.{IsBest}
 use Rattle.wintree.specs.Plan.{Plan}
 use Rattle.devices.specs.Input.{OfInput}

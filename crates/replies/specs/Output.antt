@@ -7,12 +7,12 @@ use Rattle.rules.specs.declared.goal.Goal.TheVariants as goal
 use Rattle.rules.specs.Order.{ListsLawful}
 use Rattle.rules.specs.Reading.{IsSoundFault}
 use Rattle.rules.specs.Squares.{Ply}
-use Rattle.decision.specs.declared.answer.Answer.{Answer}
-use Rattle.decision.specs.Answer.{IsAnswer, IsFewest, ForcesNothing}
+use Rattle.problems.specs.declared.answer.Answer.{Answer}
+use Rattle.problems.specs.Answer.{IsAnswer, IsFewest, ForcesNothing}
 use Rattle.rounds.specs.declared.task.SolveFault.{SolveFault}
 use Rattle.rounds.specs.declared.task.SolveFault.TheVariants as solve
-use Rattle.searcher.specs.declared.keys.Key.{Key}
-use Rattle.searcher.specs.Keys.{ListsKeys}
+use Rattle.problems.specs.declared.key.Key.{Key}
+use Rattle.problems.specs.Keys.{ListsKeys}
 use Rattle.rounds.specs.Limits.{limits_fault}
 use Rattle.trees.specs.Best.{IsBest}
 use Rattle.wintree.specs.declared.fault.TreeFault.{TreeFault}

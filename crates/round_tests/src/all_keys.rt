@@ -2,8 +2,9 @@
 use crate::solves::{read, root};
 use board::Position;
 use moves::{Goal, Move, Square};
-use rounds::{NoGate, SolveFault, Task, keys_over, make_table};
-use searcher::Key;
+use problems::Key;
+use rounds::{SolveFault, Task, keys_over, make_table};
+use searcher::NoGate;
 use std::alloc::Global;
 use std::process::Abort;
 use std::sync::Wait;

@@ -1,9 +1,10 @@
 //! That each job is begun once, and by more than one thread.
 use crate::solves::{expected, read, root, solved};
-use decision::Answer;
 use entry::MateLore;
 use moves::Goal;
-use rounds::{Gate, Task, keys_over, make_table, solve};
+use problems::Answer;
+use rounds::{Task, keys_over, make_table, solve};
+use searcher::Gate;
 use slots::{Seat, Slots};
 use std::alloc::{AllocError, Global};
 use std::process::Abort;

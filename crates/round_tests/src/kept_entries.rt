@@ -8,7 +8,7 @@ use crate::solves::{expected, solved};
 use board::{Position, Side, read_fen};
 use entry::{Entry, Interval, MateLore, key_of, pack};
 use moves::Goal;
-use rounds::Gate;
+use searcher::Gate;
 use slots::{Probe, Seat, Slots};
 use std::process::Abort;
 use std::sync::atomic::{AtomicBool, AtomicU64, Ordering};

@@ -4,10 +4,11 @@ ghost use Rattle.slots.specs.Promise.{IsSeatOf};
 
 use crate::solves::{expected, read, root};
 use board::Position;
-use decision::Answer;
 use entry::MateLore;
 use moves::{Goal, Move, Square};
-use rounds::{NoGate, SolveFault, Task, make_table, solve_over};
+use problems::Answer;
+use rounds::{SolveFault, Task, make_table, solve_over};
+use searcher::NoGate;
 use slots::{Seat, Slots};
 use std::alloc::Global;
 use std::process::Abort;

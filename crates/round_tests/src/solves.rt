@@ -1,8 +1,9 @@
 //! That an answer is found, with few workers and many, and the first fault of several.
 use board::{Kind, Position, read_fen};
-use decision::Answer;
 use moves::{Goal, Move, Square};
-use rounds::{Gate, NoGate, SolveFault, solve};
+use problems::Answer;
+use rounds::{SolveFault, solve};
+use searcher::{Gate, NoGate};
 use std::alloc::Global;
 use std::process::Abort;
 use std::sync::Wait;

@@ -8,7 +8,8 @@ use Rattle.decision.specs.Calls.{Continues}
 use Rattle.decision.proofs.Calls.{continues_none, continues_more}
 use Rattle.rounds.specs.declared.share.Share.{Share}
 use Rattle.rounds.specs.Shares.{seats_back}
-use Rattle.rounds.specs.Going.{SeatGoesOn, KeepsOn, EachGoesOn, SeatsGoOn, KeptSeatsGoOn}
+use Rattle.rounds.specs.Going.{SeatGoesOn, EachGoesOn, SeatsGoOn, KeptSeatsGoOn}
+use Rattle.searcher.specs.Gates.{KeepsOn}
 use Rattle.rounds.specs.Going.SeatGoesOn.{searched, called, onward}
 use Rattle.decision.proofs.Zips.{zip_same, zip_last, zip_then, zip_back}
 

@@ -12,7 +12,7 @@ use Rattle.rounds.specs.declared.bench.Bench.{Bench}
 use Rattle.rounds.specs.declared.bench.RootJobs.{RootJobs}
 use Rattle.rounds.specs.declared.share.Part.{Part}
 use Rattle.rounds.specs.declared.share.Share.{Share}
-use Rattle.searcher.specs.Jobs.{RootJobWins}
+use Rattle.problems.specs.Jobs.{RootJobWins}
 use Rattle.rounds.specs.Deals.{Deals}
 use Rattle.rounds.specs.Seats.{AreSeats}
 use Rattle.rounds.specs.Shares.{IsBench, WinsHere, AreDealt, seats_back}

@@ -6,6 +6,7 @@ use Rattle.atomic_table.specs.declared.shared.Seat.{Seat}
 use Rattle.slots.specs.declared.views.View.{View}
 use Rattle.slots.specs.Promise.{IsSeatOf}
 use Rattle.decision.specs.Calls.{Continues, SeatsContinue}
+use Rattle.searcher.specs.Gates.{KeepsOn}
 use Rattle.rounds.specs.declared.share.Share.{Share}
 
 -- The seat goes on by calls of two kinds, in any order: the search's own, by which it continues, and the gate's, which keep what the gate says
@@ -13,10 +14,6 @@ pub data SeatGoesOn (keeps : TableId → Seat ℕ View → Seat ℕ View → Typ
   searched : {before after : Seat ℕ View} → Continues table before after → SeatGoesOn keeps table before after
   called : {before after : Seat ℕ View} → IsSeatOf table before → keeps table before after → SeatGoesOn keeps table before after
   onward : {before between after : Seat ℕ View} → SeatGoesOn keeps table before between → SeatGoesOn keeps table between after → SeatGoesOn keeps table before after
-
--- the gate's calls are such that a seat continues in them
-abbrev pub KeepsOn : (TableId → Seat ℕ View → Seat ℕ View → Type 0) → TableId → Type 0
-KeepsOn keeps table = (before after : Seat ℕ View) → IsSeatOf table before → keeps table before after → Continues table before after
 
 -- each of these seats goes on, from the one with its number
 abbrev pub SeatsGoOn : (TableId → Seat ℕ View → Seat ℕ View → Type 0) → TableId → List (Seat ℕ View) → List (Seat ℕ View) → Type 0

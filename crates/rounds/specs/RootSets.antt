@@ -1,6 +1,6 @@
 -- The jobs that win in a round.
 use Rattle.std.specs.Prelude.{ℕ}
-use Rattle.searcher.specs.declared.root.Root.{Root}
+use Rattle.problems.specs.declared.root.Root.{Root}
 use Rattle.rounds.specs.declared.bench.RootJobs.{RootJobs}
 
 -- the jobs that win within n plies, as a set

@@ -11,7 +11,7 @@ use Rattle.rounds.specs.declared.share.Share.{Share}
 use Rattle.rounds.specs.declared.share.Verdict.{Verdict}
 use Rattle.rounds.specs.declared.share.Verdict.TheVariants.{Open, Wins}
 use Rattle.rounds.specs.Deals.{Deals}
-use Rattle.searcher.specs.Roots.{IsRoot, IsLimit, WinsIn}
+use Rattle.problems.specs.Roots.{IsRoot, IsLimit, WinsIn}
 use Rattle.rounds.specs.RootSets.{root_jobs}
 use Rattle.rounds.specs.Verdicts.{AreRight}
 

@@ -2,13 +2,13 @@
 ghost use Rattle.std.specs.Prelude.{◌≡◌};
 ghost use Rattle.least.specs.Promise.{IsJobSeatOf};
 
-use crate::task::Gate;
 use board::Position;
 use decision::Stop;
 use entry::MateLore;
 use least::{JobSeat, Least, Wins};
 use moves::Goal;
-use searcher::Root;
+use problems::Root;
+use searcher::Gate;
 use slots::Slots;
 
 /// The jobs that win in a round: those whose moves win within so many plies.
@@ -20,7 +20,7 @@ pub(crate) struct RootJobs {
 }
 
 impl Wins for RootJobs {
-    ghost use Rattle.searcher.specs.Jobs.{RootJobWins};
+    ghost use Rattle.problems.specs.Jobs.{RootJobWins};
 
     ghost wins = { λ w job. RootJobWins w.goal w.position w.plies job };
 }

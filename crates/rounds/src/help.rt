@@ -7,10 +7,11 @@ ghost use Rattle.rounds.specs.Shares.{IsBench};
 
 use crate::bench::Bench;
 use crate::deal::Count;
-use crate::task::Gate;
 use arrayvec::ArrayVec;
-use decision::{Memory, Question, Scout, Stop, decide_until, in_order};
+use decision::{Memory, Scout, Stop, decide_until, in_order};
 use moves::Move;
+use problems::Question;
+use searcher::Gate;
 use slots::Seat;
 use std::alloc::{AllocError, Global};
 use std::marker::PhantomData;

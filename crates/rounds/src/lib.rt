@@ -14,4 +14,4 @@ mod telling;
 
 pub use keys::{keys_alone, keys_over};
 pub use solving::{MOST_WORKERS, make_table, make_table_in, solve, solve_over};
-pub use task::{Asked, Ended, Gate, NoGate, SolveFault, Task, kept_seats_go_on, no_gate_keeps_on};
+pub use task::{Asked, SolveFault, Task, kept_seats_go_on};

@@ -1,7 +1,7 @@
 //! A round: its jobs are dealt out, worked on by all threads, and settled by the caller.
 ghost use Rattle.std.specs.Prelude.{◌≡◌, ◌<◌, ◌≤◌, ◌↔◌, [], All, IfOk, IsTrue, length, vec_capacity};
 ghost use Rattle.rounds.specs.Verdicts.{IsVerdictRight};
-ghost use Rattle.searcher.specs.Roots.{IsRoot, IsLimit, EndsRound};
+ghost use Rattle.problems.specs.Roots.{IsRoot, IsLimit, EndsRound};
 ghost use Rattle.rounds.specs.Seats.{AreSeats, AreCallers, AreJobSeats};
 ghost use Rattle.rounds.specs.Shares.{IsBench, WinsHere, IsPart, IsShare, AreDealt, seats_back};
 ghost use Rattle.rounds.specs.Going.{SeatGoesOn, EachGoesOn, SeatsGoOn};
@@ -10,9 +10,9 @@ use crate::bench::{Bench, RootJobs, Search};
 use crate::deal::{Count, Thief, deal};
 use crate::help::{Out, all_outs};
 use crate::share::{Part, Share, Verdict};
-use crate::task::Gate;
 use crate::telling::decide_job;
 use least::{JobSeat, Least, MakeFault};
+use searcher::Gate;
 use slots::Seat;
 use std::alloc::{AllocError, Global};
 use std::sync::Wait;

@@ -1,21 +1,21 @@
 //! A solve: rounds of more and more plies, each by all workers, over one table.
 ghost use Rattle.std.specs.Prelude.{◌≡◌, ◌+◌, All, IfOk, IfErr, None, Some, length};
 ghost use Rattle.slots.specs.Promise.{slots_of, IsSeatOf, AllNew};
-ghost use Rattle.decision.specs.Answer.{IsAnswer};
-ghost use Rattle.searcher.specs.Problems.{IsProblemOf};
-ghost use Rattle.searcher.specs.Roots.{IsRoot, IsLimit};
+ghost use Rattle.problems.specs.Answer.{IsAnswer};
+ghost use Rattle.problems.specs.Problems.{IsProblemOf};
+ghost use Rattle.problems.specs.Roots.{IsRoot, IsLimit};
 ghost use Rattle.rounds.specs.Limits.{limits_fault, IsRefusal, task_fault, IsTaskRefusal};
 ghost use Rattle.rounds.specs.Seats.{AreSeats, AreCallers};
 ghost use Rattle.rounds.specs.Going.{SeatsGoOn};
 
 use crate::bench::Search;
 use crate::round::round;
-use crate::task::{Ended, Gate, SolveFault, Task};
+use crate::task::{SolveFault, Task};
 use board::Position;
-use decision::{Answer, MOST_LIMIT};
 use entry::MateLore;
 use moves::Goal;
-use searcher::{Problem, Root};
+use problems::{Answer, MOST_LIMIT, Problem, Root};
+use searcher::{Ended, Gate};
 use slots::{MOST_SLOTS, Seat, Slots};
 use std::alloc::{AllocError, Allocator, Global};
 use std::marker::Brand;

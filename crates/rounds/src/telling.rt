@@ -1,14 +1,15 @@
 //! What one thread decides, of which a gate is told.
 ghost use Rattle.std.specs.Prelude.{◌↔◌, IsTrue};
 ghost use Rattle.slots.specs.Promise.{IsSeatOf};
-ghost use Rattle.searcher.specs.Roots.{IsJobOf, IsLimit, WinsIn};
+ghost use Rattle.problems.specs.Roots.{IsJobOf, IsLimit, WinsIn};
 ghost use Rattle.rounds.specs.Going.{SeatGoesOn};
 
 use crate::bench::Search;
 use crate::gated::Gated;
-use crate::task::{Gate, job_ended};
-use decision::{Question, decide_on};
-use searcher::{Decider, Root};
+use crate::task::job_ended;
+use decision::decide_on;
+use problems::{Question, Root};
+use searcher::{Decider, Gate};
 use slots::Seat;
 
 impl<T: Gate> Decider for Gated<'_, T> {

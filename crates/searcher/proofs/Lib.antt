@@ -1,3 +1,2 @@
-pub mod Jobs
 pub mod Taking
 pub mod Halts

@@ -10,13 +10,13 @@ use Rattle.rules.specs.Squares.{Ply}
 use Rattle.rules.specs.Order.{IsPlyBefore}
 use Rattle.rules.specs.Forces.{IsReached, Forces}
 use Rattle.rules.proofs.Forcing.{to_other, turn-own, turn-other, same_side-self, twice, twice-double, Forces-even}
-use Rattle.decision.specs.Answer.{Wins}
-use Rattle.searcher.specs.declared.root.Root.{Root}
-use Rattle.searcher.specs.declared.keys.Key.{Key}
-use Rattle.searcher.specs.Roots.{IsRoot, WinsIn, TakesIn}
-use Rattle.searcher.specs.Keys.{Takes, ListsKeys}
+use Rattle.problems.specs.Answer.{Wins}
+use Rattle.problems.specs.declared.root.Root.{Root}
+use Rattle.problems.specs.declared.key.Key.{Key}
+use Rattle.problems.specs.Roots.{IsRoot, WinsIn, TakesIn}
+use Rattle.problems.specs.Keys.{Takes, ListsKeys}
 use Rattle.moves.proofs.Picking.{InOrder, Picks, keep, skip}
-use Rattle.searcher.proofs.Jobs.{same_some}
+use Rattle.problems.proofs.Jobs.{same_some}
 use Rattle.board.proofs.RankText.{on_true as on_own, on_false as on_other}
 
 -- with the defender to move, 2 r + 1 plies are no better than 2 r

@@ -1,20 +1,19 @@
 //! Solves and keys by the caller's own thread over a table, with no lock, where nothing stops it.
 ghost use Rattle.std.specs.Prelude.{◌≤◌, IfOk};
 ghost use Rattle.slots.specs.Promise.{IsSeatOf};
-ghost use Rattle.decision.specs.Answer.{IsAnswer};
+ghost use Rattle.problems.specs.Answer.{IsAnswer};
 ghost use Rattle.decision.specs.Calls.{Continues};
-ghost use Rattle.searcher.specs.Keys.{ListsKeys};
-ghost use Rattle.searcher.specs.Roots.{IsRoot};
+ghost use Rattle.problems.specs.Keys.{ListsKeys};
+ghost use Rattle.problems.specs.Roots.{IsRoot};
 
 use crate::halt::Halt;
-use crate::keys::{Key, keys_of};
-use crate::problem::Problem;
-use crate::root::Root;
+use crate::keys::keys_of;
 use crate::searcher::Searcher;
 use crate::solving::solve_by;
-use decision::{Answer, Memory, Never, Scout};
+use decision::{Memory, Never, Scout};
 use entry::MateLore;
 use moves::{Board, Goal};
+use problems::{Answer, Key, Problem, Root};
 use slots::{Seat, Slots};
 use std::alloc::{AllocError, Allocator};
 

@@ -1,10 +1,9 @@
 //! Who decides whether a first move wins.
 ghost use Rattle.std.specs.Prelude.{◌≤◌, ◌↔◌, IsTrue, MatchOption};
-ghost use Rattle.decision.specs.Questions.{IsForced};
-ghost use Rattle.searcher.specs.Roots.{IsJobOf, IsLimit, WinsIn};
+ghost use Rattle.problems.specs.Questions.{IsForced};
+ghost use Rattle.problems.specs.Roots.{IsJobOf, IsLimit, WinsIn};
 
-use crate::root::Root;
-use decision::Question;
+use problems::{Question, Root};
 
 /// Decides what is forced, question after question. What is found by it rests on this contract alone, whoever it is.
 pub trait Decider {

@@ -1,21 +1,13 @@
 //! The keys of a position: its first moves that force the goal, each with the plies that it takes.
 ghost use Rattle.std.specs.Prelude.{◌≡◌, ℕ, ◌≤◌, IfErr, IfOk, MatchOption};
 ghost use Rattle.searcher.specs.declared.halt.Halt.TheVariants.{Stopped};
-ghost use Rattle.searcher.specs.Keys.{ListsKeys};
-ghost use Rattle.searcher.specs.Roots.{IsRoot, IsJobOf, TakesIn};
+ghost use Rattle.problems.specs.Keys.{ListsKeys};
+ghost use Rattle.problems.specs.Roots.{IsRoot, IsJobOf, TakesIn};
 
 use crate::decider::Decider;
 use crate::halt::Halt;
-use crate::root::Root;
-use moves::Move;
+use problems::{Key, Root};
 use std::alloc::Allocator;
-
-/// A first move that forces the goal, and the fewest plies that it takes, itself counted.
-#[derive(Clone, Copy, PartialEq, Eq, Debug)]
-pub struct Key {
-    pub first: Move,
-    pub plies: u8,
-}
 
 /// The fewest plies, up to the limit, within which the job wins, if it does: rounds of 1, 3, 5 and so on. `None` where the decider was
 /// told to stop.

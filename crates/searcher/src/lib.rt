@@ -3,18 +3,16 @@
 
 mod alone;
 mod decider;
+mod gate;
 mod halt;
 mod keys;
-mod problem;
-mod root;
 mod searcher;
 mod solving;
 
 pub use alone::{keys_alone, solve_alone, solve_board_alone};
 pub use decider::Decider;
+pub use gate::{Ended, Gate, NoGate, no_gate_keeps_on};
 pub use halt::Halt;
-pub use keys::{Key, keys_of, plies_of};
-pub use problem::Problem;
-pub use root::Root;
+pub use keys::{keys_of, plies_of};
 pub use searcher::Searcher;
 pub use solving::{least_win, solve_by};

@@ -2,8 +2,9 @@
 ghost use Rattle.slots.specs.Promise.{IsSeatOf};
 
 use crate::decider::Decider;
-use decision::{Question, Scout, Stop, is_forced_until};
+use decision::{Scout, Stop, is_forced_until};
 use entry::MateLore;
+use problems::Question;
 use slots::{Seat, Slots};
 use std::alloc::Allocator;
 

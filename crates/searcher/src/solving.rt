@@ -1,11 +1,10 @@
 //! A solve by whoever decides: round after round, each by the root's moves in order.
 ghost use Rattle.std.specs.Prelude.{◌≤◌, MatchOption};
-ghost use Rattle.decision.specs.Answer.{IsAnswer};
-ghost use Rattle.searcher.specs.Roots.{IsRoot, IsLimit, EndsRound};
+ghost use Rattle.problems.specs.Answer.{IsAnswer};
+ghost use Rattle.problems.specs.Roots.{IsRoot, IsLimit, EndsRound};
 
 use crate::decider::Decider;
-use crate::root::Root;
-use decision::Answer;
+use problems::{Answer, Root};
 
 /// The least job that wins within so many plies, if one does; or `None` where the decider was told to stop.
 pub fn least_win<D: Decider>(decider: &mut D, root: &Root, plies: u8) -> Option<Option<u16>>

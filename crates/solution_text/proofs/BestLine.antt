@@ -8,7 +8,7 @@ use Rattle.rules.specs.Squares.{Ply}
 use Rattle.rules.specs.Moves.{IsMove, IsLawful}
 use Rattle.rules.proofs.Keeps.{one_after}
 use Rattle.rules.proofs.Forcing.{same_side-self}
-use Rattle.decision.specs.Answer.{IsFewest}
+use Rattle.problems.specs.Answer.{IsFewest}
 use Rattle.solutions.specs.declared.variation.Variation.{Variation}
 use Rattle.solutions.specs.Lines.{ListsContinuations, IsBestLine}
 use Rattle.solutions.specs.Solutions.{TellsVariation, IsVariation}

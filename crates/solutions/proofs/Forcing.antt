@@ -9,10 +9,10 @@ use Rattle.rules.specs.Moves.{IsMove, IsLawful}
 use Rattle.rules.specs.Forces.{IsReached, Forces}
 use Rattle.rules.proofs.Keeps.{one_after}
 use Rattle.rules.proofs.Forcing.{to_other, turn-own, turn-other, same_side-self, twice, twice-double, Forces-even}
-use Rattle.decision.specs.Answer.{Wins, IsFewest, ForcesNothing, IsAnswer}
-use Rattle.decision.specs.declared.answer.Answer.{Answer}
-use Rattle.decision.specs.declared.answer.Answer.TheVariants.{Mate as mates, NoneWithin}
-use Rattle.decision.proofs.Winning.{forced_by, nothing_at_once, same_mover}
+use Rattle.problems.specs.Answer.{Wins, IsFewest, ForcesNothing, IsAnswer}
+use Rattle.problems.specs.declared.answer.Answer.{Answer}
+use Rattle.problems.specs.declared.answer.Answer.TheVariants.{Mate as mates, NoneWithin}
+use Rattle.problems.proofs.Winning.{forced_by, nothing_at_once, same_mover}
 use Rattle.trees.proofs.Forcing.{forced_within, reached_now, not_reached}
 use Rattle.solutions.specs.Lines.{IsMet, Lasts}
 use Rattle.board.proofs.RankText.{on_false as on_other}

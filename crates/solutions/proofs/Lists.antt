@@ -10,13 +10,13 @@ use Rattle.rules.specs.Squares.{Ply}
 use Rattle.rules.specs.Moves.{IsLawful}
 use Rattle.rules.specs.Order.{IsPlyBefore, ListsLawful}
 use Rattle.moves.proofs.Picking.{Picks, keep, skip}
-use Rattle.decision.specs.Answer.{Wins}
-use Rattle.searcher.specs.declared.root.Root.{Root}
-use Rattle.searcher.specs.Roots.{WinsIn}
+use Rattle.problems.specs.Answer.{Wins}
+use Rattle.problems.specs.declared.root.Root.{Root}
+use Rattle.problems.specs.Roots.{WinsIn}
 use Rattle.solutions.specs.Lines.{ListsMoves}
 use Rattle.rules.proofs.Lists.{split3}
-use Rattle.searcher.proofs.Jobs.{same_some}
-use Rattle.decision.proofs.Winning.{same_default}
+use Rattle.problems.proofs.Jobs.{same_some}
+use Rattle.problems.proofs.Winning.{same_default}
 
 -- ---- one element more
 

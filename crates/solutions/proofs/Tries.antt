@@ -11,7 +11,7 @@ use Rattle.rules.specs.Squares.{Ply}
 use Rattle.rules.specs.Moves.{IsMove, IsLawful}
 use Rattle.rules.specs.Order.{IsPlyBefore, ListsLawful}
 use Rattle.rules.proofs.Keeps.{one_after}
-use Rattle.decision.specs.Answer.{Wins}
+use Rattle.problems.specs.Answer.{Wins}
 use Rattle.solutions.specs.declared.first_try.Try.{Try}
 use Rattle.solutions.specs.Lines.{IsMet}
 use Rattle.solutions.specs.Solutions.{Refutes, RefutesAlone, IsTry, ListsTries}

@@ -7,7 +7,7 @@ use Rattle.rules.specs.declared.goal.Goal.{Goal}
 use Rattle.rules.specs.Squares.{Ply}
 use Rattle.rules.specs.Moves.{IsMove, IsLawful}
 use Rattle.rules.specs.Order.{ListsLawful}
-use Rattle.decision.specs.Answer.{ForcesNothing}
+use Rattle.problems.specs.Answer.{ForcesNothing}
 use Rattle.trees.proofs.Forcing.{forced_within}
 use Rattle.solutions.specs.declared.variation.Variation.{Variation}
 use Rattle.solutions.specs.Lines.{IsMet}

@@ -7,7 +7,7 @@ use Rattle.rules.specs.Squares.{Ply}
 use Rattle.rules.specs.Moves.{IsMove}
 use Rattle.rules.specs.Order.{IsPlyBefore}
 use Rattle.rules.specs.Forces.{IsReached, Forces}
-use Rattle.decision.specs.Answer.{Wins, IsFewest, IsLeastWin}
+use Rattle.problems.specs.Answer.{Wins, IsFewest, IsLeastWin}
 
 -- the list has exactly the moves of which this holds, in order, so each once
 pub record ListsMoves (game : Game) (P : Ply → Type 0) (moves : List Ply) : Type 0 where

@@ -8,7 +8,7 @@ use Rattle.rules.specs.Reach.{IsSound}
 use Rattle.rules.specs.Moves.{IsMove}
 use Rattle.rules.specs.Order.{ListsLawful}
 use Rattle.rules.specs.Forces.{IsReached, Forces}
-use Rattle.decision.specs.Answer.{Wins, IsFewest, ForcesNothing}
+use Rattle.problems.specs.Answer.{Wins, IsFewest, ForcesNothing}
 use Rattle.solutions.specs.declared.extras.Extras.{Extras}
 use Rattle.solutions.specs.declared.threats.Threats.{Threats}
 use Rattle.solutions.specs.declared.threats.Threats.TheVariants.{End, Check, Zugzwang, Moves}

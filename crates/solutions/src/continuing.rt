@@ -1,12 +1,13 @@
 //! The continuations of a position in which the attacker is to move.
 ghost use Rattle.std.specs.Prelude.{◌≡◌, IfErr, IfOk, MatchOption};
-ghost use Rattle.decision.specs.Answer.{IsFewest, IsLeastWin};
+ghost use Rattle.problems.specs.Answer.{IsFewest, IsLeastWin};
 ghost use Rattle.searcher.specs.declared.halt.Halt.TheVariants.{Stopped};
-ghost use Rattle.searcher.specs.Roots.{IsRoot, IsLimit};
+ghost use Rattle.problems.specs.Roots.{IsRoot, IsLimit};
 ghost use Rattle.solutions.specs.Lines.{ListsContinuations};
 
 use moves::{Board, Goal, Move};
-use searcher::{Decider, Halt, Root, least_win};
+use problems::Root;
+use searcher::{Decider, Halt, least_win};
 use std::alloc::Allocator;
 
 /// The least of the moves that force the goal in the fewest plies; or `None` where the decider was told to stop.

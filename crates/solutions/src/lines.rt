@@ -3,9 +3,9 @@ ghost use Rattle.std.specs.Prelude.{◌≡◌, ℕ, ◌+◌, ◌-◌, ◌*◌, �
 ghost use Rattle.board.specs.Board.{PlainBoard};
 ghost use Rattle.rules.specs.Squares.{Ply};
 ghost use Rattle.rules.specs.Moves.{IsLawful};
-ghost use Rattle.decision.specs.Answer.{IsFewest};
+ghost use Rattle.problems.specs.Answer.{IsFewest};
 ghost use Rattle.searcher.specs.declared.halt.Halt.TheVariants.{Stopped};
-ghost use Rattle.searcher.specs.Roots.{IsLimit};
+ghost use Rattle.problems.specs.Roots.{IsLimit};
 ghost use Rattle.solutions.specs.Lines.{IsMet, IsLeastLasting, IsBestLine};
 
 use crate::continuing::least_move;

@@ -3,8 +3,8 @@ ghost use Rattle.std.specs.Prelude.{◌↔◌, ◌≤◌, IsTrue, MatchOption};
 ghost use Rattle.rules.specs.Moves.{IsLawful};
 ghost use Rattle.solutions.specs.Lines.{IsMet};
 
-use decision::Question;
 use moves::{Board, Goal, Move, after};
+use problems::Question;
 use searcher::Decider;
 
 /// Whether the attacker forces the goal within so many plies behind the reply; or `None` where the decider was told to stop.

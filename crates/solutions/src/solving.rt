@@ -1,8 +1,8 @@
 //! The solution of a problem.
 ghost use Rattle.std.specs.Prelude.{◌≡◌, ◌≤◌, IfErr, IfOk};
-ghost use Rattle.decision.specs.Answer.{Wins, IsFewest};
+ghost use Rattle.problems.specs.Answer.{Wins, IsFewest};
 ghost use Rattle.searcher.specs.declared.halt.Halt.TheVariants.{Stopped};
-ghost use Rattle.searcher.specs.Roots.{IsRoot, IsLimit};
+ghost use Rattle.problems.specs.Roots.{IsRoot, IsLimit};
 ghost use Rattle.solutions.specs.Solutions.{IsKeyPlay, ListsKeyPlays, IsSetPlay, ListsTries, IsWhereAsked, IsSolution};
 
 use crate::continuing::continuations_of;
@@ -16,7 +16,8 @@ use crate::trying::tries_of;
 use crate::variation::Variation;
 use crate::varying::variations_of;
 use moves::{Move, after};
-use searcher::{Decider, Halt, Root};
+use problems::Root;
+use searcher::{Decider, Halt};
 use std::alloc::Allocator;
 
 /// The key's play.

@@ -9,9 +9,9 @@ ghost use Rattle.solutions.specs.Solutions.{AreThreats};
 use crate::continuing::continuations_of;
 use crate::passing::passed;
 use crate::threats::Threats;
-use decision::Answer;
 use moves::{Board, Goal, has_lawful_move};
-use searcher::{Decider, Halt, Root, solve_by};
+use problems::{Answer, Root};
+use searcher::{Decider, Halt, solve_by};
 use std::alloc::Allocator;
 
 /// The threats of a key that leads to the board, with so many plies left.

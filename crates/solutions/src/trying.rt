@@ -2,13 +2,14 @@
 ghost use Rattle.std.specs.Prelude.{◌≡◌, ◌≤◌, IfErr, IfOk, MatchOption};
 ghost use Rattle.rules.specs.Squares.{Ply};
 ghost use Rattle.searcher.specs.declared.halt.Halt.TheVariants.{Stopped};
-ghost use Rattle.searcher.specs.Roots.{IsRoot};
+ghost use Rattle.problems.specs.Roots.{IsRoot};
 ghost use Rattle.solutions.specs.Solutions.{RefutesAlone, ListsTries};
 
 use crate::first_try::Try;
 use crate::replying::is_met;
 use moves::{Board, Goal, Move, after, lawful_on};
-use searcher::{Decider, Halt, Root};
+use problems::Root;
+use searcher::{Decider, Halt};
 use std::alloc::Allocator;
 
 /// The one reply that isn't met within so many plies, if there is one and no other; or `None` where the decider was told to stop.

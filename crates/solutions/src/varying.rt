@@ -1,16 +1,16 @@
 //! The variations of a position in which the defender is to move.
 ghost use Rattle.std.specs.Prelude.{◌≡◌, ◌≤◌, IfErr, IfOk, MatchOption};
-ghost use Rattle.decision.specs.Answer.{IsFewest, ForcesNothing};
+ghost use Rattle.problems.specs.Answer.{IsFewest, ForcesNothing};
 ghost use Rattle.searcher.specs.declared.halt.Halt.TheVariants.{Stopped};
-ghost use Rattle.searcher.specs.Roots.{IsRoot, IsLimit};
+ghost use Rattle.problems.specs.Roots.{IsRoot, IsLimit};
 ghost use Rattle.solutions.specs.Solutions.{TellsVariation, ListsVariations};
 
 use crate::continuing::continuations_of;
 use crate::lines::best_line;
 use crate::variation::Variation;
-use decision::Answer;
 use moves::{Board, Goal, Move, after, lawful_on};
-use searcher::{Decider, Halt, Root, solve_by};
+use problems::{Answer, Root};
+use searcher::{Decider, Halt, solve_by};
 use std::alloc::Allocator;
 
 /// The variation of the reply that leads to the root, where these plies are the fewest there.

@@ -1,16 +1,16 @@
 //! Solves, keys and trees by a solver that lives, each by the root's moves in order.
 ghost use Rattle.std.specs.Prelude.{◌≡◌, ◌≤◌, IfErr, IfOk, MatchOption};
-ghost use Rattle.decision.specs.Answer.{IsAnswer, IsFewest};
+ghost use Rattle.problems.specs.Answer.{IsAnswer, IsFewest};
 ghost use Rattle.searcher.specs.declared.halt.Halt.TheVariants.{Stopped};
-ghost use Rattle.searcher.specs.Keys.{ListsKeys};
+ghost use Rattle.problems.specs.Keys.{ListsKeys};
 ghost use Rattle.trees.specs.Best.{IsBest};
 ghost use Rattle.solver.specs.Stopping.{IsStopped, Hears};
 
 use crate::solver::Solver;
 use board::Position;
-use decision::Answer;
 use moves::Goal;
-use searcher::{Halt, Key, Problem, Root, Searcher, keys_of, solve_by};
+use problems::{Answer, Key, Problem, Root};
+use searcher::{Halt, Searcher, keys_of, solve_by};
 use std::alloc::Global;
 use trees::tree_by;
 use wintree::Tree;

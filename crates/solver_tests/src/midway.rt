@@ -4,10 +4,11 @@ ghost use Rattle.slots.specs.Promise.{IsSeatOf};
 
 use crate::stopped::{KEY, ROOK_MATES_IN_THREE, at, made, problem, read};
 use crate::telling::{last_seat, listener_of};
-use decision::{Answer, Memory, Scout, Stop};
+use decision::{Memory, Scout, Stop};
 use entry::MateLore;
 use moves::{Move, Square};
-use searcher::{Problem, Root, Searcher, solve_by};
+use problems::{Answer, Problem, Root};
+use searcher::{Searcher, solve_by};
 use slots::{Seat, Slots};
 use solver::{Listener, StopSource};
 use std::process::Abort;

@@ -1,8 +1,8 @@
 //! One solver, asked again and again, stopped, and asked on. The answers are worked out by hand.
 use board::{Position, read_fen};
-use decision::Answer;
 use moves::{Goal, Move, Square};
-use searcher::{Halt, Key, Problem};
+use problems::{Answer, Key, Problem};
+use searcher::Halt;
 use solver::{Place, Solver, StopSource};
 use std::alloc::Global;
 use std::process::Abort;

@@ -1,13 +1,14 @@
 //! How far a search is, as it is heard while it runs. The numbers are worked out by the rules of play.
 ghost use Rattle.std.specs.Prelude.{◌≤◌, IfSome};
 ghost use Rattle.slots.specs.Promise.{IsSeatOf, AllNew};
-ghost use Rattle.searcher.specs.Roots.{IsRoot};
+ghost use Rattle.problems.specs.Roots.{IsRoot};
 
 use crate::stopped::{made, read};
-use decision::{Answer, Memory, Scout, Stop};
+use decision::{Memory, Scout, Stop};
 use entry::MateLore;
 use moves::Goal;
-use searcher::{Root, Searcher, solve_by};
+use problems::{Answer, Root};
+use searcher::{Searcher, solve_by};
 use slots::{Seat, Slots};
 use solver::{Listener, Place, Solver, StopSource};
 use std::process::Abort;

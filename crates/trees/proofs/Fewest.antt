@@ -6,7 +6,7 @@ use Rattle.rules.specs.Moves.{IsMove, IsLawful}
 use Rattle.rules.specs.declared.goal.Goal.{Goal}
 use Rattle.rules.specs.Forces.{Forces}
 use Rattle.rules.proofs.Forcing.{same_side-self}
-use Rattle.decision.specs.Answer.{IsFewest}
+use Rattle.problems.specs.Answer.{IsFewest}
 use Rattle.wintree.specs.Plan.{Plan, ends, splits, Replies, last, more}
 use Rattle.wintree.specs.Wins.{Wins, EachWins, height, highest}
 use Rattle.wintree.proofs.Forced.{forced_for_mover}

@@ -1,11 +1,11 @@
 -- Which plies a first move takes.
 use Rattle.std.proofs.Common.{◌≡◌, ◌∙◌, ℕ, Some, slice_get, sym, subst}
 use Rattle.rules.specs.Squares.{Ply}
-use Rattle.decision.specs.Answer.{Wins}
-use Rattle.searcher.specs.Keys.{Takes}
-use Rattle.searcher.specs.Roots.{TakesIn}
-use Rattle.searcher.specs.declared.root.Root.{Root}
-use Rattle.searcher.proofs.Jobs.{same_some}
+use Rattle.problems.specs.Answer.{Wins}
+use Rattle.problems.specs.Keys.{Takes}
+use Rattle.problems.specs.Roots.{TakesIn}
+use Rattle.problems.specs.declared.root.Root.{Root}
+use Rattle.problems.proofs.Jobs.{same_some}
 
 module _ (r : Root) (job : ℕ) (m : Ply) (at : slice_get r.moves.items job ≡ Some m) where
   -- a number of plies that the job takes is one that its move takes

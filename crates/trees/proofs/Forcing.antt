@@ -11,8 +11,8 @@ use Rattle.rules.specs.Reach.{IsInCheck}
 use Rattle.rules.specs.Forces.{IsReached, Forces}
 use Rattle.rules.proofs.Keeps.{one_after}
 use Rattle.rules.proofs.Forcing.{turn-own, turn-other, same_side-self, Forces-more}
-use Rattle.decision.specs.Answer.{IsFewest, Wins}
-use Rattle.decision.proofs.Winning.{same_mover}
+use Rattle.problems.specs.Answer.{IsFewest, Wins}
+use Rattle.problems.proofs.Winning.{same_mover}
 use Rattle.wintree.specs.Wins.{EndsAt}
 use Rattle.wintree.specs.declared.tree.End.TheVariants as ending
 use Rattle.trees.specs.Best.{IsBestMove}

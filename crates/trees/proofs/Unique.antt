@@ -7,7 +7,7 @@ use Rattle.rules.specs.declared.goal.Goal.{Goal}
 use Rattle.rules.specs.declared.goal.Goal.TheVariants.{Mate, MateOrStale}
 use Rattle.rules.specs.Order.{ListsLawful}
 use Rattle.rules.proofs.Keeps.{one_after}
-use Rattle.decision.specs.Answer.{IsLeastWin}
+use Rattle.problems.specs.Answer.{IsLeastWin}
 use Rattle.wintree.specs.declared.tree.End.{End}
 use Rattle.wintree.specs.declared.tree.End.TheVariants as ending
 use Rattle.wintree.specs.Plan.{Plan, ends, splits, Replies, last, more}

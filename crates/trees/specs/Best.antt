@@ -5,7 +5,7 @@ use Rattle.rules.specs.declared.goal.Goal.{Goal}
 use Rattle.rules.specs.Squares.{Ply}
 use Rattle.rules.specs.Moves.{IsMove}
 use Rattle.rules.specs.Order.{ListsLawful}
-use Rattle.decision.specs.Answer.{IsFewest, IsLeastWin}
+use Rattle.problems.specs.Answer.{IsFewest, IsLeastWin}
 use Rattle.wintree.specs.Plan.{Plan, ends, splits, Replies, last, more}
 use Rattle.wintree.specs.Wins.{EndsAt, moves_of}
 

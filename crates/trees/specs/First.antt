@@ -5,8 +5,8 @@ use Rattle.rules.specs.declared.goal.Goal.{Goal}
 use Rattle.rules.specs.Squares.{Ply}
 use Rattle.rules.specs.Moves.{IsMove}
 use Rattle.rules.specs.Order.{ListsLawful}
-use Rattle.searcher.specs.Keys.{Takes}
-use Rattle.searcher.specs.declared.root.Root.{Root}
+use Rattle.problems.specs.Keys.{Takes}
+use Rattle.problems.specs.declared.root.Root.{Root}
 use Rattle.wintree.specs.Plan.{Plan, ends, splits}
 use Rattle.wintree.specs.Wins.{EndsAt, moves_of}
 use Rattle.trees.specs.Best.{EachBest}

@@ -1,12 +1,13 @@
 //! The attacker's best move.
 ghost use Rattle.std.specs.Prelude.{◌<◌, ◌≤◌, MatchOption};
 ghost use Rattle.rules.specs.Forces.{Forces};
-ghost use Rattle.decision.specs.Answer.{IsFewest};
-ghost use Rattle.searcher.specs.Roots.{IsLimit};
+ghost use Rattle.problems.specs.Answer.{IsFewest};
+ghost use Rattle.problems.specs.Roots.{IsLimit};
 ghost use Rattle.trees.specs.Best.{IsBestMove};
 
 use moves::{Board, Goal, Move};
-use searcher::{Decider, Root, least_win};
+use problems::Root;
+use searcher::{Decider, least_win};
 
 /// The fewest plies, where the side to move forces the goal within the limit; or `None` where the decider was told to stop.
 fn fewest_plies<D: Decider>(decider: &mut D, root: &Root, limit: u8) -> Option<u8>

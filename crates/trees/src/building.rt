@@ -5,7 +5,7 @@ ghost use Rattle.rules.specs.Moves.{IsMove, IsLawful};
 ghost use Rattle.rules.specs.Order.{ListsLawful};
 ghost use Rattle.rules.specs.Forces.{IsReached, Forces};
 ghost use Rattle.slots.specs.Promise.{IsSeatOf};
-ghost use Rattle.decision.specs.Answer.{IsFewest, Wins as WinsWithin};
+ghost use Rattle.problems.specs.Answer.{IsFewest, Wins as WinsWithin};
 ghost use Rattle.decision.specs.Calls.{Continues};
 ghost use Rattle.wintree.specs.Plan.{depth};
 ghost use Rattle.wintree.specs.Wins.{Wins, EndsAt, height};

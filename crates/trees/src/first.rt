@@ -1,11 +1,12 @@
 //! The tree of a first move that is given.
 ghost use Rattle.std.specs.Prelude.{◌≡◌, ◌≤◌, IfErr, IfOk};
 ghost use Rattle.searcher.specs.declared.halt.Halt.TheVariants.{Stopped};
-ghost use Rattle.searcher.specs.Roots.{IsJobOf};
+ghost use Rattle.problems.specs.Roots.{IsJobOf};
 ghost use Rattle.trees.specs.First.{IsOpenedJob};
 
 use crate::building::{Builder, tree_behind};
-use searcher::{Decider, Halt, Root, plies_of};
+use problems::Root;
+use searcher::{Decider, Halt, plies_of};
 use std::alloc::Allocator;
 use wintree::Tree;
 

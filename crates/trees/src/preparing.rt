@@ -4,7 +4,7 @@ ghost use Rattle.rules.specs.Squares.{Ply};
 ghost use Rattle.rules.specs.Moves.{IsMove};
 ghost use Rattle.rules.specs.Forces.{Forces};
 ghost use Rattle.slots.specs.Promise.{IsSeatOf};
-ghost use Rattle.decision.specs.Answer.{IsFewest};
+ghost use Rattle.problems.specs.Answer.{IsFewest};
 ghost use Rattle.decision.specs.Calls.{Continues, SeatsContinue};
 ghost use Rattle.wintree.specs.Wins.{Wins, height};
 ghost use Rattle.trees.specs.Best.{IsBest};

@@ -7,9 +7,9 @@ use Rattle.rules.specs.Reading.{IsSoundFault}
 use Rattle.rules.specs.declared.goal.Goal.{Goal}
 use Rattle.rules.specs.declared.goal.Goal.TheVariants as goal
 use Rattle.rules.specs.MoveText.{move_text}
-use Rattle.decision.specs.declared.answer.Answer.{Answer}
-use Rattle.decision.specs.declared.answer.Answer.TheVariants.{Mate, NoneWithin}
-use Rattle.decision.specs.Answer.{IsAnswer}
+use Rattle.problems.specs.declared.answer.Answer.{Answer}
+use Rattle.problems.specs.declared.answer.Answer.TheVariants.{Mate, NoneWithin}
+use Rattle.problems.specs.Answer.{IsAnswer}
 use Rattle.certificates.specs.Answers.{IsUpTo}
 use Rattle.verifying.specs.declared.fault.Fault.{Fault}
 use Rattle.verifying.specs.declared.fault.Fault.TheVariants as certificate

@@ -4,8 +4,8 @@ use Rattle.board.specs.declared.fault.FenFault.{FenFault}
 use Rattle.board.specs.Board.{PlainBoard}
 use Rattle.rules.specs.declared.goal.Goal.{Goal}
 use Rattle.rules.specs.Reading.{IsSoundFault}
-use Rattle.decision.specs.declared.answer.Answer.{Answer}
-use Rattle.decision.specs.Answer.{IsAnswer}
+use Rattle.problems.specs.declared.answer.Answer.{Answer}
+use Rattle.problems.specs.Answer.{IsAnswer}
 use Rattle.certificates.specs.Answers.{IsUpTo}
 use Rattle.verifying.specs.declared.fault.Fault.{Fault}
 use Rattle.verifying.specs.declared.fault.Fault.TheVariants as certificate

@@ -1,19 +1,24 @@
 -- What a checker has taken.
-use Rattle.std.proofs.Common.{◌≡◌, ◌<◌, ◌≤◌, ℕ, ◌+◌, List, [], ◌∷◌, ◌++◌, length, refl, sym, ◌∙◌, subst}
+use Rattle.std.proofs.Common.{◌≡◌, ◌<◌, ◌≤◌, ℕ, ◌+◌, List, [], ◌∷◌, ◌++◌, length, Option, Some, refl, sym, ap, ◌∙◌, subst, arith}
 use Rattle.board.specs.Board.{PlainBoard}
 use Rattle.rules.specs.declared.goal.Goal.{Goal}
-use Rattle.decision.specs.declared.answer.Answer.{Answer}
+use Rattle.problems.specs.declared.answer.Answer.{Answer}
+use Rattle.problems.specs.declared.answer.Answer.TheVariants as answer
+use Rattle.certificates.specs.declared.claim.Claim.{Claim}
+use Rattle.certificates.specs.Answers.{Certifies}
 use Rattle.devices.specs.Lines.{HasNoFeed}
 use Rattle.verifying.specs.declared.checker.Checker.{Checker}
 use Rattle.verifying.specs.declared.fault.Fault.{Fault}
 use Rattle.verifying.specs.declared.fault.Fault.TheVariants.{TooLong, ReadFailed}
 use Rattle.verifying.specs.declared.part.Part.{Part}
 use Rattle.verifying.specs.declared.part.Part.TheVariants.{First, Win, Yes, Lesser, No}
+use Rattle.verifying.specs.declared.words.Word.{Word}
 use Rattle.verifying.specs.FirstLine.{answer_text, IsInRange, HasNamedMove}
 use Rattle.verifying.specs.Growing.{AreApart}
-use Rattle.verifying.specs.Parts.{HasShown}
-use Rattle.verifying.specs.Checking.{HasTakenText, TakesMore, RefusesMore}
-use Rattle.verifying.specs.Reading.{BeginsPart, HasRead, IsNoLineOf, IsUnfinished, ReadsLine}
+use Rattle.verifying.specs.Parts.{HasShown, answer_of}
+use Rattle.verifying.specs.Certificate.{ProveAnswer}
+use Rattle.verifying.specs.Checking.{HasTakenText, TakesMore, RefusesMore, IsProvedBy}
+use Rattle.verifying.specs.Reading.{AreNoSoFar, BeginsPart, HasRead, IsNoLineOf, IsReadTo, IsToldWell, IsUnfinished, ReadsLine, text_so_far}
 use Rattle.verifying.specs.Taking.{fault_at}
 use Rattle.verifying.proofs.Reading.{first_read, line_read, nothing_read}
 use Rattle.verifying.proofs.Refused.{end_refused, line_refused, long_refused, reads_apart}
@@ -62,6 +67,24 @@ line_long checker line rest fault is long none goal b text taken = long_refused 
 -- the end
 pub end_wrong : {A : Type 0} (checker : Checker A) (rest : List ℕ) (fault : Fault) → fault ≡ fault_at checker.part checker.number → (rest ≡ [] → IsUnfinished checker.part checker.claims) → HasNoFeed rest → RefusesMore checker rest fault
 end_wrong checker rest fault is wrong none goal b text taken = end_refused goal b checker.number checker.part checker.claims text rest fault is none wrong taken.read
+
+all_told : (goal : Goal) (b : PlainBoard) (told : Answer) (place : ℕ) (lines : List (List Word)) (claims : List Claim) → length claims ≤ place → AreNoSoFar goal b told place lines claims → ProveAnswer goal b told lines
+all_told goal b (answer.Mate n first) place lines claims whole (yeas, noes, is, won, make, at) = (yeas, noes, is, won, (claims, make, omega (arith, whole, at)))
+all_told goal b (answer.NoneWithin limit) place lines claims whole (make, at) = (claims, make, omega (arith, whole, at))
+
+pub end_proved : {A : Type 0} (checker : Checker A) (told : Answer) (place : ℕ) → checker.part ≡ No told place → length checker.claims ≤ place → Certifies checker.goal checker.board told → IsProvedBy checker told
+end_proved checker told place is whole shown goal b text taken =
+    let one : answer_of checker.part ≡ Some told = ap answer_of is in
+    let well : IsToldWell (Some told) = subst IsToldWell one taken.read.well in (
+      record {
+        range = well.0;
+        lines = taken.read.lines;
+        prove = all_told goal b told place taken.read.lines checker.claims whole (subst (λ (p : Part). IsReadTo goal b p taken.read.lines checker.claims) is taken.read.read);
+        short = taken.read.short;
+        spelled = subst (λ (o : Option Answer). text ≡ text_so_far goal o taken.read.lines) one taken.read.spelled;
+      },
+      both goal b checker text (λ (g : Goal) (x : PlainBoard). Certifies g x told) taken shown,
+    )
 
 -- no fault of a line is a failed read
 pub no_read : (part : Part) (number : ℕ) (fault : Fault) → fault ≡ fault_at part number → fault ≡ ReadFailed → ⊥

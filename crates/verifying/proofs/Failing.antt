@@ -10,8 +10,8 @@ use Rattle.rules.specs.Moves.{IsMove, IsLawful}
 use Rattle.rules.specs.Order.{ListsLawful}
 use Rattle.rules.specs.Forces.{IsReached, Forces}
 use Rattle.rules.proofs.Keeps.{one_after}
-use Rattle.decision.specs.Answer.{ForcesNothing}
-use Rattle.decision.proofs.Below.{not_reached, none_listed, all_listed}
+use Rattle.problems.specs.Answer.{ForcesNothing}
+use Rattle.problems.proofs.Tried.{not_reached, none_listed, all_listed}
 use Rattle.certificates.specs.declared.claim.Claim.{Claim}
 use Rattle.certificates.specs.Claims.{ClaimsSoMany, EscapesBy, FailsBy}
 use Rattle.certificates.proofs.Claimed.{forced_within}

@@ -1,6 +1,5 @@
 -- What holds over some claims holds over more.
-use Rattle.std.proofs.lemmas.Grind.{common_steps, elements}
-use Rattle.std.proofs.Common.{◌≡◌, ◌<◌, ◌≤◌, ℕ, ◌-◌, ◌∷◌, refl, length, get_or, inl, inr, List, [], ◌++◌, sym, ◌∙◌, ap, subst, append_assoc, arith, Contains, All}
+use Rattle.std.proofs.Common.{◌≡◌, ◌≤◌, ℕ, ◌-◌, ◌∷◌, refl, inl, inr, List, [], ◌++◌, sym, ◌∙◌, ap, subst, append_assoc, arith, Contains, All}
 use Rattle.std.proofs.lemmas.List.{append-nil}
 use Rattle.std.proofs.lemmas.List.Elements.{Contains-append_left, Contains-push, All-weaker}
 use Rattle.board.specs.Board.{PlainBoard}
@@ -67,12 +66,3 @@ module _ (old new : List Claim) (grown : Extends old new) where
 
   pub still_won : (goal : Goal) (c : Claim) → IsWon goal old c → IsWon goal new c
   still_won goal c (m, wins) = (m, still_wins goal c.position c.plies m wins)
-
--- a claim that stands at a place of the list is among the claims
-same_default : (xs : List Claim) (i : ℕ) (d c : Claim) → i < length xs → get_or xs i c ≡ get_or xs i d
-same_default xs i d c lt = grind (arith, common_steps, elements)
-
-pub found : (claims list : List Claim) (place : ℕ) (claim : Claim) (b : PlainBoard) → list ≡ claims → place < length list → claim ≡ get_or list place claim → claim.position ≡ b → Contains claims (record { position = b; plies = claim.plies })
-found claims list place claim b same lt is about =
-    let wanted : Claim = record { position = b; plies = claim.plies } in
-    subst (λ (l : List Claim). Contains l wanted) same (place, lt, same_default list place claim wanted lt ∙ (sym is ∙ (λ i. record { position = about i; plies = claim.plies })))

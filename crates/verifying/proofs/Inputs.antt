@@ -5,8 +5,8 @@ use Rattle.std.proofs.KnownBytes.{Consumes-trans}
 use Rattle.std.specs.Io.KnownBytes.{Consumes}
 use Rattle.board.specs.Board.{PlainBoard}
 use Rattle.rules.specs.declared.goal.Goal.{Goal}
-use Rattle.decision.specs.declared.answer.Answer.{Answer}
-use Rattle.decision.specs.Answer.{IsAnswer}
+use Rattle.problems.specs.declared.answer.Answer.{Answer}
+use Rattle.problems.specs.Answer.{IsAnswer}
 use Rattle.certificates.specs.Answers.{IsUpTo}
 use Rattle.certificates.proofs.Certified.{certified}
 use Rattle.devices.specs.Input.{OfInput}

@@ -6,8 +6,8 @@ use Rattle.std.proofs.lemmas.Option.{same_Some}
 use Rattle.board.specs.Board.{PlainBoard}
 use Rattle.rules.specs.declared.goal.Goal.{Goal}
 use Rattle.rules.specs.Squares.{Ply}
-use Rattle.decision.specs.declared.answer.Answer.{Answer}
-use Rattle.decision.specs.declared.answer.Answer.TheVariants as answer
+use Rattle.problems.specs.declared.answer.Answer.{Answer}
+use Rattle.problems.specs.declared.answer.Answer.TheVariants as answer
 use Rattle.certificates.specs.declared.claim.Claim.{Claim}
 use Rattle.verifying.specs.declared.part.Mate.{Mate}
 use Rattle.verifying.specs.declared.part.Part.{Part}
@@ -16,10 +16,8 @@ use Rattle.verifying.specs.declared.words.Word.{Word}
 use Rattle.verifying.specs.Parts.{answer_of}
 use Rattle.verifying.specs.Certificate.{IsYesLine, YesLinesMake, NoLinesMake, ProveAnswer, with_claim}
 use Rattle.verifying.specs.Reading.{AreNoSoFar, IsReadTo, IsBehindYes, TakesWords, IsUnfinished}
+use Rattle.verifying.proofs.Turns.{same_cons}
 use Rattle.verifying.proofs.Once.{one_front_of, next_yes, yes_left, no_same, no_next, none_same, none_next}
-
-heads : (x z : List Word) (xs zs : List (List Word)) → x ∷ xs ≡ z ∷ zs → (x ≡ z) × (xs ≡ zs)
-heads x z xs zs e = (cc, cc)
 
 -- what comes behind a yes line
 choose : (mate : Mate) (place count : ℕ) → (next : Part) × IsBehindYes mate place count next
@@ -33,7 +31,7 @@ module _ (goal : Goal) (b : PlainBoard) where
   win_taken : (mate : Mate) (words : List Word) (rest : List (List Word)) (old : List Claim) → ProveAnswer goal b (answer.Mate mate.plies mate.first) (words ∷ rest) → (next : Part) × (new : List Claim) × TakesWords goal b (Win mate) words old next new
   win_taken mate words rest old ([], noes, is, (won, make, few), held) = absurd make
   win_taken mate words rest old (line ∷ yeas, noes, is, (won, (mid, begins, more), few), held) =
-      let one = heads words line rest (yeas ++ noes) is in
+      let one = same_cons words line rest (yeas ++ noes) is in
       let next = choose mate 1 (length mid) in
       (next.0, mid, (subst (λ (l : List Word). IsYesLine goal (record { position = b; plies = mate.plies }) mate.first l (with_claim [] b mate.plies) mid) (sym one.0) begins, next.1))
 

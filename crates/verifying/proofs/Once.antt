@@ -1,7 +1,6 @@
 -- Each line leaves one list of claims, and a mate's yes lines end at one place.
 use Rattle.std.proofs.Common.{◌≡◌, ◌⊎◌, inl, inr, ◌<◌, ◌≤◌, ℕ, ◌+◌, ◌-◌, List, [], ◌∷◌, ◌++◌, length, get_or, take, refl, sym, ap, ◌∙◌, subst, arith, length-append, Some, slice_get}
 use Rattle.std.proofs.lemmas.List.{append-nil, take-append-le}
-use Rattle.std.proofs.lemmas.Bool.{cases_lt}
 use Rattle.std.proofs.Math.Seq.{get_or-append_seam, take-length}
 use Rattle.std.proofs.lemmas.Option.{same_Some, slice_get_within}
 use Rattle.board.specs.Board.{PlainBoard}
@@ -15,9 +14,9 @@ use Rattle.certificates.specs.declared.claim.Claim.{Claim}
 use Rattle.verifying.specs.declared.words.Word.{Word}
 use Rattle.verifying.specs.declared.words.Word.TheVariants.{Place}
 use Rattle.verifying.specs.Certificate.{TellInTurn, MeetsReply, ShowWin, IsMoveAt, IsYesLine, IsSomeYesLine, IsNoLine, IsLesserLine, FailsBecause, ShowFailures, AreLinesFrom, YesLinesMake, NoLinesMake, NoneLinesMake, with_claim, shorter_claim}
-use Rattle.verifying.proofs.Turns.{told_once}
+use Rattle.verifying.proofs.Turns.{same_cons, told_once}
 use Rattle.verifying.proofs.Apart.{one_move_at, one_reply, one_reason}
-use Rattle.verifying.proofs.Refusing.{one_place, same_words, same_place}
+use Rattle.verifying.proofs.Refusing.{one_place, one_front, same_place}
 
 -- ---- one line
 
@@ -31,7 +30,7 @@ win_once goal q n words old new other (inr (some, enough, (replies, lists, told)
 
 yes_once : (goal : Goal) (c : Claim) (m n : Ply) (line : List Word) (old new other : List Claim) → IsYesLine goal c m line old new → IsYesLine goal c n line old other → new ≡ other
 yes_once goal c m n line old new other (place, words, is, at, some, q, move, win) (place_too, words_too, is_too, at_too, some_too, x, move_too, win_too) =
-    let same = same_words (Place place) (Place place_too) words words_too (sym is ∙ is_too) in
+    let same = same_cons (Place place) (Place place_too) words words_too (sym is ∙ is_too) in
     let one : n ≡ m = one_move_at c.position place n m (subst (λ (k : ℕ). IsMoveAt c.position k n) (sym (same_place place place_too same.0)) at_too) at in
     let there : x ≡ q = one_after c.position m x q (subst (λ (l : Ply). IsMove c.position l x) one move_too) move in
     win_once goal q c.plies words old new other win
@@ -53,21 +52,12 @@ no_once goal c line old new other (moves, lists, show) (listed, also, show_too) 
 
 one_lesser : (b : PlainBoard) (lesser others front back : List Ply) (first : Ply) → ListsLawful b (lesser ++ first ∷ others) → ListsLawful b (front ++ first ∷ back) → front ≡ lesser
 one_lesser b lesser others front back first lists also =
-    let whole : front ++ first ∷ back ≡ lesser ++ first ∷ others = one_list b (front ++ first ∷ back) (lesser ++ first ∷ others) also lists in
-    let here : get_or (lesser ++ first ∷ others) (length lesser) first ≡ first = get_or-append_seam lesser first others first in
-    let there : get_or (lesser ++ first ∷ others) (length front) first ≡ first = ap (λ (l : List Ply). get_or l (length front) first) (sym whole) ∙ get_or-append_seam front first back first in
-    let inside : length lesser < length (lesser ++ first ∷ others) = omega (arith, length-append lesser (first ∷ others)) in
-    let inside_too : length front < length (lesser ++ first ∷ others) = omega (arith, ap length whole, length-append front (first ∷ back)) in
-    let at : length front ≡ length lesser = elim (cases_lt (length front) (length lesser)) as (λ _. length front ≡ length lesser) [
-      | inl less ↦ absurd (one_place b (lesser ++ first ∷ others) (length front) (length lesser) first lists less inside there here)
-      | inr more ↦ elim (cases_lt (length lesser) (length front)) as (λ _. length front ≡ length lesser) [
-        | inl behind ↦ absurd (one_place b (lesser ++ first ∷ others) (length lesser) (length front) first lists behind inside_too here there)
-        | inr not_behind ↦ omega (arith, more, not_behind)
-      ]
-    ] in
-    let mine : take (length lesser) (lesser ++ first ∷ others) ≡ lesser = take-append-le (length lesser) lesser (first ∷ others) (omega arith) ∙ take-length lesser in
-    let other : take (length front) (front ++ first ∷ back) ≡ front = take-append-le (length front) front (first ∷ back) (omega arith) ∙ take-length front in
-    sym other ∙ (ap (λ (l : List Ply). take (length front) l) whole ∙ (ap (λ k. take k (lesser ++ first ∷ others)) at ∙ mine))
+    let list : List Ply = front ++ first ∷ back in
+    let here : get_or list (length front) first ≡ first = get_or-append_seam front first back first in
+    let inside : length front < length list = omega (arith, length-append front (first ∷ back)) in
+    let least : (k : ℕ) → k < length front → get_or list k first ≡ first → ⊥ = λ k before there. one_place b list k (length front) first also before inside there here in
+    let mine : take (length front) list ≡ front = take-append-le (length front) front (first ∷ back) (omega arith) ∙ take-length front in
+    sym (one_front b list list lesser others (length front) first also refl lists here least ∙ mine)
 
 lesser_once : (goal : Goal) (b : PlainBoard) (n : ℕ) (first : Ply) (line : List Word) (old new other : List Claim) → IsLesserLine goal b n first line old new → IsLesserLine goal b n first line old other → new ≡ other
 lesser_once goal b n first line old new other (lesser, others, lists, show) (front, back, also, show_too) =
@@ -126,16 +116,10 @@ yes_ended goal b n first lines line more claims won make whole all =
 compared : (xs ys zs ws : List (List Word)) → xs ++ ys ≡ zs ++ ws → ((more : List (List Word)) × (zs ≡ xs ++ more) × (ys ≡ more ++ ws)) ⊎ ((more : List (List Word)) × (xs ≡ zs ++ more) × (ws ≡ more ++ ys))
 compared [] ys zs ws e = inl (zs, refl, e)
 compared (x ∷ xs) ys [] ws e = inr (x ∷ xs, refl, sym e)
-compared (x ∷ xs) ys (z ∷ zs) ws e = elim (compared xs ys zs ws (tails x z (xs ++ ys) (zs ++ ws) e)) as (λ _. ((more : List (List Word)) × (z ∷ zs ≡ (x ∷ xs) ++ more) × (ys ≡ more ++ ws)) ⊎ ((more : List (List Word)) × (x ∷ xs ≡ (z ∷ zs) ++ more) × (ws ≡ more ++ ys))) [
-  | inl (more, front, back) ↦ inl (more, ap (λ (l : List Word). l ∷ zs) (sym (heads x z (xs ++ ys) (zs ++ ws) e)) ∙ ap (λ (l : List (List Word)). x ∷ l) front, back)
-  | inr (more, front, back) ↦ inr (more, ap (λ (l : List Word). l ∷ xs) (heads x z (xs ++ ys) (zs ++ ws) e) ∙ ap (λ (l : List (List Word)). z ∷ l) front, back)
+compared (x ∷ xs) ys (z ∷ zs) ws e = elim (compared xs ys zs ws (same_cons x z (xs ++ ys) (zs ++ ws) e).1) as (λ _. ((more : List (List Word)) × (z ∷ zs ≡ (x ∷ xs) ++ more) × (ys ≡ more ++ ws)) ⊎ ((more : List (List Word)) × (x ∷ xs ≡ (z ∷ zs) ++ more) × (ws ≡ more ++ ys))) [
+  | inl (more, front, back) ↦ inl (more, ap (λ (l : List Word). l ∷ zs) (sym (same_cons x z (xs ++ ys) (zs ++ ws) e).0) ∙ ap (λ (l : List (List Word)). x ∷ l) front, back)
+  | inr (more, front, back) ↦ inr (more, ap (λ (l : List Word). l ∷ xs) (same_cons x z (xs ++ ys) (zs ++ ws) e).0 ∙ ap (λ (l : List (List Word)). z ∷ l) front, back)
 ]
-  where
-    heads : (x z : List Word) (xs zs : List (List Word)) → x ∷ xs ≡ z ∷ zs → x ≡ z
-    heads x z xs zs e = cc
-
-    tails : (x z : List Word) (xs zs : List (List Word)) → x ∷ xs ≡ z ∷ zs → xs ≡ zs
-    tails x z xs zs e = cc
 
 -- the yes lines with a line of each claim are the front of all lines
 pub one_front_of : (goal : Goal) (b : PlainBoard) (n : ℕ) (first : Ply) (xs ys zs ws : List (List Word)) → ((won : List Claim) × YesLinesMake goal b n first xs won × (length won ≤ length xs)) → ((won : List Claim) × YesLinesMake goal b n first zs won × (length won ≤ length zs)) → xs ++ ys ≡ zs ++ ws → (xs ≡ zs) × (ys ≡ ws)

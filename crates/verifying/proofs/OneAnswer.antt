@@ -15,8 +15,8 @@ use Rattle.rules.specs.Squares.{Place, Ply, IsOnBoard}
 use Rattle.rules.specs.Moves.{IsLawful, IsPromotion, IsPromoted}
 use Rattle.rules.specs.MoveText.{promotion_text, move_text}
 use Rattle.rules.proofs.Lists.{IsNumbered-lawful}
-use Rattle.decision.specs.declared.answer.Answer.{Answer}
-use Rattle.decision.specs.declared.answer.Answer.TheVariants as answer
+use Rattle.problems.specs.declared.answer.Answer.{Answer}
+use Rattle.problems.specs.declared.answer.Answer.TheVariants as answer
 use Rattle.certificates.specs.declared.claim.Claim.{Claim}
 use Rattle.verifying.specs.declared.words.Word.{Word}
 use Rattle.verifying.specs.FirstLine.{answer_text, goal_text, IsInRange, HasNamedMove, IsNamedSquare, HasName}

@@ -7,8 +7,8 @@ use Rattle.board.specs.Board.{PlainBoard}
 use Rattle.rules.specs.declared.goal.Goal.{Goal}
 use Rattle.rules.specs.declared.goal.Goal.TheVariants as goal
 use Rattle.rules.specs.MoveText.{promotion_text, move_text}
-use Rattle.decision.specs.declared.answer.Answer.{Answer}
-use Rattle.decision.specs.declared.answer.Answer.TheVariants as answer
+use Rattle.problems.specs.declared.answer.Answer.{Answer}
+use Rattle.problems.specs.declared.answer.Answer.TheVariants as answer
 use Rattle.certificates.specs.declared.claim.Claim.{Claim}
 use Rattle.devices.specs.Lines.{HasNoFeed}
 use Rattle.verifying.specs.declared.fault.Fault.{Fault}
@@ -24,6 +24,7 @@ use Rattle.verifying.specs.Parts.{HasShown, answer_of}
 use Rattle.verifying.specs.Certificate.{ProveAnswer, IsCertificate, IsRefusedWith, with_claim}
 use Rattle.verifying.specs.Reading.{IsReadTo, BeginsPart, TakesWords, ReadsLine, IsNoLineOf, IsUnfinished, IsToldWell, text_so_far, HasRead}
 use Rattle.verifying.specs.Taking.{fault_at}
+use Rattle.verifying.proofs.Turns.{same_cons}
 use Rattle.verifying.proofs.Spelling.{one_line}
 use Rattle.verifying.proofs.Feeds.{answer_no_feed, lines_no_feed, left_over, next_of, none_of, long_of}
 use Rattle.verifying.proofs.FirstTexts.{digits_long, letter_long}
@@ -35,9 +36,6 @@ use Rattle.verifying.proofs.Apart.{none_apart, one_apart, yes_apart, no_apart, l
 
 -- ---- lists of lines
 
-same_line : (x y : List ℕ) (xs ys : List (List ℕ)) → x ∷ xs ≡ y ∷ ys → (x ≡ y) × (xs ≡ ys)
-same_line x y xs ys e = (cc, cc)
-
 no_line : (x : List ℕ) (xs : List (List ℕ)) → [] ≡ x ∷ xs → ⊥
 no_line x xs e = cc
 
@@ -46,17 +44,14 @@ lines_behind : (all lines : List (List Word)) (more : List (List ℕ)) → map l
 lines_behind all [] more e = (all, refl, e)
 lines_behind [] (line ∷ lines) more e = absurd (no_line (line_text line) (map line_text lines ++ more) e)
 lines_behind (first ∷ all) (line ∷ lines) more e =
-    let both = same_line (line_text first) (line_text line) (map line_text all) (map line_text lines ++ more) e in
+    let both = same_cons (line_text first) (line_text line) (map line_text all) (map line_text lines ++ more) e in
     let later = lines_behind all lines more both.1 in
     (later.0, ap (λ (l : List Word). l ∷ all) (one_line first line both.0) ∙ ap (λ (l : List (List Word)). line ∷ l) later.1, later.2)
 
 all_behind : (P : List Word → Type 0) (all lines rest : List (List Word)) → all ≡ lines ++ rest → All P all → All P rest
 all_behind P all [] rest is holds = subst (All P) is holds
 all_behind P [] (line ∷ lines) rest is holds = absurd cc
-all_behind P (first ∷ all) (line ∷ lines) rest is holds = all_behind P all lines rest (tails first line all (lines ++ rest) is) (All-tail P first all holds)
-  where
-    tails : (x y : List Word) (xs ys : List (List Word)) → x ∷ xs ≡ y ∷ ys → xs ≡ ys
-    tails x y xs ys e = cc
+all_behind P (first ∷ all) (line ∷ lines) rest is holds = all_behind P all lines rest (same_cons first line all (lines ++ rest) is).1 (All-tail P first all holds)
 
 abbrev IsShort : List Word → Type 0
 IsShort line = length (line_text line) ≤ 8192
@@ -68,7 +63,7 @@ behind_read goal b told mine lines rest range named certificate =
     let ys : List (List ℕ) = answer_text goal told ∷ map line_text lines in
     let left = left_over xs ys rest (All-cons HasNoFeed (answer_text goal mine) (map line_text certificate.lines) (answer_no_feed goal mine certificate.range) (lines_no_feed certificate.lines))
     (All-cons HasNoFeed (answer_text goal told) (map line_text lines) (answer_no_feed goal told range) (lines_no_feed lines)) (sym certificate.spelled) in
-    let both = same_line (answer_text goal mine) (answer_text goal told) (map line_text certificate.lines) (map line_text lines ++ left.0) left.1 in
+    let both = same_cons (answer_text goal mine) (answer_text goal told) (map line_text certificate.lines) (map line_text lines ++ left.0) left.1 in
     let one : mine ≡ told = one_answer goal mine told certificate.range range (certificate_named goal b mine _ certificate) named both.0 in
     let more = lines_behind certificate.lines lines left.0 both.1 in (
       more.0,
@@ -81,7 +76,7 @@ behind_read goal b told mine lines rest range named certificate =
 
 line_is : (more : List (List Word)) (line : List ℕ) (others : List (List ℕ)) → map line_text more ≡ line ∷ others → (words : List Word) × (rest : List (List Word)) × (more ≡ words ∷ rest) × (line_text words ≡ line)
 line_is [] line others e = absurd (no_line line others e)
-line_is (words ∷ rest) line others e = (words, rest, refl, (same_line (line_text words) line (map line_text rest) others e).0)
+line_is (words ∷ rest) line others e = (words, rest, refl, (same_cons (line_text words) line (map line_text rest) others e).0)
 
 begin : (b : PlainBoard) (told : Answer) → (next : Part) × (new : List Claim) × BeginsPart b told next new
 begin b (answer.Mate n first) = (Win (record { plies = n; first = first }), [], refl)
@@ -96,7 +91,7 @@ xs_no_feed goal mine lines range = All-cons HasNoFeed (answer_text goal mine) (m
 wrong_first : (goal : Goal) (b : PlainBoard) (mine : Answer) (line rest : List ℕ) (claims : List Claim) → HasNoFeed line → IsNoLineOf goal b First line claims → IsCertificate goal b mine (line ++ 10 ∷ rest) → ⊥
 wrong_first goal b mine line rest claims none wrong certificate =
     let next = next_of (xs_of goal mine certificate.lines) line rest (xs_no_feed goal mine certificate.lines certificate.range) none (sym certificate.spelled) in
-    let is = (same_line (answer_text goal mine) line (map line_text certificate.lines) next.0 next.1).0 in
+    let is = (same_cons (answer_text goal mine) line (map line_text certificate.lines) next.0 next.1).0 in
     let begun = begin b mine in
     wrong begun.0 begun.1 (mine, certificate.range, certificate_named goal b mine _ certificate, sym is, begun.2)
 
@@ -178,7 +173,7 @@ answer_short goal (answer.NoneWithin limit) range =
 short_line : (more : List (List Word)) (x : List ℕ) (others : List (List ℕ)) → All IsShort more → map line_text more ≡ x ∷ others → length x ≤ 8192
 short_line [] x others short e = absurd (no_line x others e)
 short_line (words ∷ more) x others short e =
-    let same = (same_line (line_text words) x (map line_text more) others e).0 in
+    let same = (same_cons (line_text words) x (map line_text more) others e).0 in
     let few = All-head IsShort words more short in
     omega (arith, few, ap length same)
 
@@ -187,7 +182,7 @@ long_line goal b part mine lines line rest claims well none long certificate = e
   | inl first ↦
       let whole = subst (λ (p : Part). IsCertificate goal b mine (text_so_far goal (answer_of p) lines ++ (line ++ rest))) first certificate in
       let x = long_of (xs_of goal mine whole.lines) line rest none (omega (arith, long)) (sym whole.spelled) in
-      let same = (same_line (answer_text goal mine) x.0 (map line_text whole.lines) x.1 x.2).0 in
+      let same = (same_cons (answer_text goal mine) x.0 (map line_text whole.lines) x.1 x.2).0 in
       let few = answer_short goal mine whole.range in
       omega (arith, few, ap length same, x.3, long)
   | inr (told, is) ↦
@@ -227,7 +222,7 @@ certificate_begins goal b answer text certificate =
 pub begun_answer : (goal : Goal) (b : PlainBoard) (told answer : Answer) (rest : List ℕ) → IsInRange told → HasNamedMove told → IsCertificate goal b answer (answer_text goal told ++ 10 ∷ rest) → answer ≡ told
 begun_answer goal b told answer rest range named certificate =
     let next = next_of (xs_of goal answer certificate.lines) (answer_text goal told) rest (xs_no_feed goal answer certificate.lines certificate.range) (answer_no_feed goal told range) (sym certificate.spelled) in
-    let is = (same_line (answer_text goal answer) (answer_text goal told) (map line_text certificate.lines) next.0 next.1).0 in
+    let is = (same_cons (answer_text goal answer) (answer_text goal told) (map line_text certificate.lines) next.0 next.1).0 in
     one_answer goal answer told certificate.range range (certificate_named goal b answer _ certificate) named is
 
 -- ---- no two claims are about one position

@@ -11,7 +11,7 @@ use Rattle.rules.specs.Moves.{IsMove}
 use Rattle.rules.specs.Order.{IsPlyBefore, ListsLawful}
 use Rattle.rules.specs.Forces.{IsReached, Forces}
 use Rattle.rules.proofs.Keeps.{one_after}
-use Rattle.decision.proofs.Below.{none_listed, some_listed}
+use Rattle.problems.proofs.Tried.{none_listed, some_listed}
 use Rattle.wintree.proofs.Listings.{one_list, lower_once}
 use Rattle.certificates.specs.declared.claim.Claim.{Claim}
 use Rattle.certificates.specs.Claims.{ClaimsSoFew}
@@ -20,7 +20,7 @@ use Rattle.verifying.specs.declared.words.Word.{Word}
 use Rattle.verifying.specs.declared.words.Word.TheVariants.{Seen, Claimed, Stalemated, Place}
 use Rattle.verifying.specs.Growing.{AreApart}
 use Rattle.verifying.specs.Certificate.{NoneAbout, IsMoveAt, TellInTurn, Meets, MeetsReply, MeetReplies, ShowWin, IsYesLine, Resists, TellsFailure, FailsBecause, ReachesNothing, ShowFailures, MakesClaim, with_claim}
-use Rattle.verifying.proofs.Turns.{not_told, told_each}
+use Rattle.verifying.proofs.Turns.{same_cons, not_told, told_each}
 use Rattle.verifying.proofs.Places.{one_item}
 use Rattle.verifying.proofs.Apart.{one_apart, one_move_at, place_in, one_reply, one_reason, reply_apart, reason_apart, told_apart}
 
@@ -121,21 +121,18 @@ pub few_left : (goal : Goal) (q : PlainBoard) (n : ℕ) (replies : List Ply) (wo
 few_left goal q n replies words old new lists some none (inl (stuck, there, empty, is)) = let r = some_listed q replies lists.exact some in stuck r.0 r.1
 few_left goal q n replies words old new lists some none (inr (more, enough, meet)) = none enough meet
 
-pub same_words : (v w : Word) (x y : List Word) → v ∷ x ≡ w ∷ y → (v ≡ w) × (x ≡ y)
-same_words v w x y e = (cc, cc)
-
 pub same_place : (j k : ℕ) → Place j ≡ Place k → j ≡ k
 same_place j k e = cc
 
 -- a yes line names one move
 pub one_named : (goal : Goal) (c : Claim) (m n : Ply) (line : List Word) (old new also other : List Claim) → IsYesLine goal c m line old new → IsYesLine goal c n line also other → m ≡ n
 one_named goal c m n line old new also other (place, words, is, at, some, q, move, win) (place_too, words_too, is_too, at_too, some_too, x, move_too, win_too) =
-    let same = same_words (Place place) (Place place_too) words words_too (sym is ∙ is_too) in
+    let same = same_cons (Place place) (Place place_too) words words_too (sym is ∙ is_too) in
     one_move_at c.position place m n at (subst (λ (k : ℕ). IsMoveAt c.position k n) (sym (same_place place place_too same.0)) at_too)
 
 pub no_win : (goal : Goal) (c : Claim) (m : Ply) (place : ℕ) (line words : List Word) (q : PlainBoard) (old : List Claim) → line ≡ Place place ∷ words → IsMoveAt c.position place m → IsMove c.position m q → ((new : List Claim) → ShowWin goal q c.plies words old new → ⊥) → (n : Ply) (new : List Claim) → IsYesLine goal c n line old new → ⊥
 no_win goal c m place line words q old is at move none n new (place_too, words_too, is_too, at_too, some, x, move_too, win) =
-    let same = same_words (Place place) (Place place_too) words words_too (sym is ∙ is_too) in
+    let same = same_cons (Place place) (Place place_too) words words_too (sym is ∙ is_too) in
     let one : n ≡ m = one_move_at c.position place n m (subst (λ (k : ℕ). IsMoveAt c.position k n) (sym (same_place place place_too same.0)) at_too) at in
     let there : x ≡ q = one_after c.position m x q (subst (λ (l : Ply). IsMove c.position l x) one move_too) move in
     none new (subst (λ (b : PlainBoard). ShowWin goal b c.plies words old new) there (subst (λ (l : List Word). ShowWin goal x c.plies l old new) (sym same.1) win))

@@ -4,8 +4,8 @@ use Rattle.std.proofs.lemmas.List.Elements.{All-cons, All-nil}
 use Rattle.std.specs.Io.KnownBytes.{Consumes}
 use Rattle.board.specs.Board.{PlainBoard}
 use Rattle.rules.specs.declared.goal.Goal.{Goal}
-use Rattle.decision.specs.declared.answer.Answer.{Answer}
-use Rattle.decision.specs.declared.answer.Answer.TheVariants as answer
+use Rattle.problems.specs.declared.answer.Answer.{Answer}
+use Rattle.problems.specs.declared.answer.Answer.TheVariants as answer
 use Rattle.certificates.specs.declared.claim.Claim.{Claim}
 use Rattle.devices.specs.Input.{OfInput}
 use Rattle.devices.specs.Lines.{HasNoFeed}

@@ -6,6 +6,10 @@ use Rattle.certificates.specs.declared.claim.Claim.{Claim}
 use Rattle.verifying.specs.declared.words.Word.{Word}
 use Rattle.verifying.specs.Certificate.{TellInTurn, AreLinesFrom}
 
+-- two lists are one by their heads and their tails
+pub same_cons : {X : Type 0} (x y : X) (xs ys : List X) → x ∷ xs ≡ y ∷ ys → (x ≡ y) × (xs ≡ ys)
+same_cons x y xs ys e = (cc, cc)
+
 module _ (Tells : Ply → Word → List Claim → List Claim → Type 0) where
   pub told_more : (moves : List Ply) (words : List Word) (m : Ply) (word : Word) (old mid new : List Claim) → TellInTurn Tells moves words old mid → Tells m word mid new → TellInTurn Tells (moves ++ m ∷ []) (words ++ word ∷ []) old new
   told_more [] [] m word old mid new told here = (new, subst (λ (l : List Claim). Tells m word l new) told here, refl)

@@ -7,7 +7,7 @@ use Rattle.rules.specs.Squares.{Ply}
 use Rattle.rules.specs.Moves.{IsMove}
 use Rattle.rules.specs.Order.{ListsLawful}
 use Rattle.rules.proofs.Keeps.{one_after}
-use Rattle.decision.proofs.Below.{some_listed}
+use Rattle.problems.proofs.Tried.{some_listed}
 use Rattle.certificates.specs.declared.claim.Claim.{Claim}
 use Rattle.certificates.specs.Claims.{MetBy}
 use Rattle.verifying.specs.Growing.{Extends}

@@ -6,9 +6,9 @@ use Rattle.rules.specs.Squares.{Ply}
 use Rattle.rules.specs.Moves.{IsMove, IsLawful}
 use Rattle.rules.specs.Order.{ListsLawful}
 use Rattle.rules.specs.Forces.{IsReached, Forces}
-use Rattle.decision.specs.declared.answer.Answer.{Answer}
-use Rattle.decision.specs.declared.answer.Answer.TheVariants.{Mate, NoneWithin}
-use Rattle.decision.specs.Answer.{ForcesNothing}
+use Rattle.problems.specs.declared.answer.Answer.{Answer}
+use Rattle.problems.specs.declared.answer.Answer.TheVariants.{Mate, NoneWithin}
+use Rattle.problems.specs.Answer.{ForcesNothing}
 use Rattle.certificates.specs.declared.claim.Claim.{Claim}
 use Rattle.certificates.specs.Claims.{ClaimsSoMany, ClaimsSoFew}
 use Rattle.verifying.specs.declared.fault.Fault.{Fault}

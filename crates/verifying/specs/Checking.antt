@@ -2,7 +2,7 @@
 use Rattle.std.specs.Prelude.{◌≡◌, ℕ, List, ◌++◌}
 use Rattle.board.specs.Board.{PlainBoard}
 use Rattle.rules.specs.declared.goal.Goal.{Goal}
-use Rattle.decision.specs.declared.answer.Answer.{Answer}
+use Rattle.problems.specs.declared.answer.Answer.{Answer}
 use Rattle.certificates.specs.Answers.{Certifies}
 use Rattle.verifying.specs.declared.checker.Checker.{Checker}
 use Rattle.verifying.specs.declared.fault.Fault.{Fault}

@@ -7,8 +7,8 @@ use Rattle.rules.specs.declared.goal.Goal.TheVariants as goal
 use Rattle.rules.specs.Squares.{Place, Ply}
 use Rattle.rules.specs.Moves.{IsPromoted}
 use Rattle.rules.specs.MoveText.{move_text}
-use Rattle.decision.specs.declared.answer.Answer.{Answer}
-use Rattle.decision.specs.declared.answer.Answer.TheVariants.{Mate, NoneWithin}
+use Rattle.problems.specs.declared.answer.Answer.{Answer}
+use Rattle.problems.specs.declared.answer.Answer.TheVariants.{Mate, NoneWithin}
 use Rattle.certificates.specs.Answers.{IsOdd}
 
 -- what stands before the plies of a mate, by the goal

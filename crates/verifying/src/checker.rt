@@ -20,8 +20,8 @@ use crate::first_line::answer_of;
 use crate::part::{Mate, Part};
 use crate::steps::{shows_lesser, shows_no, shows_win, shows_yes};
 use crate::words::{Word, read_words};
-use decision::Answer;
 use moves::{Board, Goal};
+use problems::Answer;
 use std::alloc::{AllocError, Allocator};
 
 /// The most bytes of a line, its feed not counted.

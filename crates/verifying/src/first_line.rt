@@ -6,12 +6,12 @@ ghost use Rattle.rules.specs.Moves.{IsPromoted};
 ghost use Rattle.certificates.specs.Answers.{IsOdd};
 ghost use Rattle.verifying.specs.FirstLine.{goal_text, answer_text, HasName, IsInRange, HasNamedMove, IsNamedSquare};
 ghost use Rattle.board.specs.declared.game.Kind.{Kind as PlainKind};
-ghost use Rattle.decision.specs.declared.answer.Answer.{Answer as PlainAnswer};
+ghost use Rattle.problems.specs.declared.answer.Answer.{Answer as PlainAnswer};
 ghost use Rattle.rules.specs.Squares.{Place, Ply};
 
 use board::Kind;
-use decision::{Answer, MOST_LIMIT};
 use moves::{Goal, Move, Square};
+use problems::{Answer, MOST_LIMIT};
 
 /// The digit that the byte is.
 fn digit_of(byte: u8) -> Option<u8>

@@ -1,7 +1,6 @@
 //! A claim as it is kept, in 32 bytes.
-ghost use Rattle.std.specs.Prelude.{◌≡◌, ◌↔◌, IsTrue};
+ghost use Rattle.std.specs.Prelude.{◌≡◌};
 ghost use Rattle.moves.specs.Words.{IsPacked, game_of, mover_of_flags, flags_of, unpacked};
-ghost use Rattle.verifying.specs.Index.{words_of};
 
 use board::{Game, Side};
 use certificates::Claim;
@@ -17,15 +16,13 @@ pub(crate) struct Kept {
 
 impl Model for Kept {
     ghost use Rattle.certificates.specs.declared.claim.Claim.{Claim};
-    ghost use Rattle.std.specs.Prelude.{◌≡◌};
     ghost use Rattle.moves.specs.Words.{IsPacked, unpacked};
-    ghost use Rattle.verifying.specs.Index.{words_of};
 
     ghost Value = { Claim };
 
     ghost view = { λ kept. record { position = unpacked kept.words; plies = kept.plies } };
 
-    ghost invariant = { λ kept. IsPacked kept.words × (kept.words ≡ words_of (unpacked kept.words)) };
+    ghost invariant = { λ kept. IsPacked kept.words };
 }
 
 /// The game that the words tell.
@@ -78,29 +75,5 @@ impl Kept {
             position: board_of(&self.words),
             plies: self.plies,
         }
-    }
-
-    /// The words of the claim's position.
-    pub(crate) fn words(&self) -> [u64; 3]
-        ensures position { unpacked result ≡ self.now.position }
-        ensures value { result ≡ words_of self.now.position }
-    {
-        self.words
-    }
-
-    /// The plies of the claim.
-    pub(crate) fn plies(&self) -> u8
-        ensures { result ≡ self.now.plies }
-    {
-        self.plies
-    }
-
-    /// Whether the claim is about the position.
-    pub(crate) fn is_about(&self, position: &Board) -> bool
-        ensures { IsTrue result ↔ (self.now.position ≡ position.now) }
-    {
-        let words = self.words();
-        let others = position.words();
-        words == others
     }
 }

@@ -1,9 +1,9 @@
 //! No claims: that the attacker forces the goal within no number of plies up to the claim's.
-ghost use Rattle.std.specs.Prelude.{◌≡◌, ◌≤◌, ◌⊎◌, List, All, IfOk, IsTrue, false};
+ghost use Rattle.std.specs.Prelude.{◌≡◌, ◌⊎◌, List, All, IfOk, IsTrue, false};
 ghost use Rattle.rules.specs.Squares.{Ply};
 ghost use Rattle.rules.specs.Moves.{IsLawful};
 ghost use Rattle.rules.specs.Forces.{IsReached};
-ghost use Rattle.decision.specs.Answer.{ForcesNothing};
+ghost use Rattle.problems.specs.Answer.{ForcesNothing};
 ghost use Rattle.certificates.specs.declared.claim.Claim.{Claim};
 ghost use Rattle.certificates.specs.Claims.{ClaimsSoMany, EscapesBy, FailsBy};
 ghost use Rattle.verifying.specs.Growing.{AreApart, Extends};

@@ -1,6 +1,6 @@
 //! The parts of a certificate.
-use decision::Answer;
 use moves::Move;
+use problems::Answer;
 
 /// A mate, as the first line tells it.
 #[derive(Clone, Copy)]

@@ -1,7 +1,7 @@
 //! Whole certificates.
 ghost use Rattle.std.specs.Prelude.{◌≡◌, ◌+◌, ◌<◌, ℕ, IfErr, IfOk};
 ghost use Rattle.verifying.specs.declared.fault.Fault.TheVariants.{NoMemory, ReadFailed};
-ghost use Rattle.decision.specs.Answer.{IsAnswer};
+ghost use Rattle.problems.specs.Answer.{IsAnswer};
 ghost use Rattle.devices.specs.Input.{OfInput};
 ghost use Rattle.certificates.specs.Answers.{IsUpTo};
 ghost use Rattle.verifying.specs.Refusals.{TellsOf, reads_failed};
@@ -9,9 +9,9 @@ ghost use Rattle.verifying.specs.Certificate.{IsCertificate, IsRefusedWith};
 
 use crate::checker::{Checker, MOST_LINE};
 use crate::fault::Fault;
-use decision::Answer;
 use devices::{Counted, Source, Unread};
 use moves::{Board, Goal};
+use problems::Answer;
 use std::alloc::Allocator;
 
 /// The answer of the first line of the certificate that the reader gives, if the other lines prove it of the position. Nothing is read

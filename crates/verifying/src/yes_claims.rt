@@ -1,5 +1,5 @@
 //! Yes claims: that the attacker forces the goal within the claim's plies.
-ghost use Rattle.std.specs.Prelude.{◌≡◌, ◌≤◌, ◌<◌, ◌∷◌, ℕ, List, IfNone, IfOk, IfSome, IsTrue, Some, false, length, slice_get};
+ghost use Rattle.std.specs.Prelude.{◌≡◌, ◌<◌, ◌∷◌, ℕ, List, IfNone, IfOk, IfSome, IsTrue, Some, false, length, slice_get};
 ghost use Rattle.board.specs.Board.{PlainBoard};
 ghost use Rattle.rules.specs.Squares.{Ply};
 ghost use Rattle.rules.specs.Moves.{IsMove, IsLawful};

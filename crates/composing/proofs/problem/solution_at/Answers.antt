@@ -1,10 +1,10 @@
 use Rattle.std.proofs.Common.{Ok, arith, subst, sym, vec_items}
 use Rattle.board.specs.Board.{PlainBoard}
 use Rattle.rules.specs.declared.goal.Goal.{Goal}
-use Rattle.decision.specs.Answer.{IsFewest}
+use Rattle.problems.specs.Answer.{IsFewest}
 use Rattle.replies.specs.Outcome.{Solves}
 use Rattle.composing.specs.Solution.{IsPublished}
-use Rattle.composing.proofs.CertifyLemmas.{limit_within}
+use Rattle.rounds.proofs.Limits.{limit_within}
 use Rattle.composing.proofs.SolutionLemmas.{published_shown}
 use Rattle.composing.proofs.problem.solution_at.Goals as goal
 

@@ -4,7 +4,7 @@ use Rattle.rules.specs.Squares.{Ply}
 use Rattle.rules.specs.Moves.{IsLawful}
 use Rattle.slots.specs.Promise.{slots_of, number}
 use Rattle.decision.specs.Calls.{added}
-use Rattle.decision.specs.Questions.{question}
+use Rattle.problems.specs.Questions.{question}
 use Rattle.decision.specs.Decisions.{AsksBelow}
 use Rattle.decision.proofs.deciding.decide.Goals as goal
 

@@ -3,8 +3,9 @@ use Rattle.std.proofs.lemmas.Bool.Decides.{Decides-eqb}
 use Rattle.slots.specs.Promise.{slots_of, number}
 use Rattle.rules.specs.Moves.{IsLawful}
 use Rattle.decision.specs.Callers.{adds}
-use Rattle.decision.specs.Orders.{ListsAll}
-use Rattle.decision.proofs.Below.{none_listed, some_listed, all_listed, not_empty, now_for, tells_answer, tells_below, now_zero}
+use Rattle.problems.specs.Tried.{ListsAll}
+use Rattle.problems.proofs.Tried.{none_listed, some_listed, all_listed, not_empty, now_for, tells_answer, now_zero}
+use Rattle.decision.proofs.Below.{tells_below}
 use Rattle.decision.proofs.deciding.search_given.Goals as goal
 
 pub returns-then-n-eq0-clause-answer : goal.returns-then-n-eq0-clause-answer

@@ -3,10 +3,11 @@ use Rattle.std.proofs.lemmas.List.{take_all}
 use Rattle.rules.specs.Moves.{IsLawful}
 use Rattle.slots.specs.Promise.{slots_of, number}
 use Rattle.decision.specs.Callers.{adds}
-use Rattle.decision.specs.Below.{IsPassed, IsAskedAfter}
+use Rattle.problems.specs.Tried.{IsPassed}
+use Rattle.decision.specs.Below.{IsAskedAfter}
 use Rattle.decision.proofs.Callers.{goes_more}
 use Rattle.decision.proofs.Decided.{asked_later, after_next}
-use Rattle.decision.proofs.Below.{passed_after, cut_after, goes_by, ends_by, beq_same, beq_apart, not_self}
+use Rattle.problems.proofs.Tried.{passed_after, cut_after, goes_by, ends_by, beq_same, beq_apart, not_self}
 use Rattle.decision.proofs.first.try_moves.Goals as goal
 
 pub after-requires : goal.after-requires

@@ -1,7 +1,8 @@
 use Rattle.std.proofs.Common.{◌-◌, take, All}
 use Rattle.slots.specs.Promise.{slots_of, number}
 use Rattle.decision.specs.Callers.{adds, Searches}
-use Rattle.decision.specs.Below.{IsPassed, IsAskedAfter}
+use Rattle.problems.specs.Tried.{IsPassed}
+use Rattle.decision.specs.Below.{IsAskedAfter}
 use Rattle.decision.proofs.first.try_moves.Given as goal
 
 -- the moves so far ended nothing, and the table was asked of the position after each

@@ -1,5 +1,5 @@
 use Rattle.std.proofs.Common.{arith, sym, ◌∙◌}
-use Rattle.decision.proofs.LastPlies.{other_one_of, other_three_of}
+use Rattle.problems.proofs.LastPlies.{other_one_of, other_three_of}
 use Rattle.decision.proofs.leaf.leaf.Goals as goal
 
 pub returns-then-n-lt2 : goal.returns-then-n-lt2

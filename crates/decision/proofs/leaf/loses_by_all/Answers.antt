@@ -2,10 +2,9 @@ use Rattle.std.proofs.Common.{All, sym, ◌∙◌, subst, arith, false, length}
 use Rattle.std.proofs.lemmas.Bool.{false≢true}
 use Rattle.std.proofs.lemmas.Bool.Decides.{Decides-eqb}
 use Rattle.std.proofs.lemmas.List.{take_all}
-use Rattle.decision.specs.Orders.{ListsAll}
-use Rattle.decision.specs.Below.{IsPassed}
-use Rattle.decision.proofs.Below.{ended_answer, gone_answer, none_listed, some_listed, not_empty, passes_other, passed_after, cut_after, All-listed}
-use Rattle.decision.proofs.LastPlies.{other_stuck}
+use Rattle.problems.specs.Tried.{ListsAll, IsPassed}
+use Rattle.problems.proofs.Tried.{ended_answer, gone_answer, none_listed, some_listed, not_empty, passes_other, passed_after, cut_after, All-listed}
+use Rattle.problems.proofs.LastPlies.{other_stuck}
 use Rattle.decision.proofs.leaf.loses_by_all.Goals as goal
 
 pub after-requires : goal.after-requires

@@ -1,5 +1,5 @@
 use Rattle.std.proofs.Common.{take, All, false}
-use Rattle.decision.specs.Below.{IsPassed}
+use Rattle.problems.specs.Tried.{IsPassed}
 use Rattle.decision.proofs.leaf.loses_by_all.Given as goal
 
 -- each reply so far is met

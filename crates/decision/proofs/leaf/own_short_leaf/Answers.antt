@@ -1,5 +1,5 @@
 use Rattle.std.proofs.Common.{arith}
-use Rattle.decision.proofs.LastPlies.{own_two_of}
+use Rattle.problems.proofs.LastPlies.{own_two_of}
 use Rattle.decision.proofs.leaf.own_short_leaf.Goals as goal
 
 pub returns : goal.returns

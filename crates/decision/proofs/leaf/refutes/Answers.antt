@@ -1,6 +1,6 @@
 use Rattle.std.proofs.Common.{◌≡◌, Bool, true, false, not, sym, arith}
 use Rattle.std.proofs.lemmas.Bool.{false≢true}
-use Rattle.decision.proofs.Below.{ended_answer, passes_other, cut_after}
+use Rattle.problems.proofs.Tried.{ended_answer, passes_other, cut_after}
 use Rattle.decision.proofs.leaf.refutes.Goals as goal
 
 pub wins_at_once-requires : goal.wins_at_once-requires

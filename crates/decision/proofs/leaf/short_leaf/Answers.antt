@@ -1,6 +1,6 @@
 use Rattle.std.proofs.Common.{false, arith, sym, ◌∙◌}
 use Rattle.std.proofs.lemmas.Bool.{false≢true}
-use Rattle.decision.proofs.LastPlies.{other_one_of, other_three_of}
+use Rattle.problems.proofs.LastPlies.{other_one_of, other_three_of}
 use Rattle.decision.proofs.leaf.short_leaf.Goals as goal
 
 pub returns-then-n-lt2 : goal.returns-then-n-lt2

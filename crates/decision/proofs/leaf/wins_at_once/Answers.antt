@@ -1,4 +1,4 @@
-use Rattle.decision.proofs.LastPlies.{at_once_for}
+use Rattle.problems.proofs.LastPlies.{at_once_for}
 use Rattle.decision.proofs.leaf.wins_at_once.Goals as goal
 
 pub returns : goal.returns

@@ -1,9 +1,8 @@
 use Rattle.std.proofs.Common.{All, sym, ◌∙◌, subst, arith, true}
 use Rattle.std.proofs.lemmas.Bool.{false≢true}
 use Rattle.std.proofs.lemmas.List.{take_all}
-use Rattle.decision.specs.Orders.{ListsAll}
-use Rattle.decision.specs.Below.{IsPassed}
-use Rattle.decision.proofs.Below.{ended_answer, passes_own, passed_after, cut_after, lost}
+use Rattle.problems.specs.Tried.{ListsAll, IsPassed}
+use Rattle.problems.proofs.Tried.{ended_answer, passes_own, passed_after, cut_after, lost}
 use Rattle.decision.proofs.leaf.wins_in_three.Goals as goal
 
 pub after-requires : goal.after-requires

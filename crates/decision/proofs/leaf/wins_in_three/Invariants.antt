@@ -1,5 +1,5 @@
 use Rattle.std.proofs.Common.{take, All, true}
-use Rattle.decision.specs.Below.{IsPassed}
+use Rattle.problems.specs.Tried.{IsPassed}
 use Rattle.decision.proofs.leaf.wins_in_three.Given as goal
 
 -- none of the moves so far wins

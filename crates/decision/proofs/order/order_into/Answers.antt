@@ -4,8 +4,10 @@ use Rattle.std.specs.List.Sorted.{IsPermutation}
 use Rattle.std.proofs.lemmas.List.Sorted.{IsPermutation-map}
 use Rattle.rules.specs.Moves.{IsLawful}
 use Rattle.decision.specs.declared.order.Costed.{Costed}
-use Rattle.decision.specs.Orders.{ListsAll, moves_of}
-use Rattle.decision.proofs.Below.{all_listed, lists_permuted, refilled}
+use Rattle.problems.specs.Tried.{ListsAll}
+use Rattle.decision.specs.Orders.{moves_of}
+use Rattle.problems.proofs.Tried.{all_listed, lists_permuted}
+use Rattle.decision.proofs.Below.{refilled}
 use Rattle.decision.proofs.order.order_into.Goals as goal
 
 pub cost_all-requires-clause-lawful : goal.cost_all-requires-clause-lawful

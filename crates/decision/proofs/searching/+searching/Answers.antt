@@ -2,12 +2,11 @@ use Rattle.std.proofs.Common.{◌-◌, ◌<◌, ◌≡◌, List, Bool, All, leng
 use Rattle.std.proofs.lemmas.List.{take_all}
 use Rattle.rules.specs.Squares.{Ply}
 use Rattle.rules.specs.Moves.{IsLawful}
-use Rattle.decision.specs.Questions.{IsForced}
-use Rattle.decision.specs.Orders.{ListsAll}
-use Rattle.decision.specs.Below.{is_own, IsPassed}
+use Rattle.problems.specs.Questions.{IsForced}
+use Rattle.problems.specs.Tried.{ListsAll, is_own, IsPassed}
 use Rattle.decision.proofs.Callers.{goes_more}
 use Rattle.decision.proofs.Replies.{known_is_right, forced_later}
-use Rattle.decision.proofs.Below.{none_listed, some_listed, all_listed, ended_answer, now_for, tells_answer, goes_by, ends_by, beq_same, beq_apart, not_self}
+use Rattle.problems.proofs.Tried.{none_listed, some_listed, all_listed, ended_answer, now_for, tells_answer, goes_by, ends_by, beq_same, beq_apart, not_self}
 use Rattle.decision.proofs.Turns.{passed_turned, cut_turned}
 use Rattle.decision.proofs.searching.+searching.Goals as goal
 
@@ -103,8 +102,8 @@ search_in_rounds-returns-then-yes-clause-found g t c = (
   c.known_with-known.ensures.right,
 )
 
-pub try_below-turned_after-requires : goal.try_below-turned_after-requires
-try_below-turned_after-requires g t c = subst (IsLawful c.args.q.now.position) (sym c.m-item.is) (c.requires.lawful c.loop-m.m-index c.m-item.result c.loop-m-test.true)
+pub try_below-image_after-requires : goal.try_below-image_after-requires
+try_below-image_after-requires g t c = subst (IsLawful c.args.q.now.position) (sym c.m-item.is) (c.requires.lawful c.loop-m.m-index c.m-item.result c.loop-m-test.true)
 
 pub try_below-returns-in_err-yes-clause-goes_on : goal.try_below-returns-in_err-yes-clause-goes_on
 try_below-returns-in_err-yes-clause-goes_on g t c = record {
@@ -122,7 +121,7 @@ try_below-returns-then-yes-own-clause-goes_on g t c = record {
 
 pub try_below-returns-then-yes-own-clause-tells : goal.try_below-returns-then-yes-own-clause-tells
 try_below-returns-then-yes-own-clause-tells g t c = record {
-  cut = λ _. cut_turned c.args.q.now (c.args.n - 1) c.is_own_turn-own.result c.m-item.result c.turned_after.result c.turned_after.ensures
+  cut = λ _. cut_turned c.args.q.now (c.args.n - 1) c.is_own_turn-own.result c.m-item.result c.image_after.result c.image_after.ensures
       (ends_by c.is_own_turn-own.result c.in_ok-yes.yes _ c.in_ok-yes.ensures.answer (beq_same _ _ c.if-yes-own.true));
   passed = λ apart. absurd (apart c.is_own_turn-own.ensures);
 }
@@ -134,7 +133,7 @@ try_below-loop-m-preserved g t c = record {
     reference = c.visit.ensures.goes_on.reference ∙ c.loop-m.invariant.goes_on.reference;
     stop = g.met.S.Stop.stays_on _ _ _ c.loop-m.invariant.goes_on.stop c.visit.ensures.goes_on.stop;
   };
-  passed = passed_turned c.args.q.now (c.args.n - 1) c.is_own_turn-own.result c.args.moves.now c.loop-m.m-index c.m-item.result c.turned_after.result c.loop-m-test.true c.m-item.is c.turned_after.ensures c.loop-m.invariant.passed
+  passed = passed_turned c.args.q.now (c.args.n - 1) c.is_own_turn-own.result c.args.moves.now c.loop-m.m-index c.m-item.result c.image_after.result c.loop-m-test.true c.m-item.is c.image_after.ensures c.loop-m.invariant.passed
       (goes_by c.is_own_turn-own.result c.in_ok-yes.yes _ c.in_ok-yes.ensures.answer (beq_apart _ _ c.if-yes-own.false));
 }
 

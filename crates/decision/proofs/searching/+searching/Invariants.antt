@@ -1,7 +1,7 @@
 use Rattle.std.proofs.Common.{◌+◌, ◌*◌, ◌-◌, take, All}
 use Rattle.decision.specs.Callers.{Searches}
 use Rattle.decision.specs.Questions.{IsKnownOf}
-use Rattle.decision.specs.Below.{IsPassed}
+use Rattle.problems.specs.Tried.{IsPassed}
 use Rattle.decision.proofs.searching.+searching.Given as goal
 
 abbrev pub decreases-visit : goal.decreases-visit

@@ -1,5 +1,5 @@
 use Rattle.std.proofs.Common.{subst}
-use Rattle.decision.specs.Answer.{IsAnswer}
+use Rattle.problems.specs.Answer.{IsAnswer}
 use Rattle.handles.specs.Asked.{refused, another_limit, stopped}
 use Rattle.handles.proofs.AskedLemmas.{answered}
 use Rattle.handles.proofs.asking.replied.Goals as goal

@@ -1,5 +1,5 @@
 use Rattle.std.proofs.Common.{subst, sym}
-use Rattle.searcher.specs.Keys.{ListsKeys}
+use Rattle.problems.specs.Keys.{ListsKeys}
 use Rattle.handles.proofs.WritingLemmas.{keys_tell}
 use Rattle.handles.proofs.writing.keys_at.Goals as goal
 

@@ -1,5 +1,5 @@
 use Rattle.std.proofs.Common.{subst}
-use Rattle.decision.specs.Answer.{IsAnswer}
+use Rattle.problems.specs.Answer.{IsAnswer}
 use Rattle.handles.proofs.WritingLemmas.{none_tells, tree_tells}
 use Rattle.handles.proofs.writing.tree_at.Goals as goal
 

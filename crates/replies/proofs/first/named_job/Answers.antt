@@ -1,7 +1,7 @@
 use Rattle.std.proofs.Common.{◌∙◌, ◌<◌, arith, length, sym}
 use Rattle.std.proofs.lemmas.Bool.{false≢true}
 use lib.Pointwise.{bytes_decides}
-use Rattle.searcher.proofs.Jobs.{got_at, move_at}
+use Rattle.problems.proofs.Jobs.{got_at, move_at}
 use Rattle.replies.proofs.PlayingLemmas.{none_next, names_none}
 use Rattle.replies.proofs.first.named_job.Goals as goal
 

@@ -1,7 +1,7 @@
 use Rattle.std.proofs.Common.{◌<◌, sym, subst, length}
-use Rattle.decision.specs.Orders.{ListsAll}
-use Rattle.decision.proofs.Below.{not_empty}
-use Rattle.searcher.proofs.Jobs.{listed_move}
+use Rattle.problems.specs.Tried.{ListsAll}
+use Rattle.problems.proofs.Tried.{not_empty}
+use Rattle.problems.proofs.Jobs.{listed_move}
 use Rattle.rounds.proofs.help.after_first_reply.Goals as goal
 
 pub after-requires : goal.after-requires

@@ -1,7 +1,7 @@
 use Rattle.std.proofs.Common.{arith, sym, subst, length, ap}
-use Rattle.decision.specs.Orders.{ListsAll}
+use Rattle.problems.specs.Tried.{ListsAll}
 use Rattle.decision.proofs.Calls.{continues_more}
-use Rattle.searcher.proofs.Jobs.{listed_move}
+use Rattle.problems.proofs.Jobs.{listed_move}
 use Rattle.rounds.proofs.help.help.Goals as goal
 
 pub after-below-requires : goal.after-below-requires

@@ -2,7 +2,7 @@ use Rattle.std.proofs.Common.{arith, sym, ◌∙◌}
 use Rattle.std.proofs.lemmas.Bool.{false≢true}
 use Rattle.rounds.specs.Shares.{WinsHere}
 use Rattle.rounds.proofs.Going.{goes_none, goes_more}
-use Rattle.searcher.proofs.Jobs.{none_next}
+use Rattle.problems.proofs.Jobs.{none_next}
 use Rattle.rounds.proofs.round.settle.Goals as goal
 
 pub loop-job-preserved : goal.loop-job-preserved

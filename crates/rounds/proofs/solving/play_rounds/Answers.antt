@@ -1,8 +1,8 @@
 use Rattle.std.proofs.Common.{refl, rules, subst, ◌∙◌, ◌+◌, ◌*◌}
-use Rattle.searcher.specs.Roots.{EndsRound}
+use Rattle.problems.specs.Roots.{EndsRound}
 use Rattle.rounds.proofs.Going.{seats_none, seats_more}
-use Rattle.searcher.proofs.Jobs.{move_at, answered, more_rounds}
-use Rattle.decision.proofs.Winning.{nothing_at_once}
+use Rattle.problems.proofs.Jobs.{move_at, answered, more_rounds}
+use Rattle.problems.proofs.Winning.{nothing_at_once}
 use Rattle.rounds.proofs.solving.play_rounds.Goals as goal
 
 pub loop-number-init : goal.loop-number-init

@@ -1,5 +1,5 @@
 use Rattle.std.proofs.Common.{◌*◌, length}
-use Rattle.decision.specs.Answer.{ForcesNothing}
+use Rattle.problems.specs.Answer.{ForcesNothing}
 use Rattle.rounds.specs.Seats.{AreSeats}
 use Rattle.rounds.specs.Going.{SeatsGoOn}
 use Rattle.rounds.proofs.solving.play_rounds.Given as goal

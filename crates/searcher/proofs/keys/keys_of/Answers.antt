@@ -1,6 +1,6 @@
 use Rattle.std.proofs.Common.{◌<◌, length, arith, rules}
 use Rattle.decision.proofs.Options.{none_at, some_at}
-use Rattle.searcher.proofs.Jobs.{move_at}
+use Rattle.problems.proofs.Jobs.{move_at}
 use Rattle.searcher.proofs.Taking.{one_key, no_key, all_keys}
 use Rattle.searcher.proofs.keys.keys_of.Goals as goal
 use Rattle.searcher.proofs.keys.keys_of.Goals.{in-Some-found+in_ok-push, in_default-found}

@@ -1,5 +1,5 @@
 use Rattle.std.proofs.Common.{◌<◌, ◌≤◌, ◌*◌, ℕ}
-use Rattle.searcher.specs.Roots.{WinsIn}
+use Rattle.problems.specs.Roots.{WinsIn}
 use Rattle.searcher.proofs.keys.plies_of.Given as goal
 
 -- the job wins in none of the rounds so far

@@ -1,7 +1,7 @@
 use Rattle.std.proofs.Common.{arith, sym, ◌∙◌}
 use Rattle.std.proofs.lemmas.Bool.{false≢true}
-use Rattle.searcher.specs.Roots.{WinsIn}
-use Rattle.searcher.proofs.Jobs.{none_next}
+use Rattle.problems.specs.Roots.{WinsIn}
+use Rattle.problems.proofs.Jobs.{none_next}
 use Rattle.searcher.proofs.solving.least_win.Goals as goal
 
 pub loop-job-init : goal.loop-job-init

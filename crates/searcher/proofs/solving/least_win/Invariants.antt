@@ -1,5 +1,5 @@
 use Rattle.std.proofs.Common.{◌<◌, ℕ}
-use Rattle.searcher.specs.Roots.{WinsIn}
+use Rattle.problems.specs.Roots.{WinsIn}
 use Rattle.searcher.proofs.solving.least_win.Given as goal
 
 -- none of the jobs so far wins

@@ -1,7 +1,7 @@
 use Rattle.std.proofs.Common.{refl, arith, subst, ◌+◌, ◌*◌}
-use Rattle.searcher.specs.Roots.{EndsRound}
-use Rattle.searcher.proofs.Jobs.{move_at, answered, more_rounds}
-use Rattle.decision.proofs.Winning.{nothing_at_once}
+use Rattle.problems.specs.Roots.{EndsRound}
+use Rattle.problems.proofs.Jobs.{move_at, answered, more_rounds}
+use Rattle.problems.proofs.Winning.{nothing_at_once}
 use Rattle.decision.proofs.Options.{none_is}
 use Rattle.searcher.proofs.solving.solve_by.Goals as goal
 

@@ -1,5 +1,5 @@
 use Rattle.std.proofs.Common.{◌*◌}
-use Rattle.decision.specs.Answer.{ForcesNothing}
+use Rattle.problems.specs.Answer.{ForcesNothing}
 use Rattle.searcher.proofs.solving.solve_by.Given as goal
 
 -- the rounds so far were in vain

@@ -1,5 +1,5 @@
 use Rattle.std.proofs.Common.{take}
-use Rattle.decision.specs.Answer.{Wins}
+use Rattle.problems.specs.Answer.{Wins}
 use Rattle.solutions.proofs.Lists.{PicksMoves}
 use Rattle.solutions.proofs.continuing.continuations_of.Given as goal
 

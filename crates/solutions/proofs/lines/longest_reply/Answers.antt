@@ -1,7 +1,7 @@
 use Rattle.std.proofs.Common.{sym, subst, ◌∙◌, ◌-◌, ◌↔◌, ℕ, IsTrue}
 use Rattle.std.proofs.lemmas.Bool.{false≢true}
 use Rattle.rules.specs.Order.{ListsLawful}
-use Rattle.searcher.proofs.Jobs.{lawful_job}
+use Rattle.problems.proofs.Jobs.{lawful_job}
 use Rattle.solutions.specs.Lines.{IsMet, Lasts}
 use Rattle.solutions.proofs.Lists.{all_more, each_lawful, first_least}
 use Rattle.solutions.proofs.Forcing.{lasts_by, met_before}

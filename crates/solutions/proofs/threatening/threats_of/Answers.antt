@@ -3,7 +3,7 @@ use Rattle.std.proofs.lemmas.Bool.{false≢true}
 use Rattle.board.specs.Board.{PlainBoard}
 use Rattle.rules.specs.declared.goal.Goal.{Goal}
 use Rattle.rules.proofs.Forcing.{same_side-self}
-use Rattle.decision.specs.Answer.{IsFewest, ForcesNothing}
+use Rattle.problems.specs.Answer.{IsFewest, ForcesNothing}
 use Rattle.searcher.proofs.Halts.{err_halts}
 use Rattle.trees.proofs.Forcing.{some_ply, not_reached}
 use Rattle.solutions.specs.Lines.{ListsContinuations}

@@ -1,7 +1,7 @@
 use Rattle.std.proofs.Common.{ℕ, ◌≤◌, sym, subst, arith, MatchOption}
 use Rattle.rules.specs.Squares.{Ply}
 use Rattle.rules.specs.Order.{ListsLawful}
-use Rattle.searcher.proofs.Jobs.{lawful_job}
+use Rattle.problems.proofs.Jobs.{lawful_job}
 use Rattle.decision.proofs.Options.{none_at, some_at}
 use Rattle.solutions.specs.Solutions.{RefutesAlone}
 use Rattle.solutions.proofs.Tries.{no_tries, try_one, try_skip, try_all}

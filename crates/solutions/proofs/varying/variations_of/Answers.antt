@@ -2,9 +2,9 @@ use Rattle.std.proofs.Common.{sym, subst}
 use Rattle.board.specs.Board.{PlainBoard}
 use Rattle.rules.specs.declared.goal.Goal.{Goal}
 use Rattle.rules.specs.Order.{ListsLawful}
-use Rattle.searcher.proofs.Jobs.{lawful_job}
+use Rattle.problems.proofs.Jobs.{lawful_job}
 use Rattle.searcher.proofs.Halts.{err_halts}
-use Rattle.decision.specs.Answer.{ForcesNothing}
+use Rattle.problems.specs.Answer.{ForcesNothing}
 use Rattle.decision.proofs.Options.{none_at, some_at}
 use Rattle.solutions.specs.Solutions.{TellsVariation}
 use Rattle.solutions.proofs.Variations.{vary_one, vary_skip, vary_all}

@@ -1,9 +1,9 @@
 use Rattle.std.proofs.Common.{subst, ◌∙◌}
 use Rattle.board.specs.Board.{PlainBoard}
 use Rattle.rules.specs.declared.goal.Goal.{Goal}
-use Rattle.searcher.specs.Roots.{EndsRound}
-use Rattle.searcher.proofs.Jobs.{none_moves, least_move, move_at}
-use Rattle.decision.proofs.Winning.{none_forced}
+use Rattle.problems.specs.Roots.{EndsRound}
+use Rattle.problems.proofs.Jobs.{none_moves, least_move, move_at}
+use Rattle.problems.proofs.Winning.{none_forced}
 use Rattle.trees.specs.Best.{IsBestMove}
 use Rattle.trees.proofs.best.best_move.Goals as goal
 

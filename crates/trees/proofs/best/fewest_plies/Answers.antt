@@ -1,8 +1,8 @@
 use Rattle.std.proofs.Common.{sym, subst, arith, ◌∙◌, ◌+◌, ◌*◌, ◌↔◌, IsTrue}
 use Rattle.std.proofs.lemmas.Bool.{false≢true}
-use Rattle.decision.specs.declared.question.Question.{Question}
-use Rattle.decision.specs.Questions.{IsForced}
-use Rattle.decision.proofs.Winning.{forced_by, next_round, nothing_at_once}
+use Rattle.problems.specs.declared.question.Question.{Question}
+use Rattle.problems.specs.Questions.{IsForced}
+use Rattle.problems.proofs.Winning.{forced_by, next_round, nothing_at_once}
 use Rattle.trees.proofs.best.fewest_plies.Goals as goal
 
 pub loop-round-init : goal.loop-round-init

@@ -1,5 +1,5 @@
 use Rattle.std.proofs.Common.{◌*◌}
-use Rattle.decision.specs.Answer.{ForcesNothing}
+use Rattle.problems.specs.Answer.{ForcesNothing}
 use Rattle.trees.proofs.best.fewest_plies.Given as goal
 
 -- nothing is forced within the rounds so far

@@ -1,7 +1,7 @@
 use Rattle.std.proofs.Common.{◌∙◌, ◌<◌, arith, length, subst, sym}
 use Rattle.rules.specs.Squares.{Ply}
 use Rattle.decision.proofs.Options.{none_at, some_at}
-use Rattle.searcher.proofs.Jobs.{got_at, move_at, same_some}
+use Rattle.problems.proofs.Jobs.{got_at, move_at, same_some}
 use Rattle.trees.specs.First.{IsBestOf}
 use Rattle.trees.proofs.Firsts.{job_takes, move_takes}
 use Rattle.trees.proofs.first.tree_of_first.Goals as goal

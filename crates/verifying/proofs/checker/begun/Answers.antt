@@ -1,5 +1,5 @@
 use Rattle.std.proofs.Common.{arith, subst}
-use Rattle.decision.specs.declared.answer.Answer.{Answer}
+use Rattle.problems.specs.declared.answer.Answer.{Answer}
 use Rattle.verifying.specs.FirstLine.{IsInRange}
 use Rattle.verifying.proofs.Shown.{shows_none}
 use Rattle.verifying.proofs.checker.begun.Goals as goal

@@ -1,39 +1,36 @@
-use Rattle.std.proofs.Common.{All, sym, ◌∙◌, subst, arith, false, length}
+use Rattle.std.proofs.Common.{All, refl, sym, ◌∙◌, subst, length}
 use Rattle.std.proofs.lemmas.Bool.{false≢true}
 use Rattle.std.proofs.lemmas.Bool.Decides.{Decides-eqb}
 use Rattle.std.proofs.lemmas.List.{take_all}
-use Rattle.decision.specs.Orders.{ListsAll}
-use Rattle.decision.specs.Below.{IsPassed}
-use Rattle.decision.proofs.Below.{ended_answer, gone_answer, none_listed, some_listed, not_empty, passes_other, passed_after, cut_after, All-listed}
-use Rattle.decision.proofs.LastPlies.{other_stuck}
+use Rattle.rules.specs.Order.{ListsLawful}
+use Rattle.problems.proofs.Tried.{not_empty}
+use Rattle.wintree.proofs.Listings.{none_lawful, some_lawful}
+use Rattle.verifying.proofs.Failing.{listed_item, all_more}
+use Rattle.verifying.proofs.Leaves.{Loses, for_other, loses_by, lost, not_lost, no_move_left}
 use Rattle.verifying.proofs.leaf.loses_in_two.Goals as goal
 
 pub after-requires : goal.after-requires
-after-requires c =
-    (subst (ListsAll c.args.q.now.position) (sym c.as_slice-m-items.ensures.value) c.lawful_on-moves.ensures.exact c.m-item.result).0 (c.loop-m.m-index, c.loop-m-test.true, sym c.m-item.is)
-
-pub wins_at_once-requires : goal.wins_at_once-requires
-wins_at_once-requires c = passes_other c.args.q.now c.after.result c.m-item.result c.after.ensures c.requires
+after-requires c = listed_item c.args.board.now c.as_slice-m-items.result.now c.as_slice-m-items.result.now c.loop-m.m-index c.m-item.result (subst (ListsLawful c.args.board.now) (sym c.as_slice-m-items.ensures.value) c.lawful_on-moves.ensures) refl c.loop-m-test.true c.m-item.is
 
 pub returns-then-is_empty : goal.returns-then-is_empty
 returns-then-is_empty c =
-    other_stuck c.args.q.now c.is_reached.result c.requires
-    (none_listed c.args.q.now.position c.lawful_on-moves.result.items c.lawful_on-moves.ensures.exact ((Decides-eqb (length c.lawful_on-moves.result.items) 0).0 (sym c.is_empty.ensures ∙ c.if-is_empty.true)))
+    no_move_left c.args.goal c.args.board.now 1 c.is_reached.result
+    (none_lawful c.args.board.now c.lawful_on-moves.result.items c.lawful_on-moves.ensures ((Decides-eqb (length c.lawful_on-moves.result.items) 0).0 (sym c.is_empty.ensures ∙ c.if-is_empty.true)))
     c.is_reached.ensures
 
-pub returns-then-not-wins_at_once : goal.returns-then-not-wins_at_once
-returns-then-not-wins_at_once c =
-    let w = cut_after c.args.q.now 1 false c.m-item.result c.after.result c.after.ensures (λ f. false≢true (sym c.if-not-wins_at_once.true ∙ c.wins_at_once.ensures.1 f)) in
-    ended_answer c.args.q.now 2 false (sym c.requires) (omega arith) w.0 w.1 w.2 w.3
+pub returns-then-not-reaches_at_once : goal.returns-then-not-reaches_at_once
+returns-then-not-reaches_at_once c =
+    not_lost c.args.goal c.args.board.now 1 c.m-item.result c.after.result c.after.ensures
+    (λ f. false≢true (sym c.if-not-reaches_at_once.true ∙ (for_other c.args.goal c.args.board.now c.m-item.result c.after.result 1 c.reaches_at_once.result c.after.ensures c.reaches_at_once.ensures).1 f))
 
 pub loop-m-preserved : goal.loop-m-preserved
 loop-m-preserved c =
-    passed_after c.args.q.now 1 false c.as_slice-m-items.result.now c.loop-m.m-index c.m-item.result c.after.result c.loop-m-test.true c.m-item.is c.after.ensures c.loop-m.invariant
-    (c.wins_at_once.ensures.0 c.if-not-wins_at_once.false)
+    all_more (Loses c.args.goal c.args.board.now 1) c.as_slice-m-items.result.now c.loop-m.m-index c.m-item.result c.loop-m-test.true c.m-item.is c.loop-m.invariant
+    (loses_by c.args.goal c.args.board.now 1 c.m-item.result c.after.result c.after.ensures
+    ((for_other c.args.goal c.args.board.now c.m-item.result c.after.result 1 c.reaches_at_once.result c.after.ensures c.reaches_at_once.ensures).0 c.if-not-reaches_at_once.false))
 
 pub returns : goal.returns
 returns c =
-    gone_answer c.args.q.now 2 false (sym c.requires) (omega arith)
-    (some_listed c.args.q.now.position c.lawful_on-moves.result.items c.lawful_on-moves.ensures.exact (not_empty (length c.lawful_on-moves.result.items) c.if-is_empty.ensures))
-    (All-listed c.args.q.now.position c.as_slice-m-items.result.now (subst (ListsAll c.args.q.now.position) (sym c.as_slice-m-items.ensures.value) c.lawful_on-moves.ensures.exact) (IsPassed c.args.q.now 1 false)
-    (subst (All (IsPassed c.args.q.now 1 false)) (take_all c.loop-m.m-index c.as_slice-m-items.result.now c.loop-m-test.false) c.loop-m.invariant))
+    lost c.args.goal c.args.board.now 1 c.as_slice-m-items.result.now (subst (ListsLawful c.args.board.now) (sym c.as_slice-m-items.ensures.value) c.lawful_on-moves.ensures)
+    (some_lawful c.args.board.now c.lawful_on-moves.result.items c.lawful_on-moves.ensures (not_empty (length c.lawful_on-moves.result.items) c.if-is_empty.ensures))
+    (subst (All (Loses c.args.goal c.args.board.now 1)) (take_all c.loop-m.m-index c.as_slice-m-items.result.now c.loop-m-test.false) c.loop-m.invariant)

@@ -1,7 +1,7 @@
-use Rattle.std.proofs.Common.{take, All, false}
-use Rattle.decision.specs.Below.{IsPassed}
+use Rattle.std.proofs.Common.{take, All}
+use Rattle.verifying.proofs.Leaves.{Loses}
 use Rattle.verifying.proofs.leaf.loses_in_two.Given as goal
 
--- each reply so far is met
+-- each move so far loses
 abbrev pub invariant-loop-m : goal.invariant-loop-m
-invariant-loop-m l = All (IsPassed l.q 1 false) (take l.m-index l.m-items)
+invariant-loop-m l = All (Loses l.goal l.board 1) (take l.m-index l.m-items)

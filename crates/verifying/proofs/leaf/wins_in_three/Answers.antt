@@ -1,29 +1,26 @@
-use Rattle.std.proofs.Common.{All, sym, ◌∙◌, subst, arith, true}
+use Rattle.std.proofs.Common.{All, refl, sym, ◌∙◌, subst}
 use Rattle.std.proofs.lemmas.Bool.{false≢true}
 use Rattle.std.proofs.lemmas.List.{take_all}
-use Rattle.decision.specs.Orders.{ListsAll}
-use Rattle.decision.specs.Below.{IsPassed}
-use Rattle.decision.proofs.Below.{ended_answer, passes_own, passed_after, cut_after, lost}
+use Rattle.rules.specs.Order.{ListsLawful}
+use Rattle.verifying.proofs.Failing.{listed_item, all_more}
+use Rattle.verifying.proofs.Leaves.{WinsNothing, for_mover, nothing_by, won, not_won}
 use Rattle.verifying.proofs.leaf.wins_in_three.Goals as goal
 
 pub after-requires : goal.after-requires
-after-requires c =
-    (subst (ListsAll c.args.q.now.position) (sym c.as_slice-m-items.ensures.value) c.lawful_on-moves.ensures.exact c.m-item.result).0 (c.loop-m.m-index, c.loop-m-test.true, sym c.m-item.is)
-
-pub loses_in_two-requires : goal.loses_in_two-requires
-loses_in_two-requires c = passes_own c.args.q.now c.after.result c.m-item.result c.after.ensures c.requires
+after-requires c = listed_item c.args.board.now c.as_slice-m-items.result.now c.as_slice-m-items.result.now c.loop-m.m-index c.m-item.result (subst (ListsLawful c.args.board.now) (sym c.as_slice-m-items.ensures.value) c.lawful_on-moves.ensures) refl c.loop-m-test.true c.m-item.is
 
 pub returns-then-loses_in_two : goal.returns-then-loses_in_two
 returns-then-loses_in_two c =
-    let w = cut_after c.args.q.now 2 true c.m-item.result c.after.result c.after.ensures (c.loses_in_two.ensures.0 c.if-loses_in_two.true) in
-    ended_answer c.args.q.now 3 true (sym c.requires) (omega arith) w.0 w.1 w.2 w.3
+    won c.args.goal c.args.board.now 2 c.m-item.result c.after.result c.after.ensures
+    ((for_mover c.args.goal c.args.board.now c.m-item.result c.after.result 2 c.loses_in_two.result c.after.ensures c.loses_in_two.ensures).0 c.if-loses_in_two.true)
 
 pub loop-m-preserved : goal.loop-m-preserved
 loop-m-preserved c =
-    passed_after c.args.q.now 2 true c.as_slice-m-items.result.now c.loop-m.m-index c.m-item.result c.after.result c.loop-m-test.true c.m-item.is c.after.ensures c.loop-m.invariant
-    (λ f. false≢true (sym c.if-loses_in_two.false ∙ c.loses_in_two.ensures.1 f))
+    all_more (WinsNothing c.args.goal c.args.board.now 2) c.as_slice-m-items.result.now c.loop-m.m-index c.m-item.result c.loop-m-test.true c.m-item.is c.loop-m.invariant
+    (nothing_by c.args.goal c.args.board.now 2 c.m-item.result c.after.result c.after.ensures
+    (λ f. false≢true (sym c.if-loses_in_two.false ∙ (for_mover c.args.goal c.args.board.now c.m-item.result c.after.result 2 c.loses_in_two.result c.after.ensures c.loses_in_two.ensures).1 f)))
 
 pub returns : goal.returns
 returns c =
-    lost c.args.q.now 3 c.requires (omega arith) c.as_slice-m-items.result.now (subst (ListsAll c.args.q.now.position) (sym c.as_slice-m-items.ensures.value) c.lawful_on-moves.ensures.exact)
-    (subst (All (IsPassed c.args.q.now 2 true)) (take_all c.loop-m.m-index c.as_slice-m-items.result.now c.loop-m-test.false) c.loop-m.invariant)
+    not_won c.args.goal c.args.board.now 2 c.as_slice-m-items.result.now (subst (ListsLawful c.args.board.now) (sym c.as_slice-m-items.ensures.value) c.lawful_on-moves.ensures)
+    (subst (All (WinsNothing c.args.goal c.args.board.now 2)) (take_all c.loop-m.m-index c.as_slice-m-items.result.now c.loop-m-test.false) c.loop-m.invariant)

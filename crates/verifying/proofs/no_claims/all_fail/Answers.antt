@@ -5,7 +5,7 @@ use Rattle.certificates.specs.Claims.{FailsBy}
 use Rattle.verifying.proofs.Growing.{extends_twice, still_all_fail}
 use Rattle.verifying.proofs.Failing.{lawful_item, all_more, fails_after}
 use Rattle.verifying.specs.Certificate.{FailsBecause}
-use Rattle.decision.proofs.Below.{not_empty}
+use Rattle.problems.proofs.Tried.{not_empty}
 use Rattle.verifying.proofs.Turns.{told_step}
 use Rattle.verifying.proofs.Telling.{no_words, reach_nothing, told_whole}
 use Rattle.verifying.proofs.Refusing.{one_ply, no_ply, not_each, no_reason}

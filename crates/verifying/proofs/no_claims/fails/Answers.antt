@@ -1,12 +1,11 @@
 use Rattle.std.proofs.Common.{arith, refl, sym, ◌∙◌, length, subst}
 use Rattle.std.proofs.lemmas.Bool.Decides.{Decides-eqb}
 use Rattle.std.proofs.lemmas.Result.{IfOk-weaker}
-use Rattle.verifying.proofs.Failing.{listed_item, stuck, escapes}
+use Rattle.verifying.proofs.Failing.{listed_item, stuck, escapes, not_both}
 use Rattle.rules.specs.Forces.{IsReached}
-use Rattle.decision.proofs.Below.{none_listed, not_empty}
+use Rattle.problems.proofs.Tried.{none_listed, not_empty}
 use Rattle.verifying.specs.declared.words.Word.{Word}
 use Rattle.verifying.specs.Certificate.{TellsFailure}
-use Rattle.verifying.proofs.Failing.{not_both}
 use Rattle.verifying.proofs.Telling.{move_at}
 use Rattle.verifying.proofs.Refusing.{not_stuck, reached_there, no_reply_at, no_escape, no_sign}
 use Rattle.verifying.proofs.no_claims.fails.Goals as goal

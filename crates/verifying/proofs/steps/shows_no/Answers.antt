@@ -3,11 +3,10 @@ use Rattle.std.proofs.lemmas.Result.{IfOk-weaker}
 use Rattle.rules.specs.Squares.{Ply}
 use Rattle.certificates.specs.declared.claim.Claim.{Claim}
 use Rattle.certificates.specs.Claims.{HoldsOver}
-use Rattle.verifying.specs.Certificate.{ShowFailures}
+use Rattle.verifying.specs.Certificate.{ShowFailures, IsNoLine}
 use Rattle.verifying.proofs.Failing.{each_fails, all_lawful}
 use Rattle.verifying.proofs.Places.{one_item}
 use Rattle.wintree.proofs.Listings.{one_list}
-use Rattle.verifying.specs.Certificate.{IsNoLine}
 use Rattle.verifying.proofs.steps.shows_no.Goals as goal
 
 pub all_fail-requires : goal.all_fail-requires

@@ -4,8 +4,7 @@ use Rattle.rules.specs.Squares.{Ply}
 use Rattle.certificates.specs.declared.claim.Claim.{Claim}
 use Rattle.certificates.specs.Claims.{WinsBy}
 use Rattle.verifying.proofs.Places.{one_item}
-use Rattle.verifying.specs.Certificate.{IsYesLine}
-use Rattle.verifying.specs.Certificate.{IsSomeYesLine}
+use Rattle.verifying.specs.Certificate.{IsYesLine, IsSomeYesLine}
 use Rattle.verifying.proofs.steps.shows_yes.Goals as goal
 
 pub returns-in-Some-clause-won : goal.returns-in-Some-clause-won

@@ -1,5 +1,5 @@
 use Rattle.std.proofs.Common.{arith, length}
-use Rattle.decision.proofs.Below.{not_empty}
+use Rattle.problems.proofs.Tried.{not_empty}
 use Rattle.verifying.proofs.Failing.{listed_item}
 use Rattle.verifying.proofs.Telling.{head_is, move_at}
 use Rattle.verifying.specs.declared.words.Word.TheVariants.{Place}

@@ -2,7 +2,7 @@ use Rattle.std.proofs.Common.{inr, arith, ap, sym, ◌∙◌, length}
 use Rattle.std.proofs.lemmas.Bool.{false≢true}
 use Rattle.std.proofs.lemmas.Bool.Decides.{Decides-eqb}
 use Rattle.std.proofs.lemmas.Result.{IfOk-weaker}
-use Rattle.decision.proofs.Below.{some_listed, not_empty}
+use Rattle.problems.proofs.Tried.{some_listed, not_empty}
 use Rattle.verifying.proofs.Winning.{wins_met}
 use Rattle.verifying.proofs.Refusing.{no_end, few_left}
 use Rattle.verifying.proofs.yes_claims.wins_after.Goals as goal

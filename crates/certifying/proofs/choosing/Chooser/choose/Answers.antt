@@ -1,6 +1,6 @@
 use Rattle.std.proofs.Common.{All, sym, subst}
 use Rattle.rules.specs.Moves.{IsLawful}
-use Rattle.decision.proofs.Below.{all_listed}
+use Rattle.problems.proofs.Tried.{all_listed}
 use Rattle.certifying.proofs.choosing.Chooser.choose.Goals as goal
 
 pub first_of-requires-clause-lawful : goal.first_of-requires-clause-lawful

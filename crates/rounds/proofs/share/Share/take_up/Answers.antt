@@ -4,7 +4,7 @@ use Rattle.least.specs.Promise.{least_known}
 use Rattle.rounds.specs.declared.share.Verdict.TheVariants.{Wins, Loses}
 use Rattle.rounds.specs.Shares.{WinsHere}
 use Rattle.rounds.proofs.Going.{goes_none, goes_decided}
-use Rattle.searcher.proofs.Jobs.{job_after}
+use Rattle.problems.proofs.Jobs.{job_after}
 use Rattle.rounds.proofs.Rows.{row_with, knows_win, knows_loss}
 use Rattle.rounds.proofs.Shares.{may_lower}
 use Rattle.rounds.proofs.share.Share.take_up.Goals as goal

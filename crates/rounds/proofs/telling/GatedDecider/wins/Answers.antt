@@ -1,5 +1,5 @@
 use Rattle.rounds.specs.Going.SeatGoesOn.{called, onward}
-use Rattle.searcher.proofs.Jobs.{job_after}
+use Rattle.problems.proofs.Jobs.{job_after}
 use Rattle.rounds.proofs.telling.GatedDecider.wins.Goals as goal
 
 pub returns-clause-goes : goal.returns-clause-goes

@@ -1,5 +1,5 @@
 use Rattle.decision.proofs.Options.{some_weaker}
-use Rattle.searcher.proofs.Jobs.{job_after}
+use Rattle.problems.proofs.Jobs.{job_after}
 use Rattle.searcher.proofs.decider.Decider.wins.Goals as goal
 
 pub returns-clause-wins : goal.returns-clause-wins

@@ -1,27 +1,26 @@
-use Rattle.std.proofs.Common.{◌≡◌, ◌<◌, ◌++◌, ℕ, List, rules, subst, sym, ap, ◌∙◌, arith, length, take, drop}
-use Rattle.std.proofs.lemmas.Grind.{common_steps}
+use Rattle.std.proofs.Common.{◌≡◌, ◌∷◌, [], ◌++◌, ℕ, List, Contains, rules, subst, sym}
 use Rattle.certificates.specs.declared.claim.Claim.{Claim}
-use Rattle.verifying.specs.Index.{IsEntered, IsIndexed, free, start_of, words_of}
-use Rattle.verifying.proofs.Index.{pushed_indexed, entered_back, same_back, taken_back}
+use Rattle.verifying.specs.Index.{IsFoundIn, IsIndexOf}
+use Rattle.verifying.proofs.Index.{first_claim, entered}
 use Rattle.verifying.proofs.claims.Claims.push.Goals as goal
 
-pub invariant_of-self-then-not-enter : goal.invariant_of-self-then-not-enter
-invariant_of-self-then-not-enter g c =
-    let list = c.self.inside.list.items in
-    let index = c.self.inside.index.items in
-    let all : c.self.inside.index.len ≡ length index = first_of (search rules, grind (arith, common_steps)) in
-    let count : c.len-number.result ≡ length list = first_of (search rules, grind (arith, common_steps)) in
-    taken_back list c.truncate.new.self.items index _ c.of-kept.result c.len-number.result count (c.truncate.ensures.items ∙ ap (λ (l : List Claim). take c.len-number.result l) c.in_ok-push.ensures.items)
-    (same_back index c.as_mut_slice.result.now c.enter.new.index c.self.inside.index.len c.as_mut_slice.ensures.value (c.enter.ensures.full c.if-not-enter.true) all) c.self.invariant
+pub invariant_of-self : goal.invariant_of-self
+invariant_of-self g c = subst (IsIndexOf c.self.inside.index.entries) (sym c.reserve.ensures.items) c.self.invariant
 
-pub invariant_of-self-else-not-enter : goal.invariant_of-self-else-not-enter
-invariant_of-self-else-not-enter g c =
+pub invariant_of-self-in_err-insert : goal.invariant_of-self-in_err-insert
+invariant_of-self-in_err-insert g c =
+    subst (λ (entries : List (List ℕ × ℕ)). IsIndexOf entries c.reserve.new.self.items) (sym c.in_err-insert.ensures.err)
+    (subst (IsIndexOf c.self.inside.index.entries) (sym c.reserve.ensures.items) c.self.invariant)
+
+pub invariant_of-self-2 : goal.invariant_of-self-2
+invariant_of-self-2 g c =
+    let entries = c.self.inside.index.entries in
     let list = c.self.inside.list.items in
-    let index = c.self.inside.index.items in
-    let all : c.self.inside.index.len ≡ length index = first_of (search rules, grind (arith, common_steps)) in
-    let count : c.len-number.result ≡ length list = first_of (search rules, grind (arith, common_steps)) in
-    let small : length list < free = omega (arith, ap length c.self.view_is, ap length c.make_room.ensures.same, c.in_ok-make_room.ensures.few) in
-    let entered = entered_back index c.as_mut_slice.result.now c.enter.new.index c.words-words.result c.of-kept.result.position c.self.inside.index.len c.len-number.result c.as_mut_slice.ensures.value c.words-words.ensures.value all (c.enter.ensures.entered c.if-not-enter.false) in
-    let after = take c.self.inside.index.len (c.enter.new.index ++ drop (length c.enter.new.index) index) in
-    subst (λ (l : List Claim). IsIndexed l after (length l)) (sym c.in_ok-push.ensures.items)
-    (pushed_indexed list index after c.of-kept.result small (subst (λ (n : ℕ). IsEntered (length index) index after (start_of (words_of c.of-kept.result.position) (length index)) n) count entered) c.self.invariant)
+    let p = c.args.position.now in
+    let added : Claim = record { position = p; plies = c.args.plies } in
+    let whole : c.push_reserved.new.self.items ≡ list ++ added ∷ [] = cc (c.push_reserved.ensures.items, c.reserve.ensures.items, c.of.ensures) in
+    let found : IsFoundIn list p c.find.result = subst (λ (claims : List Claim). IsFoundIn claims p c.find.result) (sym c.self.view_is) c.find.ensures in
+    let among : Contains (list ++ added ∷ []) (record { position = p; plies = c.unwrap_or-first.result }) =
+    subst (λ k. Contains (list ++ added ∷ []) (record { position = p; plies = k })) (sym c.unwrap_or-first.ensures) (first_claim entries list p c.args.plies c.find.result found) in
+    subst (IsIndexOf c.insert.new.self.entries) (sym whole)
+    (entered entries list p c.args.plies c.words.result c.unwrap_or-first.result c.insert.new.self.entries (record { packed = c.words.ensures.packed; three = search rules; board = c.words.ensures.value }) among c.in_ok-insert.ensures.updates.0 c.self.invariant)

@@ -1,0 +1,4 @@
+pub mod Winning
+pub mod LastPlies
+pub mod Tried
+pub mod Jobs

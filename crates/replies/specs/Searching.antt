@@ -1,0 +1,43 @@
+-- A search at one position.
+use Rattle.std.specs.Prelude.{◌≡◌, ◌⊎◌, ℕ, List, None, Result, Ok, Err}
+use Rattle.progress.specs.Signs.{WatchesSearch}
+use Rattle.progress.specs.declared.watch.Course.{Course}
+use Rattle.progress.specs.declared.watch.Watch.{Watch}
+use Rattle.replies.specs.declared.tally.Tally.{Tally}
+use Rattle.rules.specs.declared.goal.Goal.{Goal}
+use Rattle.command_line.specs.declared.line.Limits.{Limits}
+use Rattle.board.specs.Board.{PlainBoard}
+use Rattle.rules.specs.Moves.{IsLawful}
+use Rattle.rules.specs.Squares.{Ply}
+use Rattle.endings.specs.Outcome.{IsSoundText}
+use Rattle.replies.specs.Output.{ShowsAnswer}
+use Rattle.board.specs.declared.fault.FenFault.{FenFault}
+use Rattle.rules.specs.Reading.{IsSoundFault}
+use Rattle.refusals.specs.Reply.{Reply, refused}
+use Rattle.refusals.specs.Refusal.{refusal_of_fen}
+use Rattle.replies.specs.Outcome.{Solves}
+use Rattle.rounds.specs.declared.task.SolveFault.{SolveFault}
+use Rattle.replies.specs.declared.searched.Searched.{Searched}
+
+-- the answer within the limits, and its table; or the first fault of the values, or want of memory
+abbrev pub SolvesOver : Goal → PlainBoard → Limits → Result Searched SolveFault → Type 0
+SolvesOver goal b limits (Ok found) = Solves goal b limits (Ok found.answer)
+SolvesOver goal b limits (Err fault) = Solves goal b limits (Err fault)
+
+-- the reply to a solve of the position of this text
+abbrev pub ShowsPosition : Goal → Limits → List ℕ → Reply → Type 0
+ShowsPosition goal limits text reply =
+    ((b : PlainBoard) × IsSoundText text b × ShowsAnswer goal b limits reply)
+    ⊎ ((fault : FenFault) × IsSoundFault text fault × (reply ≡ refused (refusal_of_fen fault)))
+
+-- at the position of this text the side to move has no lawful move: it is mated already, or stalemated
+abbrev pub IsOver : List ℕ → Type 0
+IsOver fen = (b : PlainBoard) × IsSoundText fen b × ((m : Ply) → IsLawful b m → ⊥)
+
+-- the watch is over a search of this kind at the position, in a table of so many slots
+abbrev pub WatchesAt : PlainBoard → Course → ℕ → Watch → Type 0
+WatchesAt b way slots watch = WatchesSearch watch watch.setting b way × (watch.setting.slots ≡ slots)
+
+-- nothing is told of the batch
+abbrev pub IsQuiet : Tally → Type 0
+IsQuiet tally = tally.start ≡ None

@@ -1,2 +1,0 @@
--- to be believed
-pub mod Searching
