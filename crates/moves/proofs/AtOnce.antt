@@ -1,10 +1,8 @@
 -- What a side reaches with its next move.
-use Rattle.std.proofs.Common.{◌≡◌, ◌≢◌, ℕ, ◌<◌, ◌≤◌, ◌^◌, ◌↔◌, IsTrue, Bool, true, false, not, inl, inr, refl, sym, ◌∙◌, ap, subst, arith, get_or, Option, Some, None}
+use Rattle.std.proofs.Common.{◌≡◌, ◌≢◌, ℕ, ◌<◌, ◌≤◌, ◌↔◌, IsTrue, Bool, true, false, not, inl, inr, refl, sym, ◌∙◌, ap, subst, arith, get_or, Option, Some, None}
 use Rattle.std.proofs.lemmas.Bool.{false≢true}
 use Rattle.std.proofs.lemmas.Option.{same_Some}
-use Rattle.std.specs.Int.{bit_at}
-use Rattle.std.proofs.lemmas.Bool.{cases_lt, cases_eq}
-use Rattle.std.proofs.lemmas.Nat.Bits.{bit_at_above}
+use Rattle.std.proofs.lemmas.Bool.{cases_lt}
 use Rattle.board.specs.declared.game.Kind.{Kind}
 use Rattle.board.specs.declared.game.Kind.TheVariants.{King, Queen, Rook, Bishop, Knight, Pawn}
 use Rattle.board.specs.declared.game.Side.{Side}
@@ -22,7 +20,6 @@ use Rattle.rules.specs.Moves.{Promotes, IsSomeKing, IsPseudoLegal, IsMove, IsLaw
 use Rattle.rules.specs.Order.{promotion_number}
 use Rattle.rules.specs.declared.list.TheConstants.{PROMOTIONS}
 use Rattle.rules.specs.Forces.{IsReached, Forces}
-use Rattle.cells.specs.CellSets.{Has}
 use Rattle.moves.specs.Checking.{Attains}
 use Rattle.moves.specs.Safe.{IsNamed}
 use Rattle.moves.proofs.Kings.{check_from}
@@ -89,18 +86,6 @@ pub promotion_tried : (b : PlainBoard) (m : Ply) (u : Man) → unit_at b m.from 
 promotion_tried b m u stands l n five one = elim (cases_lt 0 (promotion_number m.promotion)) [
   | inl some ↦ let e = five (promotes_to b m u stands some l) in let p = (HasParts-lawful b m l).promotion in omega (arith, e, p)
   | inr none ↦ omega (arith, none, one)
-]
-
--- ---- the cells that are left
-
--- what is left without a cell was left with it
-pub Has-kept : (set rest cell : ℕ) → set < 2 ^ 64 → rest < set → bit_at rest cell ≡ 0 → ((i : ℕ) → i < 64 → i ≢ cell → bit_at rest i ≡ bit_at set i) → (i : ℕ) → Has rest i → Has set i
-Has-kept set rest cell fits less gone others i h = elim (cases_lt i 64) [
-  | inr more ↦ let zeroed = bit_at_above rest 64 i (omega (arith, less, fits)) more in absurd (omega (arith, h, zeroed))
-  | inl small ↦ elim (cases_eq i cell) [
-    | inl same ↦ let here : bit_at rest cell ≡ 1 = subst (λ x. bit_at rest x ≡ 1) same h in absurd (omega (arith, gone, here))
-    | inr other ↦ sym (others i small other) ∙ h
-  ]
 ]
 
 -- ---- the move of the unit that stands there

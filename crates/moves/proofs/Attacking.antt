@@ -16,14 +16,14 @@ use Rattle.moves.specs.declared.sets.Class.TheVariants.{Crowned, Straight, Slant
 use Rattle.rules.specs.Squares.{unit_at}
 use Rattle.rules.specs.Reach.{AttacksFrom, IsAttacked, IsInCheck}
 use Rattle.cells.specs.Mailbox.{cell_of, place_in, IsCell}
-use Rattle.moves.specs.Looking.{Aims, IsStruck, AreAttacked}
+use Rattle.moves.specs.Looking.{Aims, AreAttacked}
 use Rattle.cells.specs.CellSets.{Has}
 use Rattle.moves.specs.Sets.{IsOf, Holds}
 use Rattle.cells.proofs.CellNumbers.{IsCell-cell_of, place_in-cell_of}
 use Rattle.cells.proofs.Masks.{Has-and, Has-or, Has-zero, lowest-has}
 use Rattle.moves.proofs.Reaching.{foe-side, side-foe}
-use Rattle.moves.proofs.Kings.{king_of, check_from, check_at}
-use Rattle.moves.proofs.Looking.{Aims-attacked, AttacksFrom-struck, struck_played}
+use Rattle.moves.proofs.Kings.{king_of, check_at}
+use Rattle.moves.proofs.Looking.{Aims-attacked, attacks_back}
 use Rattle.moves.proofs.Seeing.{rook_step, bishop_step, queen_step}
 
 pub own_foe : (side : Side) (o : Option Man) (u : Man) → is_of_side (other_side side) o ≡ true → o ≡ Some u → u.side ≡ other_side side
@@ -46,14 +46,7 @@ module _ (b : PlainBoard) (is : IsPosition b) (side : Side) (i : ℕ) (c : IsCel
   Struck kind among j = Has among j × IsCell b.game j × Aims b (record { side = side; kind = kind }) (place_in i) (place_in j)
 
   attack : (u : Man) (j : ℕ) → IsCell b.game j → unit_at b (place_in j) ≡ Some u → u.side ≡ other_side side → Aims b (record { side = side; kind = u.kind }) (place_in i) (place_in j) → Attacks j
-  attack u j d stands owner a =
-      let man : u ≡ record { side = other_side side; kind = u.kind } = λ n. record { side = owner n; kind = u.kind } in
-      let struck : IsStruck b (record { side = side; kind = u.kind }) (place_in i) = record {
-        step = a.step;
-        denoted = a.denoted;
-        strikes = record { captures = a.captures; strikes = record { to = place_in j; leads = a.leads; stands = stands ∙ ap Some man } };
-      } in
-      (d, AttacksFrom-struck b (place_in i) side c.on_board u.kind (struck_played b is side u.kind (place_in i) struck) struck)
+  attack u j d stands owner a = (d, attacks_back b (place_in i) side c.on_board is (place_in j) u d.on_board stands owner a)
 
   aims : (j : ℕ) (a : AttacksFrom b (other_side side) (place_in j) (place_in i)) → Aims b (record { side = side; kind = a.unit.kind }) (place_in i) (place_in j)
   aims j a = Aims-attacked b (place_in i) side c.on_board (place_in j) a
@@ -87,13 +80,15 @@ module _ (b : PlainBoard) (is : IsPosition b) (side : Side) (i : ℕ) (c : IsCel
         (Has-and foes set j).1 ((owns j).1 (d, ap (is_of_side (other_side side)) stands ∙ foe_own side u owner), (holds j).1 (d, record { unit = u; stands = stands; is = of }))
 
     -- a foe of the class that is seen as the kind attacks
+    struck-one : (class : Class) (q : Kind) (set : ℕ) → Holds b class set → ((u : Man) → IsOf class u → (j : ℕ) → Aims b (record { side = side; kind = q }) (place_in i) (place_in j) → Aims b (record { side = side; kind = u.kind }) (place_in i) (place_in j))
+        → (j : ℕ) → Struck q (bit_and foes set) j → Attacks j
+    struck-one class q set holds too j (h, d, a) = let (u, stands, owner, of) = foe_at class set holds j h in attack u j d stands owner (too u of j a)
+
     pub struck-attacks : (class : Class) (q : Kind) (set r : ℕ) → Holds b class set → ((u : Man) → IsOf class u → (j : ℕ) → Aims b (record { side = side; kind = q }) (place_in i) (place_in j) → Aims b (record { side = side; kind = u.kind }) (place_in i) (place_in j))
         → r < 2 ^ 64 → ((j : ℕ) → Has r j ↔ Struck q (bit_and foes set) j) → (r ≡ 0 → ⊥) → IsAttacked b (place_in i) (other_side side)
     struck-attacks class q set r holds too fits are some =
         let (j, h) = lowest-has r fits some in
-        let (seen, d, a) = (are j).0 h in
-        let (u, stands, owner, of) = foe_at class set holds j seen in
-        (place_in j, (attack u j d stands owner (too u of j a)).1)
+        (place_in j, (struck-one class q set holds too j ((are j).0 h)).1)
 
     pub kind_too : (class : Class) (q : Kind) → ((u : Man) → IsOf class u → u.kind ≡ q) → (u : Man) → IsOf class u → (j : ℕ) → Aims b (record { side = side; kind = q }) (place_in i) (place_in j) → Aims b (record { side = side; kind = u.kind }) (place_in i) (place_in j)
     kind_too class q only u of j a = subst (λ x. Aims b (record { side = side; kind = x }) (place_in i) (place_in j)) (sym (only u of)) a
@@ -103,15 +98,7 @@ module _ (b : PlainBoard) (is : IsPosition b) (side : Side) (i : ℕ) (c : IsCel
         (er : (j : ℕ) → Has r j ↔ Struck Rook (bit_and foes straight) j) (es : (j : ℕ) → Has s j ↔ Struck Bishop (bit_and foes slanted) j) (en : (j : ℕ) → Has n j ↔ Struck Knight (bit_and foes knights) j)
         (ek : (j : ℕ) → Has k j ↔ Struck King (bit_and foes kings) j) (ep : (j : ℕ) → Has p j ↔ Struck Pawn (bit_and foes pawns) j) where
       plain : (class : Class) (q : Kind) (set : ℕ) → Holds b class set → ((u : Man) → IsOf class u → u.kind ≡ q) → (j : ℕ) → Struck q (bit_and foes set) j → Attacks j
-      plain class q set holds only j (h, d, a) =
-          let (u, stands, owner, of) = foe_at class set holds j h in
-          attack u j d stands owner (subst (λ x. Aims b (record { side = side; kind = x }) (place_in i) (place_in j)) (sym (only u of)) a)
-
-      by_line : (j : ℕ) → Struck Rook (bit_and foes straight) j → Attacks j
-      by_line j (h, d, a) = let (u, stands, owner, of) = foe_at Straight straight hs j h in attack u j d stands owner (line_too u of j a)
-
-      by_slant : (j : ℕ) → Struck Bishop (bit_and foes slanted) j → Attacks j
-      by_slant j (h, d, a) = let (u, stands, owner, of) = foe_at Slanted slanted hl j h in attack u j d stands owner (slant_too u of j a)
+      plain class q set holds only = struck-one class q set holds (kind_too class q only)
 
       seen_as : (j : ℕ) → (a : AttacksFrom b (other_side side) (place_in j) (place_in i)) → IsCell b.game j → (q : Kind) → a.unit.kind ≡ q → Has r j ⊎ (Has s j ⊎ (Has n j ⊎ (Has k j ⊎ Has p j)))
       seen_as j a d King e = inr (inr (inr (inl ((ek j).1 (at_foe Crowned kings hk a.unit j d a.stands a.owner e, d, subst (λ q. Aims b (record { side = side; kind = q }) (place_in i) (place_in j)) e (aims j a))))))
@@ -131,7 +118,7 @@ module _ (b : PlainBoard) (is : IsPosition b) (side : Side) (i : ℕ) (c : IsCel
         λ h. elim ((Has-or (bit_or (bit_or (bit_or r s) n) k) p j).0 h) [
           | inl x ↦ elim ((Has-or (bit_or (bit_or r s) n) k j).0 x) [
             | inl y ↦ elim ((Has-or (bit_or r s) n j).0 y) [
-              | inl z ↦ elim ((Has-or r s j).0 z) [ inl w ↦ by_line j ((er j).0 w) | inr w ↦ by_slant j ((es j).0 w) ]
+              | inl z ↦ elim ((Has-or r s j).0 z) [ inl w ↦ struck-one Straight Rook straight hs line_too j ((er j).0 w) | inr w ↦ struck-one Slanted Bishop slanted hl slant_too j ((es j).0 w) ]
               | inr z ↦ plain Horsed Knight knights hn (λ u e. e) j ((en j).0 z)
             ]
             | inr y ↦ plain Crowned King kings hk (λ u e. e) j ((ek j).0 y)
@@ -158,16 +145,6 @@ module _ (b : PlainBoard) (is : IsPosition b) (side : Side) (i : ℕ) (c : IsCel
       let e = place_in-cell_of b.game s a.on_board in
       let h = (are (cell_of s)).1 (IsCell-cell_of b.game s a.on_board, subst (λ x. AttacksFrom b (other_side side) x (place_in i)) (sym e) a) in
       Has-zero (cell_of s) (subst (λ n. Has n (cell_of s)) zero h)
-
-  pub some-attacks : (set : ℕ) → set < 2 ^ 64 → ((j : ℕ) → Has set j ↔ Attacks j) → (set ≡ 0 → ⊥) → IsAttacked b (place_in i) (other_side side)
-  some-attacks set fits are some =
-      let l = lowest-has set fits some in
-      (place_in l.0, ((are l.0).0 l.1).1)
-
--- the side whose king stands in the cell is in check where the set isn't empty
-module _ (b : PlainBoard) (is : IsPosition b) (side : Side) (i set : ℕ) (c : IsCell b.game i) (king : unit_at b (place_in i) ≡ king_of side) (are : (j : ℕ) → Has set j ↔ (IsCell b.game j × AttacksFrom b (other_side side) (place_in j) (place_in i))) where
-  pub check-some : set < 2 ^ 64 → (set ≡ 0 → ⊥) → IsInCheck b side
-  check-some fits some = check_from b side (place_in i) c.on_board king (some-attacks b is side i c set fits are some)
 
 -- what is attacked has an attacker
 pub some_checkers : (b : PlainBoard) (is : IsPosition b) (side : Side) (i : ℕ) → IsCell b.game i → (set : ℕ) → ((j : ℕ) → Has set j ↔ (IsCell b.game j × AttacksFrom b (other_side side) (place_in j) (place_in i))) → IsAttacked b (place_in i) (other_side side) → 0 < set

@@ -3,31 +3,30 @@ use Rattle.std.proofs.Common.{◌≡◌, ℕ, ◌-◌, ◌^◌, sym, ap, subst, 
 use Rattle.std.proofs.lemmas.Nat.Bits.{bit_at_ones}
 use Rattle.std.proofs.lemmas.Option.{same_Some}
 use Rattle.board.specs.declared.game.Side.{Side}
-use Rattle.board.specs.declared.game.Kind.{Kind}
 use Rattle.board.specs.declared.game.Kind.TheVariants.{King}
 use Rattle.board.specs.declared.game.Unit.{Unit as Man}
 use Rattle.board.specs.declared.step.Step.{Step}
 use Rattle.board.specs.Games.{other_side}
 use Rattle.board.specs.Board.{PlainBoard, IsPosition}
 use Rattle.rules.specs.Squares.{Place, Ply, IsOnBoard, unit_at}
-use Rattle.rules.specs.Reach.{Leads, AttacksFrom, IsInCheck, IsAttacked}
+use Rattle.rules.specs.Reach.{Leads, AttacksFrom, IsInCheck}
 use Rattle.rules.specs.Reach.Leads.{once, again}
 use Rattle.rules.specs.Moves.{IsPseudoLegal, after}
 use Rattle.cells.specs.declared.tables.Way.{Way}
 use Rattle.cells.specs.Mailbox.{cell_of, place_in, IsCell}
 use Rattle.cells.specs.Ways.{Rides}
 use Rattle.cells.specs.CellSets.{Has}
-use Rattle.moves.specs.Looking.{foe_of, IsStruck}
+use Rattle.moves.specs.Looking.{Aims}
 use Rattle.moves.specs.Guard.{HasBlocks}
 use Rattle.cells.proofs.CellNumbers.{IsCell-cell_of, place_in-cell_of, cell_of-place_in, cell_small}
 use Rattle.rules.proofs.Rides.{one_target}
 use Rattle.moves.proofs.Riding.{Rides-leads}
 use Rattle.moves.proofs.Seeing.{ways_of}
 use Rattle.moves.proofs.Laying.{unit_at-other}
-use Rattle.rules.proofs.Keeps.{to_on_board, Leads-single_step as single_step, Leads-on_board as Leads-end, no_own as own_or_other}
+use Rattle.rules.proofs.Keeps.{to_on_board, IsPosition-after, Leads-single_step as single_step, Leads-on_board as Leads-end, no_own as own_or_other}
 use Rattle.moves.proofs.Kings.{king_of, check_from}
 use Rattle.moves.proofs.Guarding.{king_stays}
-use Rattle.moves.proofs.Looking.{IsAttacked-struck, IsStruck-attacked, Aims-attacked, struck_played}
+use Rattle.moves.proofs.Looking.{Aims-attacked, attacks_back}
 use Rattle.moves.proofs.Pins.{place_cases, no_unit}
 
 module _ (b : PlainBoard) (m : Ply) (u : Man) (is : IsPosition b) (p : IsPseudoLegal b m u) where
@@ -49,22 +48,17 @@ module _ (b : PlainBoard) (m : Ply) (u : Man) (is : IsPosition b) (p : IsPseudoL
 
   module _ (piece : u.kind ≡ King → ⊥) (k : Place) (on : IsOnBoard b.game k) (king : unit_at b k ≡ king_of b.mover) (safe : IsInCheck (after b m u) b.mover → ⊥) where
     -- so a move that ends the check comes to the way of what gives it
-    pub must_cross : (kind : Kind) (w : IsStruck b (record { side = b.mover; kind = kind }) k) → Leads b b.mover w.step k m.to
-    must_cross kind w =
-        let hit = w.strikes.strikes in
-        let there = Leads-end b b.mover w.step k hit.to hit.leads in
-        elim (crossed b.mover w.step k hit.to hit.leads) [
+    pub must_cross : (s : Place) (v : Man) → unit_at b s ≡ Some v → v.side ≡ other_side b.mover → (w : Aims b (record { side = b.mover; kind = v.kind }) k s) → Leads b b.mover w.step k m.to
+    must_cross s v stands owner w =
+        let there = Leads-end b b.mover w.step k s w.leads in
+        elim (crossed b.mover w.step k s w.leads) [
           | inl comes ↦ comes
           | inr past ↦
-              let apart : hit.to ≡ m.from → ⊥ = λ same. own_or_other b.mover (sym p.owner ∙ side_of u _ (sym p.stands ∙ ap (unit_at b) (sym same) ∙ hit.stands)) in
-              let stands : unit_at (after b m u) hit.to ≡ Some (foe_of (record { side = b.mover; kind = kind })) = unit_at-other b m u is p hit.to there apart past.1 ∙ hit.stands in
-              let struck : IsStruck (after b m u) (record { side = b.mover; kind = kind }) k = record { step = w.step; denoted = w.denoted; strikes = record { captures = w.strikes.captures; strikes = record { to = hit.to; leads = past.0; stands = stands } } } in
-              let attacked : IsAttacked (after b m u) k (other_side b.mover) = IsAttacked-struck (after b m u) k b.mover on kind (struck_played b is b.mover kind k w) struck in
-              absurd (safe (check_from (after b m u) b.mover k on (king_stays b m u is p k on king piece ∙ ap king_of p.owner) attacked))
+              let apart : s ≡ m.from → ⊥ = λ same. own_or_other b.mover (sym p.owner ∙ ap (λ (x : Man). x.side) (same_Some u v (sym p.stands ∙ ap (unit_at b) (sym same) ∙ stands)) ∙ owner) in
+              let stays : unit_at (after b m u) s ≡ Some v = unit_at-other b m u is p s there apart past.1 ∙ stands in
+              let attack = attacks_back (after b m u) k b.mover on (IsPosition-after b m u is p) s v there stays owner (record { step = w.step; denoted = w.denoted; captures = w.captures; leads = past.0 }) in
+              absurd (safe (check_from (after b m u) b.mover k on (king_stays b m u is p k on king piece ∙ ap king_of p.owner) (s, attack)))
         ]
-      where
-        side_of : (x y : Man) → Some x ≡ Some y → x.side ≡ y.side
-        side_of x y e = ap (λ (v : Man). v.side) (same_Some x y e)
 
 -- ---- the cells of a way
 
@@ -73,14 +67,7 @@ module _ (b : PlainBoard) (is : IsPosition b) (k i : ℕ) (on : IsCell b.game k)
   pub HasBlocks-way : (set : ℕ) → Has set i → ((way : Way) → Rides b way k i → (j : ℕ) → Rides b way k j → Has set j) → HasBlocks b set
   HasBlocks-way set there between = λ m u p piece safe.
       let a = Aims-attacked b (place_in k) b.mover on.on_board (place_in i) check in
-      let played = (IsStruck-attacked b (place_in k) b.mover on.on_board (place_in i) check).0 in
-      let man : check.unit ≡ foe_of (record { side = b.mover; kind = check.unit.kind }) = λ n. record { side = check.owner n; kind = check.unit.kind } in
-      let struck : IsStruck b (record { side = b.mover; kind = check.unit.kind }) (place_in k) = record {
-        step = a.step;
-        denoted = a.denoted;
-        strikes = record { captures = a.captures; strikes = record { to = place_in i; leads = a.leads; stands = check.stands ∙ ap Some man } };
-      } in
-      let crosses = must_cross b m u is p piece (place_in k) on.on_board king safe check.unit.kind struck in
+      let crosses = must_cross b m u is p piece (place_in k) on.on_board king safe (place_in i) check.unit check.stands check.owner a in
       let to = to_on_board b m u p in
       let cell = IsCell-cell_of b.game m.to to in
       let crosses' : Leads b b.mover a.step (place_in k) (place_in (cell_of m.to)) = subst (Leads b b.mover a.step (place_in k)) (sym (place_in-cell_of b.game m.to to)) crosses in

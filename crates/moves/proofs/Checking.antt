@@ -3,7 +3,6 @@ use Rattle.std.proofs.Common.{◌≡◌, zero, suc, ℤ, neg_ℤ, refl, sym, ap,
 use Rattle.std.specs.List.{list_all}
 use Rattle.std.proofs.lemmas.Int.{ints}
 use Rattle.std.proofs.lemmas.Bool.{false≢true, and_parts}
-use Rattle.std.proofs.lemmas.Option.{same_Some}
 use Rattle.std.proofs.lemmas.List.Sums.{AllPass-from_list_all}
 use Rattle.std.proofs.lemmas.List.Elements.{All-contains}
 use Rattle.board.specs.declared.game.Game.{Game}
@@ -24,32 +23,24 @@ use Rattle.board.specs.Denotation.{IsAtomLeap, Denotes, terms_of}
 use Rattle.board.specs.Games.{other_side, IsPlayed}
 use Rattle.board.specs.Board.{PlainBoard, IsPosition}
 use Rattle.rules.specs.Squares.{Place, Ply, IsOnBoard, unit_at}
-use Rattle.rules.specs.Reach.{ahead_of, IsStep, Leads, Allows, Reaches, IsInCheck}
+use Rattle.rules.specs.Reach.{ahead_of, IsStep, Leads, Allows, Reaches, AttacksFrom, IsInCheck}
 use Rattle.rules.specs.Reach.Leads.{once, again}
-use Rattle.rules.specs.Moves.{IsPseudoLegal, placed, after}
+use Rattle.rules.specs.Moves.{IsPseudoLegal, after}
 use Rattle.cells.specs.Mailbox.{cell_of}
 use Rattle.moves.specs.Targets.{IsTarget}
 use Rattle.moves.specs.Pinned.{IsPinned}
 use Rattle.moves.specs.Looking.{Aims}
 use Rattle.cells.proofs.CellNumbers.{IsCell-cell_of, place_in-cell_of}
-use Rattle.moves.proofs.Laying.{unit_at-to, unit_at-from, unit_at-other}
 use Rattle.rules.proofs.Keeps.{to_on_board, no_own as own_or_other}
 use Rattle.moves.proofs.Kings.{king_of, check_from, one_king}
 use Rattle.moves.proofs.Looking.{Leads-then, size-neg, captures_from}
-use Rattle.moves.proofs.Pins.{stood, walked, place_cases, no_unit}
+use Rattle.moves.proofs.Pins.{stood, walked, attacked_after}
 
 named_or_not : (o : Option Kind) → IsSome o ⊎ (o ≡ None)
 named_or_not None = inr refl
 named_or_not (Some k) = inl refl
 
 module _ (b : PlainBoard) (m : Ply) (u : Man) (is : IsPosition b) (p : IsPseudoLegal b m u) (k : Place) (on : IsOnBoard b.game k) (king : unit_at b k ≡ king_of (other_side b.mover)) (safe : IsInCheck b (other_side b.mover) → ⊥) where
-  -- a unit of the mover that attacks the king's square before the move
-  checked_before : (s : Place) (v : Man) (step : Step) → IsOnBoard b.game s → unit_at b s ≡ Some v → v.side ≡ other_side (other_side b.mover) → IsPlayed b.game v.kind → Denotes (terms_of v.kind) step
-      → Allows step.mode v.side (Some (record { side = other_side (other_side (other_side b.mover)); kind = King })) → Leads b v.side step s k → ⊥
-  checked_before s v step o stands owner played denoted allows leads =
-      safe (check_from b (other_side b.mover) k on king
-      (s, record { unit = v; on_board = o; stands = stands; owner = owner; reaches = record { step = step; played = played; denoted = denoted; reaches = record { allows = allows; leads = leads } } }))
-
   -- the unit that moved takes on the king's square, or one does that stood behind it
   pub who_checks : IsInCheck (after b m u) (other_side b.mover) → IsSome m.promotion ⊎ (Aims b u m.to k ⊎ IsPinned b (other_side b.mover) k m.from)
   who_checks (t, check) =
@@ -59,45 +50,32 @@ module _ (b : PlainBoard) (m : Ply) (u : Man) (is : IsPosition b) (p : IsPseudoL
       let s = check.attacked.0 in
       let a = check.attacked.1 in
       let r = a.reaches in
-      let far_walk = walked b m u is p a.unit.side r.step s t r.reaches.leads in
-      elim (place_cases b.game s m.to a.on_board (to_on_board b m u p)) [
-        | inl same ↦ elim (named_or_not m.promotion) [
+      elim (attacked_after b m u is p foe s t a) [
+        | inl (same, moved) ↦ elim (named_or_not m.promotion) [
           | inl named ↦ inl named
           | inr none ↦
-              let man : a.unit ≡ placed u m = same_Some a.unit (placed u m) (sym a.stands ∙ ap (unit_at (after b m u)) same ∙ unit_at-to b m u is p) in
-              let plain : a.unit ≡ u = man ∙ ap (λ (o : Option Kind). record { side = u.side; kind = unwrap_or o u.kind }) none in
-              inr (inl (elim far_walk [
+              let plain : a.unit ≡ u = moved a.unit a.stands ∙ ap (λ (o : Option Kind). record { side = u.side; kind = unwrap_or o u.kind }) none in
+              inr (inl (elim (walked b m u is p a.unit.side r.step s t r.reaches.leads) [
                 | inl w ↦ record {
                   step = r.step;
                   denoted = subst (λ (v : Man). Denotes (terms_of v.kind) r.step) plain r.denoted;
                   captures = captures_from r.step.mode a.unit.side _ r.reaches.allows;
                   leads = subst (λ (v : Man). Leads b v.side r.step m.to k) plain (subst (λ x. Leads b a.unit.side r.step m.to x) at (subst (λ x. Leads b a.unit.side r.step x t) same w));
                 }
-                | inr w ↦ absurd (checked_before m.from a.unit r.step p.on_board (p.stands ∙ ap Some (sym plain)) a.owner r.played r.denoted r.reaches.allows (subst (Leads b a.unit.side r.step m.from) at w.2))
+                | inr w ↦ absurd (safe (check_from b foe k on king (
+                  m.from,
+                  record {
+                    unit = a.unit;
+                    on_board = p.on_board;
+                    stands = p.stands ∙ ap Some (sym plain);
+                    owner = a.owner;
+                    reaches = record { step = r.step; played = r.played; denoted = r.denoted; reaches = record { allows = r.reaches.allows; leads = subst (Leads b a.unit.side r.step m.from) at w.2 } };
+                  },
+                )))
               ]))
         ]
-        | inr far ↦ elim (place_cases b.game s m.from a.on_board p.on_board) [
-          | inl same ↦ absurd (no_unit (sym (unit_at-from b m u is p) ∙ ap (unit_at (after b m u)) (sym same) ∙ a.stands))
-          | inr apart ↦
-              let stands : unit_at b s ≡ Some a.unit = sym (unit_at-other b m u is p s a.on_board apart far) ∙ a.stands in
-              elim far_walk [
-                | inl w ↦ absurd (checked_before s a.unit r.step a.on_board stands a.owner r.played r.denoted r.reaches.allows (subst (Leads b a.unit.side r.step s) at w))
-                | inr w ↦ inr (inr (record {
-                  rider = a.unit;
-                  from = s;
-                  step = r.step;
-                  on_board = a.on_board;
-                  stands = stands;
-                  owner = a.owner;
-                  denoted = r.denoted;
-                  rides = w.0;
-                  captures = captures_from r.step.mode a.unit.side _ r.reaches.allows;
-                  taken = λ none. no_unit (sym none ∙ p.stands);
-                  to_unit = w.1;
-                  to_king = subst (Leads b a.unit.side r.step m.from) at w.2;
-                }))
-              ]
-        ]
+        | inr (inl w) ↦ absurd (safe (check_from b foe k on king (s, subst (AttacksFrom b (other_side foe) s) at w)))
+        | inr (inr pin) ↦ inr (inr (subst (λ x. IsPinned b foe x m.from) at pin.0))
       ]
 
 -- ---- a walk read backwards by the same side

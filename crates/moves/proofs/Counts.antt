@@ -4,28 +4,26 @@ use Rattle.std.specs.Int.{bit_at}
 use Rattle.std.specs.Int.Count.{ones_step}
 use Rattle.std.proofs.lemmas.Nat.{ones_le_self}
 use Rattle.std.proofs.lemmas.Nat.Bits.{bit_at-lt, bit_at_lowest, bit_at-suc}
-use Rattle.std.proofs.lemmas.Bool.{cases_eq, cases_order}
+use Rattle.std.proofs.lemmas.Bool.{cases_eq}
 use Rattle.std.proofs.lemmas.List.Elements.{All-get_or}
 use Rattle.board.specs.declared.game.Game.{Game}
 use Rattle.board.specs.declared.game.Game.TheVariants.{LosAlamos, Gardner}
 use Rattle.board.specs.declared.game.Kind.{Kind}
 use Rattle.board.specs.declared.game.Kind.TheVariants.{Queen, Rook, Bishop, Knight}
 use Rattle.board.specs.declared.game.Unit.{Unit as Man}
-use Rattle.board.specs.Games.{squares_of}
 use Rattle.board.specs.Board.{PlainBoard}
 use Rattle.rules.specs.Squares.{Place, Ply, IsOnBoard, square_number, unit_at}
 use Rattle.rules.specs.Moves.{Promotes, IsPromotion, IsLawful}
 use Rattle.rules.specs.Order.{promotion_number}
 use Rattle.rules.specs.Listing.{ply_number, ListsBelow}
-use Rattle.cells.specs.Mailbox.{cell_of, place_in, IsCell}
+use Rattle.cells.specs.Mailbox.{place_in, IsCell}
 use Rattle.cells.specs.CellSets.{Has}
 use Rattle.moves.specs.Safe.{IsNamed, HasSafe, IsEach, promotions_of}
-use Rattle.cells.proofs.CellNumbers.{place_in-cell_of, cell_small}
-use Rattle.rules.proofs.Listed.{same_number, number_within}
+use Rattle.cells.proofs.CellNumbers.{cell_small}
 use Rattle.moves.proofs.Guarding.{promotes_well}
-use Rattle.rules.proofs.Lists.{IsNumbered, IsNumbered-lawful, HasParts-lawful, ListsBelow-jump, ListsBelow-push, ListsBelow-skip, ListsBelow-promoted}
-use Rattle.rules.proofs.Room.{squares_36}
-use Rattle.moves.proofs.Scanning.{number_order}
+use Rattle.rules.proofs.Lists.{IsNumbered, ListsBelow-push, ListsBelow-skip, ListsBelow-promoted}
+use Rattle.moves.proofs.Walking.{IsWalked, Jumps, walked_start, walked_end, next_holds, walked_more}
+use Rattle.moves.proofs.Scanning.{skip, skip_rest}
 
 -- ---- a list has no more moves than numbers
 
@@ -168,123 +166,77 @@ module _ (b : PlainBoard) (u : Man) (from to : Place) (on : IsOnBoard b.game fro
 -- ---- the moves of a unit
 
 module _ (b : PlainBoard) (u : Man) (from : Place) (on : IsOnBoard b.game from) (stands : unit_at b from ≡ Some u) (set : ℕ) (safe : HasSafe b u from set) (each : ℕ) (moves : List Ply) where
-  -- the moves to the cells below k are listed, of which the last has a number below `upto`
-  record IsCounted (k : ℕ) : Type 0 where
-    pub upto : ℕ
-    pub within : upto ≤ squares_of b.game
-    pub before : (i : ℕ) → Has set i → i < k → square_number b.game (place_in i) < upto
-    pub behind : (i : ℕ) → Has set i → k ≤ i → upto ≤ square_number b.game (place_in i)
-    pub more : List Ply
-    pub lists : ListsBelow b ((square_number b.game from * 36 + upto) * 5) more
-    pub count : length more ≡ length moves + bits_below set k * each
+  -- the moves to the members below k are listed, up to the square of number n
+  abbrev Counted : ℕ → ℕ → Type 0
+  Counted k n = (more : List Ply) × ListsBelow b ((square_number b.game from * 36 + n) * 5) more × (length more ≡ length moves + bits_below set k * each)
+
+  -- and the members from k on are left
+  abbrev IsCounted : ℕ → Type 0
+  IsCounted k = IsWalked b.game (Has set) (λ i. Has set i × (k ≤ i)) (Counted k)
 
   cell : (i : ℕ) → Has set i → IsCell b.game i
   cell i h = (safe.cells i h).0
 
-  -- where a lawful move of the unit leads
-  to_cell : (m : Ply) → IsLawful b m → square_number b.game m.from ≡ square_number b.game from → Has set (cell_of m.to) × (square_number b.game (place_in (cell_of m.to)) ≡ square_number b.game m.to)
-  to_cell m l e =
-      let numbered = IsNumbered-lawful b m l in
-      (safe.all m (same_number b.game m.from from numbered.from on e) l, ap (square_number b.game) (place_in-cell_of b.game m.to numbered.to))
-
-  -- up to the next member there is no lawful move
-  up_to_member : (k : ℕ) → Has set k → (s : IsCounted k) → ListsBelow b ((square_number b.game from * 36 + square_number b.game (place_in k)) * 5) s.more
-  up_to_member k h s =
-      let first = s.behind k h (omega arith) in
-      let last = number_within b.game (place_in k) (cell k h).on_board in
-      ListsBelow-jump b _ _ s.more (omega (arith, first)) s.lists (λ m low high l.
-      let parts = HasParts-lawful b m l in
-      let few = squares_36 b.game in
-      let at_from : square_number b.game m.from ≡ square_number b.game from = omega (arith, parts.to, parts.promotion, low, high, first, last, few, s.within) in
-      let w = to_cell m l at_from in
-      let i = cell_of m.to in
-      let low_to : s.upto ≤ square_number b.game m.to = omega (arith, parts.promotion, low, at_from) in
-      let high_to : square_number b.game m.to < square_number b.game (place_in k) = omega (arith, parts.promotion, high, at_from) in
-      let at = w.1 in
-      elim (cases_order i k) [
-        | inl same ↦ let e : square_number b.game (place_in i) ≡ square_number b.game (place_in k) = ap (λ x. square_number b.game (place_in x)) same in omega (arith, e, at, high_to)
-        | inr (inl below) ↦ let e = s.before i w.0 below in omega (arith, e, at, low_to)
-        | inr (inr above) ↦ let e = number_order b.game k i (cell k h) (cell i w.0) above in omega (arith, e, at, high_to)
-      ])
+  jump : (k : ℕ) → Jumps b.game (Has set) (Counted k)
+  jump k n m le within none (more, lists, count) = (more, skip b u from on set safe more n m le within none lists, count)
 
   module _ (eachly : (i : ℕ) → Has set i → IsEach b.game u (place_in i) each) where
-    with_member : (k : ℕ) → Has set k → (s : IsCounted k) → IsCounted (suc k)
+    with_member : (k : ℕ) → Has set k → IsCounted k → IsCounted (suc k)
     unfolding bits_below
     with_member k h s =
         let n = square_number b.game (place_in k) in
-        let w = take_each b u from (place_in k) on (cell k h).on_board stands (λ m f t named. safe.lawful k m h f t named) each (eachly k h) s.more (up_to_member k h s) in
-        let last = number_within b.game (place_in k) (cell k h).on_board in
-        let first = s.behind k h (omega arith) in
+        let least : (i : ℕ) → i < k → Has set i × (k ≤ i) → ⊥ = λ i low w. let high = w.1 in omega (arith, low, high) in
+        let (before, lists, count) = next_holds b.game (Has set) (λ i. Has set i × (k ≤ i)) (Counted k) cell (jump k) s k (h, omega arith) least in
+        let (more, listed, grown) = take_each b u from (place_in k) on (cell k h).on_board stands (λ m f t named. safe.lawful k m h f t named) each (eachly k h) before lists in
         let same : (square_number b.game from * 36 + n + 1) * 5 ≡ (square_number b.game from * 36 + (n + 1)) * 5 = omega arith in
-        record {
-          upto = n + 1;
-          within = omega (arith, last);
-          before = λ i i_in less. elim (cases_eq i k) [
-            | inl e ↦ let at : square_number b.game (place_in i) ≡ n = ap (λ x. square_number b.game (place_in x)) e in omega (arith, at)
-            | inr other ↦ let e = s.before i i_in (omega (arith, less, other)) in omega (arith, e, first)
-          ];
-          behind = λ i i_in more. let e = number_order b.game k i (cell k h) (cell i i_in) (omega (arith, more)) in omega (arith, e);
-          more = w.0;
-          lists = subst (λ x. ListsBelow b x w.0) same w.1;
-          count = let one : bit_at set k ≡ 1 = h in let e = w.2 in let c = s.count in
-              let product : (bits_below set k + bit_at set k) * each ≡ bits_below set k * each + each = ap (λ x. (bits_below set k + x) * each) one ∙ distributed (bits_below set k) in
-              omega (arith, e, c, product);
-        }
+        let one : bit_at set k ≡ 1 = h in
+        let product : (bits_below set k + bit_at set k) * each ≡ bits_below set k * each + each = ap (λ x. (bits_below set k + x) * each) one ∙ distributed (bits_below set k) in
+        walked_more b.game (Has set) (λ i. Has set i × (k ≤ i)) (Counted k) cell (jump k) s k (h, omega arith) least (λ i. Has set i × (suc k ≤ i)) (Counted (suc k))
+        (λ i. (
+          λ w. let above = w.1 in ((w.0, omega (arith, above)), λ e. omega (arith, above, e)),
+          λ w. let above = w.0.1 in let other = w.1 in (w.0.0, omega (arith, above, other)),
+        ))
+        (more, subst (λ x. ListsBelow b x more) same listed, omega (arith, grown, count, product))
       where
         distributed : (a : ℕ) → (a + 1) * each ≡ a * each + each
         distributed a = grind arith
 
     without_member : (k : ℕ) → bit_at set k ≡ 0 → IsCounted k → IsCounted (suc k)
     unfolding bits_below
-    without_member k out s = record {
-      upto = s.upto;
-      within = s.within;
-      before = λ i i_in less. s.before i i_in (elim (cases_eq i k) [
-        | inl e ↦ let here : bit_at set k ≡ 1 = subst (λ x. bit_at set x ≡ 1) e i_in in absurd (omega (arith, here, out))
-        | inr other ↦ omega (arith, less, other)
-      ]);
-      behind = λ i i_in more. s.behind i i_in (omega (arith, more));
-      more = s.more;
-      lists = s.lists;
-      count = s.count ∙ ap (λ x. length moves + x * each) (let none = out in omega (arith, none));
-    }
+    without_member k out s =
+        let (more, lists, count) = s.holds in
+        record {
+          upto = s.upto;
+          within = s.within;
+          left = λ i. (
+            λ w. let above = w.1 in (s.left i).0 (w.0, omega (arith, above)),
+            λ w. let l = (s.left i).1 w in (l.0, above i l.0 l.1),
+          );
+          holds = (more, lists, count ∙ ap (λ x. length moves + x * each) (let none = out in omega (arith, none)));
+        }
+      where
+        above : (i : ℕ) → Has set i → k ≤ i → suc k ≤ i
+        above i h le = elim (cases_eq i k) [
+          | inl e ↦ let here : bit_at set k ≡ 1 = subst (λ x. bit_at set x ≡ 1) e h in absurd (omega (arith, here, out))
+          | inr other ↦ omega (arith, le, other)
+        ]
 
     counted : ListsBelow b (square_number b.game from * 36 * 5) moves → (k : ℕ) → IsCounted k
     unfolding bits_below
     counted lists zero =
         let same : square_number b.game from * 36 * 5 ≡ (square_number b.game from * 36 + 0) * 5 = omega arith in
-        record {
-          upto = 0;
-          within = omega arith;
-          before = λ i i_in less. absurd (omega arith);
-          behind = λ i i_in more. omega arith;
-          more = moves;
-          lists = subst (λ x. ListsBelow b x moves) same lists;
-          count = omega arith;
-        }
+        walked_start b.game (Has set) (λ i. Has set i × (0 ≤ i)) (Counted 0) (λ i. (λ w. w.0, λ h. (h, omega arith))) (moves, subst (λ x. ListsBelow b x moves) same lists, omega arith)
     counted lists (suc k) =
-        let s = counted lists k in
         let two = bit_at-lt set k in
         elim (cases_eq (bit_at set k) 1) [
-          | inl here ↦ with_member k here s
-          | inr out ↦ without_member k (omega (arith, two, out)) s
+          | inl here ↦ with_member k here (counted lists k)
+          | inr out ↦ without_member k (omega (arith, two, out)) (counted lists k)
         ]
 
-    -- behind the last member there is none
     pub counted_all : set < 2 ^ 64 → ListsBelow b (square_number b.game from * 36 * 5) moves → (more : List Ply) × ListsBelow b ((square_number b.game from + 1) * 36 * 5) more × (length more ≡ length moves + count_ones set * each)
     counted_all fits start =
-        let s = counted start 64 in (
-          s.more,
-          ListsBelow-jump b _ _ s.more (omega (arith, s.within, squares_36 b.game)) s.lists (λ m low high l.
-              let parts = HasParts-lawful b m l in
-              let few = squares_36 b.game in
-              let at_from : square_number b.game m.from ≡ square_number b.game from = omega (arith, parts.to, parts.promotion, low, high, few, s.within) in
-              let w = to_cell m l at_from in
-              let small = cell_small b.game (cell_of m.to) (cell (cell_of m.to) w.0) in
-              let below = s.before (cell_of m.to) w.0 (omega (arith, small)) in
-              omega (arith, parts.promotion, low, at_from, below, w.1)),
-          s.count ∙ ap (λ x. length moves + x * each) (bits_all 64 set fits),
-        )
+        let (more, lists, count) = walked_end b.game (Has set) (λ i. Has set i × (64 ≤ i)) (Counted 64) cell (jump 64) (counted start 64) (λ i w. let small = cell_small b.game i (cell i w.0) in let high = w.1 in omega (arith, small, high)) in
+        (more, skip_rest b u from on set safe more lists, count ∙ ap (λ x. length moves + x * each) (bits_all 64 set fits))
 
 -- a product of bounded numbers
 pub product_most : (a c : ℕ) → a ≤ 64 → c ≤ 4 → a * c ≤ 256

@@ -1,5 +1,5 @@
 -- Steps of a king that are lawful after a move of the other side.
-use Rattle.std.proofs.Common.{◌≡◌, ℕ, refl, sym, ap, subst, ◌∙◌, ◌⊎◌, inl, inr, true, false, Some, None}
+use Rattle.std.proofs.Common.{◌≡◌, ℕ, refl, sym, ap, subst, ◌∙◌, ◌⊎◌, inl, inr, false, Some, None}
 use Rattle.std.proofs.lemmas.Bool.{false≢true}
 use Rattle.std.proofs.lemmas.Option.{same_Some}
 use Rattle.board.specs.declared.game.Kind.TheVariants.{King, Queen, Rook, Bishop, Pawn}
@@ -10,24 +10,24 @@ use Rattle.board.specs.Denotation.{terms_of, Denotes}
 use Rattle.board.specs.Games.{other_side}
 use Rattle.board.specs.Board.{PlainBoard, IsPosition}
 use Rattle.rules.specs.Squares.{Place, Ply, IsOnBoard, unit_at}
-use Rattle.rules.specs.Reach.{Leads, Allows, Reaches, IsAttacked, IsInCheck}
+use Rattle.rules.specs.Reach.{Leads, Allows, Reaches, AttacksFrom, IsAttacked, IsInCheck}
 use Rattle.rules.specs.Reach.Leads.{once, again}
 use Rattle.rules.specs.Moves.{IsSomeKing, IsPseudoLegal, IsLawful, placed, after}
-use Rattle.rules.proofs.Keeps.{to_on_board, IsPosition-after, no_own as own_or_other}
+use Rattle.rules.proofs.Keeps.{IsPosition-after, no_own as own_or_other}
 use Rattle.cells.specs.Mailbox.{place_in, IsCell}
 use Rattle.cells.specs.Ways.{IsOnStraight, IsOnSlanted}
 use Rattle.moves.specs.Looking.{Aims}
 use Rattle.moves.specs.Pinned.{IsPinned}
 use Rattle.moves.specs.Safe.{IsCalm}
 use Rattle.moves.specs.Targets.{IsTarget}
-use Rattle.moves.proofs.Laying.{unit_at-to, unit_at-from, unit_at-other}
+use Rattle.moves.proofs.Laying.{unit_at-other}
 use Rattle.moves.proofs.Kings.{king_of, check_at, check_from}
 use Rattle.moves.proofs.Guarding.{king_moved}
 use Rattle.moves.proofs.Looking.{captures_from}
-use Rattle.moves.proofs.Pins.{place_cases, no_unit, stood, walked}
+use Rattle.moves.proofs.Pins.{stood, attacked_after}
 use Rattle.moves.proofs.Riding.{Rides-leads, rides-ray}
 use Rattle.moves.proofs.Seeing.{rides_as}
-use Rattle.moves.proofs.Shadows.{on_lines}
+use Rattle.moves.proofs.Shadows.{on_lines, pinned_attacks}
 
 -- what a rider would come to over a cell lies on the lines of that cell
 pub over_lines : (b : PlainBoard) (side : Side) (k i : ℕ) → IsCell b.game k → IsCell b.game i → IsPinned b side (place_in i) (place_in k) → IsOnStraight b.game k i ⊎ IsOnSlanted b.game k i
@@ -104,58 +104,33 @@ module _ (b : PlainBoard) (m : Ply) (u : Man) (is : IsPosition b) (p : IsPseudoL
           let is_next = IsPosition-after b m u is p in
           let n : Ply = record { from = k; to = f; promotion = None } in
           let v : Man = record { side = other_side b.mover; kind = King } in
-          let fin = after next n v in
-          let r = a.reaches in
-          let there : unit_at next s ≡ Some a.unit = stood next n v is_next steps s a.unit a.on_board a.stands (λ e. own_or_other (other_side b.mover) (sym (ap (λ (x : Man). x.side) e) ∙ a.owner)) in
-          elim (place_cases b.game s m.to a.on_board (to_on_board b m u p)) [
-            | inl same ↦
-                let man : a.unit ≡ placed u m = same_Some a.unit (placed u m) (sym there ∙ ap (unit_at next) same ∙ unit_at-to b m u is p) in
-                unseen fin refl (record {
-                  step = r.step;
-                  denoted = subst (λ (x : Man). Denotes (terms_of x.kind) r.step) man r.denoted;
-                  captures = captures_from r.step.mode a.unit.side _ r.reaches.allows;
-                  leads = subst (λ (x : Man). Leads fin x.side r.step m.to f) man (subst (λ x. Leads fin a.unit.side r.step x f) same r.reaches.leads);
-                })
-            | inr far ↦ elim (place_cases b.game s m.from a.on_board p.on_board) [
-              | inl same ↦ absurd (no_unit (sym (unit_at-from b m u is p) ∙ ap (unit_at next) (sym same) ∙ there))
-              | inr gone ↦
-                  let stands : unit_at b s ≡ Some a.unit = sym (unit_at-other b m u is p s a.on_board gone far) ∙ there in
-                  let attack : (t : Place) → Leads b a.unit.side r.step s t → IsAttacked b t (other_side (other_side b.mover)) = λ t l. (
-                    s,
-                    record {
-                      unit = a.unit;
-                      on_board = a.on_board;
-                      stands = stands;
-                      owner = a.owner;
-                      reaches = record { step = r.step; played = r.played; denoted = r.denoted; reaches = record { allows = r.reaches.allows; leads = l } };
-                    },
-                  ) in
-                  let over : (t : Place) → r.step.rider ≡ true → Leads b a.unit.side r.step s m.from → Leads b a.unit.side r.step m.from t → IsPinned b (other_side b.mover) t m.from = λ t rides to_unit to_king. record {
-                    rider = a.unit;
-                    from = s;
-                    step = r.step;
-                    on_board = a.on_board;
-                    stands = stands;
-                    owner = a.owner;
-                    denoted = r.denoted;
-                    rides = rides;
-                    captures = captures_from r.step.mode a.unit.side _ r.reaches.allows;
-                    taken = λ none. no_unit (sym none ∙ p.stands);
-                    to_unit = to_unit;
-                    to_king = to_king;
-                  } in
-                  elim (walked next n v is_next steps a.unit.side r.step s f r.reaches.leads) [
-                    | inl w ↦ elim (walked b m u is p a.unit.side r.step s f w) [
-                      | inl l ↦ calm.safe (attack f l)
-                      | inr l ↦ shut (over f l.0 l.1 l.2)
-                    ]
-                    | inr w ↦ elim (walked b m u is p a.unit.side r.step s k w.1) [
-                      | inl l ↦ safe (check_from b (other_side b.mover) k on king (attack k l))
-                      | inr l ↦ kept (over k l.0 l.1 l.2)
-                    ]
-                  ]
+          let side = other_side b.mover in
+          elim (attacked_after next n v is_next steps side s f a) [
+            | inl (at, moved) ↦ own_or_other side (sym (ap (λ (x : Man). x.side) (moved a.unit a.stands)) ∙ a.owner)
+            | inr (inl w) ↦ elim (attacked_after b m u is p side s f w) [
+              | inl (at, moved) ↦ unseen next refl (aims next s w at (moved w.unit w.stands))
+              | inr (inl l) ↦ calm.safe (s, l)
+              | inr (inr pin) ↦ shut pin.0
             ]
+            | inr (inr (over, from)) ↦
+                let w = pinned_attacks next is_next side f k over in
+                elim (attacked_after b m u is p side over.from k w) [
+                  | inl (at, moved) ↦
+                      let there : unit_at next s ≡ Some a.unit = stood next n v is_next steps s a.unit a.on_board a.stands (λ e. own_or_other side (sym (ap (λ (x : Man). x.side) e) ∙ a.owner)) in
+                      unseen (after next n v) refl (aims (after next n v) s a (sym from ∙ at) (moved a.unit (ap (unit_at next) from ∙ there)))
+                  | inr (inl l) ↦ safe (check_from b side k on king (over.from, l))
+                  | inr (inr pin) ↦ kept pin.0
+                ]
           ]
+        where
+          -- the unit that moved takes there
+          aims : (c : PlainBoard) (s : Place) (a : AttacksFrom c (other_side (other_side b.mover)) s f) → s ≡ m.to → a.unit ≡ placed u m → Aims c (placed u m) m.to f
+          aims c s a same man = record {
+            step = a.reaches.step;
+            denoted = subst (λ (x : Man). Denotes (terms_of x.kind) a.reaches.step) man a.reaches.denoted;
+            captures = captures_from a.reaches.step.mode a.unit.side _ a.reaches.reaches.allows;
+            leads = subst (λ (x : Man). Leads c x.side a.reaches.step m.to f) man (subst (λ x. Leads c a.unit.side a.reaches.step x f) same a.reaches.reaches.leads);
+          }
 
       pub lawful_step : IsLawful (after b m u) (record { from = k; to = f; promotion = None })
       lawful_step =

@@ -1,5 +1,5 @@
 -- The mover's king, and the moves that keep it safe.
-use Rattle.std.proofs.Common.{◌≡◌, ℕ, ◌+◌, ◌/◌, ◌%◌, ◌<◌, ◌≤◌, zero, suc, refl, sym, ap, subst, ◌∙◌, arith, ◌↔◌, IsTrue, Bool, true, false, not, List, length, get_or, take, Option, Some, None, MatchOption, IsSome, IfSome, unwrap_or, count_by}
+use Rattle.std.proofs.Common.{◌≡◌, ℕ, ◌+◌, ◌/◌, ◌%◌, ◌<◌, ◌≤◌, zero, suc, refl, sym, ap, subst, ◌∙◌, arith, ◌↔◌, IsTrue, Bool, true, false, not, List, length, get_or, take, Option, Some, None, IsSome, IfSome, unwrap_or, count_by}
 use Rattle.std.proofs.lemmas.Bool.{false≢true, and_parts, false_from_ne_true}
 use Rattle.std.proofs.lemmas.List.{take_all}
 use Rattle.std.proofs.lemmas.List.Sums.{count_by_more_no}
@@ -28,10 +28,6 @@ own_side White White e = refl
 own_side White Black e = cc
 own_side Black White e = cc
 own_side Black Black e = refl
-
-pub own_some : (side : Side) (o : Option Man) → is_of_side side o ≡ true → MatchOption o (is_of_side side o ≡ false) (λ u. (o ≡ Some u) × (u.side ≡ side) × (is_of_side side o ≡ true))
-own_some side None e = absurd (false≢true e)
-own_some side (Some u) e = (refl, own_side side u.side e, e)
 
 -- ---- the king stands somewhere
 

@@ -21,8 +21,7 @@ use Rattle.moves.proofs.Laying.{unit_at-from, unit_at-other}
 use Rattle.moves.proofs.Kings.{king_of, check_at, check_from}
 use Rattle.moves.proofs.Guarding.{king_moved}
 use Rattle.moves.specs.Pinned.{IsPinned}
-use Rattle.moves.proofs.Looking.{captures_from}
-use Rattle.moves.proofs.Pins.{no_unit, place_cases, stood, walked}
+use Rattle.moves.proofs.Pins.{place_cases, foe_attacks}
 
 -- a walk ends where there is less room
 less_room : (b : PlainBoard) (side : Side) (step : Step) (s t : Place) → IsOnBoard b.game s → 0 < unsigned_abs step.dx + unsigned_abs step.dy → Leads b side step s t → room_of side step t < room_of side step s
@@ -74,36 +73,7 @@ module _ (b : PlainBoard) (m : Ply) (u : Man) (is : IsPosition b) (p : IsPseudoL
 
   module _ (free : IsPinned b b.mover m.to m.from → ⊥) where
     attacked_now : IsAttacked (after b m u) m.to (other_side b.mover) → IsAttacked b m.to (other_side b.mover)
-    attacked_now (s, a) =
-        let r = a.reaches in
-        let stands : unit_at b s ≡ Some a.unit = stood b m u is p s a.unit a.on_board a.stands (λ e. own_or_other b.mover (sym p.owner ∙ sym (ap (λ (x : Man). x.side) e) ∙ a.owner)) in
-        let by : (to : Place) → Leads b a.unit.side r.step s to → IsAttacked b to (other_side b.mover) = λ to l. (
-          s,
-          record {
-            unit = a.unit;
-            on_board = a.on_board;
-            stands = stands;
-            owner = a.owner;
-            reaches = record { step = r.step; played = r.played; denoted = r.denoted; reaches = record { allows = r.reaches.allows; leads = l } };
-          },
-        ) in
-        elim (walked b m u is p a.unit.side r.step s m.to r.reaches.leads) [
-          | inl l ↦ by m.to l
-          | inr w ↦ absurd (free (record {
-            rider = a.unit;
-            from = s;
-            step = r.step;
-            on_board = a.on_board;
-            stands = stands;
-            owner = a.owner;
-            denoted = r.denoted;
-            rides = w.0;
-            captures = captures_from r.step.mode a.unit.side _ r.reaches.allows;
-            taken = λ none. no_unit (sym none ∙ p.stands);
-            to_unit = w.1;
-            to_king = w.2;
-          }))
-        ]
+    attacked_now attack = elim (foe_attacks b m u is p m.to attack) [ inl w ↦ w | inr pin ↦ absurd (free pin) ]
 
     check_now : IsInCheck (after b m u) b.mover → IsAttacked b m.to (other_side b.mover)
     check_now check = attacked_now (check_at (after b m u) (IsPosition-after b m u is p) b.mover m.to (to_on_board b m u p) behind check)

@@ -20,9 +20,9 @@ use Rattle.board.specs.Games.{other_side, IsPlayed}
 use Rattle.board.specs.declared.game.Game.{Game}
 use Rattle.board.specs.Board.{PlainBoard, IsPosition, MayStandOn}
 use Rattle.rules.specs.Squares.{Place, IsOnBoard, square_number, unit_at}
-use Rattle.rules.specs.Reach.{ahead_of, IsStep, Leads, Allows, AttacksFrom, IsAttacked}
+use Rattle.rules.specs.Reach.{ahead_of, IsStep, Leads, Allows, AttacksFrom}
 use Rattle.rules.specs.Reach.Leads.{once, again}
-use Rattle.moves.specs.Looking.{foe_of, IsStruck, Aims}
+use Rattle.moves.specs.Looking.{Aims}
 
 no_Some : {X : Type 0} {x : X} → None ≡ Some x → ⊥
 no_Some e = cc
@@ -64,11 +64,6 @@ Leads-back b side st s t on (once on' a) = once on (step_back side st s t a)
 Leads-back b side st s t on (again {u = u} r on' a e l) =
     Leads-then b (other_side side) (mirror st) t u s r e on (step_back side st s u a) (Leads-back b side st u t on' l)
 
--- a walk ends on the board
-Leads-on : (b : PlainBoard) (side : Side) (st : Step) (s t : Place) → Leads b side st s t → IsOnBoard b.game t
-Leads-on b side st s t (once on a) = on
-Leads-on b side st s t (again r on a e l) = Leads-on b side st _ t l
-
 -- the terms that denote a step denote its mirror
 atom_back : (a : Atom) (dx dy : ℤ) → IsAtomLeap a dx dy → IsAtomLeap a (neg_ℤ dx) dy
 atom_back Wazir dx dy h = rw (sym (size-neg dx)) at h
@@ -88,67 +83,6 @@ pub captures_from : (mode : Mode) (side : Side) (u : Man) → Allows mode side (
 captures_from Move side u h e = h
 captures_from Capture side u h e = cc
 captures_from Both side u h e = cc
-
-module _ (b : PlainBoard) (t : Place) (me : Side) (on : IsOnBoard b.game t) where
-  abbrev pub own : Kind → Man
-  own k = record { side = me; kind = k }
-
-  -- from the attacked square its own kind would take an attacker
-  pub Aims-attacked : (s : Place) (a : AttacksFrom b (other_side me) s t) → Aims b (own a.unit.kind) t s
-  unfolding mirror
-  Aims-attacked s a =
-      let r = a.reaches in
-      let turned : other_side a.unit.side ≡ me = ap other_side a.owner ∙ other_twice me in
-      record {
-        step = mirror r.step;
-        denoted = Denotes-mirror (terms_of a.unit.kind) r.step r.denoted;
-        captures = captures_from r.step.mode a.unit.side _ r.reaches.allows;
-        leads = subst (λ x. Leads b x (mirror r.step) t s) turned (Leads-back b a.unit.side r.step s t a.on_board r.reaches.leads);
-      }
-
-  -- an attacker is struck by its own kind from the attacked square
-  pub IsStruck-attacked : (s : Place) (a : AttacksFrom b (other_side me) s t) → IsPlayed b.game a.unit.kind × IsStruck b (own a.unit.kind) t
-  unfolding mirror
-  IsStruck-attacked s a =
-      let r = a.reaches in
-      let turned : other_side a.unit.side ≡ me = ap other_side a.owner ∙ other_twice me in
-      let back : Leads b me (mirror r.step) t s = subst (λ x. Leads b x (mirror r.step) t s) turned (Leads-back b a.unit.side r.step s t a.on_board r.reaches.leads) in
-      let man : a.unit ≡ foe_of (own a.unit.kind) = λ i. record { side = a.owner i; kind = a.unit.kind } in (
-        r.played,
-        record {
-          step = mirror r.step;
-          denoted = Denotes-mirror (terms_of a.unit.kind) r.step r.denoted;
-          strikes = record {
-            captures = captures_from r.step.mode a.unit.side _ r.reaches.allows;
-            strikes = record { to = s; leads = back; stands = a.stands ∙ ap Some man };
-          };
-        },
-      )
-
-  -- and what is struck so attacks the square
-  pub AttacksFrom-struck : (k : Kind) → IsPlayed b.game k → (h : IsStruck b (own k) t) → AttacksFrom b (other_side me) h.strikes.strikes.to t
-  unfolding mirror
-  AttacksFrom-struck k played h =
-      let w = h.strikes.strikes in
-      let found : IsOnBoard b.game w.to = Leads-on b me h.step t w.to w.leads in
-      record {
-        unit = foe_of (own k);
-        on_board = found;
-        stands = w.stands;
-        owner = refl;
-        reaches = record {
-          step = mirror h.step;
-          played = played;
-          denoted = Denotes-mirror (terms_of k) h.step h.denoted;
-          reaches = record {
-            allows = allows_capture h.step.mode (other_side me) h.strikes.captures;
-            leads = Leads-back b me h.step t w.to on w.leads;
-          };
-        };
-      }
-
-  pub IsAttacked-struck : (k : Kind) → IsPlayed b.game k → IsStruck b (own k) t → IsAttacked b t (other_side me)
-  IsAttacked-struck k played h = (h.strikes.strikes.to, AttacksFrom-struck k played h)
 
 -- two walks of an enemy, one after the other, are two of the side's own, the other way
 pub both_back : (b : PlainBoard) (side : Side) (u : Man) (step : Step) (r s t : Place) → u.side ≡ other_side side → Denotes (terms_of u.kind) step → IsOnBoard b.game r → IsOnBoard b.game s → Leads b u.side step r s → Leads b u.side step s t
@@ -174,13 +108,41 @@ Aims-back b side kind s k on a = record {
   leads = Leads-back b side a.step s k on a.leads;
 }
 
--- ---- a kind that stands on the board is played
+-- ---- attacks, by what would take
 
 pub stands_played : (g : Game) (n : ℕ) (o : Option Man) (u : Man) → IfSome o (MayStandOn g n) → o ≡ Some u → IsPlayed g u.kind
 stands_played g n None u m e = cc
 stands_played g n (Some v) u m e = subst (λ x. IsPlayed g x) (ap (λ (x : Man). x.kind) (same_Some v u e)) m.played
 
-pub struck_played : (b : PlainBoard) → IsPosition b → (side : Side) (k : Kind) (s : Place) → IsStruck b (record { side = side; kind = k }) s → IsPlayed b.game k
-struck_played b is side k s w =
-    let at = w.strikes.strikes.to in
-    stands_played b.game (square_number b.game at) (unit_at b at) (foe_of (record { side = side; kind = k })) (is.squares (square_number b.game at)) w.strikes.strikes.stands
+-- a unit of the side attacks a square on which it would take
+pub attacks_on : (b : PlainBoard) → IsPosition b → (side : Side) (s t : Place) (u : Man) → IsOnBoard b.game s → unit_at b s ≡ Some u → u.side ≡ side → Aims b u s t → AttacksFrom b side s t
+attacks_on b is side s t u on stands owner a = record {
+  unit = u;
+  on_board = on;
+  stands = stands;
+  owner = owner;
+  reaches = record {
+    step = a.step;
+    played = stands_played b.game (square_number b.game s) (unit_at b s) u (is.squares (square_number b.game s)) stands;
+    denoted = a.denoted;
+    reaches = record {
+      allows = subst (λ x. Allows a.step.mode x (Some (record { side = other_side side; kind = King }))) (sym owner) (allows_capture a.step.mode side a.captures);
+      leads = a.leads;
+    };
+  };
+}
+
+module _ (b : PlainBoard) (t : Place) (me : Side) (on : IsOnBoard b.game t) where
+  -- from the attacked square its own kind would take an attacker
+  pub Aims-attacked : (s : Place) (a : AttacksFrom b (other_side me) s t) → Aims b (record { side = me; kind = a.unit.kind }) t s
+  Aims-attacked s a =
+      let r = a.reaches in
+      let turned : other_side a.unit.side ≡ me = ap other_side a.owner ∙ other_twice me in
+      let there : Aims b a.unit s t = record { step = r.step; denoted = r.denoted; captures = captures_from r.step.mode a.unit.side _ r.reaches.allows; leads = r.reaches.leads } in
+      subst (λ x. Aims b (record { side = x; kind = a.unit.kind }) t s) turned (Aims-back b a.unit.side a.unit.kind s t a.on_board there)
+
+  -- and what it would take so attacks the square
+  pub attacks_back : IsPosition b → (s : Place) (u : Man) → IsOnBoard b.game s → unit_at b s ≡ Some u → u.side ≡ other_side me → Aims b (record { side = me; kind = u.kind }) t s → AttacksFrom b (other_side me) s t
+  attacks_back is s u there stands owner a =
+      let man : record { side = other_side me; kind = u.kind } ≡ u = λ i. record { side = sym owner i; kind = u.kind } in
+      attacks_on b is (other_side me) s t u there stands owner (subst (λ x. Aims b x s t) man (Aims-back b me u.kind t s on a))

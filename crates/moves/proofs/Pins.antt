@@ -1,5 +1,5 @@
 -- Units that aren't pinned leave their king safe.
-use Rattle.std.proofs.Common.{◌≡◌, sym, ap, subst, ◌∙◌, ◌⊎◌, inl, inr, true, not, Option, Some, None, unwrap_or, IfSome}
+use Rattle.std.proofs.Common.{◌≡◌, refl, sym, ap, subst, ◌∙◌, ◌⊎◌, inl, inr, true, not, Option, Some, None, unwrap_or, IfSome}
 use Rattle.std.proofs.lemmas.Bool.{cases_eq}
 use Rattle.std.proofs.lemmas.Option.{same_Some}
 use Rattle.board.specs.declared.game.Game.{Game}
@@ -8,9 +8,10 @@ use Rattle.board.specs.declared.game.Kind.{Kind}
 use Rattle.board.specs.declared.game.Kind.TheVariants.{King, Queen, Rook, Bishop, Knight, Pawn}
 use Rattle.board.specs.declared.game.Unit.{Unit as Man}
 use Rattle.board.specs.declared.step.Step.{Step}
+use Rattle.board.specs.Games.{other_side}
 use Rattle.board.specs.Board.{PlainBoard, IsPosition}
 use Rattle.rules.specs.Squares.{Place, Ply, IsOnBoard, square_number, unit_at}
-use Rattle.rules.specs.Reach.{Leads, IsInCheck}
+use Rattle.rules.specs.Reach.{Leads, AttacksFrom, IsAttacked, IsInCheck}
 use Rattle.rules.specs.Reach.Leads.{once, again}
 use Rattle.rules.specs.Moves.{IsPromotion, IsPseudoLegal, placed, after}
 use Rattle.moves.specs.Pinned.{IsPinned}
@@ -69,38 +70,60 @@ module _ (b : PlainBoard) (m : Ply) (u : Man) (is : IsPosition b) (p : IsPseudoL
         ]
       ]
 
+  -- what attacks a square after the move is the unit that moved, or did so before, or comes there by the from-square
+  pub attacked_after : (side : Side) (s t : Place) → AttacksFrom (after b m u) (other_side side) s t
+      → ((s ≡ m.to) × ((v : Man) → unit_at (after b m u) s ≡ Some v → v ≡ placed u m)) ⊎ (AttacksFrom b (other_side side) s t ⊎ ((pin : IsPinned b side t m.from) × (pin.from ≡ s)))
+  attacked_after side s t a = elim (place_cases b.game s m.to a.on_board to) [
+    | inl same ↦ inl (same, λ v e. same_Some v (placed u m) (sym e ∙ ap (unit_at (after b m u)) same ∙ unit_at-to b m u is p))
+    | inr far ↦ elim (place_cases b.game s m.from a.on_board p.on_board) [
+      | inl same ↦ absurd (no_unit (sym (unit_at-from b m u is p) ∙ ap (unit_at (after b m u)) (sym same) ∙ a.stands))
+      | inr apart ↦
+          let r = a.reaches in
+          let stands : unit_at b s ≡ Some a.unit = sym (unit_at-other b m u is p s a.on_board apart far) ∙ a.stands in
+          inr (elim (walked a.unit.side r.step s t r.reaches.leads) [
+            | inl w ↦ inl (record {
+              unit = a.unit;
+              on_board = a.on_board;
+              stands = stands;
+              owner = a.owner;
+              reaches = record { step = r.step; played = r.played; denoted = r.denoted; reaches = record { allows = r.reaches.allows; leads = w } };
+            })
+            | inr w ↦ inr (
+              record {
+                rider = a.unit;
+                from = s;
+                step = r.step;
+                on_board = a.on_board;
+                stands = stands;
+                owner = a.owner;
+                denoted = r.denoted;
+                rides = w.0;
+                captures = captures_from r.step.mode a.unit.side _ r.reaches.allows;
+                taken = λ none. no_unit (sym none ∙ p.stands);
+                to_unit = w.1;
+                to_king = w.2;
+              },
+              refl,
+            )
+          ])
+    ]
+  ]
+
+  -- the mover's foe attacks a square after the move as before it, or comes there by the from-square
+  pub foe_attacks : (t : Place) → IsAttacked (after b m u) t (other_side b.mover) → IsAttacked b t (other_side b.mover) ⊎ IsPinned b b.mover t m.from
+  foe_attacks t (s, a) = elim (attacked_after b.mover s t a) [
+    | inl (at, moved) ↦ absurd (own_or_other b.mover (sym p.owner ∙ sym (ap (λ (x : Man). x.side) (moved a.unit a.stands)) ∙ a.owner))
+    | inr (inl w) ↦ inl (s, w)
+    | inr (inr pin) ↦ inr pin.0
+  ]
+
   module _ (piece : u.kind ≡ King → ⊥) (k : Place) (on : IsOnBoard b.game k) (king : unit_at b k ≡ king_of b.mover) where
     -- so a check after it was one before it
     pub stays_safe : (IsPinned b b.mover k m.from → ⊥) → IsInCheck (after b m u) b.mover → IsInCheck b b.mover
     stays_safe free (t, check) =
         let before : unit_at b t ≡ king_of b.mover = stood t _ check.on_board check.king (λ e. promotes_no_king b.game m.promotion u.kind p.allowed piece (sym (ap (λ (x : Man). x.kind) e))) in
         let at : t ≡ k = one_king b is b.mover t k check.on_board on before king in
-        let a = check.attacked.1 in
-        let stands : unit_at b check.attacked.0 ≡ Some a.unit = stood check.attacked.0 a.unit a.on_board a.stands (λ e. own_or_other b.mover (sym p.owner ∙ sym (ap (λ (x : Man). x.side) e) ∙ a.owner)) in
-        let r = a.reaches in
-        elim (walked a.unit.side r.step check.attacked.0 t r.reaches.leads) [
-          | inl w ↦ check_from b b.mover t check.on_board before (
-            check.attacked.0,
-            record {
-              unit = a.unit;
-              on_board = a.on_board;
-              stands = stands;
-              owner = a.owner;
-              reaches = record { step = r.step; played = r.played; denoted = r.denoted; reaches = record { allows = r.reaches.allows; leads = w } };
-            },
-          )
-          | inr w ↦ absurd (free (record {
-            rider = a.unit;
-            from = check.attacked.0;
-            step = r.step;
-            on_board = a.on_board;
-            stands = stands;
-            owner = a.owner;
-            denoted = r.denoted;
-            rides = w.0;
-            captures = captures_from r.step.mode a.unit.side _ r.reaches.allows;
-            taken = λ none. no_unit (sym none ∙ p.stands);
-            to_unit = w.1;
-            to_king = subst (Leads b a.unit.side r.step m.from) at w.2;
-          }))
+        elim (foe_attacks t check.attacked) [
+          | inl w ↦ check_from b b.mover t check.on_board before w
+          | inr pin ↦ absurd (free (subst (λ x. IsPinned b b.mover x m.from) at pin))
         ]

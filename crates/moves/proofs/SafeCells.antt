@@ -22,10 +22,9 @@ use Rattle.moves.specs.Targets.{IsTarget}
 use Rattle.moves.specs.Pinned.{IsPinned}
 use Rattle.moves.specs.Sets.{StandsAs}
 use Rattle.moves.specs.declared.sets.Class.TheVariants.{Crowned}
-use Rattle.moves.specs.declared.board_list.Guard.{Guard}
-use Rattle.moves.specs.Guard.{Guards}
 use Rattle.moves.specs.Safe.{IsNamed, HasSafe, IsCalm}
-use Rattle.cells.proofs.CellNumbers.{IsCell-cell_of, place_in-cell_of}
+use Rattle.cells.proofs.CellNumbers.{place_in-cell_of}
+use Rattle.moves.proofs.Guarding.{promotes_well}
 use Rattle.moves.proofs.KingSteps.{attacked_then, steps_safely}
 use Rattle.cells.proofs.Masks.{lowest-has}
 use Rattle.moves.proofs.Laying.{unit_at-to, unit_at-from, unit_at-other}
@@ -155,39 +154,31 @@ some_crowned b s there = crowned (unit_at b s) refl there
 pub crowned_king : (b : PlainBoard) (s : Place) → StandsAs b Crowned s → IsSomeKing (unit_at b s)
 crowned_king b s w = subst IsSomeKing (sym w.stands) w.is
 
--- a unit that isn't pinned moves lawfully wherever it reaches no king, if its own isn't in check
-pub free_safe : (b : PlainBoard) (u : Man) (s k : Place) (set : ℕ) → IsPosition b → IsOnBoard b.game s → unit_at b s ≡ Some u → u.side ≡ b.mover → (u.kind ≡ King → ⊥)
-    → IsOnBoard b.game k → unit_at b k ≡ king_of b.mover → (IsInCheck b b.mover → ⊥) → (IsPinned b b.mover k s → ⊥)
-    → ((i : ℕ) → Has set i ↔ (IsTarget b u s i × (IsSomeKing (unit_at b (place_in i)) → ⊥))) → HasSafe b u s set
-free_safe b u s k set is on stands owner piece on_k king unchecked free has = record {
-  cells = λ i h. ((has i).0 h).0;
-  lawful = λ i m h from to named.
-      let w = (has i).0 h in
-      let p = pseudo_named b m u s i on stands owner w.0 w.1 from to named in
+-- a unit that isn't pinned, where its own king isn't in check
+module _ (b : PlainBoard) (u : Man) (s k : Place) (is : IsPosition b) (on : IsOnBoard b.game s) (stands : unit_at b s ≡ Some u) (owner : u.side ≡ b.mover) (piece : u.kind ≡ King → ⊥)
+    (on_k : IsOnBoard b.game k) (king : unit_at b k ≡ king_of b.mover) (unchecked : IsInCheck b b.mover → ⊥) (free : IsPinned b b.mover k s → ⊥) where
+  -- moves lawfully wherever it reaches no king
+  pub free_lawful : (i : ℕ) → IsTarget b u s i → (IsSomeKing (unit_at b (place_in i)) → ⊥) → (m : Ply) → m.from ≡ s → m.to ≡ place_in i → IsNamed b.game u m → IsLawful b m
+  free_lawful i target no_king m from to named =
+      let p = pseudo_named b m u s i on stands owner target no_king from to named in
       let loose : IsPinned b b.mover k m.from → ⊥ = λ pin. free (subst (IsPinned b b.mover k) from pin) in
-      (after b m u, record { unit = u; pseudo = p; leads = refl; safe = λ check. unchecked (stays_safe b m u is p piece k on_k king loose check) });
-  all = λ m from l.
-      let p = pseudo_by b m u (ap (unit_at b) from ∙ stands) l in
-      (has (cell_of m.to)).1 (
-        subst (λ x. IsTarget b u x (cell_of m.to)) from (IsTarget-move b m u p),
-        λ there. p.no_king (subst (λ x. IsSomeKing (unit_at b x)) (place_in-cell_of b.game m.to (to_on_board b m u p)) there),
-      );
-}
+      (after b m u, record { unit = u; pseudo = p; leads = refl; safe = λ check. unchecked (stays_safe b m u is p piece k on_k king loose check) })
 
--- what the guard doesn't name isn't pinned
-pub unpinned : (b : PlainBoard) (guard : Guard) (s : Place) → IsOnBoard b.game s → Guards b guard → guard.checked ≡ false → (Has guard.pins (cell_of s) → ⊥) → IsPinned b b.mover (place_in guard.king) s → ⊥
-unpinned b guard s on g out none pin = none (g.pins out (cell_of s) (IsCell-cell_of b.game s on) (subst (IsPinned b b.mover (place_in guard.king)) (sym (place_in-cell_of b.game s on)) pin))
+  pub free_safe : (set : ℕ) → ((i : ℕ) → Has set i ↔ (IsTarget b u s i × (IsSomeKing (unit_at b (place_in i)) → ⊥))) → HasSafe b u s set
+  free_safe set has = record {
+    cells = λ i h. ((has i).0 h).0;
+    lawful = λ i m h. let w = (has i).0 h in free_lawful i w.0 w.1 m;
+    all = λ m from l.
+        let p = pseudo_by b m u (ap (unit_at b) from ∙ stands) l in
+        (has (cell_of m.to)).1 (
+          subst (λ x. IsTarget b u x (cell_of m.to)) from (IsTarget-move b m u p),
+          λ there. p.no_king (subst (λ x. IsSomeKing (unit_at b x)) (place_in-cell_of b.game m.to (to_on_board b m u p)) there),
+        );
+  }
 
--- one move of such a unit
-pub free_lawful : (b : PlainBoard) (u : Man) (s t k : Place) → IsPosition b → IsOnBoard b.game s → IsOnBoard b.game t → unit_at b s ≡ Some u → u.side ≡ b.mover → (u.kind ≡ King → ⊥)
-    → IsOnBoard b.game k → unit_at b k ≡ king_of b.mover → (IsInCheck b b.mover → ⊥) → (IsPinned b b.mover k s → ⊥)
-    → Reaches b u s t (unit_at b t) → (IsSomeKing (unit_at b t) → ⊥) → (m : Ply) → m.from ≡ s → m.to ≡ t → IsNamed b.game u m → IsLawful b m
-free_lawful b u s t k is on on_to stands owner piece on_k king unchecked free reaches no_king m from to named =
-    let at : place_in (cell_of t) ≡ t = place_in-cell_of b.game t on_to in
-    let target : IsTarget b u s (cell_of t) = (IsCell-cell_of b.game t on_to, subst (λ x. Reaches b u s x (unit_at b x)) (sym at) reaches) in
-    let p = pseudo_named b m u s (cell_of t) on stands owner target (λ there. no_king (subst (λ x. IsSomeKing (unit_at b x)) at there)) from (to ∙ sym at) named in
-    let loose : IsPinned b b.mover k m.from → ⊥ = λ pin. free (subst (IsPinned b b.mover k) from pin) in
-    (after b m u, record { unit = u; pseudo = p; leads = refl; safe = λ check. unchecked (stays_safe b m u is p piece k on_k king loose check) })
+-- a lawful move names its promotion well
+pub lawful_named : (b : PlainBoard) (m : Ply) (u : Man) → unit_at b m.from ≡ Some u → IsLawful b m → IsNamed b.game u m
+lawful_named b m u stands l = let well = promotes_well b m u stands l in record { named = well.0; allowed = well.1 }
 
 -- a pawn comes to its last rank from the one before it
 pub last_next : (g : Game) (side : Side) (from to : ℕ) → IsRankAhead side from to → IsLastRank g side to ↔ IsBeforeLast g side from
@@ -230,17 +221,15 @@ some_safe b u s set safe fits some =
 
 -- ---- a step of the king
 
-module _ (b : PlainBoard) (u : Man) (s t : Place) (is : IsPosition b) (king : u.kind ≡ King) (owner : u.side ≡ b.mover) (stands : unit_at b s ≡ Some u) where
-  pub calm_lawful : (IsPinned b b.mover t s → ⊥) → IsOnBoard b.game s → IsOnBoard b.game t → Reaches b u s t (unit_at b t) → IsCalm b t u.side → (m : Ply) → m.from ≡ s → m.to ≡ t → IsNamed b.game u m → IsLawful b m
-  calm_lawful free on on_to reaches calm m from to named =
-      let at : place_in (cell_of t) ≡ t = place_in-cell_of b.game t on_to in
-      let target : IsTarget b u s (cell_of t) = (IsCell-cell_of b.game t on_to, subst (λ x. Reaches b u s x (unit_at b x)) (sym at) reaches) in
-      let p = pseudo_named b m u s (cell_of t) on stands owner target (λ there. calm.no_king (subst (λ x. IsSomeKing (unit_at b x)) at there)) from (to ∙ sym at) named in
+module _ (b : PlainBoard) (u : Man) (s : Place) (i : ℕ) (is : IsPosition b) (king : u.kind ≡ King) (owner : u.side ≡ b.mover) (stands : unit_at b s ≡ Some u) where
+  pub calm_lawful : (IsPinned b b.mover (place_in i) s → ⊥) → IsOnBoard b.game s → IsTarget b u s i → IsCalm b (place_in i) u.side → (m : Ply) → m.from ≡ s → m.to ≡ place_in i → IsNamed b.game u m → IsLawful b m
+  calm_lawful free on target calm m from to named =
+      let p = pseudo_named b m u s i on stands owner target calm.no_king from to named in
       let none : IsAttacked b m.to (other_side b.mover) → ⊥ = λ a. calm.safe (subst (λ x. IsAttacked b x (other_side u.side)) to (subst (λ x. IsAttacked b m.to (other_side x)) (sym owner) a)) in
       let loose : IsPinned b b.mover m.to m.from → ⊥ = λ w. free (subst (λ x. IsPinned b b.mover x s) to (subst (IsPinned b b.mover m.to) from w)) in
       (after b m u, record { unit = u; pseudo = p; leads = refl; safe = (steps_safely b m u is p king loose false ((λ e. absurd (false≢true e)), λ a. absurd (none a))).0 refl })
 
-  pub lawful_calm : (m : Ply) → m.from ≡ s → m.to ≡ t → IsLawful b m → IsCalm b t u.side
+  pub lawful_calm : (m : Ply) → m.from ≡ s → m.to ≡ place_in i → IsLawful b m → IsCalm b (place_in i) u.side
   lawful_calm m from to l =
       let at : unit_at b m.from ≡ Some u = ap (unit_at b) from ∙ stands in
       let p = pseudo_by b m u at l in
@@ -261,12 +250,9 @@ module _ (b : PlainBoard) (u : Man) (s : Place) (is : IsPosition b) (king : u.ki
   calm_all m from l =
       let at : unit_at b m.from ≡ Some u = ap (unit_at b) from ∙ stands in
       let p = pseudo_by b m u at l in
-      let here : place_in (cell_of m.to) ≡ m.to = place_in-cell_of b.game m.to (to_on_board b m u p) in
+      let here : m.to ≡ place_in (cell_of m.to) = sym (place_in-cell_of b.game m.to (to_on_board b m u p)) in
       let man : u ≡ record { side = u.side; kind = King } = λ k. record { side = u.side; kind = king k } in
-      (are (cell_of m.to)).1 (
-        subst (λ x. IsTarget b x s (cell_of m.to)) man (subst (λ x. IsTarget b u x (cell_of m.to)) from (IsTarget-move b m u p)),
-        subst (λ x. IsCalm b x u.side) (sym here) (lawful_calm b u s m.to is king owner stands m from refl l),
-      )
+      (are (cell_of m.to)).1 (subst (λ x. IsTarget b x s (cell_of m.to)) man (subst (λ x. IsTarget b u x (cell_of m.to)) from (IsTarget-move b m u p)), lawful_calm b u s (cell_of m.to) is king owner stands m from here l)
 
   -- and out of check to all of them
   pub calm_safe : IsOnBoard b.game s → (IsInCheck b b.mover → ⊥) → HasSafe b u s set
@@ -275,8 +261,6 @@ module _ (b : PlainBoard) (u : Man) (s : Place) (is : IsPosition b) (king : u.ki
       let free : (t : Place) → IsPinned b b.mover t s → ⊥ = λ t w. out (check_from b b.mover s on mine (w.from, pinned_attacks b is b.mover t s w)) in
       record {
         cells = calm_target;
-        lawful = λ i m h from to named.
-            let (t, calm) = (are i).0 h in
-            calm_lawful b u s (place_in i) is king owner stands (free (place_in i)) on t.0.on_board (calm_target i h).1 calm m from to named;
+        lawful = λ i m h. calm_lawful b u s i is king owner stands (free (place_in i)) on (calm_target i h) ((are i).0 h).1 m;
         all = calm_all;
       }

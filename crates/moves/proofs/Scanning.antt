@@ -1,10 +1,5 @@
--- The list of a unit's moves as its cells are read from the lowest on.
-use Rattle.std.proofs.Common.{◌≡◌, ◌≢◌, ℕ, ◌+◌, ◌-◌, ◌*◌, ◌^◌, ◌<◌, ◌≤◌, zero, suc, refl, sym, ap, subst, ◌∙◌, arith, inl, inr, ◌↔◌, List}
-use Rattle.std.specs.Int.{bit_at}
-use Rattle.std.proofs.lemmas.Bool.{cases_lt, cases_order}
-use Rattle.std.proofs.lemmas.Nat.Bits.{bit_at-zero, bit_at_above}
-use Rattle.board.specs.declared.game.Game.{Game}
-use Rattle.board.specs.declared.game.Game.TheVariants.{LosAlamos, Gardner}
+-- The list of a unit's moves as its safe cells are read from the lowest on.
+use Rattle.std.proofs.Common.{◌≡◌, ◌≢◌, ℕ, ◌+◌, ◌-◌, ◌*◌, ◌<◌, ◌≤◌, zero, suc, refl, ap, subst, arith, ◌↔◌, List}
 use Rattle.board.specs.declared.game.Kind.TheVariants.{Pawn}
 use Rattle.board.specs.declared.game.Unit.{Unit as Man}
 use Rattle.board.specs.Games.{squares_of}
@@ -13,102 +8,40 @@ use Rattle.rules.specs.Squares.{Place, Ply, IsOnBoard, square_number}
 use Rattle.rules.specs.Listing.{ListsBelow}
 use Rattle.cells.specs.Mailbox.{cell_of, place_in, IsCell}
 use Rattle.cells.specs.CellSets.{Has}
-use Rattle.moves.specs.Targets.{IsTarget}
 use Rattle.moves.specs.Safe.{HasSafe}
-use Rattle.cells.proofs.CellNumbers.{IsCell-cell_of, place_in-cell_of, cell_small}
+use Rattle.cells.proofs.CellNumbers.{place_in-cell_of}
+use Rattle.cells.proofs.Masks.{Has-zero}
 use Rattle.rules.proofs.Listed.{same_number, number_within}
 use Rattle.rules.proofs.Lists.{ListsBelow-jump, ListsBelow-all_to, IsNumbered-lawful, HasParts-lawful}
 use Rattle.rules.proofs.Room.{share, share-more, share-most, share-step, squares_36}
+use Rattle.moves.proofs.Walking.{IsWalked, Jumps, walked_start, walked_end, next, next_holds, walked_more}
 
--- cells are ordered as their squares' numbers are
-pub cell_order : (g : Game) (i j : ℕ) → IsCell g i → IsCell g j → square_number g (place_in i) < square_number g (place_in j) → i < j
-cell_order LosAlamos i j a b h = let x = a.on_board.file in let y = b.on_board.file in let p = a.above in let q = b.above in omega arith
-cell_order Gardner i j a b h = let x = a.on_board.file in let y = b.on_board.file in let p = a.above in let q = b.above in omega arith
+-- the moves to the squares numbered below n are listed, so many more than before
+abbrev pub IsListed : PlainBoard → Man → Place → List Ply → ℕ → ℕ → ℕ → Type 0
+IsListed b u from moves before now n = ListsBelow b ((square_number b.game from * 36 + n) * 5) moves × (now ≤ before + share b.game u from n)
 
-pub number_order : (g : Game) (i j : ℕ) → IsCell g i → IsCell g j → i < j → square_number g (place_in i) < square_number g (place_in j)
-number_order LosAlamos i j a b h = let x = a.on_board.file in let y = b.on_board.file in let p = a.above in let q = b.above in omega arith
-number_order Gardner i j a b h = let x = a.on_board.file in let y = b.on_board.file in let p = a.above in let q = b.above in omega arith
-
--- once the lowest of some cells is taken, those behind it are left
-module _ (g : Game) (P : ℕ → Type 0) (cell : (i : ℕ) → P i → IsCell g i) (set upto : ℕ) (left : (i : ℕ) → Has set i ↔ (P i × (upto ≤ square_number g (place_in i)))) (to : ℕ) (has : Has set to) (low : (i : ℕ) → i < to → bit_at set i ≡ 0) where
-  pub left_after : (rest : ℕ) → set < 2 ^ 64 → rest < set → bit_at rest to ≡ 0 → ((i : ℕ) → i < 64 → i ≢ to → bit_at rest i ≡ bit_at set i)
-      → (i : ℕ) → Has rest i ↔ (P i × (square_number g (place_in to) + 1 ≤ square_number g (place_in i)))
-  left_after rest fits less gone others i = (λ h. kept i (narrow i h) h, λ t. again i t.0 t.1)
-    where
-      target : P to
-      target = ((left to).0 has).0
-
-      narrow : (i : ℕ) → Has rest i → i < 64
-      narrow i h = elim (cases_lt i 64) [
-        | inl less' ↦ less'
-        | inr more' ↦ let zeroed = bit_at_above rest 64 i (omega (arith, less, fits)) more' in absurd (omega (arith, h, zeroed))
-      ]
-
-      not_lowest : (i : ℕ) → Has rest i → i ≢ to
-      not_lowest i h e = let here : bit_at rest to ≡ 1 = subst (λ x. bit_at rest x ≡ 1) e h in omega (arith, gone, here)
-
-      kept : (i : ℕ) → i < 64 → Has rest i → P i × (square_number g (place_in to) + 1 ≤ square_number g (place_in i))
-      kept i small h =
-          let there : bit_at set i ≡ 1 = sym (others i small (not_lowest i h)) ∙ h in
-          let reached = (left i).0 there in
-          let above : to < i = elim (cases_order i to) [
-            | inl same ↦ absurd (not_lowest i h same)
-            | inr (inl below) ↦ let at = low i below in absurd (omega (arith, at, there))
-            | inr (inr more') ↦ more'
-          ] in
-          let later = number_order g to i (cell to target) (cell i reached.0) above in
-          (reached.0, omega (arith, later))
-
-      again : (i : ℕ) → P i → square_number g (place_in to) + 1 ≤ square_number g (place_in i) → Has rest i
-      again i t later =
-          let upto_number = ((left to).0 has).1 in
-          let small = cell_small g i (cell i t) in
-          let other : i ≢ to = λ e. let same : square_number g (place_in i) ≡ square_number g (place_in to) = ap (λ x. square_number g (place_in x)) e in omega (arith, later, same) in
-          others i (omega (arith, small)) other ∙ (left i).1 (t, omega (arith, upto_number, later))
-
--- the squares numbered below `upto` are done, and the set has the safe cells from there on
-pub record IsScanned (b : PlainBoard) (u : Man) (from : Place) (whole set : ℕ) (moves : List Ply) (before now : ℕ) : Type 0 where
-  pub fits : set < 2 ^ 64
-  pub upto : ℕ
-  pub within : upto ≤ squares_of b.game
-  pub left : (i : ℕ) → Has set i ↔ (Has whole i × (upto ≤ square_number b.game (place_in i)))
-  pub lists : ListsBelow b ((square_number b.game from * 36 + upto) * 5) moves
-  pub few : now ≤ before + share b.game u from upto
+-- the safe cells of the set are left
+abbrev pub IsScanned : PlainBoard → Man → Place → ℕ → ℕ → List Ply → ℕ → ℕ → Type 0
+IsScanned b u from whole set moves before now = IsWalked b.game (Has whole) (Has set) (IsListed b u from moves before now)
 
 module _ (b : PlainBoard) (u : Man) (from : Place) (on : IsOnBoard b.game from) (whole : ℕ) (safe : HasSafe b u from whole) where
-  pub IsScanned-start : (moves : List Ply) (n : ℕ) → whole < 2 ^ 64 → ListsBelow b (square_number b.game from * 36 * 5) moves → IsScanned b u from whole whole moves n n
-  IsScanned-start moves n fits lists =
-      let same : square_number b.game from * 36 * 5 ≡ (square_number b.game from * 36 + 0) * 5 = omega arith in
-      record {
-        fits = fits;
-        upto = 0;
-        within = omega arith;
-        left = λ i. (λ h. (h, omega arith), λ h. h.0);
-        lists = subst (λ k. ListsBelow b k moves) same lists;
-        few = omega arith;
-      }
+  pub safe_cell : (i : ℕ) → Has whole i → IsCell b.game i
+  safe_cell i h = (safe.cells i h).0
 
-  -- up to the next safe cell no move of the unit is lawful
-  skip_to : (set upto to : ℕ) (moves : List Ply) → ((i : ℕ) → Has set i ↔ (Has whole i × (upto ≤ square_number b.game (place_in i)))) → ListsBelow b ((square_number b.game from * 36 + upto) * 5) moves
-      → upto ≤ to → to ≤ squares_of b.game → ((i : ℕ) → IsCell b.game i → square_number b.game (place_in i) < to → Has set i → ⊥)
-      → ListsBelow b ((square_number b.game from * 36 + to) * 5) moves
-  skip_to set upto to moves left lists more within none =
-      ListsBelow-jump b _ _ moves (omega (arith, more)) lists (λ m above below l.
+  -- where no safe cell is passed, no move of the unit is lawful
+  pub skip : (moves : List Ply) → Jumps b.game (Has whole) (λ n. ListsBelow b ((square_number b.game from * 36 + n) * 5) moves)
+  skip moves n k le within none lists =
+      ListsBelow-jump b _ _ moves (omega (arith, le)) lists (λ m above below l.
       let parts = HasParts-lawful b m l in
       let small = squares_36 b.game in
-      let f : square_number b.game m.from ≡ square_number b.game from = omega (arith, parts.to, parts.promotion, above, below, more, within, small) in
-      let t : upto ≤ square_number b.game m.to = omega (arith, parts.to, parts.promotion, above, below, f) in
-      let t' : square_number b.game m.to < to = omega (arith, parts.to, parts.promotion, above, below, f) in
+      let f : square_number b.game m.from ≡ square_number b.game from = omega (arith, parts.to, parts.promotion, above, below, le, within, small) in
       let numbered = IsNumbered-lawful b m l in
-      let same_from : m.from ≡ from = same_number b.game m.from from numbered.from on f in
-      let cell = IsCell-cell_of b.game m.to numbered.to in
-      let at : place_in (cell_of m.to) ≡ m.to = place_in-cell_of b.game m.to numbered.to in
-      none (cell_of m.to) cell (subst (λ x. square_number b.game x < to) (sym at) t')
-      ((left (cell_of m.to)).1 (safe.all m same_from l, subst (λ x. upto ≤ square_number b.game x) (sym at) t)))
+      let at : square_number b.game (place_in (cell_of m.to)) ≡ square_number b.game m.to = ap (square_number b.game) (place_in-cell_of b.game m.to numbered.to) in
+      none (cell_of m.to) (safe.all m (same_number b.game m.from from numbered.from on f) l) (omega (arith, parts.promotion, above, f, at)) (omega (arith, parts.promotion, below, f, at)))
 
-  skip : (set : ℕ) (moves : List Ply) (n k low : ℕ) (s : IsScanned b u from whole set moves n k) (to : ℕ) → s.upto ≤ to → to ≤ squares_of b.game → ((i : ℕ) → IsCell b.game i → square_number b.game (place_in i) < to → Has set i → ⊥)
-      → ListsBelow b ((square_number b.game from * 36 + to) * 5) moves
-  skip set moves n k low s to more within none = skip_to set s.upto to moves s.left s.lists more within none
+  -- behind the last safe cell there is none
+  pub skip_rest : (moves : List Ply) → ListsBelow b ((square_number b.game from * 36 + squares_of b.game) * 5) moves → ListsBelow b ((square_number b.game from + 1) * 36 * 5) moves
+  skip_rest moves lists = ListsBelow-all_to b (square_number b.game from) (squares_of b.game) moves (omega arith) (squares_36 b.game) lists
 
   share-jump : (n k : ℕ) → share b.game u from n ≤ share b.game u from (n + k)
   share-jump n zero = let same : n ≡ n + 0 = omega arith in subst (λ x. share b.game u from n ≤ share b.game u from x) same (omega arith)
@@ -117,54 +50,39 @@ module _ (b : PlainBoard) (u : Man) (from : Place) (on : IsOnBoard b.game from) 
       let same : (n + k) + 1 ≡ n + suc k = omega arith in
       subst (λ x. share b.game u from n ≤ share b.game u from x) same (omega (arith, step, share-jump n k))
 
-  share-up : (n k : ℕ) → n ≤ k → share b.game u from n ≤ share b.game u from k
-  share-up n k h = let same : n + (k - n) ≡ k = omega arith in subst (λ x. share b.game u from n ≤ share b.game u from x) same (share-jump n (k - n))
+  jump : (moves : List Ply) (before now : ℕ) → Jumps b.game (Has whole) (IsListed b u from moves before now)
+  jump moves before now n k le within none (lists, few) =
+      let same : n + (k - n) ≡ k = omega (arith, le) in
+      let up = subst (λ x. share b.game u from n ≤ share b.game u from x) same (share-jump n (k - n)) in
+      (skip moves n k le within none lists, omega (arith, few, up))
 
-  -- the lowest cell of the set is the next target
-  module _ (set : ℕ) (moves : List Ply) (n k : ℕ) (s : IsScanned b u from whole set moves n k) (to : ℕ) (has : Has set to) (low : (i : ℕ) → i < to → bit_at set i ≡ 0) where
-    pub next_has : Has whole to
-    next_has = ((s.left to).0 has).0
+  pub scan_start : (moves : List Ply) (n : ℕ) → ListsBelow b (square_number b.game from * 36 * 5) moves → IsScanned b u from whole whole moves n n
+  scan_start moves n lists =
+      let same : square_number b.game from * 36 * 5 ≡ (square_number b.game from * 36 + 0) * 5 = omega arith in
+      walked_start b.game (Has whole) (Has whole) (IsListed b u from moves n n) (λ i. (λ h. h, λ h. h)) (subst (λ k. ListsBelow b k moves) same lists, omega arith)
 
-    pub next_target : IsTarget b u from to
-    next_target = safe.cells to next_has
+  module _ (set : ℕ) (moves : List Ply) (before now : ℕ) (s : IsScanned b u from whole set moves before now) where
+    pub scan_end : set ≡ 0 → ListsBelow b ((square_number b.game from + 1) * 36 * 5) moves × (now ≤ before + 36)
+    scan_end empty =
+        let w = walked_end b.game (Has whole) (Has set) (IsListed b u from moves before now) safe_cell (jump moves before now) s (λ i h. Has-zero i (subst (λ x. Has x i) empty h)) in
+        (skip_rest moves w.0, omega (arith, w.1, share-most b.game u from (squares_of b.game) (omega arith)))
 
-    pub next_lists : ListsBelow b ((square_number b.game from * 36 + square_number b.game (place_in to)) * 5) moves
-    next_lists =
-        let from_upto = ((s.left to).0 has).1 in
-        let within = number_within b.game (place_in to) next_target.0.on_board in
-        skip set moves n k 0 s (square_number b.game (place_in to)) from_upto (omega (arith, within))
-        (λ i c less h. let at = low i (cell_order b.game i to c next_target.0 less) in omega (arith, h, at))
+    module _ (to : ℕ) (there : Has set to) (least : (i : ℕ) → i < to → Has set i → ⊥) where
+      pub scan_next : Has whole to
+      scan_next = next b.game (Has whole) (Has set) (IsListed b u from moves before now) safe_cell (jump moves before now) s to there least
 
-    pub next_room : k + 5 ≤ n + 41
-    next_room =
-        let most = share-most b.game u from s.upto s.within in
-        omega (arith, s.few, most)
+      pub scan_lists : IsListed b u from moves before now (square_number b.game (place_in to))
+      scan_lists = next_holds b.game (Has whole) (Has set) (IsListed b u from moves before now) safe_cell (jump moves before now) s to there least
 
-    -- once its moves are listed the rest is left
-    pub IsScanned-more : (rest : ℕ) (more : List Ply) (now : ℕ) → rest < set → bit_at rest to ≡ 0 → ((i : ℕ) → i < 64 → i ≢ to → bit_at rest i ≡ bit_at set i) → now ≤ k + 5 → ((u.kind ≡ Pawn → ⊥) → now ≤ k + 1)
-        → ListsBelow b ((square_number b.game from * 36 + square_number b.game (place_in to) + 1) * 5) more
-        → IsScanned b u from whole rest more n now
-    IsScanned-more rest more now less gone others five one lists =
-        let number = square_number b.game (place_in to) in
-        let upto_number = ((s.left to).0 has).1 in
-        let in_game = number_within b.game (place_in to) next_target.0.on_board in
-        let step = share-step b u from (place_in to) _ number k now next_target.1 next_target.0.on_board refl five one in
-        let up = share-up s.upto number upto_number in
-        let same : (square_number b.game from * 36 + number + 1) * 5 ≡ (square_number b.game from * 36 + (number + 1)) * 5 = omega arith in
-        record {
-          fits = omega (arith, less, s.fits);
-          upto = number + 1;
-          within = omega (arith, in_game);
-          left = left_after b.game (Has whole) (λ i h. (safe.cells i h).0) set s.upto s.left to has low rest s.fits less gone others;
-          lists = subst (λ x. ListsBelow b x more) same lists;
-          few = omega (arith, s.few, step, up);
-        }
+      pub scan_room : now ≤ before + 36
+      scan_room = omega (arith, scan_lists.1, share-most b.game u from (square_number b.game (place_in to)) (omega (arith, number_within b.game (place_in to) (safe_cell to scan_next).on_board)))
 
-  -- an empty set leaves nothing to list
-  pub IsScanned-end : (set : ℕ) (moves : List Ply) (n k : ℕ) → set ≡ 0 → IsScanned b u from whole set moves n k → ListsBelow b ((square_number b.game from + 1) * 36 * 5) moves × (k ≤ n + 36)
-  IsScanned-end set moves n k none s =
-      let all = skip set moves n k 0 s (squares_of b.game) s.within (omega arith)
-      (λ i c less h. let zeroed = bit_at-zero i in let there : bit_at 0 i ≡ 1 = subst (λ x. bit_at x i ≡ 1) none h in omega (arith, zeroed, there)) in (
-        ListsBelow-all_to b (square_number b.game from) (squares_of b.game) moves (omega arith) (squares_36 b.game) all,
-        (let most = share-most b.game u from s.upto s.within in omega (arith, s.few, most)),
-      )
+      pub scan_more : (rest : ℕ) (more : List Ply) (later : ℕ) → ((i : ℕ) → Has rest i ↔ (Has set i × (i ≢ to))) → later ≤ now + 5 → ((u.kind ≡ Pawn → ⊥) → later ≤ now + 1)
+          → ListsBelow b ((square_number b.game from * 36 + square_number b.game (place_in to) + 1) * 5) more → IsScanned b u from whole rest more before later
+      scan_more rest more later others five one lists =
+          let number = square_number b.game (place_in to) in
+          let target = safe.cells to scan_next in
+          let step = share-step b u from (place_in to) _ number now later target.1 target.0.on_board refl five one in
+          let same : (square_number b.game from * 36 + number + 1) * 5 ≡ (square_number b.game from * 36 + (number + 1)) * 5 = omega arith in
+          walked_more b.game (Has whole) (Has set) (IsListed b u from moves before now) safe_cell (jump moves before now) s to there least
+          (Has rest) (IsListed b u from more before later) others (subst (λ x. ListsBelow b x more) same lists, omega (arith, scan_lists.1, step))

@@ -9,8 +9,8 @@ use Rattle.board.specs.Games.{other_side}
 use Rattle.board.specs.Board.{PlainBoard, IsPosition}
 use Rattle.cells.specs.declared.tables.Way.{Way}
 use Rattle.cells.specs.declared.tables.Way.TheVariants.{North, South, East, West, NorthEast, SouthWest, NorthWest, SouthEast}
-use Rattle.rules.specs.Squares.{Place, IsOnBoard, square_number, unit_at}
-use Rattle.rules.specs.Reach.{Leads, Allows, AttacksFrom}
+use Rattle.rules.specs.Squares.{Place, IsOnBoard, unit_at}
+use Rattle.rules.specs.Reach.{Leads, AttacksFrom}
 use Rattle.cells.specs.Mailbox.{cell_of, place_in, IsCell}
 use Rattle.cells.specs.CellSets.{Has}
 use Rattle.cells.specs.Ways.{IsOnRay, IsOnStraight, IsOnSlanted}
@@ -23,27 +23,13 @@ use Rattle.moves.specs.Guard.{Guards, Checkers}
 use Rattle.moves.specs.Pinned.{IsPinned}
 use Rattle.moves.specs.Sets.{StandsAs, Holds}
 use Rattle.moves.proofs.Kings.{one_king}
-use Rattle.moves.proofs.Looking.{allows_capture, stands_played}
+use Rattle.moves.proofs.Looking.{attacks_on}
 use Rattle.moves.proofs.Riding.{Rides-leads, rides-ray, ray-beyond}
 use Rattle.moves.proofs.Seeing.{rides_as}
 
 -- what pins a unit attacks its square
 pub pinned_attacks : (b : PlainBoard) → IsPosition b → (side : Side) (t k : Place) → (w : IsPinned b side t k) → AttacksFrom b (other_side side) w.from k
-pinned_attacks b is side t k w = record {
-  unit = w.rider;
-  on_board = w.on_board;
-  stands = w.stands;
-  owner = w.owner;
-  reaches = record {
-    step = w.step;
-    played = stands_played b.game (square_number b.game w.from) (unit_at b w.from) w.rider (is.squares (square_number b.game w.from)) w.stands;
-    denoted = w.denoted;
-    reaches = record {
-      allows = subst (λ x. Allows w.step.mode x (Some (record { side = other_side (other_side side); kind = King }))) (sym w.owner) (allows_capture w.step.mode (other_side side) w.captures);
-      leads = w.to_unit;
-    };
-  };
-}
+pinned_attacks b is side t k w = attacks_on b is (other_side side) w.from k w.rider w.on_board w.stands w.owner (record { step = w.step; denoted = w.denoted; captures = w.captures; leads = w.to_unit })
 
 -- a way is one of the lines
 pub on_lines : (g : Game) (way : Way) (r i : ℕ) → IsOnRay g way r i → IsOnStraight g r i ⊎ IsOnSlanted g r i
@@ -98,9 +84,8 @@ riding b k i checkers straight slanted hc hs hl t = (Has-and checkers (bit_or st
 )
 
 -- where a rider would come through the mover's king, the guard's shadow is
-pub in_shadow : (b : PlainBoard) (guard : Guard) (u : Man) (s t : Place) → IsPosition b → Guards b guard → IsOnBoard b.game s → IsOnBoard b.game t → unit_at b s ≡ Some u → u.side ≡ b.mover → u.kind ≡ King → IsPinned b b.mover t s → Has guard.shadow (cell_of t)
-in_shadow b guard u s t is g on on_t stands owner king w =
-    let at : place_in (cell_of t) ≡ t = place_in-cell_of b.game t on_t in
-    let mine : unit_at b s ≡ Some (record { side = b.mover; kind = King }) = stands ∙ λ i. Some (record { side = owner i; kind = king i }) in
+pub in_shadow : (b : PlainBoard) (guard : Guard) (u : Man) (s : Place) (i : ℕ) → IsPosition b → Guards b guard → IsOnBoard b.game s → IsCell b.game i → unit_at b s ≡ Some u → u.side ≡ b.mover → u.kind ≡ King → IsPinned b b.mover (place_in i) s → Has guard.shadow i
+in_shadow b guard u s i is g on cell stands owner king w =
+    let mine : unit_at b s ≡ Some (record { side = b.mover; kind = King }) = stands ∙ λ k. Some (record { side = owner k; kind = king k }) in
     let same : s ≡ place_in guard.king = one_king b is b.mover s (place_in guard.king) on g.cell.on_board mine g.king in
-    g.shadow (cell_of t) (IsCell-cell_of b.game t on_t) (subst (λ x. IsPinned b b.mover x (place_in guard.king)) (sym at) (subst (IsPinned b b.mover t) same w))
+    g.shadow i cell (subst (IsPinned b b.mover (place_in i)) same w)

@@ -7,7 +7,7 @@ use Rattle.board.specs.declared.game.Kind.TheVariants.{King, Queen, Rook, Bishop
 use Rattle.board.specs.declared.game.Unit.{Unit as Man}
 use Rattle.board.specs.Games.{other_side}
 use Rattle.board.specs.Board.{PlainBoard, is_of_side, IsPosition}
-use Rattle.rules.specs.Squares.{square_number, unit_at}
+use Rattle.rules.specs.Squares.{unit_at}
 use Rattle.rules.specs.Reach.{Leads, IsAttacked}
 use Rattle.cells.specs.Mailbox.{cell_of, place_in, IsCell}
 use Rattle.cells.specs.CellSets.{Has}
@@ -18,7 +18,7 @@ use Rattle.moves.specs.declared.sets.Class.TheVariants.{Crowned, Straight, Slant
 use Rattle.moves.specs.Looking.{Aims, IsSwept}
 use Rattle.moves.specs.Sets.{IsOf, Holds}
 use Rattle.moves.proofs.Attacking.{own_foe, foe_own, line_too as line_seen, slant_too as slant_seen}
-use Rattle.moves.proofs.Looking.{allows_capture, captures_from, stands_played}
+use Rattle.moves.proofs.Looking.{captures_from, attacks_on}
 use Rattle.moves.proofs.Seeing.{rook_step, bishop_step, queen_step}
 
 module _ (b : PlainBoard) (is : IsPosition b) (side : Side) (foes : ℕ) (owns : (j : ℕ) → Has foes j ↔ (IsCell b.game j × (is_of_side (other_side side) (unit_at b (place_in j)) ≡ true))) where
@@ -32,22 +32,8 @@ module _ (b : PlainBoard) (is : IsPosition b) (side : Side) (foes : ℕ) (owns :
   -- a foe that would take on the cell attacks it
   attacks : (i j : ℕ) (u : Man) → IsCell b.game i → IsCell b.game j → unit_at b (place_in i) ≡ Some u → u.side ≡ other_side side → Aims b (foe u.kind) (place_in i) (place_in j) → IsAttacked b (place_in j) (other_side side)
   attacks i j u from to stands owner a =
-      let n = square_number b.game (place_in i) in
-      let man : foe u.kind ≡ u = λ t. record { side = sym owner t; kind = u.kind } in (
-        place_in i,
-        record {
-          unit = foe u.kind;
-          on_board = from.on_board;
-          stands = stands ∙ ap Some (sym man);
-          owner = λ _. other_side side;
-          reaches = record {
-            step = a.step;
-            played = stands_played b.game n (unit_at b (place_in i)) u (is.squares n) stands;
-            denoted = a.denoted;
-            reaches = record { allows = allows_capture a.step.mode (other_side side) a.captures; leads = a.leads };
-          };
-        },
-      )
+      let man : foe u.kind ≡ u = λ t. record { side = sym owner t; kind = u.kind } in
+      (place_in i, attacks_on b is (other_side side) (place_in i) (place_in j) u from.on_board stands owner (subst (λ x. Aims b x (place_in i) (place_in j)) man a))
 
   module _ (class : Class) (set : ℕ) (holds : Holds b class set) where
     -- what units of a kind sweep, that sees no more than each of the class

@@ -1,39 +1,31 @@
 //! Whether a board has a lawful move.
 ghost use Rattle.std.specs.Prelude.{◌≡◌, ◌↔◌, IsTrue, Some, true, false};
 ghost use Rattle.board.specs.Board.{IsPosition, is_of_side};
-ghost use Rattle.rules.specs.Squares.{Ply, IsOnBoard, unit_at};
+ghost use Rattle.rules.specs.Squares.{Ply, unit_at};
 ghost use Rattle.rules.specs.Moves.{IsLawful, IsMated};
 ghost use Rattle.cells.specs.Mailbox.{place_in, IsCell};
 ghost use Rattle.moves.specs.Guard.{Guards};
 
-use crate::attacked::attacked;
-use crate::board_list::{Guard, blocked, guard_in_check, guard_of};
-use crate::look::{attackers, king_cell};
+use crate::board_list::{Guard, blocked, guard_in_check, guard_of, mover_king};
 use crate::packed::Board;
 use crate::safe::{free_cells, may_go, tried};
+use crate::sweep::any_cell;
 use board::{Kind, Unit};
-use cells::{has, lowest, square_in, without};
-use rules::Square;
+use cells::has;
 
 /// Whether one of the unit's moves is lawful, each of which is tested.
-fn has_tested_move(board: &Board, guard: Guard, unit: Unit, from: Square) -> bool
+fn has_tested_move(board: &Board, guard: Guard, unit: Unit, from: u8) -> bool
     requires position { IsPosition board.now }
     requires guards { Guards board.now guard }
-    requires on_board { IsOnBoard board.now.game from }
-    requires stands { unit_at board.now from ≡ Some unit }
+    requires cell { IsCell board.now.game from }
+    requires stands { unit_at board.now (place_in from) ≡ Some unit }
     requires owner { unit.side ≡ board.now.mover }
     ensures found { IsTrue result → (m : Ply) × IsLawful board.now m }
-    ensures none { result ≡ false → (m : Ply) → m.from ≡ from → IsLawful board.now m → ⊥ }
+    ensures none { result ≡ false → (m : Ply) → m.from ≡ place_in from → IsLawful board.now m → ⊥ }
 {
-    let mut left = tried(board, guard, unit, from);
-    'cells: while left != 0 {
-        let cell = lowest(left);
-        left = without(left, cell);
-        if may_go(board, guard, unit, from, square_in(cell)) {
-            return true;
-        }
-    }
-    false
+    any_cell(tried(board, guard, unit, from), |to| {
+        may_go(board, guard, unit, from, to)
+    })
 }
 
 /// Whether the mover's king, which most often can, has a lawful move.
@@ -46,7 +38,7 @@ fn has_king_move(board: &Board, guard: Guard) -> bool
         side: board.mover(),
         kind: Kind::King,
     };
-    has_tested_move(board, guard, king, square_in(guard.king))
+    has_tested_move(board, guard, king, guard.king)
 }
 
 /// Whether the mover's unit in the cell has a lawful move.
@@ -61,10 +53,9 @@ fn has_move_in(board: &Board, guard: Guard, cell: u8) -> bool
     let Some(unit) = board.unit_in(cell) else {
         unreachable!()
     };
-    let from = square_in(cell);
-    match free_cells(board, guard, unit, from) {
+    match free_cells(board, guard, unit, cell) {
         Some(free) => free != 0,
-        None => has_tested_move(board, guard, unit, from),
+        None => has_tested_move(board, guard, unit, cell),
     }
 }
 
@@ -77,15 +68,9 @@ pub(crate) fn has_move(board: &Board, guard: Guard) -> bool
     if guard.checked && has_king_move(board, guard) {
         return true;
     }
-    let mut left = board.of_side(board.mover());
-    'units: while left != 0 {
-        let cell = lowest(left);
-        left = without(left, cell);
-        if has_move_in(board, guard, cell) {
-            return true;
-        }
-    }
-    false
+    any_cell(board.of_side(board.mover()), |cell| {
+        has_move_in(board, guard, cell)
+    })
 }
 
 /// Whether the mover is mated. Most kings in check can go, so that is asked before where other units must come.
@@ -93,16 +78,11 @@ pub(crate) fn is_mated(board: &Board) -> bool
     requires { IsPosition board.now }
     ensures { IsTrue result ↔ IsMated board.now }
 {
-    let side = board.mover();
-    let Some(king) = king_cell(board, side) else {
-        unreachable!()
-    };
-    let attacked = attacked(board, side);
+    let (king, attacked) = mover_king(board);
     if !has(attacked, king) {
         return false;
     }
-    let checkers = attackers(board, king, side);
-    let guard = guard_in_check(board, king, attacked, checkers);
+    let (guard, checkers) = guard_in_check(board, king, attacked);
     !has_king_move(board, guard) && !has_move(board, blocked(board, guard, checkers))
 }
 

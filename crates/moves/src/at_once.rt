@@ -2,8 +2,7 @@
 ghost use Rattle.std.specs.Prelude.{◌≡◌, ◌↔◌, IsTrue, IfSome, Some, true, false, ℕ};
 ghost use Rattle.board.specs.Board.{IsPosition, is_of_side};
 ghost use Rattle.rules.specs.declared.goal.Goal.TheVariants.{Mate};
-ghost use Rattle.rules.specs.Squares.{Ply, IsOnBoard, unit_at};
-ghost use Rattle.rules.specs.Reach.{Reaches};
+ghost use Rattle.rules.specs.Squares.{Ply, unit_at};
 ghost use Rattle.rules.specs.Moves.{IsPseudoLegal, IsLawful};
 ghost use Rattle.rules.specs.Forces.{IsReached, Forces};
 ghost use Rattle.cells.specs.Mailbox.{cell_of, place_in, IsCell};
@@ -20,10 +19,11 @@ use crate::escapes::escapes;
 use crate::look::{is_checked, mover_in_check};
 use crate::packed::Board;
 use crate::safe::{is_calm, may_go};
+use crate::sweep::any_cell;
 use crate::targets::targets;
 use board::Unit;
-use cells::{cell_of, lowest, square_in, without};
-use rules::{Goal, Move, PROMOTIONS, Square, is_king, is_promoted_well};
+use cells::square_in;
+use rules::{Goal, Move, PROMOTIONS, is_king, is_promoted_well};
 
 /// The goal, a watch on the other king, if that isn't attacked already, and what the mover's king asks of each move, but for a mate
 /// under a watch: mates are so few that one is asked last whether it leaves the own king attacked.
@@ -71,39 +71,41 @@ fn attains(board: &Board, quest: Quest, m: Move, unit: Unit) -> bool
 
 /// Whether moves of the unit to a square that it reaches are to be tried: where there is a guard, those that it lets go, and else
 /// those of a king to squares that aren't attacked, and all others.
-fn is_open(board: &Board, quest: Quest, unit: Unit, from: Square, to: Square) -> bool
+fn is_open(board: &Board, quest: Quest, unit: Unit, from: u8, to: u8) -> bool
     requires position { IsPosition board.now }
     requires seeks { Seeks board.now quest }
-    requires from_on_board { IsOnBoard board.now.game from }
-    requires to_on_board { IsOnBoard board.now.game to }
-    requires stands { unit_at board.now from ≡ Some unit }
+    requires cell { IsCell board.now.game from }
+    requires stands { unit_at board.now (place_in from) ≡ Some unit }
     requires owner { unit.side ≡ board.now.mover }
-    requires reaches { Reaches board.now unit from to (unit_at board.now to) }
-    ensures pseudo { IsTrue result → (m : Ply) → m.from ≡ from → m.to ≡ to → IsNamed board.now.game unit m
-        → IsPseudoLegal board.now m unit }
-    ensures none { result ≡ false → (m : Ply) → m.from ≡ from → m.to ≡ to → IsLawful board.now m → ⊥ }
+    requires target { IsTarget board.now unit (place_in from) to }
+    ensures pseudo { IsTrue result → (m : Ply) → m.from ≡ place_in from → m.to ≡ place_in to
+        → IsNamed board.now.game unit m → IsPseudoLegal board.now m unit }
+    ensures none { result ≡ false → (m : Ply) → m.from ≡ place_in from → m.to ≡ place_in to
+        → IsLawful board.now m → ⊥ }
 {
     match quest.guard {
         Some(guard) => may_go(board, guard, unit, from, to),
-        None => !is_king(Some(unit)) || is_calm(board, cell_of(to), unit.side),
+        None => !is_king(Some(unit)) || is_calm(board, to, unit.side),
     }
 }
 
 /// Whether some move of the unit to a square that it reaches is lawful and brings the other side where the goal wants it.
-fn attains_to(board: &Board, quest: Quest, unit: Unit, from: Square, to: Square) -> bool
+fn attains_to(board: &Board, quest: Quest, unit: Unit, from: u8, to: u8) -> bool
     requires position { IsPosition board.now }
     requires seeks { Seeks board.now quest }
-    requires from_on_board { IsOnBoard board.now.game from }
-    requires to_on_board { IsOnBoard board.now.game to }
-    requires stands { unit_at board.now from ≡ Some unit }
+    requires cell { IsCell board.now.game from }
+    requires stands { unit_at board.now (place_in from) ≡ Some unit }
     requires owner { unit.side ≡ board.now.mover }
-    requires reaches { Reaches board.now unit from to (unit_at board.now to) }
+    requires target { IsTarget board.now unit (place_in from) to }
     ensures found { IsTrue result → (m : Ply) × Attains quest.goal board.now m }
-    ensures none { result ≡ false → (m : Ply) → m.from ≡ from → m.to ≡ to → Attains quest.goal board.now m → ⊥ }
+    ensures none { result ≡ false → (m : Ply) → m.from ≡ place_in from → m.to ≡ place_in to
+        → Attains quest.goal board.now m → ⊥ }
 {
     if !is_open(board, quest, unit, from, to) {
         return false;
     }
+    let from = square_in(from);
+    let to = square_in(to);
     for i in 0..promotion_count(board.game(), unit, to) {
         let m = Move {
             from,
@@ -118,40 +120,19 @@ fn attains_to(board: &Board, quest: Quest, unit: Unit, from: Square, to: Square)
 }
 
 /// The cells that the unit reaches, without some to which no lawful move of it reaches the goal.
-fn hopeful(board: &Board, quest: Quest, unit: Unit, from: Square) -> u64
+fn hopeful(board: &Board, quest: Quest, unit: Unit, from: u8) -> u64
     requires position { IsPosition board.now }
     requires seeks { Seeks board.now quest }
-    requires on_board { IsOnBoard board.now.game from }
-    requires stands { unit_at board.now from ≡ Some unit }
+    requires cell { IsCell board.now.game from }
+    requires stands { unit_at board.now (place_in from) ≡ Some unit }
     requires owner { unit.side ≡ board.now.mover }
-    ensures reached { (i : ℕ) → Has result i → IsTarget board.now unit from i }
-    ensures all { (m : Ply) → m.from ≡ from → Attains quest.goal board.now m → Has result (cell_of m.to) }
+    ensures reached { (i : ℕ) → Has result i → IsTarget board.now unit (place_in from) i }
+    ensures all { (m : Ply) → m.from ≡ place_in from → Attains quest.goal board.now m → Has result (cell_of m.to) }
 {
     match (quest.goal, quest.watch) {
         (Goal::Mate, Some(watch)) => checking(board, watch, unit, from),
-        _ => targets(board, unit, cell_of(from)),
+        _ => targets(board, unit, from),
     }
-}
-
-/// Whether some lawful move of the unit on the square brings the other side where the goal wants it.
-fn attains_from(board: &Board, quest: Quest, unit: Unit, from: Square) -> bool
-    requires position { IsPosition board.now }
-    requires seeks { Seeks board.now quest }
-    requires on_board { IsOnBoard board.now.game from }
-    requires stands { unit_at board.now from ≡ Some unit }
-    requires owner { unit.side ≡ board.now.mover }
-    ensures found { IsTrue result → (m : Ply) × Attains quest.goal board.now m }
-    ensures none { result ≡ false → (m : Ply) → m.from ≡ from → Attains quest.goal board.now m → ⊥ }
-{
-    let mut left = hopeful(board, quest, unit, from);
-    'cells: while left != 0 {
-        let cell = lowest(left);
-        left = without(left, cell);
-        if attains_to(board, quest, unit, from, square_in(cell)) {
-            return true;
-        }
-    }
-    false
 }
 
 /// Whether some lawful move of the mover's unit in the cell brings the other side where the goal wants it.
@@ -166,23 +147,9 @@ fn attains_in(board: &Board, quest: Quest, cell: u8) -> bool
     let Some(unit) = board.unit_in(cell) else {
         unreachable!()
     };
-    attains_from(board, quest, unit, square_in(cell))
-}
-
-/// Whether some lawful move of the side to move brings the other side where the goal wants it.
-fn attains_any(board: &Board, quest: Quest) -> bool
-    requires { Seeks board.now quest }
-    ensures { IsTrue result ↔ Forces quest.goal board.now.mover board.now 1 }
-{
-    let mut left = board.of_side(board.mover());
-    'units: while left != 0 {
-        let cell = lowest(left);
-        left = without(left, cell);
-        if attains_in(board, quest, cell) {
-            return true;
-        }
-    }
-    false
+    any_cell(hopeful(board, quest, unit, cell), |to| {
+        attains_to(board, quest, unit, cell, to)
+    })
 }
 
 /// What the mover's king asks of each move, if it is in check.
@@ -205,7 +172,10 @@ pub fn reaches_at_once(board: &Board, goal: Goal) -> bool
         (Goal::Mate, Some(_)) => guard_if_checked(board),
         _ => Some(guard_of(board)),
     };
-    attains_any(board, Quest { goal, guard, watch })
+    let quest = Quest { goal, guard, watch };
+    any_cell(board.of_side(board.mover()), |cell| {
+        attains_in(board, quest, cell)
+    })
 }
 
 /// Whether some lawful move of the side to move mates.

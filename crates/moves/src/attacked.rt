@@ -12,9 +12,10 @@ ghost use Rattle.moves.specs.Targets.{IsTarget};
 use crate::packed::Board;
 use crate::seen::seen;
 use crate::sets::Class;
+use crate::sweep::take_lowest;
 use crate::targets::targets;
 use board::{Kind, Side, Unit};
-use cells::{except, lowest, without};
+use cells::except;
 
 /// The cells where units of the kind would take from these.
 // One kind a call, so that no turn of the loop asks which.
@@ -26,8 +27,7 @@ fn swept(board: &Board, side: Side, kind: Kind, units: u64) -> u64
     let mut left = units;
     let mut set = 0;
     'units: while left != 0 {
-        let cell = lowest(left);
-        left = without(left, cell);
+        let cell = take_lowest(&mut left);
         set |= seen(board, side, kind, cell);
     }
     set

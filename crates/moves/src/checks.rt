@@ -2,7 +2,7 @@
 ghost use Rattle.std.specs.Prelude.{◌≡◌, ◌↔◌, ℕ, IsTrue, IfSome, Some};
 ghost use Rattle.board.specs.Board.{IsPosition};
 ghost use Rattle.board.specs.Games.{IsPlayed, other_side};
-ghost use Rattle.rules.specs.Squares.{Place, Ply, IsOnBoard, unit_at};
+ghost use Rattle.rules.specs.Squares.{Place, Ply, unit_at};
 ghost use Rattle.rules.specs.Reach.{Reaches, IsInCheck};
 ghost use Rattle.rules.specs.Moves.{Promotes, IsPseudoLegal, after};
 ghost use Rattle.cells.specs.Mailbox.{cell_of, place_in, IsCell};
@@ -18,7 +18,7 @@ use crate::pinned::pinned;
 use crate::seen::seen;
 use crate::targets::targets;
 use board::{Kind, Side, Unit};
-use cells::{cell_of, common, has};
+use cells::{common, has, square_in};
 use rules::Square;
 
 /// The cell of the king that isn't the mover's, the cells of the units that alone keep a rider of the mover from it, the cells
@@ -83,19 +83,18 @@ pub(crate) fn may_promote(board: &Board, unit: Unit, from: Square) -> bool
 }
 
 /// The cells that the unit reaches, without some to which no move of it gives check.
-pub(crate) fn checking(board: &Board, watch: Watch, unit: Unit, from: Square) -> u64
+pub(crate) fn checking(board: &Board, watch: Watch, unit: Unit, from: u8) -> u64
     requires position { IsPosition board.now }
     requires watches { Watches board.now watch }
-    requires on_board { IsOnBoard board.now.game from }
-    requires stands { unit_at board.now from ≡ Some unit }
+    requires cell { IsCell board.now.game from }
+    requires stands { unit_at board.now (place_in from) ≡ Some unit }
     requires owner { unit.side ≡ board.now.mover }
-    ensures reached { (i : ℕ) → Has result i → IsTarget board.now unit from i }
-    ensures all { (m : Ply) → IsPseudoLegal board.now m unit → m.from ≡ from
+    ensures reached { (i : ℕ) → Has result i → IsTarget board.now unit (place_in from) i }
+    ensures all { (m : Ply) → IsPseudoLegal board.now m unit → m.from ≡ place_in from
         → IsInCheck (after board.now m unit) (other_side board.now.mover) → Has result (cell_of m.to) }
 {
-    let cell = cell_of(from);
-    let reached = targets(board, unit, cell);
-    if reached == 0 || has(watch.uncovers, cell) || may_promote(board, unit, from) {
+    let reached = targets(board, unit, from);
+    if reached == 0 || has(watch.uncovers, from) || may_promote(board, unit, square_in(from)) {
         return reached;
     }
     common(reached, aiming(board, watch, unit))

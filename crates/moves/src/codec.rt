@@ -1,24 +1,11 @@
 //! A position as three words, and back. Nothing else makes digits of squares, or squares of digits.
 ghost use Rattle.std.specs.Prelude.{◌≡◌, ◌<◌, IfNone, IfSome};
-ghost use Rattle.board.specs.Board.{PlainBoard, board_of, unit_on, IsPosition};
-ghost use Rattle.board.specs.Games.{squares_of};
-ghost use Rattle.moves.specs.Words.{man_of, game_of_flags, mover_of_flags, IsFlags, unpacked, Spells, IsPacked};
+ghost use Rattle.board.specs.Board.{PlainBoard, board_of, IsPosition};
+ghost use Rattle.moves.specs.Words.{game_of_flags, mover_of_flags, IsFlags, unpacked, Spells, IsPacked};
 
 use crate::words::{code_of, code_on, put, unit_of, with_digit};
 use board::{Game, Position, Side, Unit};
 use rules::Square;
-
-/// The code of what stands on a square.
-fn code_in(position: &Position, square: u8) -> u8
-    requires { square < squares_of position.now.game }
-    ensures value { man_of result ≡ unit_on position.now square }
-    ensures code { result < 13 }
-{
-    match position.unit(square) {
-        Some(unit) => code_of(unit),
-        None => 0,
-    }
-}
 
 /// The flags of a game and a side to move.
 fn flags_of(game: Game, mover: Side) -> u8
@@ -42,14 +29,7 @@ pub fn write_words(position: &Position) -> [u64; 3]
     ensures value { unpacked result ≡ position.now }
     ensures packed { IsPacked result }
 {
-    let game = position.game();
-    let flags = flags_of(game, position.mover());
-    let mut words = [with_digit(0, 12, flags), 0, 0];
-    for square in 0..game.squares() {
-        let at = Square::of_number(game, square);
-        put(&mut words, game, at, code_in(position, square));
-    }
-    words
+    write_units(position.game(), position.mover(), &position.units())
 }
 
 /// The words of the position of these units, by square number.

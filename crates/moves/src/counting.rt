@@ -12,8 +12,9 @@ use crate::board_list::{Guard, guard_of};
 use crate::checks::may_promote;
 use crate::packed::Board;
 use crate::safe::safe_cells;
+use crate::sweep::take_lowest;
 use board::{Game, Unit};
-use cells::{lowest, square_in, without};
+use cells::square_in;
 use rules::Square;
 
 /// How many moves the unit has to each square that it reaches.
@@ -43,9 +44,8 @@ fn count_from(board: &Board, guard: Guard, cell: u8) -> u16
     let Some(unit) = board.unit_in(cell) else {
         unreachable!()
     };
-    let from = square_in(cell);
-    let safe = safe_cells(board, guard, unit, from);
-    safe.count_ones() as u16 * moves_to_each(board, unit, from)
+    let safe = safe_cells(board, guard, unit, cell);
+    safe.count_ones() as u16 * moves_to_each(board, unit, square_in(cell))
 }
 
 /// How many lawful moves there are. Makes no list.
@@ -56,8 +56,7 @@ pub fn count_lawful(board: &Board) -> u16
     let mut left = board.of_side(board.mover());
     let mut count = 0;
     'units: while left != 0 {
-        let cell = lowest(left);
-        left = without(left, cell);
+        let cell = take_lowest(&mut left);
         count += count_from(board, guard, cell);
     }
     count

@@ -125,23 +125,13 @@ pub(crate) fn king_cell(board: &Board, side: Side) -> Option<u8>
     Some(lowest(kings))
 }
 
-/// Whether the side's king, which stands in the cell, is attacked.
-pub(crate) fn king_attacked(board: &Board, cell: u8, side: Side) -> bool
-    requires cell { IsCell board.now.game cell }
-    requires king { unit_at board.now (place_in cell) ≡ Some (record { side = side; kind = King }) }
-    requires position { IsPosition board.now }
-    ensures { IsTrue result ↔ IsInCheck board.now side }
-{
-    is_attacked(board, cell, side)
-}
-
 /// Whether the side's king is attacked, on a board laid out.
 pub(crate) fn is_checked(board: &Board, side: Side) -> bool
     requires { IsPosition board.now }
     ensures { IsTrue result ↔ IsInCheck board.now side }
 {
     match king_cell(board, side) {
-        Some(cell) => king_attacked(board, cell, side),
+        Some(cell) => is_attacked(board, cell, side),
         None => false,
     }
 }

@@ -5,7 +5,6 @@ ghost use Rattle.rules.specs.Squares.{IsOnBoard, unit_at};
 ghost use Rattle.rules.specs.Reach.{Reaches};
 ghost use Rattle.rules.specs.Moves.{IsMove, IsLawful};
 
-use crate::board_list::own_unit;
 use crate::look::is_checked;
 use crate::packed::Board;
 use crate::sets::Class;
@@ -43,21 +42,6 @@ fn after_to(board: &Board, m: Move, unit: Unit) -> Option<Board>
     Some(next)
 }
 
-/// The board after the move, if the move is lawful, on a board that has both squares.
-fn after_in(board: &Board, m: Move) -> Option<Board>
-    requires position { IsPosition board.now }
-    requires squares { IsOnBoard board.now.game m.from × IsOnBoard board.now.game m.to }
-    ensures { MatchOption result (IsLawful board.now m → ⊥) (λ next. IsMove board.now m next) }
-{
-    let Some(unit) = own_unit(board, m.from) else {
-        return None;
-    };
-    if !has(targets(board, unit, cell_of(m.from)), cell_of(m.to)) {
-        return None;
-    }
-    after_to(board, m, unit)
-}
-
 /// The board after the move, if the move is lawful.
 pub fn after_if_lawful(board: &Board, m: Move) -> Option<Board>
     ensures { MatchOption result (IsLawful board.now m → ⊥) (λ next. IsMove board.now m next) }
@@ -65,7 +49,16 @@ pub fn after_if_lawful(board: &Board, m: Move) -> Option<Board>
     if !has_squares(board.game(), m) {
         return None;
     }
-    after_in(board, m)
+    let Some(unit) = board.unit_at(m.from) else {
+        return None;
+    };
+    if unit.side != board.mover() {
+        return None;
+    }
+    if !has(targets(board, unit, cell_of(m.from)), cell_of(m.to)) {
+        return None;
+    }
+    after_to(board, m, unit)
 }
 
 /// Whether the move is lawful. No list is made.

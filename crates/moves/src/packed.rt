@@ -3,7 +3,7 @@ ghost use Rattle.std.specs.Prelude.{◌≡◌, ◌<◌, ◌+◌, ◌*◌, ◌↔
 ghost use Rattle.board.specs.declared.game.Kind.TheVariants.{King};
 ghost use Rattle.board.specs.Board.{board_of, unit_on, is_of_side, IsPosition};
 ghost use Rattle.board.specs.Games.{squares_of};
-ghost use Rattle.moves.specs.Words.{man_of, unpacked, IsPacked};
+ghost use Rattle.moves.specs.Words.{unpacked, IsPacked};
 ghost use Rattle.rules.specs.Squares.{IsOnBoard, unit_at};
 ghost use Rattle.cells.specs.Mailbox.{place_in, IsCell};
 ghost use Rattle.cells.specs.CellSets.{Has};
@@ -11,7 +11,7 @@ ghost use Rattle.moves.specs.Sets.{Holds};
 ghost use Rattle.moves.specs.Pawns.{HasPawn};
 ghost use Rattle.rules.specs.Moves.{IsPseudoLegal, IsMove, IsLawful, after};
 
-use crate::codec::{read_words, write_units, write_words};
+use crate::codec::{read_words, write_units};
 use crate::sets::{Class, Sets};
 use crate::words::{code_of, code_on, put, turned, unit_of};
 use board::{Game, Position, Side, Unit};
@@ -43,9 +43,7 @@ impl Board {
     pub fn of(position: &Position) -> Board
         ensures { result ≡ position.now }
     {
-        let words = write_words(position);
-        let sets = Sets::of(position);
-        Board { words, sets }
+        Board::of_units(position.game(), position.mover(), &position.units())
     }
 
     /// The board of the position of these units, by square number. No position is made.
@@ -104,25 +102,7 @@ impl Board {
         requires { square < squares_of self.now.game }
         ensures { result ≡ unit_on self.now square }
     {
-        unit_of(self.code(square))
-    }
-
-    /// The code of what stands on a square, by the square's number.
-    pub(crate) fn code(&self, square: u8) -> u8
-        requires { square < squares_of self.now.game }
-        ensures value { man_of result ≡ unit_on self.now square }
-        ensures small { result < 13 }
-    {
-        self.code_at(Square::of_number(self.game(), square))
-    }
-
-    /// The code of what stands on a square.
-    pub(crate) fn code_at(&self, square: Square) -> u8
-        requires { IsOnBoard self.now.game square }
-        ensures value { man_of result ≡ unit_at self.now square }
-        ensures small { result < 13 }
-    {
-        code_on(&self.words, self.game(), square)
+        self.unit_at(Square::of_number(self.game(), square))
     }
 
     /// The unit on a square.
@@ -130,7 +110,7 @@ impl Board {
         requires { IsOnBoard self.now.game square }
         ensures { result ≡ unit_at self.now square }
     {
-        unit_of(self.code_at(square))
+        unit_of(code_on(&self.words, self.game(), square))
     }
 
     /// Where the side's king stands.

@@ -1,9 +1,7 @@
 //! The cells to which a unit moves lawfully.
 ghost use Rattle.std.specs.Prelude.{◌≡◌, ◌↔◌, IsTrue, IfSome, Some, ℕ, false};
-ghost use Rattle.board.specs.declared.game.Kind.TheVariants.{King};
 ghost use Rattle.board.specs.Board.{IsPosition};
-ghost use Rattle.rules.specs.Squares.{Ply, IsOnBoard, unit_at};
-ghost use Rattle.rules.specs.Reach.{Reaches};
+ghost use Rattle.rules.specs.Squares.{Ply, unit_at};
 ghost use Rattle.rules.specs.Moves.{IsLawful};
 ghost use Rattle.cells.specs.Mailbox.{cell_of, place_in, IsCell};
 ghost use Rattle.cells.specs.CellSets.{Has};
@@ -12,13 +10,14 @@ ghost use Rattle.moves.specs.Guard.{Guards};
 ghost use Rattle.moves.specs.Safe.{IsNamed, HasSafe, IsCalm};
 
 use crate::attacked::calm_steps;
-use crate::board_list::{Guard, is_lawful_to};
-use crate::look::is_attacked;
+use crate::board_list::Guard;
+use crate::look::{is_attacked, is_checked};
 use crate::packed::Board;
 use crate::sets::Class;
+use crate::sweep::take_lowest;
 use crate::targets::targets;
 use board::{Game, Kind, Side, Unit};
-use cells::{cell_of, common, except, has, lowest, square_in, with_cell, without};
+use cells::{common, except, has, square_in, with_cell};
 use rules::{Move, Square, is_king, promotes};
 
 /// A move between the squares: a pawn that comes to its last rank becomes a queen.
@@ -48,87 +47,70 @@ pub(crate) fn is_calm(board: &Board, cell: u8, side: Side) -> bool
     !has(board.set(Class::Crowned), cell) && !is_attacked(board, cell, side)
 }
 
-/// Whether no king stands in the cell, and no unit attacks it of the side that waits.
-fn is_calm_for(board: &Board, guard: Guard, cell: u8) -> bool
-    requires guards { Guards board.now guard }
-    requires cell { IsCell board.now.game cell }
-    ensures { IsTrue result ↔ IsCalm board.now (place_in cell) board.now.mover }
-{
-    !has(board.set(Class::Crowned) | guard.attacked, cell)
-}
-
-/// Whether a move of the unit may leave its king in check: it is the king, which may be in check, or it may be pinned.
-fn is_bound(guard: Guard, unit: Unit, from: Square) -> bool
-    ensures piece { result ≡ false → unit.kind ≡ King → ⊥ }
-    ensures unchecked { result ≡ false → guard.checked ≡ false }
-    ensures unpinned { result ≡ false → Has guard.pins (cell_of from) → ⊥ }
-{
-    is_king(Some(unit)) || guard.checked || has(guard.pins, cell_of(from))
-}
-
-/// Whether the unit's moves to a square that it reaches are lawful: all are, or none.
-pub(crate) fn may_go(board: &Board, guard: Guard, unit: Unit, from: Square, to: Square) -> bool
+/// Whether the unit's moves to a cell that it reaches are lawful: all are, or none.
+pub(crate) fn may_go(board: &Board, guard: Guard, unit: Unit, from: u8, to: u8) -> bool
     requires position { IsPosition board.now }
     requires guards { Guards board.now guard }
-    requires from_on_board { IsOnBoard board.now.game from }
-    requires to_on_board { IsOnBoard board.now.game to }
-    requires stands { unit_at board.now from ≡ Some unit }
+    requires cell { IsCell board.now.game from }
+    requires stands { unit_at board.now (place_in from) ≡ Some unit }
     requires owner { unit.side ≡ board.now.mover }
-    requires reaches { Reaches board.now unit from to (unit_at board.now to) }
-    ensures all { IsTrue result → (m : Ply) → m.from ≡ from → m.to ≡ to → IsNamed board.now.game unit m
-        → IsLawful board.now m }
-    ensures found { IsTrue result → (m : Ply) × IsLawful board.now m }
-    ensures none { result ≡ false → (m : Ply) → m.from ≡ from → m.to ≡ to → IsLawful board.now m → ⊥ }
+    requires target { IsTarget board.now unit (place_in from) to }
+    ensures { (m : Ply) → m.from ≡ place_in from → m.to ≡ place_in to → IsNamed board.now.game unit m
+        → IsTrue result ↔ IsLawful board.now m }
 {
+    if has(board.set(Class::Crowned), to) {
+        return false;
+    }
     if is_king(Some(unit)) {
-        let cell = cell_of(to);
-        if !is_calm_for(board, guard, cell) {
+        if has(guard.attacked, to) {
             return false;
         }
-        if !has(guard.shadow, cell) {
+        if !has(guard.shadow, to) {
+            return true;
+        }
+    } else {
+        if !has(guard.blocks, to) {
+            return false;
+        }
+        if !guard.checked && !has(guard.pins, from) {
             return true;
         }
     }
-    if !is_bound(guard, unit, from) {
-        return !has(board.set(Class::Crowned), cell_of(to));
-    }
-    let m = queening(board.game(), unit, from, to);
-    is_lawful_to(board, guard, m, unit, board.unit_in(cell_of(to)))
+    let m = queening(board.game(), unit, square_in(from), square_in(to));
+    !is_checked(&board.moved(m, unit), unit.side)
 }
 
 /// The cells that the unit reaches, without some to which no move of it is lawful.
-pub(crate) fn tried(board: &Board, guard: Guard, unit: Unit, from: Square) -> u64
+pub(crate) fn tried(board: &Board, guard: Guard, unit: Unit, from: u8) -> u64
     requires position { IsPosition board.now }
     requires guards { Guards board.now guard }
-    requires on_board { IsOnBoard board.now.game from }
-    requires stands { unit_at board.now from ≡ Some unit }
+    requires cell { IsCell board.now.game from }
+    requires stands { unit_at board.now (place_in from) ≡ Some unit }
     requires owner { unit.side ≡ board.now.mover }
-    ensures reached { (i : ℕ) → Has result i → IsTarget board.now unit from i }
-    ensures all { (m : Ply) → m.from ≡ from → IsLawful board.now m → Has result (cell_of m.to) }
+    ensures reached { (i : ℕ) → Has result i → IsTarget board.now unit (place_in from) i }
+    ensures all { (m : Ply) → m.from ≡ place_in from → IsLawful board.now m → Has result (cell_of m.to) }
 {
-    let cell = cell_of(from);
     if is_king(Some(unit)) {
-        return calm_steps(board, unit.side, cell, guard.attacked);
+        return calm_steps(board, unit.side, from, guard.attacked);
     }
-    common(targets(board, unit, cell), guard.blocks)
+    common(targets(board, unit, from), guard.blocks)
 }
 
 /// The cells to which the unit moves lawfully, by a test of each.
 #[inline(never)]
-fn sifted(board: &Board, guard: Guard, unit: Unit, from: Square) -> u64
+fn sifted(board: &Board, guard: Guard, unit: Unit, from: u8) -> u64
     requires position { IsPosition board.now }
     requires guards { Guards board.now guard }
-    requires on_board { IsOnBoard board.now.game from }
-    requires stands { unit_at board.now from ≡ Some unit }
+    requires cell { IsCell board.now.game from }
+    requires stands { unit_at board.now (place_in from) ≡ Some unit }
     requires owner { unit.side ≡ board.now.mover }
-    ensures { HasSafe board.now unit from result }
+    ensures { HasSafe board.now unit (place_in from) result }
 {
     let mut left = tried(board, guard, unit, from);
     let mut safe = 0;
     'cells: while left != 0 {
-        let cell = lowest(left);
-        left = without(left, cell);
-        let goes = may_go(board, guard, unit, from, square_in(cell));
+        let cell = take_lowest(&mut left);
+        let goes = may_go(board, guard, unit, from, cell);
         safe = with_cell(safe, cell, goes);
     }
     safe
@@ -137,34 +119,36 @@ fn sifted(board: &Board, guard: Guard, unit: Unit, from: Square) -> u64
 /// The cells to which the unit moves lawfully, where a glance tells: the king isn't in check, nor is the unit pinned to it.
 // Inside the loops that count and list, since most units go by this glance.
 #[inline(always)]
-pub(crate) fn free_cells(board: &Board, guard: Guard, unit: Unit, from: Square) -> Option<u64>
+pub(crate) fn free_cells(board: &Board, guard: Guard, unit: Unit, from: u8) -> Option<u64>
     requires position { IsPosition board.now }
     requires guards { Guards board.now guard }
-    requires on_board { IsOnBoard board.now.game from }
-    requires stands { unit_at board.now from ≡ Some unit }
+    requires cell { IsCell board.now.game from }
+    requires stands { unit_at board.now (place_in from) ≡ Some unit }
     requires owner { unit.side ≡ board.now.mover }
-    ensures { IfSome result (HasSafe board.now unit from) }
+    ensures { IfSome result (HasSafe board.now unit (place_in from)) }
 {
-    let cell = cell_of(from);
-    if is_king(Some(unit)) && !guard.checked {
-        return Some(calm_steps(board, unit.side, cell, guard.attacked));
-    }
-    if is_bound(guard, unit, from) {
+    if guard.checked {
         return None;
     }
-    let reached = targets(board, unit, cell);
+    if is_king(Some(unit)) {
+        return Some(calm_steps(board, unit.side, from, guard.attacked));
+    }
+    if has(guard.pins, from) {
+        return None;
+    }
+    let reached = targets(board, unit, from);
     Some(except(reached, board.set(Class::Crowned)))
 }
 
 /// The cells to which the unit moves lawfully.
 #[inline(always)]
-pub(crate) fn safe_cells(board: &Board, guard: Guard, unit: Unit, from: Square) -> u64
+pub(crate) fn safe_cells(board: &Board, guard: Guard, unit: Unit, from: u8) -> u64
     requires position { IsPosition board.now }
     requires guards { Guards board.now guard }
-    requires on_board { IsOnBoard board.now.game from }
-    requires stands { unit_at board.now from ≡ Some unit }
+    requires cell { IsCell board.now.game from }
+    requires stands { unit_at board.now (place_in from) ≡ Some unit }
     requires owner { unit.side ≡ board.now.mover }
-    ensures { HasSafe board.now unit from result }
+    ensures { HasSafe board.now unit (place_in from) result }
 {
     match free_cells(board, guard, unit, from) {
         Some(free) => free,

@@ -1,44 +1,26 @@
 //! What a unit sees from a cell: where it would take.
-ghost use Rattle.std.specs.Prelude.{◌≡◌, ◌<◌, ◌↔◌, ℕ, true, false};
+ghost use Rattle.std.specs.Prelude.{◌<◌, ◌↔◌, ℕ};
 ghost use Rattle.std.specs.Int.{bit_at};
 ghost use Rattle.cells.specs.Mailbox.{place_in, IsCell};
 ghost use Rattle.cells.specs.CellSets.{Has};
 ghost use Rattle.moves.specs.Looking.{Aims};
-ghost use Rattle.cells.specs.Ways.{Rides, rises};
+ghost use Rattle.cells.specs.Ways.{Rides};
 ghost use Rattle.moves.specs.Sets.{RidesStraight, RidesSlanted};
 
 use crate::packed::Board;
 use board::{Kind, Side};
 use cells::{Way, down_to_highest, king_leaps, knight_leaps, pawn_captures, ray, up_to_lowest};
 
-/// The cells to which a rider comes from the cell, north, east or between them.
-fn upward(board: &Board, way: Way, cell: u8) -> u64
-    requires cell { IsCell board.now.game cell }
-    requires way { rises way ≡ true }
-    ensures { (j : ℕ) → Has result j ↔ Rides board.now way cell j }
-{
-    let line = ray(board.game(), way, cell);
-    line & up_to_lowest(line & board.taken())
-}
-
-/// The cells to which a rider comes from the cell, south, west or between them.
-fn downward(board: &Board, way: Way, cell: u8) -> u64
-    requires cell { IsCell board.now.game cell }
-    requires way { rises way ≡ false }
-    ensures { (j : ℕ) → Has result j ↔ Rides board.now way cell j }
-{
-    let line = ray(board.game(), way, cell);
-    line & down_to_highest(line & board.taken())
-}
-
 /// The cells to which a rider comes that way from the cell.
 pub(crate) fn along(board: &Board, way: Way, cell: u8) -> u64
     requires { IsCell board.now.game cell }
     ensures { (j : ℕ) → Has result j ↔ Rides board.now way cell j }
 {
+    let line = ray(board.game(), way, cell);
+    let stops = line & board.taken();
     match way {
-        Way::North | Way::East | Way::NorthEast | Way::NorthWest => upward(board, way, cell),
-        Way::South | Way::West | Way::SouthEast | Way::SouthWest => downward(board, way, cell),
+        Way::North | Way::East | Way::NorthEast | Way::NorthWest => line & up_to_lowest(stops),
+        Way::South | Way::West | Way::SouthEast | Way::SouthWest => line & down_to_highest(stops),
     }
 }
 

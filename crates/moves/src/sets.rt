@@ -5,9 +5,9 @@ ghost use Rattle.rules.specs.Squares.{unit_at};
 ghost use Rattle.rules.specs.Moves.{IsPseudoLegal, placed, after};
 ghost use Rattle.cells.specs.Mailbox.{cell_of, place_in, IsCell};
 ghost use Rattle.cells.specs.CellSets.{Has};
-ghost use Rattle.moves.specs.Sets.{IsOf, Holds, Shows, HasMoved, AreMoved, HasAdded, AreAdded, HasNone};
+ghost use Rattle.moves.specs.Sets.{IsOf, Shows, HasMoved, AreMoved, HasAdded, AreAdded, HasNone};
 
-use board::{Game, Kind, Position, Side, Unit};
+use board::{Game, Kind, Side, Unit};
 use cells::{cell_of, with_cell};
 use rules::Square;
 
@@ -50,21 +50,6 @@ fn is_of(class: Class, unit: Unit) -> bool
     }
 }
 
-/// The cells of a position's units of the class.
-fn cells_of(position: &Position, class: Class) -> u64
-    ensures { Holds position.now class result }
-{
-    let game = position.game();
-    let mut set = 0;
-    for number in 0..game.squares() {
-        if let Some(unit) = position.unit(number) {
-            let cell = cell_of(Square::of_number(game, number));
-            set = with_cell(set, cell, is_of(class, unit));
-        }
-    }
-    set
-}
-
 /// The cells of the class once the unit stands in the cell too.
 fn added_cells(set: u64, class: Class, cell: u8, unit: Unit) -> u64
     requires { cell < 64 }
@@ -84,21 +69,6 @@ fn moved_cells(set: u64, class: Class, from: u8, to: u8, placed: Unit) -> u64
 }
 
 impl Sets {
-    /// The sets of a position's units.
-    pub(crate) fn of(position: &Position) -> Sets
-        ensures { Shows position.now result }
-    {
-        Sets {
-            white: cells_of(position, Class::White),
-            black: cells_of(position, Class::Black),
-            kings: cells_of(position, Class::Crowned),
-            straight: cells_of(position, Class::Straight),
-            slanted: cells_of(position, Class::Slanted),
-            knights: cells_of(position, Class::Horsed),
-            pawns: cells_of(position, Class::Foot),
-        }
-    }
-
     /// The sets of these units, by square number.
     pub(crate) fn of_units(game: Game, mover: Side, units: &[Option<Unit>; 36]) -> Sets
         ensures { Shows (board_of game mover units.now) result }

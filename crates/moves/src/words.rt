@@ -1,7 +1,6 @@
 //! Four bits of a word.
 ghost use Rattle.std.specs.Prelude.{◌≡◌, ◌≢◌, ◌<◌, ℕ, Some, slice_index_or};
 ghost use Rattle.std.specs.Int.RustNames.{bit_xor};
-ghost use Rattle.board.specs.Board.{is_of_side};
 ghost use Rattle.rules.specs.Squares.{IsOnBoard, square_number};
 ghost use Rattle.moves.specs.Words.{digit, word_of, place_of, code_on, man_of};
 
@@ -133,18 +132,6 @@ pub(crate) fn unit_of(code: u8) -> Option<Unit>
     ensures { result ≡ man_of code }
 {
     MEN[code as usize]
-}
-
-/// Whether the code is of a unit of the side.
-pub(crate) fn is_of_side(code: u8, side: Side) -> bool
-    requires { code < 13 }
-    ensures { result ≡ is_of_side side (man_of code) }
-{
-    let first = match side {
-        Side::White => 1,
-        Side::Black => 7,
-    };
-    first <= code && code < first + 6
 }
 
 /// The code of a unit.

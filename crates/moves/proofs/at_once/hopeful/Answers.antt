@@ -1,12 +1,11 @@
-use Rattle.std.proofs.Common.{◌≡◌, Some, sym, ap, subst, ◌∙◌}
+use Rattle.std.proofs.Common.{◌≡◌, Some, ap, subst, ◌∙◌}
 use Rattle.board.specs.Board.{PlainBoard}
 use Rattle.rules.specs.declared.goal.Goal.{Goal}
 use Rattle.rules.specs.Squares.{unit_at}
 use Rattle.rules.specs.Reach.{IsInCheck}
 use Rattle.rules.specs.Forces.{IsReached}
-use Rattle.cells.specs.Mailbox.{cell_of, place_in}
+use Rattle.cells.specs.Mailbox.{cell_of}
 use Rattle.moves.specs.Targets.{IsTarget}
-use Rattle.cells.proofs.CellNumbers.{place_in-cell_of}
 use Rattle.rules.proofs.Keeps.{one_after}
 use Rattle.moves.proofs.AtOnce.{pseudo_by, move_by}
 use Rattle.moves.proofs.Checking.{IsTarget-move}
@@ -26,5 +25,4 @@ returns-in_default-clause-all c = λ m at w.
     let b = c.args.board.now in
     let u = c.args.unit in
     let stands : unit_at b m.from ≡ Some u = ap (unit_at b) at ∙ c.requires.stands in
-    let from : place_in c.cell_of.result ≡ c.args.from = ap place_in c.cell_of.ensures.value ∙ place_in-cell_of b.game c.args.from c.requires.on_board in
-    (c.targets.ensures (cell_of m.to)).1 (subst (λ s. IsTarget b u s (cell_of m.to)) (at ∙ sym from) (IsTarget-move b m u (pseudo_by b m u stands (w.next, w.move))))
+    (c.targets.ensures (cell_of m.to)).1 (subst (λ s. IsTarget b u s (cell_of m.to)) at (IsTarget-move b m u (pseudo_by b m u stands (w.next, w.move))))

@@ -1,16 +1,13 @@
-use Rattle.std.proofs.Common.{ℕ, subst, ◌∙◌, arith, inl, inr}
+use Rattle.std.proofs.Common.{ℕ, subst, inl, inr}
 use Rattle.std.proofs.lemmas.Bool.{cases_eq}
 use Rattle.cells.specs.Mailbox.{place_in}
 use Rattle.cells.specs.CellSets.{Has}
-use Rattle.cells.proofs.CellNumbers.{cell_small}
 use Rattle.cells.proofs.Masks.{Has-or, Has-zero}
 use Rattle.moves.specs.Looking.{Aims}
-use Rattle.moves.proofs.AtOnce.{Has-kept}
 use Rattle.moves.proofs.attacked.swept.Goals as goal
 
 pub units-init : goal.units-init
 units-init c = record {
-  fits = c.ranges.units.fits;
   left = λ i h. h;
   set = λ j h. absurd (Has-zero j h);
   all = λ i j h cell aims. inl h;
@@ -19,14 +16,13 @@ units-init c = record {
 pub units-preserved : goal.units-preserved
 units-preserved c =
     let inv = c.units.invariant in
-    let cell = c.lowest-cell.result in
-    let e = c.without-left.ensures in
-    let there = inv.left cell c.lowest-cell.ensures.there in
+    let cell = c.take_lowest-cell.result in
+    let e = c.take_lowest-cell.ensures in
+    let there = inv.left cell e.there in
     let here = c.requires cell there in
     let or = λ (j : ℕ). Has-or c.units.set c.seen-set.result j in
     record {
-      fits = omega (arith, e.less, inv.fits);
-      left = λ i h. inv.left i (Has-kept c.units.left c.without-left.result cell inv.fits e.less e.gone e.others i h);
+      left = λ i h. inv.left i ((e.rest i).0 h).0;
       set = λ j h. elim ((or j).0 h) [
         | inl old ↦ inv.set j old
         | inr new ↦ let w = (c.seen-set.ensures j).0 new in record { from = cell; there = there; cell = here; to = w.0; aims = w.1 }
@@ -35,7 +31,7 @@ units-preserved c =
         | inr old ↦ inr ((or j).1 (inl old))
         | inl waits ↦ elim (cases_eq i cell) [
           | inl same ↦ inr ((or j).1 (inr ((c.seen-set.ensures j).1 (to, subst (λ x. Aims c.args.board.now (record { side = c.args.side; kind = c.args.kind }) (place_in x) (place_in j)) same aims))))
-          | inr other ↦ let small = cell_small c.args.board.now.game i (c.requires i h) in inl (e.others i (omega (arith, small)) other ∙ waits)
+          | inr other ↦ inl ((e.rest i).1 (waits, other))
         ]
       ];
     }

@@ -1,19 +1,37 @@
-use Rattle.std.proofs.Common.{refl, sym, arith}
+use Rattle.std.proofs.Common.{◌↔◌, ℕ, refl, sym, subst}
 use Rattle.std.proofs.lemmas.Bool.{false≢true}
+use Rattle.board.specs.Games.{other_side}
+use Rattle.rules.specs.Reach.{AttacksFrom}
+use Rattle.cells.specs.Mailbox.{place_in, IsCell}
+use Rattle.cells.specs.CellSets.{Has}
 use Rattle.moves.proofs.Blocking.{HasBlocks-all}
-use Rattle.moves.proofs.Attacking.{check-some}
+use Rattle.moves.proofs.Kings.{check_from}
+use Rattle.moves.proofs.Attacking.{some_checkers}
 use Rattle.moves.proofs.board_list.guard_in_check.Goals as goal
+
+pub shadow-requires-clause-checkers : goal.shadow-requires-clause-checkers
+shadow-requires-clause-checkers c =
+    subst (λ s. (i : ℕ) → Has c.attackers-checkers.result i ↔ (IsCell c.args.board.now.game i × AttacksFrom c.args.board.now (other_side s) (place_in i) (place_in c.args.king))) c.mover.ensures.value c.attackers-checkers.ensures
 
 pub returns-clause-guards : goal.returns-clause-guards
 returns-clause-guards c =
     let b = c.args.board.now in
-    let some = c.requires.some in
     record {
       cell = c.requires.cell;
       king = c.requires.king;
       attacked = c.requires.attacked;
-      checked = (λ _. check-some b c.requires.position b.mover c.args.king c.args.checkers c.requires.cell c.requires.king c.requires.checkers c.ranges.checkers.fits (λ e. omega (arith, e, some)), λ _. refl);
+      checked = (λ _. check_from b b.mover (place_in c.args.king) c.requires.cell.on_board c.requires.king ((c.requires.attacked c.args.king).0 c.requires.there).1, λ _. refl);
       pins = λ out. absurd (false≢true (sym out));
       blocks = HasBlocks-all b;
       shadow = c.shadow.ensures;
     }
+
+pub returns-clause-some : goal.returns-clause-some
+returns-clause-some c =
+    some_checkers c.args.board.now c.requires.position c.args.board.now.mover c.args.king c.requires.cell c.attackers-checkers.result
+    (subst (λ s. (i : ℕ) → Has c.attackers-checkers.result i ↔ (IsCell c.args.board.now.game i × AttacksFrom c.args.board.now (other_side s) (place_in i) (place_in c.args.king))) c.mover.ensures.value c.attackers-checkers.ensures)
+    ((c.requires.attacked c.args.king).0 c.requires.there).1
+
+pub returns-clause-checkers : goal.returns-clause-checkers
+returns-clause-checkers c =
+    subst (λ s. (i : ℕ) → Has c.attackers-checkers.result i ↔ (IsCell c.args.board.now.game i × AttacksFrom c.args.board.now (other_side s) (place_in i) (place_in c.args.king))) c.mover.ensures.value c.attackers-checkers.ensures

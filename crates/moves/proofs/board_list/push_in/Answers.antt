@@ -1,28 +1,45 @@
-use Rattle.std.proofs.Common.{◌+◌, ◌*◌, ◌<◌, sym, subst, arith}
-use Rattle.rules.specs.Squares.{square_number}
+use Rattle.std.proofs.Common.{◌+◌, ◌*◌, sym, subst, ◌∙◌, arith}
+use Rattle.rules.specs.Squares.{IsOnBoard, square_number}
 use Rattle.rules.specs.Listing.{ListsBelow}
 use Rattle.cells.specs.Mailbox.{place_in}
-use Rattle.rules.proofs.Listed.{number_within}
-use Rattle.rules.proofs.Room.{squares_36}
-use Rattle.moves.proofs.Gathering.{ListsFrom-room, ListsFrom-own}
+use Rattle.moves.proofs.Scanning.{scan_start, scan_next, scan_lists, scan_room, scan_more, scan_end}
+use Rattle.moves.proofs.Gathering.{unit_room, unit_more}
 use Rattle.moves.proofs.board_list.push_in.Goals as goal
 
-pub push_from-requires-clause-room : goal.push_from-requires-clause-room
-push_from-requires-clause-room c =
-    let b = c.args.board.now in
-    let n = square_number b.game (place_in c.args.cell) in
-    let within : n < 36 = omega (arith, number_within b.game (place_in c.args.cell) c.requires.cell.on_board, squares_36 b.game) in
-    ListsFrom-room b c.requires.position n within c.args.moves.now.items c.requires.own c.requires.before
+pub cells-init : goal.cells-init
+cells-init c = scan_start c.args.board.now c.in-Some.unit (place_in c.args.cell) c.requires.cell.on_board c.safe_cells-left.result c.safe_cells-left.ensures c.args.moves.now.items _ c.requires.before.lists
 
-pub push_from-requires-clause-before : goal.push_from-requires-clause-before
-push_from-requires-clause-before c =
+pub push_to-requires-clause-to_on_board : goal.push_to-requires-clause-to_on_board
+push_to-requires-clause-to_on_board c =
+    let there = scan_next c.args.board.now c.in-Some.unit (place_in c.args.cell) c.requires.cell.on_board c.safe_cells-left.result c.safe_cells-left.ensures c.cells.left c.cells.moves.items _ _ c.cells.invariant c.take_lowest-to.result c.take_lowest-to.ensures.there c.take_lowest-to.ensures.least in
+    subst (IsOnBoard c.args.board.now.game) (sym c.square_in.ensures) (c.safe_cells-left.ensures.cells c.take_lowest-to.result there).0.on_board
+
+pub push_to-requires-clause-lawful : goal.push_to-requires-clause-lawful
+push_to-requires-clause-lawful c = λ m from to named.
+    let there = scan_next c.args.board.now c.in-Some.unit (place_in c.args.cell) c.requires.cell.on_board c.safe_cells-left.result c.safe_cells-left.ensures c.cells.left c.cells.moves.items _ _ c.cells.invariant c.take_lowest-to.result c.take_lowest-to.ensures.there c.take_lowest-to.ensures.least in
+    c.safe_cells-left.ensures.lawful c.take_lowest-to.result m there (from ∙ c.square_in-from.ensures) (to ∙ c.square_in.ensures) named
+
+pub push_to-requires-clause-room : goal.push_to-requires-clause-room
+push_to-requires-clause-room c =
     let b = c.args.board.now in
-    subst (λ s. ListsBelow b (square_number b.game s * 36 * 5) c.args.moves.now.items) (sym c.square_in.ensures) c.requires.before.lists
+    let room = scan_room b c.in-Some.unit (place_in c.args.cell) c.requires.cell.on_board c.safe_cells-left.result c.safe_cells-left.ensures c.cells.left c.cells.moves.items _ _ c.cells.invariant c.take_lowest-to.result c.take_lowest-to.ensures.there c.take_lowest-to.ensures.least in
+    omega (arith, room, unit_room b c.requires.position c.args.cell (c.requires.cell, c.requires.own) c.args.moves.now.items c.requires.before)
+
+pub push_to-requires-clause-before : goal.push_to-requires-clause-before
+push_to-requires-clause-before c =
+    rw (c.square_in-from.ensures, c.square_in.ensures)
+    (scan_lists c.args.board.now c.in-Some.unit (place_in c.args.cell) c.requires.cell.on_board c.safe_cells-left.result c.safe_cells-left.ensures c.cells.left c.cells.moves.items _ _ c.cells.invariant c.take_lowest-to.result c.take_lowest-to.ensures.there c.take_lowest-to.ensures.least).0
+
+pub cells-preserved : goal.cells-preserved
+cells-preserved c =
+    let b = c.args.board.now in
+    let s = place_in c.args.cell in
+    let after : ListsBelow b ((square_number b.game s * 36 + square_number b.game (place_in c.take_lowest-to.result) + 1) * 5) c.push_to.new.moves.items = rw (c.square_in-from.ensures, c.square_in.ensures) at c.push_to.ensures.after in
+    scan_more b c.in-Some.unit s c.requires.cell.on_board c.safe_cells-left.result c.safe_cells-left.ensures c.cells.left c.cells.moves.items _ _ c.cells.invariant c.take_lowest-to.result c.take_lowest-to.ensures.there c.take_lowest-to.ensures.least
+    c.take_lowest-to.new.set c.push_to.new.moves.items _ c.take_lowest-to.ensures.rest c.push_to.ensures.few c.push_to.ensures.one after
 
 pub returns : goal.returns
 returns c =
     let b = c.args.board.now in
-    let n = square_number b.game (place_in c.args.cell) in
-    let within : n < 36 = omega (arith, number_within b.game (place_in c.args.cell) c.requires.cell.on_board, squares_36 b.game) in
-    ListsFrom-own b c.requires.position n within c.args.moves.now.items c.push_from.new.moves.items c.requires.own c.requires.before
-    (subst (λ s. ListsBelow b ((square_number b.game s + 1) * 36 * 5) c.push_from.new.moves.items) c.square_in.ensures c.push_from.ensures.after) c.push_from.ensures.few
+    let (lists, few) = scan_end b c.in-Some.unit (place_in c.args.cell) c.requires.cell.on_board c.safe_cells-left.result c.safe_cells-left.ensures c.cells.left c.cells.moves.items _ _ c.cells.invariant c.cells-test.false in
+    unit_more b c.requires.position c.args.cell (c.requires.cell, c.requires.own) c.args.moves.now.items c.requires.before c.cells.moves.items lists few

@@ -1,20 +1,18 @@
-use Rattle.std.proofs.Common.{◌≡◌, inl, inr, sym, ap, subst, ◌∙◌}
+use Rattle.std.proofs.Common.{inl, inr, sym, subst, ◌∙◌}
 use Rattle.std.proofs.lemmas.Bool.{false≢true}
 use Rattle.board.specs.Games.{other_side}
 use Rattle.rules.specs.Squares.{unit_at}
 use Rattle.rules.specs.Reach.{Reaches}
-use Rattle.cells.specs.Mailbox.{cell_of, place_in, IsCell}
+use Rattle.cells.specs.Mailbox.{cell_of, place_in}
 use Rattle.moves.specs.Pinned.{IsPinned}
 use Rattle.moves.specs.Targets.{IsTarget}
-use Rattle.cells.proofs.CellNumbers.{IsCell-cell_of, place_in-cell_of}
 use Rattle.moves.proofs.Checking.{who_checks, IsTarget-move}
 use Rattle.moves.proofs.checks.checking.Goals as goal
 
 pub returns-then-reached-eq0-clause-all : goal.returns-then-reached-eq0-clause-all
 returns-then-reached-eq0-clause-all c = λ m p at check.
     let b = c.args.board.now in
-    let from : place_in c.cell_of-cell.result ≡ c.args.from = ap place_in c.cell_of-cell.ensures.value ∙ place_in-cell_of b.game c.args.from c.requires.on_board in
-    (c.targets-reached.ensures (cell_of m.to)).1 (subst (λ s. IsTarget b c.args.unit s (cell_of m.to)) (at ∙ sym from) (IsTarget-move b m c.args.unit p))
+    (c.targets-reached.ensures (cell_of m.to)).1 (subst (λ s. IsTarget b c.args.unit s (cell_of m.to)) at (IsTarget-move b m c.args.unit p))
 
 pub returns-clause-all : goal.returns-clause-all
 returns-clause-all c = λ m p at check.
@@ -22,13 +20,11 @@ returns-clause-all c = λ m p at check.
     let u = c.args.unit in
     let k = place_in c.args.watch.king in
     let w = c.requires.watches in
-    let from : place_in c.cell_of-cell.result ≡ c.args.from = ap place_in c.cell_of-cell.ensures.value ∙ place_in-cell_of b.game c.args.from c.requires.on_board in
-    let cell : IsCell b.game c.cell_of-cell.result = subst (IsCell b.game) (sym c.cell_of-cell.ensures.value) (IsCell-cell_of b.game c.args.from c.requires.on_board) in
     elim (who_checks b m u c.requires.position p k w.cell.on_board w.king w.safe check) [
-      | inl named ↦ absurd (false≢true (sym c.if-may_promote.false ∙ (c.may_promote.ensures m.to (subst (λ s. Reaches b u s m.to (unit_at b m.to)) at p.reaches)).1 (p.named.0 named)))
+      | inl named ↦ absurd (false≢true (sym c.if-may_promote.false ∙ (c.may_promote.ensures m.to (subst (λ s. Reaches b u s m.to (unit_at b m.to)) (at ∙ sym c.square_in.ensures) p.reaches)).1 (p.named.0 named)))
       | inr (inl aims) ↦ (c.common.ensures (cell_of m.to)).1 (
-        (c.targets-reached.ensures (cell_of m.to)).1 (subst (λ s. IsTarget b u s (cell_of m.to)) (at ∙ sym from) (IsTarget-move b m u p)),
+        (c.targets-reached.ensures (cell_of m.to)).1 (subst (λ s. IsTarget b u s (cell_of m.to)) at (IsTarget-move b m u p)),
         c.aiming.ensures m p aims,
       )
-      | inr (inr pinned) ↦ absurd (false≢true (sym c.if-has.false ∙ c.has.ensures.1 (w.uncovers c.cell_of-cell.result cell (subst (IsPinned b (other_side b.mover) k) (at ∙ sym from) pinned))))
+      | inr (inr pinned) ↦ absurd (false≢true (sym c.if-has.false ∙ c.has.ensures.1 (w.uncovers c.args.from c.requires.cell (subst (IsPinned b (other_side b.mover) k) at pinned))))
     ]

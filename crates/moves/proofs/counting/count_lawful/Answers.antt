@@ -3,32 +3,30 @@ use Rattle.board.specs.Board.{is_of_side}
 use Rattle.rules.specs.Squares.{unit_at}
 use Rattle.cells.specs.Mailbox.{place_in, IsCell}
 use Rattle.cells.specs.CellSets.{Has}
-use Rattle.moves.proofs.Tallies.{tallied_start, tallied_end, next_own, tallied_few, tallied_more}
+use Rattle.moves.proofs.Gathering.{IsOwn, tallied_start, tallied_end, tallied_next, tallied_few, tallied_more}
 use Rattle.moves.proofs.counting.count_lawful.Goals as goal
 
 pub units-init : goal.units-init
 units-init c =
     let b = c.args.board.now in
-    let own : (i : ℕ) → Has c.of_side-left.result i ↔ (IsCell b.game i × (is_of_side b.mover (unit_at b (place_in i)) ≡ true)) =
-    subst (λ s. (i : ℕ) → Has c.of_side-left.result i ↔ (IsCell b.game i × (is_of_side s (unit_at b (place_in i)) ≡ true))) c.mover.ensures.value c.of_side-left.ensures in
-    tallied_start b c.of_side-left.result c.of_side-left.type_inv own
+    let own : (i : ℕ) → Has c.of_side-left.result i ↔ IsOwn b i = subst (λ s. (i : ℕ) → Has c.of_side-left.result i ↔ (IsCell b.game i × (is_of_side s (unit_at b (place_in i)) ≡ true))) c.mover.ensures.value c.of_side-left.ensures in
+    tallied_start b c.of_side-left.result own
 
 pub count_from-count-requires-clause-cell : goal.count_from-count-requires-clause-cell
-count_from-count-requires-clause-cell c = (next_own c.args.board.now c.units.left c.units.count c.units.invariant c.lowest-cell.result c.lowest-cell.ensures.there c.lowest-cell.ensures.least).0
+count_from-count-requires-clause-cell c = (tallied_next c.args.board.now c.units.left c.units.count c.units.invariant c.take_lowest-cell.result c.take_lowest-cell.ensures.there c.take_lowest-cell.ensures.least).0
 
 pub count_from-count-requires-clause-own : goal.count_from-count-requires-clause-own
-count_from-count-requires-clause-own c = (next_own c.args.board.now c.units.left c.units.count c.units.invariant c.lowest-cell.result c.lowest-cell.ensures.there c.lowest-cell.ensures.least).1
+count_from-count-requires-clause-own c = (tallied_next c.args.board.now c.units.left c.units.count c.units.invariant c.take_lowest-cell.result c.take_lowest-cell.ensures.there c.take_lowest-cell.ensures.least).1
 
 pub overflow_add-count : goal.overflow_add-count
 overflow_add-count c =
-    let few = tallied_few c.args.board.now c.units.left c.units.count c.units.invariant c.lowest-cell.result c.lowest-cell.ensures.there c.lowest-cell.ensures.least c.count_from-count.result c.count_from-count.ensures in
+    let few = tallied_few c.args.board.now c.units.left c.units.count c.units.invariant c.take_lowest-cell.result c.take_lowest-cell.ensures.there c.take_lowest-cell.ensures.least c.count_from-count.result c.count_from-count.ensures in
     omega (arith, few)
 
 pub units-preserved : goal.units-preserved
 units-preserved c =
-    let e = c.without-left.ensures in
-    tallied_more c.args.board.now c.units.left c.units.count c.units.invariant c.lowest-cell.result c.lowest-cell.ensures.there c.lowest-cell.ensures.least c.count_from-count.result c.count_from-count.ensures
-    c.without-left.result e.less e.gone e.others
+    tallied_more c.args.board.now c.units.left c.units.count c.units.invariant c.take_lowest-cell.result c.take_lowest-cell.ensures.there c.take_lowest-cell.ensures.least c.count_from-count.result c.count_from-count.ensures
+    c.take_lowest-cell.new.set c.take_lowest-cell.ensures.rest
 
 pub returns : goal.returns
-returns c = tallied_end c.args.board.now c.units.left c.units.count c.units-test.false c.units.invariant
+returns c = tallied_end c.args.board.now c.units.left c.units.count c.units.invariant c.units-test.false

@@ -1,4 +1,4 @@
-use Rattle.moves.proofs.Tallies.{IsTallied}
+use Rattle.moves.proofs.Gathering.{IsTallied}
 use Rattle.moves.proofs.counting.count_lawful.Given as given
 
 -- the moves of the units so far are counted

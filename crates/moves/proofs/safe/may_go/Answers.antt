@@ -1,118 +1,106 @@
-use Rattle.std.proofs.Common.{◌≡◌, ◌↔◌, ℕ, Bool, true, false, not, IsTrue, Some, refl, sym, ap, subst, ◌∙◌}
+use Rattle.std.proofs.Common.{◌≡◌, ◌↔◌, IsTrue, Some, refl, sym, ap, subst, ◌∙◌}
 use Rattle.std.proofs.lemmas.Bool.{false≢true, not-true}
-use Rattle.board.specs.declared.game.Side.{Side}
+use Rattle.board.specs.Games.{other_side}
 use Rattle.board.specs.Board.{PlainBoard}
-use Rattle.rules.specs.Squares.{Place, IsOnBoard, unit_at}
+use Rattle.rules.specs.Squares.{unit_at}
+use Rattle.rules.specs.Reach.{IsAttacked, IsInCheck}
+use Rattle.rules.specs.Moves.{IsSomeKing, IsPseudoLegal, after}
 use Rattle.cells.specs.Mailbox.{cell_of, place_in}
 use Rattle.cells.specs.CellSets.{Has}
-use Rattle.moves.specs.Pinned.{IsPinned}
 use Rattle.moves.specs.Safe.{IsNamed, IsCalm}
-use Rattle.rules.specs.Moves.{IsSomeKing}
-use Rattle.moves.specs.declared.sets.Class.TheVariants.{Crowned}
-use Rattle.moves.specs.Sets.{Holds}
-use Rattle.cells.proofs.CellNumbers.{IsCell-cell_of, place_in-cell_of}
-use Rattle.moves.proofs.AtOnce.{pseudo_by}
-use Rattle.moves.proofs.SafeCells.{lawful_too, named_move, calm_lawful, lawful_calm, free_lawful, unpinned, some_crowned, crowned_king}
+use Rattle.cells.proofs.CellNumbers.{cell_of-place_in}
+use Rattle.moves.proofs.AtOnce.{pseudo_by, move_by}
+use Rattle.moves.proofs.Guarding.{lawful_if_safe, not_attacked_safe}
+use Rattle.moves.proofs.SafeCells.{lawful_too, pseudo_named, calm_lawful, lawful_calm, free_lawful, some_crowned, crowned_king}
 use Rattle.moves.proofs.Shadows.{in_shadow}
 use Rattle.moves.proofs.safe.may_go.Goals as goal
 
-calm_at : (r : Bool) (b : PlainBoard) (cell : ℕ) (t : Place) (side : Side) → IsOnBoard b.game t → cell ≡ cell_of t → (IsTrue r ↔ IsCalm b (place_in cell) side) → IsTrue r ↔ IsCalm b t side
-calm_at r b cell t side on at h = subst (λ s. IsTrue r ↔ IsCalm b s side) (ap place_in at ∙ place_in-cell_of b.game t on) h
+pub returns-then-has : goal.returns-then-has
+returns-then-has c = λ m from to named. (
+  λ never. absurd (false≢true never),
+  λ l.
+      let b = c.args.board.now in
+      let p = pseudo_by b m c.args.unit (ap (unit_at b) from ∙ c.requires.stands) l in
+      absurd (p.no_king (subst (λ x. IsSomeKing (unit_at b x)) (sym to) (crowned_king b (place_in c.args.to) ((c.set.ensures c.args.to).0 (c.has.ensures.0 c.if-has.true)).1))),
+)
 
-pub returns-then-not-is_calm_for-clause-none : goal.returns-then-not-is_calm_for-clause-none
-returns-then-not-is_calm_for-clause-none c = λ _ m from to l.
+pub returns-then-has-2 : goal.returns-then-has-2
+returns-then-has-2 c = λ m from to named. (
+  λ never. absurd (false≢true never),
+  λ l.
+      let b = c.args.board.now in
+      let calm = lawful_calm b c.args.unit (place_in c.args.from) c.args.to c.requires.position (c.is_king.ensures.0 c.if-is_king.true) c.requires.owner c.requires.stands m from to l in
+      absurd (calm.safe (subst (λ s. IsAttacked b (place_in c.args.to) (other_side s)) (sym c.requires.owner) ((c.requires.guards.attacked c.args.to).0 (c.has-then-is_king.ensures.0 c.if-has-2.true)).1)),
+)
+
+pub returns-then-not-has : goal.returns-then-not-has
+returns-then-not-has c = λ m from to named. (
+  λ _.
+      let b = c.args.board.now in
+      let u = c.args.unit in
+      let i = c.args.to in
+      let s = place_in c.args.from in
+      let cell = c.requires.target.0 in
+      let king = c.is_king.ensures.0 c.if-is_king.true in
+      let calm : IsCalm b (place_in i) u.side = record {
+        no_king = λ there. false≢true (sym c.if-has.false ∙ c.has.ensures.1 ((c.set.ensures i).1 (cell, some_crowned b (place_in i) there)));
+        safe = λ a. false≢true (sym c.if-has-2.false ∙ c.has-then-is_king.ensures.1 ((c.requires.guards.attacked i).1 (cell, subst (λ x. IsAttacked b (place_in i) (other_side x)) c.requires.owner a)));
+      } in
+      calm_lawful b u s i c.requires.position king c.requires.owner c.requires.stands
+      (λ w. false≢true (sym c.if-not-has.true ∙ c.has-then-is_king-2.ensures.1 (in_shadow b c.args.guard u s i c.requires.position c.requires.guards c.requires.cell.on_board cell c.requires.stands c.requires.owner king w)))
+      c.requires.cell.on_board c.requires.target calm m from to named,
+  λ _. refl,
+)
+
+pub returns-then-not-has-2 : goal.returns-then-not-has-2
+returns-then-not-has-2 c = λ m from to named. (
+  λ never. absurd (false≢true never),
+  λ l.
+      let b = c.args.board.now in
+      let u = c.args.unit in
+      let stands : unit_at b m.from ≡ Some u = ap (unit_at b) from ∙ c.requires.stands in
+      let at : cell_of m.to ≡ c.args.to = ap cell_of to ∙ cell_of-place_in b.game c.args.to c.requires.target.0 in
+      let there = c.requires.guards.blocks m u (pseudo_by b m u stands l) (λ e. false≢true (sym c.if-is_king.false ∙ c.is_king.ensures.1 e)) (move_by b m u stands l).safe in
+      absurd (false≢true (sym c.if-not-has-2.true ∙ c.has-else-is_king.ensures.1 (subst (Has c.args.guard.blocks) at there))),
+)
+
+pub returns-then-not-has-3 : goal.returns-then-not-has-3
+returns-then-not-has-3 c = λ m from to named. (
+  λ _.
+      let b = c.args.board.now in
+      let g = c.requires.guards in
+      let i = c.args.to in
+      let out = not-true c.args.guard.checked c.if-not-guard.true in
+      free_lawful b c.args.unit (place_in c.args.from) (place_in c.args.guard.king) c.requires.position c.requires.cell.on_board c.requires.stands c.requires.owner (λ e. false≢true (sym c.if-is_king.false ∙ c.is_king.ensures.1 e))
+      g.cell.on_board g.king (λ check. false≢true (sym out ∙ g.checked.1 check)) (λ pin. false≢true (sym c.if-not-has-3.true ∙ c.has-then-not-guard.ensures.1 (g.pins out c.args.from c.requires.cell pin)))
+      i c.requires.target (λ there. false≢true (sym c.if-has.false ∙ c.has.ensures.1 ((c.set.ensures i).1 (c.requires.target.0, some_crowned b (place_in i) there)))) m from to named,
+  λ _. refl,
+)
+
+pub moved-requires : goal.moved-requires
+moved-requires c =
     let b = c.args.board.now in
-    let calm = calm_at c.is_calm_for.result b c.cell_of-cell.result c.args.to c.args.unit.side c.requires.to_on_board c.cell_of-cell.ensures.value (subst (λ s. IsTrue c.is_calm_for.result ↔ IsCalm b (place_in c.cell_of-cell.result) s) (sym c.requires.owner) c.is_calm_for.ensures) in
-    false≢true (sym c.if-not-is_calm_for.true ∙ calm.1 (lawful_calm b c.args.unit c.args.from c.args.to c.requires.position (c.is_king.ensures.0 c.if-is_king.true) c.requires.owner c.requires.stands m from to l))
+    let i = c.args.to in
+    let q = c.queening-m in
+    pseudo_named b q.result c.args.unit (place_in c.args.from) i c.requires.cell.on_board c.requires.stands c.requires.owner c.requires.target
+    (λ there. false≢true (sym c.if-has.false ∙ c.has.ensures.1 ((c.set.ensures i).1 (c.requires.target.0, some_crowned b (place_in i) there))))
+    (q.ensures.from ∙ c.square_in.ensures) (q.ensures.to ∙ c.square_in-2.ensures) (subst (λ g. IsNamed g c.args.unit q.result) c.game.ensures.value q.ensures.named)
 
-pub returns-then-not-has-clause-all : goal.returns-then-not-has-clause-all
-returns-then-not-has-clause-all c = λ _.
+pub returns : goal.returns
+returns c = λ m from to named.
     let b = c.args.board.now in
     let u = c.args.unit in
-    let s = c.args.from in
-    let t = c.args.to in
-    let king = c.is_king.ensures.0 c.if-is_king.true in
-    let calm = calm_at c.is_calm_for.result b c.cell_of-cell.result t u.side c.requires.to_on_board c.cell_of-cell.ensures.value (subst (λ s. IsTrue c.is_calm_for.result ↔ IsCalm b (place_in c.cell_of-cell.result) s) (sym c.requires.owner) c.is_calm_for.ensures) in
-    let free : IsPinned b b.mover t s → ⊥ = λ w. false≢true (sym c.if-not-has.true ∙ c.has.ensures.1 (subst (Has c.args.guard.shadow) (sym c.cell_of-cell.ensures.value)
-    (in_shadow b c.args.guard u s t c.requires.position c.requires.guards c.requires.from_on_board c.requires.to_on_board c.requires.stands c.requires.owner king w))) in
-    calm_lawful b u s t c.requires.position king c.requires.owner c.requires.stands free c.requires.from_on_board c.requires.to_on_board c.requires.reaches (calm.0 c.if-not-is_calm_for.false)
-
-pub returns-then-not-has-clause-found : goal.returns-then-not-has-clause-found
-returns-then-not-has-clause-found c = λ _.
-    let b = c.args.board.now in
-    let u = c.args.unit in
-    let s = c.args.from in
-    let t = c.args.to in
-    let king = c.is_king.ensures.0 c.if-is_king.true in
-    let calm = calm_at c.is_calm_for.result b c.cell_of-cell.result t u.side c.requires.to_on_board c.cell_of-cell.ensures.value (subst (λ s. IsTrue c.is_calm_for.result ↔ IsCalm b (place_in c.cell_of-cell.result) s) (sym c.requires.owner) c.is_calm_for.ensures) in
-    let free : IsPinned b b.mover t s → ⊥ = λ w. false≢true (sym c.if-not-has.true ∙ c.has.ensures.1 (subst (Has c.args.guard.shadow) (sym c.cell_of-cell.ensures.value)
-    (in_shadow b c.args.guard u s t c.requires.position c.requires.guards c.requires.from_on_board c.requires.to_on_board c.requires.stands c.requires.owner king w))) in
-    let (m, from, to, named) = named_move b.game u s t in
-    (m, calm_lawful b u s t c.requires.position king c.requires.owner c.requires.stands free c.requires.from_on_board c.requires.to_on_board c.requires.reaches (calm.0 c.if-not-is_calm_for.false) m from to named)
-
--- no king stands where the set has none
-no_king_at : (b : PlainBoard) (set cell : ℕ) (t : Place) → IsOnBoard b.game t → cell ≡ cell_of t → Holds b Crowned set → (Has set cell → ⊥) → IsSomeKing (unit_at b t) → ⊥
-no_king_at b set cell t on at holds none there =
-    let here : place_in (cell_of t) ≡ t = place_in-cell_of b.game t on in
-    none (subst (Has set) (sym at) ((holds (cell_of t)).1 (IsCell-cell_of b.game t on, some_crowned b (place_in (cell_of t)) (subst (λ x. IsSomeKing (unit_at b x)) (sym here) there))))
-
-king_at : (b : PlainBoard) (set cell : ℕ) (t : Place) → IsOnBoard b.game t → cell ≡ cell_of t → Holds b Crowned set → Has set cell → IsSomeKing (unit_at b t)
-king_at b set cell t on at holds h =
-    subst (λ x. IsSomeKing (unit_at b x)) (place_in-cell_of b.game t on) (crowned_king b (place_in (cell_of t)) ((holds (cell_of t)).0 (subst (Has set) at h)).1)
-
-pub returns-then-not-is_bound-clause-all : goal.returns-then-not-is_bound-clause-all
-returns-then-not-is_bound-clause-all c = λ yes.
-    let b = c.args.board.now in
-    let u = c.args.unit in
-    let g = c.args.guard in
-    let bound = c.is_bound.ensures in
-    let out = bound.unchecked c.if-not-is_bound.true in
-    free_lawful b u c.args.from c.args.to (place_in g.king) c.requires.position c.requires.from_on_board c.requires.to_on_board c.requires.stands c.requires.owner (bound.piece c.if-not-is_bound.true)
-    c.requires.guards.cell.on_board c.requires.guards.king (λ check. false≢true (sym out ∙ c.requires.guards.checked.1 check))
-    (unpinned b g c.args.from c.requires.from_on_board c.requires.guards out (bound.unpinned c.if-not-is_bound.true)) c.requires.reaches
-    (no_king_at b c.set.result c.cell_of.result c.args.to c.requires.to_on_board c.cell_of.ensures.value c.set.ensures (λ h. false≢true (sym (not-true c.has-then-not-is_bound.result yes) ∙ c.has-then-not-is_bound.ensures.1 h)))
-
-pub returns-then-not-is_bound-clause-found : goal.returns-then-not-is_bound-clause-found
-returns-then-not-is_bound-clause-found c = λ yes.
-    let b = c.args.board.now in
-    let u = c.args.unit in
-    let g = c.args.guard in
-    let bound = c.is_bound.ensures in
-    let out = bound.unchecked c.if-not-is_bound.true in
-    let (m, from, to, named) = named_move b.game u c.args.from c.args.to in (
-      m,
-      free_lawful b u c.args.from c.args.to (place_in g.king) c.requires.position c.requires.from_on_board c.requires.to_on_board c.requires.stands c.requires.owner (bound.piece c.if-not-is_bound.true)
-          c.requires.guards.cell.on_board c.requires.guards.king (λ check. false≢true (sym out ∙ c.requires.guards.checked.1 check))
-          (unpinned b g c.args.from c.requires.from_on_board c.requires.guards out (bound.unpinned c.if-not-is_bound.true)) c.requires.reaches
-          (no_king_at b c.set.result c.cell_of.result c.args.to c.requires.to_on_board c.cell_of.ensures.value c.set.ensures (λ h. false≢true (sym (not-true c.has-then-not-is_bound.result yes) ∙ c.has-then-not-is_bound.ensures.1 h))) m from to named,
+    let q = c.queening-m.result in
+    let i = c.args.to in
+    let from_q : q.from ≡ place_in c.args.from = c.queening-m.ensures.from ∙ c.square_in.ensures in
+    let to_q : q.to ≡ place_in i = c.queening-m.ensures.to ∙ c.square_in-2.ensures in
+    let named_q : IsNamed b.game u q = subst (λ g. IsNamed g u q) c.game.ensures.value c.queening-m.ensures.named in
+    let pseudo : IsPseudoLegal b q u = pseudo_named b q u (place_in c.args.from) i c.requires.cell.on_board c.requires.stands c.requires.owner c.requires.target
+    (λ there. false≢true (sym c.if-has.false ∙ c.has.ensures.1 ((c.set.ensures i).1 (c.requires.target.0, some_crowned b (place_in i) there)))) from_q to_q named_q in
+    let stands : unit_at b q.from ≡ Some u = ap (unit_at b) from_q ∙ c.requires.stands in
+    let next = after b q u in
+    let safe = not_attacked_safe c.is_checked.result next b.mover (subst (λ s. IsTrue c.is_checked.result ↔ IsInCheck next s) c.requires.owner (subst (λ (x : PlainBoard). IsTrue c.is_checked.result ↔ IsInCheck x u.side) c.moved.ensures c.is_checked.ensures)) in
+    let lawful = lawful_if_safe b q u stands _ pseudo safe in (
+      λ yes. lawful_too b q m u c.requires.position stands (from ∙ sym from_q) (to ∙ sym to_q) named (lawful.0 yes),
+      λ l. lawful.1 (lawful_too b m q u c.requires.position (ap (unit_at b) from ∙ c.requires.stands) (from_q ∙ sym from) (to_q ∙ sym to) named_q l),
     )
-
-true_if_not : (r : Bool) → not r ≡ false → r ≡ true
-true_if_not true e = refl
-true_if_not false e = absurd (false≢true (sym e))
-
-pub returns-then-not-is_bound-clause-none : goal.returns-then-not-is_bound-clause-none
-returns-then-not-is_bound-clause-none c = λ no m from to l.
-    let b = c.args.board.now in
-    let u = c.args.unit in
-    let p = pseudo_by b m u (ap (unit_at b) from ∙ c.requires.stands) l in
-    p.no_king (subst (λ x. IsSomeKing (unit_at b x)) (sym to) (king_at b c.set.result c.cell_of.result c.args.to c.requires.to_on_board c.cell_of.ensures.value c.set.ensures (c.has-then-not-is_bound.ensures.0 (true_if_not c.has-then-not-is_bound.result no))))
-
-pub is_lawful_to-requires-clause-target : goal.is_lawful_to-requires-clause-target
-is_lawful_to-requires-clause-target c =
-    let b = c.args.board.now in
-    c.unit_in.ensures ∙ ap (λ i. unit_at b (place_in i)) c.cell_of-2.ensures.value ∙ ap (unit_at b) (place_in-cell_of b.game c.args.to c.requires.to_on_board) ∙ ap (unit_at b) (sym c.queening-m.ensures.to)
-
-pub returns-clause-all : goal.returns-clause-all
-returns-clause-all c = λ yes m from to named.
-    let b = c.args.board.now in
-    let q = c.queening-m.result in
-    lawful_too b q m c.args.unit c.requires.position (ap (unit_at b) c.queening-m.ensures.from ∙ c.requires.stands) (from ∙ sym c.queening-m.ensures.from) (to ∙ sym c.queening-m.ensures.to) named (c.is_lawful_to.ensures.0 yes)
-
-pub returns-clause-none : goal.returns-clause-none
-returns-clause-none c = λ no m from to l.
-    let b = c.args.board.now in
-    let q = c.queening-m.result in
-    let stands : unit_at b m.from ≡ Some c.args.unit = ap (unit_at b) from ∙ c.requires.stands in
-    let named : IsNamed b.game c.args.unit q = subst (λ g. IsNamed g c.args.unit q) c.game.ensures.value c.queening-m.ensures.named in
-    false≢true (sym no ∙ c.is_lawful_to.ensures.1 (lawful_too b m q c.args.unit c.requires.position stands (c.queening-m.ensures.from ∙ sym from) (c.queening-m.ensures.to ∙ sym to) named l))

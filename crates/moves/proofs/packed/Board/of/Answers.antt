@@ -1,12 +1,9 @@
-use Rattle.std.proofs.Common.{sym, subst}
-use Rattle.moves.specs.Sets.{Shows}
+use Rattle.std.proofs.Common.{sym, ◌∙◌, subst}
+use Rattle.board.specs.Board.{IsPosition, board_of}
 use Rattle.moves.proofs.packed.Board.of.Goals as goal
 
-pub invariant_of-result : goal.invariant_of-result
-invariant_of-result c = record {
-  packed = c.write_words-words.ensures.packed;
-  shows = subst (λ b. Shows b c.of-sets.result) (sym c.write_words-words.ensures.value) c.of-sets.ensures;
-}
+pub of_units-requires : goal.of_units-requires
+of_units-requires c = subst IsPosition (λ i. board_of (sym c.game.ensures.value i) (sym c.mover.ensures i) (sym c.units.ensures i)) c.game.ensures.position
 
 pub returns : goal.returns
-returns c = c.write_words-words.ensures.value
+returns c = c.of_units.ensures ∙ λ i. board_of (c.game.ensures.value i) (c.mover.ensures i) (c.units.ensures i)

@@ -1,6 +1,0 @@
-use Rattle.moves.proofs.Packing.{IsFilled}
-use Rattle.moves.proofs.codec.write_words.Given as goal
-
--- the squares so far are filled
-abbrev pub invariant-loop-square : goal.invariant-loop-square
-invariant-loop-square l = IsFilled l.position.game l.flags l.position.units l.words l.square

@@ -1,8 +1,0 @@
-use Rattle.std.proofs.Common.{sym, ap, ◌∙◌}
-use Rattle.board.specs.Board.{unit_on}
-use Rattle.rules.specs.Squares.{square_number}
-use Rattle.moves.proofs.packed.Board.code.Goals as goal
-
-pub returns-clause-value : goal.returns-clause-value
-returns-clause-value c =
-    c.code_at.ensures.value ∙ ap (λ g. unit_on c.args.self.now (square_number g c.of_number.result)) (sym c.game.ensures.value) ∙ ap (unit_on c.args.self.now) c.of_number.ensures.number

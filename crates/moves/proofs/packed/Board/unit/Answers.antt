@@ -1,0 +1,7 @@
+use Rattle.std.proofs.Common.{sym, ap, ◌∙◌}
+use Rattle.board.specs.Board.{unit_on}
+use Rattle.rules.specs.Squares.{square_number}
+use Rattle.moves.proofs.packed.Board.unit.Goals as goal
+
+pub returns : goal.returns
+returns c = c.unit_at.ensures ∙ ap (λ g. unit_on c.args.self.now (square_number g c.of_number.result)) (sym c.game.ensures.value) ∙ ap (unit_on c.args.self.now) c.of_number.ensures.number

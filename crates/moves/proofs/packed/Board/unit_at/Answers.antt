@@ -1,0 +1,18 @@
+use Rattle.std.proofs.Common.{◌≡◌, sym, ap, ◌∙◌}
+use Rattle.board.specs.Board.{PlainBoard, unit_on}
+use Rattle.rules.specs.Squares.{square_number}
+use Rattle.moves.specs.Words.{code_on, man_of, game_of}
+use Rattle.rules.proofs.Listed.{number_within}
+use Rattle.moves.proofs.Packing.{units_in-at, within_36}
+use Rattle.moves.proofs.packed.Board.unit_at.Goals as goal
+
+pub returns : goal.returns
+returns c =
+    let b = c.args.self.now in
+    let words = c.self.inside.words in
+    let same : game_of words ≡ b.game = ap (λ (x : PlainBoard). x.game) c.self.view_is in
+    let n = square_number b.game c.args.square in
+    c.unit_of.ensures
+    ∙ ap man_of (c.code_on.ensures.value ∙ ap (λ g. code_on g words (square_number g c.args.square)) c.game.ensures.value ∙ ap (λ g. code_on g words n) (sym same))
+    ∙ sym (units_in-at _ words n (within_36 _ _ (number_within b.game c.args.square c.requires)))
+    ∙ ap (λ (x : PlainBoard). unit_on x n) c.self.view_is
