@@ -21,20 +21,14 @@ use Rattle.cells.specs.CellSets.{Has}
 use Rattle.moves.specs.Sets.{IsOf, Holds}
 use Rattle.cells.proofs.CellNumbers.{IsCell-cell_of, place_in-cell_of}
 use Rattle.cells.proofs.Masks.{Has-and, Has-or, Has-zero, lowest-has}
-use Rattle.moves.proofs.Reaching.{foe-side, side-foe}
+use Rattle.moves.proofs.Guarding.{own_unit_side, is_own}
 use Rattle.moves.proofs.Kings.{king_of, check_at}
 use Rattle.moves.proofs.Looking.{Aims-attacked, attacks_back}
 use Rattle.moves.proofs.Seeing.{rook_step, bishop_step, queen_step}
 
 pub own_foe : (side : Side) (o : Option Man) (u : Man) → is_of_side (other_side side) o ≡ true → o ≡ Some u → u.side ≡ other_side side
 own_foe side None u e s = cc
-own_foe side (Some v) u e s = ap (λ (x : Man). x.side) (sym (same_Some v u s)) ∙ foe side v.side v.kind e
-  where
-    foe : (s t : Side) (k : Kind) → is_of_side (other_side s) (Some (record { side = t; kind = k })) ≡ true → t ≡ other_side s
-    foe s t k h = foe-side s t k h
-
-pub foe_own : (side : Side) (u : Man) → u.side ≡ other_side side → is_of_side (other_side side) (Some u) ≡ true
-foe_own side u e = side-foe side u.side u.kind e
+own_foe side (Some v) u e s = ap (λ (x : Man). x.side) (sym (same_Some v u s)) ∙ own_unit_side (other_side side) v e
 
 module _ (b : PlainBoard) (is : IsPosition b) (side : Side) (i : ℕ) (c : IsCell b.game i) where
   -- the unit's cell, from which it attacks
@@ -77,7 +71,7 @@ module _ (b : PlainBoard) (is : IsPosition b) (side : Side) (i : ℕ) (c : IsCel
 
     at_foe : (class : Class) (set : ℕ) → Holds b class set → (u : Man) (j : ℕ) → IsCell b.game j → unit_at b (place_in j) ≡ Some u → u.side ≡ other_side side → IsOf class u → Has (bit_and foes set) j
     at_foe class set holds u j d stands owner of =
-        (Has-and foes set j).1 ((owns j).1 (d, ap (is_of_side (other_side side)) stands ∙ foe_own side u owner), (holds j).1 (d, record { unit = u; stands = stands; is = of }))
+        (Has-and foes set j).1 ((owns j).1 (d, ap (is_of_side (other_side side)) stands ∙ is_own (other_side side) u owner), (holds j).1 (d, record { unit = u; stands = stands; is = of }))
 
     -- a foe of the class that is seen as the kind attacks
     struck-one : (class : Class) (q : Kind) (set : ℕ) → Holds b class set → ((u : Man) → IsOf class u → (j : ℕ) → Aims b (record { side = side; kind = q }) (place_in i) (place_in j) → Aims b (record { side = side; kind = u.kind }) (place_in i) (place_in j))

@@ -2,7 +2,7 @@
 use Rattle.std.proofs.Common.{◌≡◌, zero, suc, ℤ, neg_ℤ, refl, sym, ap, subst, ◌∙◌, arith, ◌⊎◌, inl, inr, Bool, true, false, not, ◌&&◌, Option, Some, None, IsSome, unwrap_or}
 use Rattle.std.specs.List.{list_all}
 use Rattle.std.proofs.lemmas.Int.{ints}
-use Rattle.std.proofs.lemmas.Bool.{false≢true, and_parts}
+use Rattle.std.proofs.lemmas.Bool.{false≢true, not-true, and_parts}
 use Rattle.std.proofs.lemmas.List.Sums.{AllPass-from_list_all}
 use Rattle.std.proofs.lemmas.List.Elements.{All-contains}
 use Rattle.board.specs.declared.game.Game.{Game}
@@ -33,6 +33,7 @@ use Rattle.moves.specs.Looking.{Aims}
 use Rattle.cells.proofs.CellNumbers.{IsCell-cell_of, place_in-cell_of}
 use Rattle.rules.proofs.Keeps.{to_on_board, no_own as own_or_other}
 use Rattle.moves.proofs.Kings.{king_of, check_from, one_king}
+use Rattle.moves.proofs.Reaching.{is_both, both_is}
 use Rattle.moves.proofs.Looking.{Leads-then, size-neg, captures_from}
 use Rattle.moves.proofs.Pins.{stood, walked, attacked_after}
 
@@ -106,16 +107,6 @@ atom_turned Wazir dx dy h = rw (sym (size-neg dx), sym (size-neg dy)) at h
 atom_turned Ferz dx dy h = rw (sym (size-neg dx), sym (size-neg dy)) at h
 atom_turned atom.Knight dx dy h = rw (sym (size-neg dx), sym (size-neg dy)) at h
 
-abbrev pub is_both : Mode → Bool
-is_both Move = false
-is_both Capture = false
-is_both Both = true
-
-pub both_from : (mode : Mode) → is_both mode ≡ true → mode ≡ Both
-both_from Move e = absurd (false≢true e)
-both_from Capture e = absurd (false≢true e)
-both_from Both e = refl
-
 -- a term that goes all ways, and moves as it captures
 abbrev is_plain : Term → Bool
 is_plain t = not t.forward && is_both t.mode
@@ -128,18 +119,14 @@ plain_kinds Bishop h = refl
 plain_kinds Knight h = refl
 plain_kinds Pawn h = absurd (h refl)
 
-not_forward : (f : Bool) → not f ≡ true → f ≡ true → ⊥
-not_forward true e h = false≢true e
-not_forward false e h = false≢true h
-
 -- but for pawns, a step's opposite is a step
 pub Denotes-turned : (k : Kind) (s : Step) → (k ≡ Pawn → ⊥) → Denotes (terms_of k) s → Denotes (terms_of k) (turned s) × (s.mode ≡ Both)
 unfolding turned
 Denotes-turned k s piece (i, t, q, e, ts) =
     let plain : is_plain t ≡ true = All-contains (λ x. is_plain x ≡ true) (terms_of k) t (AllPass-from_list_all is_plain (terms_of k) (plain_kinds k piece)) (i, q, e) in
     let parts = and_parts (not t.forward) (is_both t.mode) plain in (
-      (i, t, q, e, record { leap = record { atom = atom_turned t.atom s.dx s.dy ts.leap.atom; ahead = λ f. absurd (not_forward t.forward parts.0 f) }; rider = ts.rider; mode = ts.mode }),
-      ts.mode ∙ both_from t.mode parts.1,
+      (i, t, q, e, record { leap = record { atom = atom_turned t.atom s.dx s.dy ts.leap.atom; ahead = λ f. absurd (false≢true (sym (not-true t.forward parts.0) ∙ f)) }; rider = ts.rider; mode = ts.mode }),
+      ts.mode ∙ both_is t.mode parts.1,
     )
 
 -- a pawn captures as a king steps

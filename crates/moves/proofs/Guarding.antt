@@ -18,6 +18,7 @@ use Rattle.rules.specs.Reach.{IsInCheck}
 use Rattle.rules.specs.Moves.{Promotes, IsPromotion, IsSomeKing, IsPseudoLegal, IsLawful, after}
 use Rattle.cells.specs.Mailbox.{cell_of, place_in, IsCell}
 use Rattle.cells.proofs.CellNumbers.{IsCell-cell_of, place_in-cell_of}
+use Rattle.rules.proofs.Forcing.{same_side-self}
 use Rattle.moves.proofs.Laying.{unit_at-to, unit_at-other}
 use Rattle.moves.proofs.Kings.{king_of}
 
@@ -114,10 +115,9 @@ pub not_attacked_safe : (r : Bool) (q : PlainBoard) (side : Side) → (IsTrue r 
 not_attacked_safe true q side h = (λ no. absurd (false≢true no), λ safe. absurd (safe (h.0 refl)))
 not_attacked_safe false q side h = (λ _ check. false≢true (h.1 check), λ _. refl)
 
--- a side's king is its own
-pub own_king : (side : Side) → is_of_side side (king_of side) ≡ true
-own_king White = refl
-own_king Black = refl
-
+-- a unit of a side is its own
 pub own_unit_side : (side : Side) (u : Man) → is_of_side side (Some u) ≡ true → u.side ≡ side
 own_unit_side side u e = own_side side u.side e
+
+pub is_own : (side : Side) (u : Man) → u.side ≡ side → is_of_side side (Some u) ≡ true
+is_own side u e = subst (λ s. is_of_side s (Some u) ≡ true) e (same_side-self u.side)

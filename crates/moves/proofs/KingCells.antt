@@ -1,5 +1,5 @@
 -- The cell of a side's king, as the two sets that have it alone.
-use Rattle.std.proofs.Common.{◌≡◌, ℕ, ◌↔◌, true, Some, sym, ap, ◌∙◌}
+use Rattle.std.proofs.Common.{refl, ◌≡◌, ℕ, ◌↔◌, true, Some, sym, ap, ◌∙◌}
 use Rattle.std.specs.Int.RustNames.{bit_and}
 use Rattle.board.specs.declared.game.Side.{Side}
 use Rattle.board.specs.declared.game.Kind.TheVariants.{King}
@@ -12,7 +12,7 @@ use Rattle.cells.proofs.Masks.{Has-and}
 use Rattle.moves.specs.declared.sets.Class.TheVariants.{Crowned}
 use Rattle.moves.specs.Sets.{Holds}
 use Rattle.moves.proofs.Kings.{king_of}
-use Rattle.moves.proofs.Guarding.{own_king, own_unit_side}
+use Rattle.moves.proofs.Guarding.{is_own, own_unit_side}
 
 module _ (b : PlainBoard) (side : Side) (kings own : ℕ) (crowned : Holds b Crowned kings) (mine : (i : ℕ) → Has own i ↔ (IsCell b.game i × (is_of_side side (unit_at b (place_in i)) ≡ true))) where
   -- the king stands in each cell of both
@@ -27,4 +27,4 @@ module _ (b : PlainBoard) (side : Side) (kings own : ℕ) (crowned : Holds b Cro
   pub has_king : (i : ℕ) → IsCell b.game i → unit_at b (place_in i) ≡ king_of side → Has (bit_and kings own) i
   has_king i cell stands =
       let king : Man = record { side = side; kind = King } in
-      (Has-and kings own i).1 ((crowned i).1 (cell, record { unit = king; stands = stands; is = λ _. King }), (mine i).1 (cell, ap (is_of_side side) stands ∙ own_king side))
+      (Has-and kings own i).1 ((crowned i).1 (cell, record { unit = king; stands = stands; is = λ _. King }), (mine i).1 (cell, ap (is_of_side side) stands ∙ is_own side (record { side = side; kind = King }) refl))

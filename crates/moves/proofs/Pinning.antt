@@ -19,7 +19,7 @@ use Rattle.cells.specs.Ways.{Rides, rises}
 use Rattle.cells.proofs.CellNumbers.{IsCell-cell_of, place_in-cell_of}
 use Rattle.moves.proofs.Looking.{both_back}
 use Rattle.cells.proofs.Masks.{Has-and, Has-or}
-use Rattle.moves.proofs.Reaching.{side-foe}
+use Rattle.moves.proofs.Guarding.{is_own}
 use Rattle.moves.proofs.Riding.{IsSooner, Rides-clear, Rides-leads}
 use Rattle.moves.proofs.Seeing.{rides_as}
 
@@ -66,7 +66,7 @@ module _ (b : PlainBoard) (side : Side) (foes straight slanted : ℕ) (owns : (j
       let rc = IsCell-cell_of b.game w.from w.on_board in
       let at = place_in-cell_of b.game w.from w.on_board in
       let stands : unit_at b (place_in r) ≡ Some w.rider = ap (unit_at b) at ∙ w.stands in
-      let owner : is_of_side (other_side side) (unit_at b (place_in r)) ≡ true = ap (is_of_side (other_side side)) stands ∙ side-foe side w.rider.side w.rider.kind w.owner in
+      let owner : is_of_side (other_side side) (unit_at b (place_in r)) ≡ true = ap (is_of_side (other_side side)) stands ∙ is_own (other_side side) w.rider w.owner in
       elim (rides_as side w.rider.kind x denoted) [
         | inl single ↦ absurd (false≢true (sym single ∙ rider ∙ w.rides))
         | inr way ↦ record {

@@ -34,6 +34,8 @@ use Rattle.cells.proofs.TableTests.{table_of-exact}
 use Rattle.cells.proofs.Masks.{Has-and, Has-or, Has-minus}
 use Rattle.cells.proofs.OnRays.{next_of, next-is, is-next}
 use Rattle.rules.proofs.Keeps.{Leads-single_step as single}
+use Rattle.moves.proofs.Guarding.{own_unit_side, is_own}
+use Rattle.moves.proofs.Seeing.{zero_of}
 
 -- ---- where a step may end
 
@@ -49,25 +51,13 @@ foe-own White Black k h = refl
 foe-own Black White k h = refl
 foe-own Black Black k h = absurd (h refl)
 
-pub foe-side : (s t : Side) (k : Kind) → is_of_side (other_side s) (Some (record { side = t; kind = k })) ≡ true → t ≡ other_side s
-foe-side White White k h = absurd (false≢true h)
-foe-side White Black k h = refl
-foe-side Black White k h = refl
-foe-side Black Black k h = absurd (false≢true h)
-
-pub side-foe : (s t : Side) (k : Kind) → t ≡ other_side s → is_of_side (other_side s) (Some (record { side = t; kind = k })) ≡ true
-side-foe White White k h = cc
-side-foe White Black k h = refl
-side-foe Black White k h = refl
-side-foe Black Black k h = cc
-
 pub Allows-both : (side : Side) (o : Option Man) → Allows Both side o ↔ (is_of_side side o ≡ true → ⊥)
 Allows-both side None = (λ _ h. false≢true h, λ _. tt)
 Allows-both side (Some u) = (λ e. own-foe side u.side u.kind e, λ h. foe-own side u.side u.kind h)
 
 pub Allows-capture : (side : Side) (o : Option Man) → Allows Capture side o ↔ (is_of_side (other_side side) o ≡ true)
 Allows-capture side None = (λ h. absurd h, λ h. absurd (false≢true h))
-Allows-capture side (Some u) = (λ e. side-foe side u.side u.kind e, λ h. foe-side side u.side u.kind h)
+Allows-capture side (Some u) = (λ e. is_own (other_side side) u e, λ h. own_unit_side (other_side side) u h)
 
 pub Allows-move : (side : Side) (o : Option Man) → Allows Move side o ↔ (o ≡ None)
 Allows-move side None = (λ _. refl, λ _. tt)
@@ -80,7 +70,7 @@ is_both Move = false
 is_both Capture = false
 is_both Both = true
 
-both_is : (m : Mode) → is_both m ≡ true → m ≡ Both
+pub both_is : (m : Mode) → is_both m ≡ true → m ≡ Both
 both_is Move e = absurd (false≢true e)
 both_is Capture e = absurd (false≢true e)
 both_is Both e = refl
@@ -133,9 +123,6 @@ move_step step (zero, t, h, e, ts) m =
     ] in
     (ts.rider ∙ r, ahead.0, ahead.1)
   where
-    zero_of : (z : ℤ) → unsigned_abs z ≡ 0 → z ≡ pos 0
-    zero_of z e = omega (arith, ints, e)
-
     one_of : (z : ℤ) → unsigned_abs z ≡ 1 → pos 0 <ℤ z → z ≡ pos 1
     one_of z e p = omega (arith, ints, e, p)
 move_step step (suc zero, t, h, e, ts) m = cc (sym m ∙ ts.mode ∙ sym (ap (λ (x : Term). x.mode) e))

@@ -3,7 +3,7 @@ use Rattle.std.proofs.Common.{◌≡◌, ℕ, ◌≤◌, zero, suc, refl, sym, a
 use Rattle.std.specs.List.{list_all}
 use Rattle.std.specs.Int.RustNames.{unsigned_abs}
 use Rattle.std.proofs.lemmas.Int.{ints}
-use Rattle.std.proofs.lemmas.Bool.{false≢true, and_parts, leb-true}
+use Rattle.std.proofs.lemmas.Bool.{false≢true, not-true, and_parts, leb-true}
 use Rattle.std.proofs.lemmas.List.Sums.{AllPass-from_list_all}
 use Rattle.std.proofs.lemmas.List.Elements.{All-contains}
 use Rattle.board.specs.declared.game.Side.{Side}
@@ -39,10 +39,8 @@ one_of (pos (suc (suc n))) e = absurd (omega (arith, e))
 one_of (negsuc zero) e = inr refl
 one_of (negsuc (suc n)) e = absurd (omega (arith, e))
 
-zero_of : (z : ℤ) → unsigned_abs z ≡ 0 → z ≡ pos 0
-zero_of (pos zero) e = refl
-zero_of (pos (suc n)) e = absurd (omega (arith, e))
-zero_of (negsuc n) e = absurd (omega (arith, e))
+pub zero_of : (z : ℤ) → unsigned_abs z ≡ 0 → z ≡ pos 0
+zero_of z e = omega (arith, ints, e)
 
 -- the way of a step, for each side
 record HasWay (R : PlainBoard → ℕ → ℕ → Type 0) (side : Side) (step : Step) : Type 0 where
@@ -227,14 +225,10 @@ module _ (b : PlainBoard) (side : Side) (i j : ℕ) (c : IsCell b.game i) where
   abbrev is_leap : Step → Bool
   is_leap s = not s.rider && leb (unsigned_abs s.dx) 2
 
-  not_true : (r : Bool) → not r ≡ true → r ≡ false
-  not_true true e = absurd (false≢true e)
-  not_true false e = refl
-
   leaps : (kind : Kind) → list_all is_leap (table_of kind) ≡ true → (step : Step) → Denotes (terms_of kind) step → (step.rider ≡ false) × (unsigned_abs step.dx ≤ 2)
   leaps kind all step denoted =
       let w = and_parts (not step.rider) _ (All-contains (λ x. is_leap x ≡ true) (table_of kind) step (AllPass-from_list_all is_leap (table_of kind) all) ((table_of-exact kind step).1 denoted)) in
-      (not_true step.rider w.0, leb-true _ _ w.1)
+      (not-true step.rider w.0, leb-true _ _ w.1)
 
   single : (step : Step) (s t : Place) → step.rider ≡ false → Leads b side step s t → IsStep side step s t
   single step s t e (once on a) = a
@@ -267,12 +261,8 @@ pawn_leaps_all = refl
 abbrev is_single : Step → Bool
 is_single s = not s.rider
 
-not_rider : (r : Bool) → not r ≡ true → r ≡ false
-not_rider true e = absurd (false≢true e)
-not_rider false e = refl
-
 singles : (kind : Kind) → list_all is_single (table_of kind) ≡ true → (step : Step) → Denotes (terms_of kind) step → step.rider ≡ false
-singles kind all step denoted = not_rider step.rider (All-contains (λ x. is_single x ≡ true) (table_of kind) step (AllPass-from_list_all is_single (table_of kind) all) ((table_of-exact kind step).1 denoted))
+singles kind all step denoted = not-true step.rider (All-contains (λ x. is_single x ≡ true) (table_of kind) step (AllPass-from_list_all is_single (table_of kind) all) ((table_of-exact kind step).1 denoted))
 
 -- the way that a rider of a class goes
 pub record RidesAs (side : Side) (kind : Kind) (step : Step) : Type 0 where

@@ -20,14 +20,13 @@ use Rattle.moves.specs.Sets.{IsOf, StandsAs, Holds, Shows, HasMoved, AreMoved, A
 use Rattle.cells.proofs.CellNumbers.{IsCell-cell_of, place_in-cell_of, cell_of-place_in}
 use Rattle.cells.proofs.Reached.{same_cell}
 use Rattle.rules.proofs.Keeps.{to_on_board}
+use Rattle.moves.proofs.Guarding.{own_unit_side, is_own}
+use Rattle.moves.proofs.Pins.{no_unit}
 use Rattle.moves.proofs.Laying.{unit_at-to, unit_at-from, unit_at-other}
 use Rattle.rules.proofs.Listed.{same_number, number_within}
 use Rattle.cells.proofs.Masks.{Has-or, Has-zero, Has-clear, Has-minus, and_fits}
 
 -- ---- units of a side
-
-no_Some : {x : Man} → None ≡ Some x → ⊥
-no_Some e = cc
 
 side_is : (s : Side) → (s ≡ side.White) ⊎ (s ≡ side.Black)
 side_is side.White = inl refl
@@ -37,34 +36,16 @@ taken_by : (o : Option Man) → (o ≡ None → ⊥) → (u : Man) × (o ≡ Som
 taken_by None h = absurd (h refl)
 taken_by (Some u) h = (u, refl)
 
-of_white : (o : Option Man) → is_of_side side.White o ≡ true → (u : Man) × (o ≡ Some u) × (u.side ≡ side.White)
-of_white None e = absurd (false≢true e)
-of_white (Some u) e = (u, refl, white u.side e)
-  where
-    white : (s : Side) → is_of_side side.White (Some (record { side = s; kind = u.kind })) ≡ true → s ≡ side.White
-    white side.White e = refl
-    white side.Black e = absurd (false≢true e)
-
-of_black : (o : Option Man) → is_of_side side.Black o ≡ true → (u : Man) × (o ≡ Some u) × (u.side ≡ side.Black)
-of_black None e = absurd (false≢true e)
-of_black (Some u) e = (u, refl, black u.side e)
-  where
-    black : (s : Side) → is_of_side side.Black (Some (record { side = s; kind = u.kind })) ≡ true → s ≡ side.Black
-    black side.White e = absurd (false≢true e)
-    black side.Black e = refl
-
-is_white : (u : Man) → u.side ≡ side.White → is_of_side side.White (Some u) ≡ true
-is_white u e = ap (λ s. is_of_side side.White (Some (record { side = s; kind = u.kind }))) e
-
-is_black : (u : Man) → u.side ≡ side.Black → is_of_side side.Black (Some u) ≡ true
-is_black u e = ap (λ s. is_of_side side.Black (Some (record { side = s; kind = u.kind }))) e
+of_side : (s : Side) (o : Option Man) → is_of_side s o ≡ true → (u : Man) × (o ≡ Some u) × (u.side ≡ s)
+of_side s None e = absurd (false≢true e)
+of_side s (Some u) e = (u, refl, own_unit_side s u e)
 
 module _ (b : PlainBoard) (s : Sets) (shows : Shows b s) where
   pub taken-shown : (i : ℕ) → Has (bit_or s.white s.black) i ↔ (IsCell b.game i × (unit_at b (place_in i) ≡ None → ⊥))
   taken-shown i = (
     λ h. elim ((Has-or s.white s.black i).0 h) [
-      | inl w ↦ let (c, at) = (shows.white i).0 w in (c, λ none. no_Some (sym none ∙ at.stands))
-      | inr w ↦ let (c, at) = (shows.black i).0 w in (c, λ none. no_Some (sym none ∙ at.stands))
+      | inl w ↦ let (c, at) = (shows.white i).0 w in (c, λ none. no_unit (sym none ∙ at.stands))
+      | inr w ↦ let (c, at) = (shows.black i).0 w in (c, λ none. no_unit (sym none ∙ at.stands))
     ],
     λ (c, some).
         let (u, e) = taken_by (unit_at b (place_in i)) some in
@@ -74,16 +55,10 @@ module _ (b : PlainBoard) (s : Sets) (shows : Shows b s) where
         ]),
   )
 
-pub white-shown : (b : PlainBoard) (set : ℕ) → Holds b White set → (i : ℕ) → Has set i ↔ (IsCell b.game i × (is_of_side side.White (unit_at b (place_in i)) ≡ true))
-white-shown b set holds i = (
-  λ h. let (c, at) = (holds i).0 h in (c, ap (is_of_side side.White) at.stands ∙ is_white at.unit at.is),
-  λ (c, e). let (u, stands, is) = of_white (unit_at b (place_in i)) e in (holds i).1 (c, record { unit = u; stands = stands; is = is }),
-)
-
-pub black-shown : (b : PlainBoard) (set : ℕ) → Holds b Black set → (i : ℕ) → Has set i ↔ (IsCell b.game i × (is_of_side side.Black (unit_at b (place_in i)) ≡ true))
-black-shown b set holds i = (
-  λ h. let (c, at) = (holds i).0 h in (c, ap (is_of_side side.Black) at.stands ∙ is_black at.unit at.is),
-  λ (c, e). let (u, stands, is) = of_black (unit_at b (place_in i)) e in (holds i).1 (c, record { unit = u; stands = stands; is = is }),
+pub side-shown : (b : PlainBoard) (class : Class) (s : Side) (set : ℕ) → ((u : Man) → IsOf class u ↔ (u.side ≡ s)) → Holds b class set → (i : ℕ) → Has set i ↔ (IsCell b.game i × (is_of_side s (unit_at b (place_in i)) ≡ true))
+side-shown b class s set is holds i = (
+  λ h. let (c, at) = (holds i).0 h in (c, ap (is_of_side s) at.stands ∙ is_own s at.unit ((is at.unit).0 at.is)),
+  λ (c, e). let (u, stands, own) = of_side s (unit_at b (place_in i)) e in (holds i).1 (c, record { unit = u; stands = stands; is = (is u).1 own }),
 )
 
 -- ---- a move
@@ -106,7 +81,7 @@ module _ (b : PlainBoard) (m : Ply) (u : Man) (is : IsPosition b) (p : IsPseudoL
           let there : placed u m ≡ at.unit = same_Some (placed u m) at.unit (sym (unit_at-to b m u is p) ∙ ap (unit_at (after b m u)) (sym (ap place_in same ∙ place_in-cell_of b.game m.to to)) ∙ at.stands) in
           (moved i).1 (inr (same, subst (IsOf class) (sym there) at.is))
       | inr apart ↦ elim (cases_eq i (cell_of m.from)) [
-        | inl same ↦ absurd (no_Some (sym (unit_at-from b m u is p) ∙ ap (unit_at (after b m u)) (sym (ap place_in same ∙ place_in-cell_of b.game m.from p.on_board)) ∙ at.stands))
+        | inl same ↦ absurd (no_unit (sym (unit_at-from b m u is p) ∙ ap (unit_at (after b m u)) (sym (ap place_in same ∙ place_in-cell_of b.game m.from p.on_board)) ∙ at.stands))
         | inr far ↦ (moved i).1 (inl ((holds i).1 (c, record { unit = at.unit; stands = sym (unit_at-other b m u is p (place_in i) c.on_board (not_from c far) (not_to c apart)) ∙ at.stands; is = at.is }), far, apart))
       ]
     ],
@@ -142,7 +117,7 @@ pub HeldBelow-none : (b : PlainBoard) (class : Class) (set n : ℕ) → unit_on 
 HeldBelow-none b class set n none held i = (
   λ h. let w = (held i).0 h in let l = w.1 in (w.0, omega (arith, l)),
   λ w. elim (cases_eq (square_number b.game (place_in i)) n) [
-    | inl same ↦ absurd (no_Some (sym none ∙ ap (unit_on b) (sym same) ∙ w.0.1.stands))
+    | inl same ↦ absurd (no_unit (sym none ∙ ap (unit_on b) (sym same) ∙ w.0.1.stands))
     | inr other ↦ let l = w.1 in (held i).1 (w.0, omega (arith, l, other))
   ],
 )
@@ -258,7 +233,7 @@ HasMoved-cells set from to class u r more fits f t is added i =
 
 pub none_from : (o : Option Man) → ((o ≡ None → ⊥) → ⊥) → o ≡ None
 none_from None h = refl
-none_from (Some u) h = absurd (h (λ e. no_Some (sym e)))
+none_from (Some u) h = absurd (h (λ e. no_unit (sym e)))
 
 pub empty-shown : (b : PlainBoard) (all taken : ℕ) → all < 2 ^ 64 → taken < 2 ^ 64 → ((i : ℕ) → Has all i ↔ IsCell b.game i) → ((i : ℕ) → Has taken i ↔ (IsCell b.game i × (unit_at b (place_in i) ≡ None → ⊥)))
     → (i : ℕ) → Has (bit_and all (bit_not w64 taken)) i ↔ (IsCell b.game i × (unit_at b (place_in i) ≡ None))

@@ -17,7 +17,8 @@ use Rattle.moves.specs.declared.sets.Class.{Class}
 use Rattle.moves.specs.declared.sets.Class.TheVariants.{Crowned, Straight, Slanted, Horsed, Foot}
 use Rattle.moves.specs.Looking.{Aims, IsSwept}
 use Rattle.moves.specs.Sets.{IsOf, Holds}
-use Rattle.moves.proofs.Attacking.{own_foe, foe_own, line_too as line_seen, slant_too as slant_seen}
+use Rattle.moves.proofs.Guarding.{is_own}
+use Rattle.moves.proofs.Attacking.{own_foe, line_too as line_seen, slant_too as slant_seen}
 use Rattle.moves.proofs.Looking.{captures_from, attacks_on}
 use Rattle.moves.proofs.Seeing.{rook_step, bishop_step, queen_step}
 
@@ -49,7 +50,7 @@ module _ (b : PlainBoard) (is : IsPosition b) (side : Side) (foes : ℕ) (owns :
     sweeps : (q : Kind) (i j : ℕ) (u : Man) → IsCell b.game i → IsCell b.game j → unit_at b (place_in i) ≡ Some u → u.side ≡ other_side side → IsOf class u → Aims b (foe q) (place_in i) (place_in j) → IsSwept b (foe q) (bit_and foes set) j
     sweeps q i j u from to stands owner of a = record {
       from = i;
-      there = (Has-and foes set i).1 ((owns i).1 (from, ap (is_of_side (other_side side)) stands ∙ foe_own side u owner), (holds i).1 (from, record { unit = u; stands = stands; is = of }));
+      there = (Has-and foes set i).1 ((owns i).1 (from, ap (is_of_side (other_side side)) stands ∙ is_own (other_side side) u owner), (holds i).1 (from, record { unit = u; stands = stands; is = of }));
       cell = from;
       to = to;
       aims = a;

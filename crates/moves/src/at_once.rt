@@ -1,5 +1,5 @@
 //! What the side to move can reach with its next move.
-ghost use Rattle.std.specs.Prelude.{◌≡◌, ◌↔◌, IsTrue, IfSome, Some, true, false, ℕ};
+ghost use Rattle.std.specs.Prelude.{◌≡◌, ◌↔◌, IsTrue, Some, true, false, ℕ};
 ghost use Rattle.board.specs.Board.{IsPosition, is_of_side};
 ghost use Rattle.rules.specs.declared.goal.Goal.TheVariants.{Mate};
 ghost use Rattle.rules.specs.Squares.{Ply, unit_at};
@@ -9,7 +9,6 @@ ghost use Rattle.cells.specs.Mailbox.{cell_of, place_in, IsCell};
 ghost use Rattle.cells.specs.CellSets.{Has};
 ghost use Rattle.moves.specs.Targets.{IsTarget};
 ghost use Rattle.moves.specs.Safe.{IsNamed};
-ghost use Rattle.moves.specs.Guard.{Guards};
 ghost use Rattle.moves.specs.Checking.{Attains, Seeks};
 
 use crate::any_move::{has_move, is_mated};
@@ -152,24 +151,13 @@ fn attains_in(board: &Board, quest: Quest, cell: u8) -> bool
     })
 }
 
-/// What the mover's king asks of each move, if it is in check.
-fn guard_if_checked(board: &Board) -> Option<Guard>
-    ensures { IfSome result (Guards board.now) }
-{
-    if mover_in_check(board) {
-        Some(guard_of(board))
-    } else {
-        None
-    }
-}
-
 /// Whether some lawful move of the side to move brings the other side where the goal wants it.
 pub fn reaches_at_once(board: &Board, goal: Goal) -> bool
     ensures { IsTrue result ↔ Forces goal board.now.mover board.now 1 }
 {
     let watch = watch_of(board);
     let guard = match (goal, watch) {
-        (Goal::Mate, Some(_)) => guard_if_checked(board),
+        (Goal::Mate, Some(_)) if !mover_in_check(board) => None,
         _ => Some(guard_of(board)),
     };
     let quest = Quest { goal, guard, watch };
