@@ -24,9 +24,6 @@ use Rattle.rules.specs.Reach.{ahead_of, IsStep, Leads, Allows, AttacksFrom}
 use Rattle.rules.specs.Reach.Leads.{once, again}
 use Rattle.moves.specs.Looking.{Aims}
 
-no_Some : {X : Type 0} {x : X} → None ≡ Some x → ⊥
-no_Some e = cc
-
 pub other_twice : (side : Side) → other_side (other_side side) ≡ side
 other_twice White = refl
 other_twice Black = refl

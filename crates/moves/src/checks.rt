@@ -1,7 +1,7 @@
 //! Moves that may give check.
 ghost use Rattle.std.specs.Prelude.{◌≡◌, ◌↔◌, ℕ, IsTrue, IfSome, Some};
 ghost use Rattle.board.specs.Board.{IsPosition};
-ghost use Rattle.board.specs.Games.{IsPlayed, other_side};
+ghost use Rattle.board.specs.Games.{other_side};
 ghost use Rattle.rules.specs.Squares.{Place, Ply, unit_at};
 ghost use Rattle.rules.specs.Reach.{Reaches, IsInCheck};
 ghost use Rattle.rules.specs.Moves.{Promotes, IsPseudoLegal, after};
@@ -57,14 +57,12 @@ pub(crate) fn watch_of(board: &Board) -> Option<Watch>
 /// Cells among which are all from which the unit would take on the king's, and to which it may move.
 fn aiming(board: &Board, watch: Watch, unit: Unit) -> u64
     requires watches { Watches board.now watch }
-    requires played { IsPlayed board.now.game unit.kind }
     ensures { (m : Ply) → IsPseudoLegal board.now m unit → Aims board.now unit m.to (place_in watch.king)
         → Has result (cell_of m.to) }
 {
     match unit.kind {
-        Kind::Pawn => seen(board, unit.side.other(), Kind::Pawn, watch.king),
         Kind::Knight => watch.leaps,
-        Kind::King | Kind::Queen | Kind::Rook | Kind::Bishop => targets(board, unit, watch.king),
+        kind => seen(board, unit.side.other(), kind, watch.king),
     }
 }
 
