@@ -20,7 +20,7 @@ use Rattle.moves.specs.Looking.{Aims, AreAttacked}
 use Rattle.cells.specs.CellSets.{Has}
 use Rattle.moves.specs.Sets.{IsOf, Holds}
 use Rattle.cells.proofs.CellNumbers.{IsCell-cell_of, place_in-cell_of}
-use Rattle.cells.proofs.Masks.{Has-and, Has-or, Has-zero, lowest-has}
+use Rattle.cells.proofs.Masks.{Has-and, Has-or, Has-four, Has-zero, lowest-has}
 use Rattle.moves.proofs.Guarding.{own_unit_side, is_own}
 use Rattle.moves.proofs.Kings.{king_of, check_at}
 use Rattle.moves.proofs.Looking.{Aims-attacked, attacks_back}
@@ -30,13 +30,31 @@ pub own_foe : (side : Side) (o : Option Man) (u : Man) → is_of_side (other_sid
 own_foe side None u e s = cc
 own_foe side (Some v) u e s = ap (λ (x : Man). x.side) (sym (same_Some v u s)) ∙ own_unit_side (other_side side) v e
 
+-- five sets joined
+pub Has-five : (r s n k p j : ℕ) → Has (bit_or (bit_or (bit_or (bit_or r s) n) k) p) j ↔ (Has r j ⊎ (Has s j ⊎ (Has n j ⊎ (Has k j ⊎ Has p j))))
+Has-five r s n k p j =
+    let four = Has-four r s n k j in
+    let five = Has-or (bit_or (bit_or (bit_or r s) n) k) p j in (
+      λ h. elim (five.0 h) [
+        | inr x ↦ inr (inr (inr (inr x)))
+        | inl w ↦ elim (four.0 w) [ inl x ↦ inl x | inr (inl x) ↦ inr (inl x) | inr (inr (inl x)) ↦ inr (inr (inl x)) | inr (inr (inr x)) ↦ inr (inr (inr (inl x))) ]
+      ],
+      λ w. five.1 (elim w [
+        | inl x ↦ inl (four.1 (inl x))
+        | inr (inl x) ↦ inl (four.1 (inr (inl x)))
+        | inr (inr (inl x)) ↦ inl (four.1 (inr (inr (inl x))))
+        | inr (inr (inr (inl x))) ↦ inl (four.1 (inr (inr (inr x))))
+        | inr (inr (inr (inr x))) ↦ inr x
+      ]),
+    )
+
 module _ (b : PlainBoard) (is : IsPosition b) (side : Side) (i : ℕ) (c : IsCell b.game i) where
   -- the unit's cell, from which it attacks
   abbrev pub Attacks : ℕ → Type 0
   Attacks j = IsCell b.game j × AttacksFrom b (other_side side) (place_in j) (place_in i)
 
   -- among the foes of a class those that are seen as a kind
-  abbrev Struck : Kind → ℕ → ℕ → Type 0
+  abbrev pub Struck : Kind → ℕ → ℕ → Type 0
   Struck kind among j = Has among j × IsCell b.game j × Aims b (record { side = side; kind = kind }) (place_in i) (place_in j)
 
   attack : (u : Man) (j : ℕ) → IsCell b.game j → unit_at b (place_in j) ≡ Some u → u.side ≡ other_side side → Aims b (record { side = side; kind = u.kind }) (place_in i) (place_in j) → Attacks j
@@ -87,51 +105,53 @@ module _ (b : PlainBoard) (is : IsPosition b) (side : Side) (i : ℕ) (c : IsCel
     pub kind_too : (class : Class) (q : Kind) → ((u : Man) → IsOf class u → u.kind ≡ q) → (u : Man) → IsOf class u → (j : ℕ) → Aims b (record { side = side; kind = q }) (place_in i) (place_in j) → Aims b (record { side = side; kind = u.kind }) (place_in i) (place_in j)
     kind_too class q only u of j a = subst (λ x. Aims b (record { side = side; kind = x }) (place_in i) (place_in j)) (sym (only u of)) a
 
-    module _ (straight slanted knights kings pawns : ℕ) (hs : Holds b Straight straight) (hl : Holds b Slanted slanted) (hn : Holds b Horsed knights) (hk : Holds b Crowned kings) (hp : Holds b Foot pawns)
-        (r s n k p : ℕ)
-        (er : (j : ℕ) → Has r j ↔ Struck Rook (bit_and foes straight) j) (es : (j : ℕ) → Has s j ↔ Struck Bishop (bit_and foes slanted) j) (en : (j : ℕ) → Has n j ↔ Struck Knight (bit_and foes knights) j)
-        (ek : (j : ℕ) → Has k j ↔ Struck King (bit_and foes kings) j) (ep : (j : ℕ) → Has p j ↔ Struck Pawn (bit_and foes pawns) j) where
-      plain : (class : Class) (q : Kind) (set : ℕ) → Holds b class set → ((u : Man) → IsOf class u → u.kind ≡ q) → (j : ℕ) → Struck q (bit_and foes set) j → Attacks j
-      plain class q set holds only = struck-one class q set holds (kind_too class q only)
+    module _ (straight slanted knights kings pawns : ℕ) (hs : Holds b Straight straight) (hl : Holds b Slanted slanted) (hn : Holds b Horsed knights) (hk : Holds b Crowned kings) (hp : Holds b Foot pawns) where
+      -- a foe that is seen as a kind of its class
+      abbrev pub InFive : ℕ → Type 0
+      InFive j = Struck Rook (bit_and foes straight) j ⊎ (Struck Bishop (bit_and foes slanted) j ⊎ (Struck Knight (bit_and foes knights) j ⊎ (Struck King (bit_and foes kings) j ⊎ Struck Pawn (bit_and foes pawns) j)))
 
-      seen_as : (j : ℕ) → (a : AttacksFrom b (other_side side) (place_in j) (place_in i)) → IsCell b.game j → (q : Kind) → a.unit.kind ≡ q → Has r j ⊎ (Has s j ⊎ (Has n j ⊎ (Has k j ⊎ Has p j)))
-      seen_as j a d King e = inr (inr (inr (inl ((ek j).1 (at_foe Crowned kings hk a.unit j d a.stands a.owner e, d, subst (λ q. Aims b (record { side = side; kind = q }) (place_in i) (place_in j)) e (aims j a))))))
-      seen_as j a d Queen e =
-          let w = subst (λ q. Aims b (record { side = side; kind = q }) (place_in i) (place_in j)) e (aims j a) in
-          elim ((queen_step b side i j c w.step).0 w.denoted) [
-            | inl x ↦ inl ((er j).1 (at_foe Straight straight hs a.unit j d a.stands a.owner (inl e), d, record { step = w.step; denoted = (rook_step b side i j c w.step).1 x; captures = w.captures; leads = w.leads }))
-            | inr x ↦ inr (inl ((es j).1 (at_foe Slanted slanted hl a.unit j d a.stands a.owner (inl e), d, record { step = w.step; denoted = (bishop_step b side i j c w.step).1 x; captures = w.captures; leads = w.leads })))
-          ]
-      seen_as j a d Rook e = inl ((er j).1 (at_foe Straight straight hs a.unit j d a.stands a.owner (inr e), d, subst (λ q. Aims b (record { side = side; kind = q }) (place_in i) (place_in j)) e (aims j a)))
-      seen_as j a d Bishop e = inr (inl ((es j).1 (at_foe Slanted slanted hl a.unit j d a.stands a.owner (inr e), d, subst (λ q. Aims b (record { side = side; kind = q }) (place_in i) (place_in j)) e (aims j a))))
-      seen_as j a d Knight e = inr (inr (inl ((en j).1 (at_foe Horsed knights hn a.unit j d a.stands a.owner e, d, subst (λ q. Aims b (record { side = side; kind = q }) (place_in i) (place_in j)) e (aims j a)))))
-      seen_as j a d Pawn e = inr (inr (inr (inr ((ep j).1 (at_foe Foot pawns hp a.unit j d a.stands a.owner e, d, subst (λ q. Aims b (record { side = side; kind = q }) (place_in i) (place_in j)) e (aims j a))))))
+      seen_as : (j : ℕ) → (a : AttacksFrom b (other_side side) (place_in j) (place_in i)) → IsCell b.game j → (q : Kind) → a.unit.kind ≡ q → Aims b (record { side = side; kind = q }) (place_in i) (place_in j) → InFive j
+      seen_as j a d King e w = inr (inr (inr (inl (at_foe Crowned kings hk a.unit j d a.stands a.owner e, d, w))))
+      seen_as j a d Queen e w = elim ((queen_step b side i j c w.step).0 w.denoted) [
+        | inl x ↦ inl (at_foe Straight straight hs a.unit j d a.stands a.owner (inl e), d, record { step = w.step; denoted = (rook_step b side i j c w.step).1 x; captures = w.captures; leads = w.leads })
+        | inr x ↦ inr (inl (at_foe Slanted slanted hl a.unit j d a.stands a.owner (inl e), d, record { step = w.step; denoted = (bishop_step b side i j c w.step).1 x; captures = w.captures; leads = w.leads }))
+      ]
+      seen_as j a d Rook e w = inl (at_foe Straight straight hs a.unit j d a.stands a.owner (inr e), d, w)
+      seen_as j a d Bishop e w = inr (inl (at_foe Slanted slanted hl a.unit j d a.stands a.owner (inr e), d, w))
+      seen_as j a d Knight e w = inr (inr (inl (at_foe Horsed knights hn a.unit j d a.stands a.owner e, d, w)))
+      seen_as j a d Pawn e w = inr (inr (inr (inr (at_foe Foot pawns hp a.unit j d a.stands a.owner e, d, w))))
 
-      pub attackers-are : (j : ℕ) → Has (bit_or (bit_or (bit_or (bit_or r s) n) k) p) j ↔ Attacks j
-      attackers-are j = (
-        λ h. elim ((Has-or (bit_or (bit_or (bit_or r s) n) k) p j).0 h) [
-          | inl x ↦ elim ((Has-or (bit_or (bit_or r s) n) k j).0 x) [
-            | inl y ↦ elim ((Has-or (bit_or r s) n j).0 y) [
-              | inl z ↦ elim ((Has-or r s j).0 z) [ inl w ↦ struck-one Straight Rook straight hs line_too j ((er j).0 w) | inr w ↦ struck-one Slanted Bishop slanted hl slant_too j ((es j).0 w) ]
-              | inr z ↦ plain Horsed Knight knights hn (λ u e. e) j ((en j).0 z)
-            ]
-            | inr y ↦ plain Crowned King kings hk (λ u e. e) j ((ek j).0 y)
-          ]
-          | inr x ↦ plain Foot Pawn pawns hp (λ u e. e) j ((ep j).0 x)
+      pub in_five : (j : ℕ) → InFive j ↔ Attacks j
+      in_five j = (
+        λ w. elim w [
+          | inl x ↦ struck-one Straight Rook straight hs line_too j x
+          | inr (inl x) ↦ struck-one Slanted Bishop slanted hl slant_too j x
+          | inr (inr (inl x)) ↦ struck-one Horsed Knight knights hn (kind_too Horsed Knight (λ u e. e)) j x
+          | inr (inr (inr (inl x))) ↦ struck-one Crowned King kings hk (kind_too Crowned King (λ u e. e)) j x
+          | inr (inr (inr (inr x))) ↦ struck-one Foot Pawn pawns hp (kind_too Foot Pawn (λ u e. e)) j x
         ],
-        λ (d, a).
-            let or4 = Has-or (bit_or (bit_or (bit_or r s) n) k) p j in
-            let or3 = Has-or (bit_or (bit_or r s) n) k j in
-            let or2 = Has-or (bit_or r s) n j in
-            let or1 = Has-or r s j in
-            elim (seen_as j a d a.unit.kind (λ _. a.unit.kind)) [
-              | inl x ↦ or4.1 (inl (or3.1 (inl (or2.1 (inl (or1.1 (inl x)))))))
-              | inr (inl x) ↦ or4.1 (inl (or3.1 (inl (or2.1 (inl (or1.1 (inr x)))))))
-              | inr (inr (inl x)) ↦ or4.1 (inl (or3.1 (inl (or2.1 (inr x)))))
-              | inr (inr (inr (inl x))) ↦ or4.1 (inl (or3.1 (inr x)))
-              | inr (inr (inr (inr x))) ↦ or4.1 (inr x)
-            ],
+        λ (d, a). seen_as j a d a.unit.kind (λ _. a.unit.kind) (aims j a),
       )
+
+      module _ (r s n k p : ℕ) (er : (j : ℕ) → Has r j ↔ Struck Rook (bit_and foes straight) j) (es : (j : ℕ) → Has s j ↔ Struck Bishop (bit_and foes slanted) j) (en : (j : ℕ) → Has n j ↔ Struck Knight (bit_and foes knights) j)
+          (ek : (j : ℕ) → Has k j ↔ Struck King (bit_and foes kings) j) (ep : (j : ℕ) → Has p j ↔ Struck Pawn (bit_and foes pawns) j) where
+        pub attackers-are : (j : ℕ) → Has (bit_or (bit_or (bit_or (bit_or r s) n) k) p) j ↔ Attacks j
+        attackers-are j = (
+          λ h. (in_five j).0 (elim ((Has-five r s n k p j).0 h) [
+            | inl x ↦ inl ((er j).0 x)
+            | inr (inl x) ↦ inr (inl ((es j).0 x))
+            | inr (inr (inl x)) ↦ inr (inr (inl ((en j).0 x)))
+            | inr (inr (inr (inl x))) ↦ inr (inr (inr (inl ((ek j).0 x))))
+            | inr (inr (inr (inr x))) ↦ inr (inr (inr (inr ((ep j).0 x))))
+          ]),
+          λ w. (Has-five r s n k p j).1 (elim ((in_five j).1 w) [
+            | inl x ↦ inl ((er j).1 x)
+            | inr (inl x) ↦ inr (inl ((es j).1 x))
+            | inr (inr (inl x)) ↦ inr (inr (inl ((en j).1 x)))
+            | inr (inr (inr (inl x))) ↦ inr (inr (inr (inl ((ek j).1 x))))
+            | inr (inr (inr (inr x))) ↦ inr (inr (inr (inr ((ep j).1 x))))
+          ]),
+        )
 
   -- some unit attacks the cell where the set isn't empty
   pub none-attacks : (set : ℕ) → ((j : ℕ) → Has set j ↔ Attacks j) → set ≡ 0 → IsAttacked b (place_in i) (other_side side) → ⊥

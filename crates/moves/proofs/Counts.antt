@@ -86,82 +86,74 @@ module _ (b : PlainBoard) (u : Man) (from to : Place) (on : IsOnBoard b.game fro
   abbrev move_to : Option Kind → Ply
   move_to o = record { from = from; to = to; promotion = o }
 
-  -- one that is lawful comes into the list
-  take_move : (i j : ℕ) (o : Option Kind) (xs : List Ply) → promotion_number o ≡ i → i + 1 ≡ j → IsLawful b (move_to o) → ListsBelow b (first + i) xs → ListsBelow b (first + j) (xs ++ move_to o ∷ [])
-  take_move i j o xs at next lawful lists =
-      let here : ply_number b.game (move_to o) ≡ first + i = ap (λ x. first + x) at in
-      let same : first + i + 1 ≡ first + j = omega (arith, next) in
-      subst (λ n. ListsBelow b n (xs ++ move_to o ∷ [])) same (ListsBelow-push b (first + i) xs (move_to o) lists lawful here)
+  module _ (xs : List Ply) where
+    -- of those whose promotion is numbered below i, n are lawful, and come into the list
+    abbrev Taken : ℕ → ℕ → Type 0
+    Taken i n = (more : List Ply) × ListsBelow b (first + i) more × (length more ≡ length xs + n)
 
-  -- one that isn't is left out
-  leave_move : (i j : ℕ) (o : Option Kind) (xs : List Ply) → promotion_number o ≡ i → i < 5 → i + 1 ≡ j → (IsLawful b (move_to o) → ⊥) → ListsBelow b (first + i) xs → ListsBelow b (first + j) xs
-  leave_move i j o xs at low next unlawful lists =
-      let here : ply_number b.game (move_to o) ≡ first + i = ap (λ x. first + x) at in
-      let same : first + i + 1 ≡ first + j = omega (arith, next) in
-      let numbered : IsNumbered b (move_to o) = record { from = on; to = on_to; promotion = omega (arith, at, low) } in
-      subst (λ n. ListsBelow b n xs) same (ListsBelow-skip b (first + i) xs (move_to o) lists numbered here unlawful)
+    take : (i n : ℕ) (o : Option Kind) → promotion_number o ≡ i → IsLawful b (move_to o) → Taken i n → Taken (i + 1) (n + 1)
+    take i n o at lawful (more, lists, count) =
+        let here : ply_number b.game (move_to o) ≡ first + i = ap (λ x. first + x) at in
+        let same : first + i + 1 ≡ first + (i + 1) = omega arith in (
+          more ++ move_to o ∷ [],
+          subst (λ k. ListsBelow b k (more ++ move_to o ∷ [])) same (ListsBelow-push b (first + i) more (move_to o) lists lawful here),
+          omega (arith, length-append more (move_to o ∷ []), count),
+        )
 
-  module _ (lawful : (m : Ply) → m.from ≡ from → m.to ≡ to → IsNamed b.game u m → IsLawful b m) where
-    lawful_as : (o : Option Kind) → (IsSome o ↔ Promotes b.game u to) → IfSome o (IsPromotion b.game) → IsLawful b (move_to o)
-    lawful_as o named allowed = lawful (move_to o) refl refl (record { named = named; allowed = allowed })
+    leave : (i n : ℕ) (o : Option Kind) → promotion_number o ≡ i → i < 5 → (IsLawful b (move_to o) → ⊥) → Taken i n → Taken (i + 1) n
+    leave i n o at low unlawful (more, lists, count) =
+        let here : ply_number b.game (move_to o) ≡ first + i = ap (λ x. first + x) at in
+        let same : first + i + 1 ≡ first + (i + 1) = omega arith in
+        let numbered : IsNumbered b (move_to o) = record { from = on; to = on_to; promotion = omega (arith, at, low) } in
+        (more, subst (λ k. ListsBelow b k more) same (ListsBelow-skip b (first + i) more (move_to o) lists numbered here unlawful), count)
 
-    -- a move that names no promotion is the only one where none is due
-    take_one : (xs : List Ply) → (Promotes b.game u to → ⊥) → ListsBelow b first xs
-        → (more : List Ply) × ListsBelow b ((square_number b.game from * 36 + square_number b.game to + 1) * 5) more × (length more ≡ length xs + 1)
-    take_one xs not lists =
-        let more = xs ++ move_to None ∷ [] in
-        let start : first ≡ first + 0 = omega arith in
-        let one = take_move 0 1 None xs refl refl (lawful_as None ((λ e. cc), λ p. absurd (not p)) tt) (subst (λ n. ListsBelow b n xs) start lists) in
-        (more, ListsBelow-promoted b (square_number b.game to) 1 more u from to on on_to refl stands (omega arith) (λ p. absurd (not p)) (omega arith) one, length-append xs (move_to None ∷ []))
+    start : ListsBelow b first xs → Taken 0 0
+    start lists = let same : first ≡ first + 0 = omega arith in (xs, subst (λ n. ListsBelow b n xs) same lists, omega arith)
 
-    module _ (due : Promotes b.game u to) where
-      not_none : IsLawful b (move_to None) → ⊥
-      not_none l = not_some ((promotes_well b (move_to None) u stands l).0.1 due)
-        where
-          not_some : IsSome {T = Kind} None → ⊥
-          not_some e = cc
+    -- of all of them n are lawful
+    abbrev TakenAll : ℕ → Type 0
+    TakenAll n = (more : List Ply) × ListsBelow b ((square_number b.game from * 36 + square_number b.game to + 1) * 5) more × (length more ≡ length xs + n)
 
-      promoted : (k : Kind) → IsPromotion b.game k → IsLawful b (move_to (Some k))
-      promoted k may = lawful_as (Some k) ((λ _. due), (λ _. refl)) may
+    whole : (i n : ℕ) → i ≤ 5 → (Promotes b.game u to → i ≡ 5) → 1 ≤ i → Taken i n → TakenAll n
+    whole i n few five some (more, lists, count) = (more, ListsBelow-promoted b (square_number b.game to) i more u from to on on_to refl stands few five some lists, count)
 
-      after_none : (xs : List Ply) → ListsBelow b first xs → ListsBelow b (first + 1) xs
-      after_none xs lists =
-          let start : first ≡ first + 0 = omega arith in
-          leave_move 0 1 None xs refl (omega arith) refl not_none (subst (λ n. ListsBelow b n xs) start lists)
+    module _ (lawful : (m : Ply) → m.from ≡ from → m.to ≡ to → IsNamed b.game u m → IsLawful b m) where
+      lawful_as : (o : Option Kind) → (IsSome o ↔ Promotes b.game u to) → IfSome o (IsPromotion b.game) → IsLawful b (move_to o)
+      lawful_as o named allowed = lawful (move_to o) refl refl (record { named = named; allowed = allowed })
 
-      all_promoted : (more : List Ply) → ListsBelow b (first + 5) more → ListsBelow b ((square_number b.game from * 36 + square_number b.game to + 1) * 5) more
-      all_promoted more lists = ListsBelow-promoted b (square_number b.game to) 5 more u from to on on_to refl stands (omega arith) (λ _. refl) (omega arith) lists
+      -- a move that names no promotion is the only one where none is due
+      take_one : (Promotes b.game u to → ⊥) → ListsBelow b first xs → TakenAll 1
+      take_one not lists = whole 1 1 (omega arith) (λ p. absurd (not p)) (omega arith) (take 0 0 None refl (lawful_as None ((λ e. cc), λ p. absurd (not p)) tt) (start lists))
 
-      three_long : (xs : List Ply) (p q r : Ply) → length (((xs ++ p ∷ []) ++ q ∷ []) ++ r ∷ []) ≡ length xs + 3
-      three_long xs p q r = omega (arith, length-append ((xs ++ p ∷ []) ++ q ∷ []) (r ∷ []), length-append (xs ++ p ∷ []) (q ∷ []), length-append xs (p ∷ []))
+      module _ (due : Promotes b.game u to) where
+        not_none : IsLawful b (move_to None) → ⊥
+        not_none l = not_some ((promotes_well b (move_to None) u stands l).0.1 due)
+          where
+            not_some : IsSome {T = Kind} None → ⊥
+            not_some e = cc
 
-      take_all : (g : Game) → b.game ≡ g → (xs : List Ply) → ListsBelow b first xs
-          → (more : List Ply) × ListsBelow b ((square_number b.game from * 36 + square_number b.game to + 1) * 5) more × (length more ≡ length xs + promotions_of g)
-      take_all LosAlamos e xs lists =
-          let may = λ (k : Kind) (h : IsPromotion LosAlamos k). subst (λ g. IsPromotion g k) (sym e) h in
-          let no_bishop : IsLawful b (move_to (Some Bishop)) → ⊥ = λ l. subst (λ g. IsPromotion g Bishop) e (promotes_well b (move_to (Some Bishop)) u stands l).1 in
-          let a = take_move 1 2 (Some Queen) xs refl refl (promoted Queen (may Queen tt)) (after_none xs lists) in
-          let c = take_move 2 3 (Some Rook) _ refl refl (promoted Rook (may Rook tt)) a in
-          let d = leave_move 3 4 (Some Bishop) _ refl (omega arith) refl no_bishop c in
-          let f = take_move 4 5 (Some Knight) _ refl refl (promoted Knight (may Knight tt)) d in
-          (_, all_promoted _ f, three_long xs _ _ _)
-      take_all Gardner e xs lists =
-          let may = λ (k : Kind) (h : IsPromotion Gardner k). subst (λ g. IsPromotion g k) (sym e) h in
-          let a = take_move 1 2 (Some Queen) xs refl refl (promoted Queen (may Queen tt)) (after_none xs lists) in
-          let c = take_move 2 3 (Some Rook) _ refl refl (promoted Rook (may Rook tt)) a in
-          let d = take_move 3 4 (Some Bishop) _ refl refl (promoted Bishop (may Bishop tt)) c in
-          let f = take_move 4 5 (Some Knight) _ refl refl (promoted Knight (may Knight tt)) d in
-          (_, all_promoted _ f, four_long)
-        where
-          four_long : length ((((xs ++ move_to (Some Queen) ∷ []) ++ move_to (Some Rook) ∷ []) ++ move_to (Some Bishop) ∷ []) ++ move_to (Some Knight) ∷ []) ≡ length xs + 4
-          four_long =
-              let three = three_long xs (move_to (Some Queen)) (move_to (Some Rook)) (move_to (Some Bishop)) in
-              omega (arith, three, length-append (((xs ++ move_to (Some Queen) ∷ []) ++ move_to (Some Rook) ∷ []) ++ move_to (Some Bishop) ∷ []) (move_to (Some Knight) ∷ []))
+        promoted : (k : Kind) → IsPromotion b.game k → IsLawful b (move_to (Some k))
+        promoted k may = lawful_as (Some k) ((λ _. due), (λ _. refl)) may
 
-    pub take_each : (each : ℕ) → IsEach b.game u to each → (xs : List Ply) → ListsBelow b first xs
-        → (more : List Ply) × ListsBelow b ((square_number b.game from * 36 + square_number b.game to + 1) * 5) more × (length more ≡ length xs + each)
-    take_each each (inl (due, e)) xs lists = let w = take_all due b.game refl xs lists in (w.0, w.1, w.2 ∙ ap (λ n. length xs + n) (sym e))
-    take_each each (inr (not, e)) xs lists = let w = take_one xs not lists in (w.0, w.1, w.2 ∙ ap (λ n. length xs + n) (sym e))
+        -- the queen and the rook come first
+        two : (g : Game) → b.game ≡ g → IsPromotion g Queen → IsPromotion g Rook → ListsBelow b first xs → Taken 3 2
+        two g e queen rook lists =
+            take 2 1 (Some Rook) refl (promoted Rook (subst (λ x. IsPromotion x Rook) (sym e) rook))
+            (take 1 0 (Some Queen) refl (promoted Queen (subst (λ x. IsPromotion x Queen) (sym e) queen)) (leave 0 0 None refl (omega arith) not_none (start lists)))
+
+        take_all : (g : Game) → b.game ≡ g → ListsBelow b first xs → TakenAll (promotions_of g)
+        take_all LosAlamos e lists =
+            let no_bishop : IsLawful b (move_to (Some Bishop)) → ⊥ = λ l. subst (λ g. IsPromotion g Bishop) e (promotes_well b (move_to (Some Bishop)) u stands l).1 in
+            let knight : IsPromotion b.game Knight = subst (λ g. IsPromotion g Knight) (sym e) tt in
+            whole 5 3 (omega arith) (λ _. refl) (omega arith) (take 4 2 (Some Knight) refl (promoted Knight knight) (leave 3 2 (Some Bishop) refl (omega arith) no_bishop (two LosAlamos e tt tt lists)))
+        take_all Gardner e lists =
+            let bishop : IsPromotion b.game Bishop = subst (λ g. IsPromotion g Bishop) (sym e) tt in
+            let knight : IsPromotion b.game Knight = subst (λ g. IsPromotion g Knight) (sym e) tt in
+            whole 5 4 (omega arith) (λ _. refl) (omega arith) (take 4 3 (Some Knight) refl (promoted Knight knight) (take 3 2 (Some Bishop) refl (promoted Bishop bishop) (two Gardner e tt tt lists)))
+
+      pub take_each : (each : ℕ) → IsEach b.game u to each → ListsBelow b first xs → TakenAll each
+      take_each each (inl (due, e)) lists = subst TakenAll (sym e) (take_all due b.game refl lists)
+      take_each each (inr (not, e)) lists = subst TakenAll (sym e) (take_one not lists)
 
 -- ---- the moves of a unit
 
@@ -187,7 +179,7 @@ module _ (b : PlainBoard) (u : Man) (from : Place) (on : IsOnBoard b.game from) 
         let n = square_number b.game (place_in k) in
         let least : (i : ℕ) → i < k → Has set i × (k ≤ i) → ⊥ = λ i low w. let high = w.1 in omega (arith, low, high) in
         let (before, lists, count) = next_holds b.game (Has set) (λ i. Has set i × (k ≤ i)) (Counted k) cell (jump k) s k (h, omega arith) least in
-        let (more, listed, grown) = take_each b u from (place_in k) on (cell k h).on_board stands (λ m f t named. safe.lawful k m h f t named) each (eachly k h) before lists in
+        let (more, listed, grown) = take_each b u from (place_in k) on (cell k h).on_board stands before (λ m f t named. safe.lawful k m h f t named) each (eachly k h) lists in
         let same : (square_number b.game from * 36 + n + 1) * 5 ≡ (square_number b.game from * 36 + (n + 1)) * 5 = omega arith in
         let one : bit_at set k ≡ 1 = h in
         let product : (bits_below set k + bit_at set k) * each ≡ bits_below set k * each + each = ap (λ x. (bits_below set k + x) * each) one ∙ distributed (bits_below set k) in

@@ -1,15 +1,13 @@
 //! Whether one move is lawful on a board, and the board after it. No list is made.
-ghost use Rattle.std.specs.Prelude.{◌≡◌, ◌↔◌, IsTrue, MatchOption, Some};
-ghost use Rattle.board.specs.Board.{IsPosition};
+ghost use Rattle.std.specs.Prelude.{◌↔◌, IsTrue, MatchOption, Some};
 ghost use Rattle.rules.specs.Squares.{IsOnBoard, unit_at};
-ghost use Rattle.rules.specs.Reach.{Reaches};
 ghost use Rattle.rules.specs.Moves.{IsMove, IsLawful};
 
 use crate::look::is_checked;
 use crate::packed::Board;
 use crate::sets::Class;
 use crate::targets::targets;
-use board::{Game, Unit};
+use board::Game;
 use cells::{cell_of, has};
 use rules::{Move, is_promoted_well};
 
@@ -20,33 +18,12 @@ fn has_squares(game: Game, m: Move) -> bool
     m.from.is_on_board(game) && m.to.is_on_board(game)
 }
 
-/// The board after the unit's move to a square that it reaches, if the move is lawful.
-fn after_to(board: &Board, m: Move, unit: Unit) -> Option<Board>
-    requires position { IsPosition board.now }
-    requires squares { IsOnBoard board.now.game m.from × IsOnBoard board.now.game m.to }
-    requires stands { unit_at board.now m.from ≡ Some unit }
-    requires owner { unit.side ≡ board.now.mover }
-    requires reaches { Reaches board.now unit m.from m.to (unit_at board.now m.to) }
-    ensures { MatchOption result (IsLawful board.now m → ⊥) (λ next. IsMove board.now m next) }
-{
-    if has(board.set(Class::Crowned), cell_of(m.to)) {
-        return None;
-    }
-    if !is_promoted_well(board.game(), unit, m) {
-        return None;
-    }
-    let next = board.moved(m, unit);
-    if is_checked(&next, unit.side) {
-        return None;
-    }
-    Some(next)
-}
-
 /// The board after the move, if the move is lawful.
 pub fn after_if_lawful(board: &Board, m: Move) -> Option<Board>
     ensures { MatchOption result (IsLawful board.now m → ⊥) (λ next. IsMove board.now m next) }
 {
-    if !has_squares(board.game(), m) {
+    let game = board.game();
+    if !has_squares(game, m) {
         return None;
     }
     let Some(unit) = board.unit_at(m.from) else {
@@ -55,10 +32,21 @@ pub fn after_if_lawful(board: &Board, m: Move) -> Option<Board>
     if unit.side != board.mover() {
         return None;
     }
-    if !has(targets(board, unit, cell_of(m.from)), cell_of(m.to)) {
+    let to = cell_of(m.to);
+    if !has(targets(board, unit, cell_of(m.from)), to) {
         return None;
     }
-    after_to(board, m, unit)
+    if has(board.set(Class::Crowned), to) {
+        return None;
+    }
+    if !is_promoted_well(game, unit, m) {
+        return None;
+    }
+    let next = board.moved(m, unit);
+    if is_checked(&next, unit.side) {
+        return None;
+    }
+    Some(next)
 }
 
 /// Whether the move is lawful. No list is made.
