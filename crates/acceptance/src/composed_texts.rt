@@ -3,7 +3,7 @@
 use crate::composing::{ALL, solution_in};
 use crate::tables::position;
 use algebraic::{Notation, Symbols};
-use moves::Goal;
+use moves::{Board, Goal};
 use problems::Root;
 use solution_text::solution_text;
 use solutions::Extras;
@@ -16,7 +16,7 @@ fn text_of<R: Abort + AllocGlobal>(
     notation: Notation,
     extras: Extras,
 ) -> String {
-    let root = Root::of(&position(rt, fen), notation.goal);
+    let root = Root::on(Board::of(&position(rt, fen)), notation.goal, 5);
     let Ok(solution) = solution_in(rt, &root, extras) else {
         panic!(rt; "no solution")
     };

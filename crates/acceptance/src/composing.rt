@@ -79,7 +79,7 @@ fn text_of(alloc: Global, solution: &Solution) -> Result<String, AllocError> {
     Ok(text)
 }
 
-/// The solution of a root whose side to move forces the goal within five plies.
+/// The solution of a root whose side to move forces the goal within its plies.
 pub(crate) fn solution_in<R: Abort + AllocGlobal>(
     rt: &R,
     root: &Root,
@@ -101,7 +101,7 @@ pub(crate) fn solution_in<R: Abort + AllocGlobal>(
         seat: &mut seat,
         scout: &mut scout,
     };
-    let Some(Answer::Mate { plies, .. }) = solve_by(&mut searcher, root, 5) else {
+    let Some(Answer::Mate { plies, .. }) = solve_by(&mut searcher, root) else {
         panic!(rt; "no mate")
     };
     solution_of(rt.alloc(), &mut searcher, root, plies, extras)
@@ -250,7 +250,7 @@ tries\n\
 #[test]
 fn solutions_are_those_of_another_program(rt: HostRuntime) -> Result<(), Fail> {
     for (text, goal, expected) in &SOLVED {
-        let root = Root::of(&position(&rt, text), *goal);
+        let root = Root::on(Board::of(&position(&rt, text)), *goal, 5);
         let solution = solution_in(&rt, &root, ALL).expect(&rt, "a solution");
         let got = text_of(rt.alloc(), &solution)?;
         assert_eq!(rt; got.as_str(), *expected, "{text}");
@@ -261,7 +261,11 @@ fn solutions_are_those_of_another_program(rt: HostRuntime) -> Result<(), Fail> {
 // c4c5 is the one key: what isn't asked for is left out.
 #[test]
 fn set_play_and_tries_are_there_where_asked_for(rt: HostRuntime) -> Result<(), Fail> {
-    let root = Root::of(&position(&rt, "k5/6/2K3/6/6/1R4 w"), Goal::Mate);
+    let root = Root::on(
+        Board::of(&position(&rt, "k5/6/2K3/6/6/1R4 w")),
+        Goal::Mate,
+        5,
+    );
     for (set_play, tries) in [(false, false), (true, false), (false, true)] {
         let extras = Extras { set_play, tries };
         let solution = solution_in(&rt, &root, extras).expect(&rt, "a solution");

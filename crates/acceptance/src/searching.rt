@@ -72,11 +72,19 @@ fn the_sixteenth_job_wins(rt: HostRuntime) {
         seat: &mut seat,
         scout: &mut scout,
     };
-    let root = Root::of(&position(&rt, ROOK_MATES_IN_THREE), Goal::Mate);
+    let root = Root::on(
+        Board::of(&position(&rt, ROOK_MATES_IN_THREE)),
+        Goal::Mate,
+        5,
+    );
     assert_eq!(rt; root.jobs(), 17);
     assert!(rt; least_win(&mut searcher, &root, 1) == Some(None));
     assert!(rt; least_win(&mut searcher, &root, 3) == Some(Some(15)));
-    assert!(rt; plies_of(&mut searcher, &root, 15, 5) == Some(Some(3)));
-    assert!(rt; plies_of(&mut searcher, &root, 15, 2) == Some(None));
-    assert!(rt; plies_of(&mut searcher, &root, 0, 3) == Some(None));
+    assert!(rt; plies_of(&mut searcher, &root, 15) == Some(Some(3)));
+    let root = Root::on(root.board, Goal::Mate, 2);
+    assert_eq!(rt; root.jobs(), 17);
+    assert!(rt; plies_of(&mut searcher, &root, 15) == Some(None));
+    let root = Root::on(root.board, Goal::Mate, 3);
+    assert_eq!(rt; root.jobs(), 17);
+    assert!(rt; plies_of(&mut searcher, &root, 0) == Some(None));
 }

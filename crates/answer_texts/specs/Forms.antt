@@ -101,7 +101,7 @@ abbrev pub IsFoundText : Batch → Asked → Found → List ℕ → Type 0
 IsFoundText batch asked found text =
     let limit = limit_of batch.limits.limit asked.moves in
     (agrees : Option Bool) × IsJudged asked.moves found agrees
-    × MatchBool batch.manner.json
+    × MatchBool batch.options.json
     (text ≡ found_object (string_of asked.fen.now) batch.goal limit found agrees)
     (text ≡ judged_line agrees (found_line batch.goal limit found))
 

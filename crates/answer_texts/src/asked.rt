@@ -1,5 +1,5 @@
 //! What a batch, and a line of one, is asked.
-use command_line::{Limits, Manner};
+use command_line::{BatchOptions, Limits};
 use moves::Goal;
 use problems::{Answer, Key};
 
@@ -8,7 +8,7 @@ use problems::{Answer, Key};
 pub struct Batch {
     pub goal: Goal,
     pub limits: Limits,
-    pub manner: Manner,
+    pub options: BatchOptions,
 }
 
 /// What a line asks.

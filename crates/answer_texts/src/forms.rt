@@ -87,7 +87,7 @@ pub fn found_text(
 {
     let agrees = judged(asked.moves, found);
     let limit = limit_of(batch.limits.limit, asked.moves);
-    if batch.manner.json {
+    if batch.options.json {
         let position = string_of(alloc, asked.fen)?;
         let terms = (batch.goal, limit);
         return Ok(found_object(alloc, position.as_str(), terms, found, agrees)?.into_bytes());

@@ -7,7 +7,7 @@ ghost use Rattle.calls.specs.Certificates.{AnswersVerify};
 use crate::answering::{goal_of, put_reply};
 use crate::text::Text;
 use command_line::Subject;
-use endings::Trouble;
+use endings::ReplyFault;
 use moves::Goal;
 use refusals::Refusal;
 use std::alloc::Allocator;
@@ -26,9 +26,9 @@ fn verify_reply<A: Allocator + Copy>(
     let mut reader = Text { rest: text };
     match verified(alloc, &subject, &mut reader) {
         Ok(reply) => Ok(reply),
-        Err(Trouble::Refused(refusal)) => Err(refusal),
+        Err(ReplyFault::Refused(refusal)) => Err(refusal),
         // no read of a text fails
-        Err(Trouble::ReadFailed) => Err(Refusal::NoMemory),
+        Err(ReplyFault::ReadFailed) => Err(Refusal::NoMemory),
     }
 }
 

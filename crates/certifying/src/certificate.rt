@@ -12,7 +12,7 @@ use crate::no_lines::no_words;
 use crate::text::{fed, text_of};
 use crate::yes_lines::yes_words;
 use certificates::Claim;
-use decision::Memory;
+use decision::{Memory, Never, Scout};
 use entry::MateLore;
 use moves::{Move, lawful_on};
 use problems::{Answer, MOST_LIMIT, Question};
@@ -67,10 +67,15 @@ impl Certificate {
         requires { IsSeatOf slots seat }
         ensures { IfOk result (λ certificate. IsOfAnswer certificate root answer) }
     {
+        let scout = Scout {
+            stop: Never,
+            memory: Memory::new(),
+        };
         let chooser = Chooser {
             alloc,
             slots,
             seat,
+            scout,
             memory: Memory::new(),
         };
         let first = first_move(&answer);

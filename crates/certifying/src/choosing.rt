@@ -4,19 +4,21 @@ ghost use Rattle.rules.specs.Moves.{IsLawful};
 ghost use Rattle.slots.specs.Promise.{IsSeatOf};
 
 use arrayvec::ArrayVec;
-use decision::{Memory, in_order, is_forced};
+use decision::{Memory, Never, Scout, in_order, is_forced_until};
 use entry::MateLore;
 use moves::Move;
 use problems::Question;
 use slots::{Seat, Slots};
 use std::alloc::Global;
 
-/// The table of a solve and a seat there, by which moves are chosen.
+/// The table of a solve and a seat there, by which moves are chosen, with what leads the searches, and a memory of nothing for the order of
+/// moves, which rests on no search before.
 #[derive(Drop)]
 pub(crate) struct Chooser {
     pub(crate) alloc: Global,
     pub(crate) slots: Slots<MateLore>,
     pub(crate) seat: Seat,
+    pub(crate) scout: Scout<Never>,
     pub(crate) memory: Memory,
     ghost belongs: { IsSeatOf slots seat },
 }
@@ -26,7 +28,10 @@ impl Chooser {
     fn is_forced(&mut self, q: &Question, n: u8) -> bool
         requires { n ≤ 63 }
     {
-        is_forced(&self.slots, &mut self.seat, q, n)
+        let Some(yes) = is_forced_until(&self.slots, &mut self.seat, &mut self.scout, q, n) else {
+            unreachable!()
+        };
+        yes
     }
 
     /// The first of the moves after which the goal is forced within n plies, or isn't, as it is wanted.

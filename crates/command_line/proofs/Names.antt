@@ -25,12 +25,12 @@ batch_searches name is = record { aims = record { moves = λ e. apart _ _ name i
 -- a command but `batch` has a position
 pub no_place : (name : Text) (rows : List Row) (order : Order) → name ≢ codes "batch" → first_of (codes "FEN") rows ≡ None → MeansFound name rows order → ⊥
 no_place name rows (One line) other none means = no_text _ _ none means.0
-no_place name rows (Batch goal limits manner) other none means = other means.0
+no_place name rows (Batch goal limits options) other none means = other means.0
 no_place name rows (Verify subject) other none means = no_text _ _ none means.1.0
 no_place name rows (Certify subject limits) other none means = no_text _ _ none means.1.0
 no_place name rows (After played) other none means = no_text _ _ none means.1.0
 no_place name rows (TreeAfter played goal limits) other none means = no_text _ _ none means.1.0
-no_place name rows (Solution subject limits telling) other none means = no_text _ _ none means.1.0
+no_place name rows (Solution subject limits options) other none means = no_text _ _ none means.1.0
 
 -- `after` has a move
 pub no_move : (name : Text) (rows : List Row) (order : Order) → name ≡ codes "after" → first_of (codes "MOVE") rows ≡ None → MeansFound name rows order → ⊥
@@ -43,12 +43,12 @@ no_move name rows (One line) is none means = no_action line.action means.1
     no_action (Check goal) means = apart _ _ name is means.0 refl
     no_action Moves means = apart _ _ name is means refl
     no_action (Show drawing) means = apart _ _ name is means.0 refl
-no_move name rows (Batch goal limits manner) is none means = apart _ _ name is means.0 refl
+no_move name rows (Batch goal limits options) is none means = apart _ _ name is means.0 refl
 no_move name rows (Verify subject) is none means = apart _ _ name is means.0 refl
 no_move name rows (Certify subject limits) is none means = apart _ _ name is means.0 refl
 no_move name rows (After played) is none means = no_text _ _ none means.1.1
 no_move name rows (TreeAfter played goal limits) is none means = apart _ _ name is means.0 refl
-no_move name rows (Solution subject limits telling) is none means = apart _ _ name is means.0 refl
+no_move name rows (Solution subject limits options) is none means = apart _ _ name is means.0 refl
 
 -- a command has a goal, but for those that have none
 no_aim : (name : Text) (rows : List Row) (action : Action) → TakesGoal name → ((goal : Goal) → HasGoal rows goal → ⊥) → MeansAction name rows action → ⊥
@@ -61,12 +61,12 @@ no_aim name rows (Show drawing) aims none means = aims.show means.0
 
 pub no_goal : (name : Text) (rows : List Row) (order : Order) → TakesGoal name → ((goal : Goal) → HasGoal rows goal → ⊥) → MeansFound name rows order → ⊥
 no_goal name rows (One line) aims none means = no_aim name rows line.action aims none means.1
-no_goal name rows (Batch goal limits manner) aims none means = none goal means.1
+no_goal name rows (Batch goal limits options) aims none means = none goal means.1
 no_goal name rows (Verify subject) aims none means = none subject.goal means.1.1
 no_goal name rows (Certify subject limits) aims none means = none subject.goal means.1.1
 no_goal name rows (After played) aims none means = aims.after means.0
 no_goal name rows (TreeAfter played goal limits) aims none means = none goal means.2
-no_goal name rows (Solution subject limits telling) aims none means = none subject.goal means.1.1
+no_goal name rows (Solution subject limits options) aims none means = none subject.goal means.1.1
 
 -- a command has limits, but for those without a goal, `check` and `verify`
 no_reach : (name : Text) (rows : List Row) (action : Action) → TakesLimits name → ((limits : Limits) → HasLimits rows limits → ⊥)
@@ -80,12 +80,12 @@ no_reach name rows (Show drawing) searches none means = searches.aims.show means
 
 pub no_limits : (name : Text) (rows : List Row) (order : Order) → TakesLimits name → ((limits : Limits) → HasLimits rows limits → ⊥) → MeansFound name rows order → ⊥
 no_limits name rows (One line) searches none means = no_reach name rows line.action searches none means.1
-no_limits name rows (Batch goal limits manner) searches none means = none limits means.2
+no_limits name rows (Batch goal limits options) searches none means = none limits means.2
 no_limits name rows (Verify subject) searches none means = searches.verify means.0
 no_limits name rows (Certify subject limits) searches none means = none limits means.2
 no_limits name rows (After played) searches none means = searches.aims.after means.0
 no_limits name rows (TreeAfter played goal limits) searches none means = none limits means.3
-no_limits name rows (Solution subject limits telling) searches none means = none limits means.2
+no_limits name rows (Solution subject limits options) searches none means = none limits means.2
 
 -- a name that isn't a search's
 pub record Strange (name : Text) : Type 0 where
@@ -106,9 +106,9 @@ no_deed name rows (Show drawing) searches strange means = searches.aims.show mea
 
 pub no_order : (name : Text) (rows : List Row) (order : Order) → TakesLimits name → name ≢ codes "batch" → Strange name → MeansFound name rows order → ⊥
 no_order name rows (One line) searches batch strange means = no_deed name rows line.action searches strange means.1
-no_order name rows (Batch goal limits manner) searches batch strange means = batch means.0
+no_order name rows (Batch goal limits options) searches batch strange means = batch means.0
 no_order name rows (Verify subject) searches batch strange means = searches.verify means.0
 no_order name rows (Certify subject limits) searches batch strange means = strange.certify means.0
 no_order name rows (After played) searches batch strange means = searches.aims.after means.0
 no_order name rows (TreeAfter played goal limits) searches batch strange means = strange.tree means.0
-no_order name rows (Solution subject limits telling) searches batch strange means = strange.solution means.0
+no_order name rows (Solution subject limits options) searches batch strange means = strange.solution means.0

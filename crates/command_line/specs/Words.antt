@@ -9,9 +9,9 @@ use Rattle.command_line.specs.declared.line.Line.{Line}
 use Rattle.command_line.specs.declared.line.Limits.{Limits}
 use Rattle.command_line.specs.declared.line.Drawing.{Drawing}
 use Rattle.command_line.specs.declared.line.Subject.{Subject}
-use Rattle.command_line.specs.declared.line.Played.{Played}
-use Rattle.command_line.specs.declared.line.Manner.{Manner}
-use Rattle.command_line.specs.declared.line.Telling.{Telling}
+use Rattle.command_line.specs.declared.line.NamedMove.{NamedMove}
+use Rattle.command_line.specs.declared.line.BatchOptions.{BatchOptions}
+use Rattle.command_line.specs.declared.line.SolutionOptions.{SolutionOptions}
 use Rattle.command_line.specs.declared.line.Action.{Action}
 use Rattle.command_line.specs.declared.line.Action.TheVariants.{Solve, Keys, Tree, Check, Moves, Show}
 use Rattle.command_line.specs.declared.line.Order.{Order}
@@ -78,41 +78,41 @@ abbrev pub HasNumberIfGiven : Text → List Row → Option ℕ → Type 0
 HasNumberIfGiven id rows given = MatchOption given ((n : ℕ) → HasNumber id rows n → ⊥) (HasNumber id rows)
 
 -- what was found for the manner of a batch: whether the positions are written too, whether keys are, and as JSON, how many lines there are, and are left out
-pub record HasManner (rows : List Row) (manner : Manner) : Type 0 where
-  pub echo : IsTrue manner.echo ↔ IsGiven (codes "echo") rows
-  pub keys : IsTrue manner.keys ↔ IsGiven (codes "keys") rows
-  pub json : IsTrue manner.json ↔ IsGiven (codes "json") rows
-  pub lines : HasNumberIfGiven (codes "lines") rows manner.lines
-  pub skip : HasNumberIfGiven (codes "skip") rows manner.skip
+pub record HasManner (rows : List Row) (options : BatchOptions) : Type 0 where
+  pub echo : IsTrue options.echo ↔ IsGiven (codes "echo") rows
+  pub keys : IsTrue options.keys ↔ IsGiven (codes "keys") rows
+  pub json : IsTrue options.json ↔ IsGiven (codes "json") rows
+  pub lines : HasNumberIfGiven (codes "lines") rows options.lines
+  pub skip : HasNumberIfGiven (codes "skip") rows options.skip
 
 -- what was found of what a solution tells
-pub record HasTelling (rows : List Row) (telling : Telling) : Type 0 where
-  pub set_play : IsTrue telling.set_play ↔ IsGiven (codes "set") rows
-  pub tries : IsTrue telling.tries ↔ IsGiven (codes "tries") rows
-  pub figurines : IsTrue telling.figurines ↔ IsGiven (codes "figurines") rows
+pub record HasTelling (rows : List Row) (options : SolutionOptions) : Type 0 where
+  pub set_play : IsTrue options.set_play ↔ IsGiven (codes "set") rows
+  pub tries : IsTrue options.tries ↔ IsGiven (codes "tries") rows
+  pub figurines : IsTrue options.figurines ↔ IsGiven (codes "figurines") rows
 
 -- what was found for the position and for the goal
 abbrev pub HasSubject : List Row → Subject → Type 0
 HasSubject rows subject = (first_of (codes "FEN") rows ≡ Some subject.fen.now) × HasGoal rows subject.goal
 
 -- what was found for the position and for the move
-abbrev pub HasPlayed : List Row → Played → Type 0
+abbrev pub HasPlayed : List Row → NamedMove → Type 0
 HasPlayed rows played = (first_of (codes "FEN") rows ≡ Some played.fen.now) × (first_of (codes "MOVE") rows ≡ Some played.name.now)
 
 -- what was found for the position and for the first move of its tree
-abbrev pub HasFirst : List Row → Played → Type 0
+abbrev pub HasFirst : List Row → NamedMove → Type 0
 HasFirst rows played = (first_of (codes "FEN") rows ≡ Some played.fen.now) × (first_of (codes "first") rows ≡ Some played.name.now)
 
 -- the command of that name with what was found for it
 abbrev pub MeansFound : Text → List Row → Order → Type 0
 MeansFound name rows (One line) = HasLine name rows line
-MeansFound name rows (Batch goal limits manner) = (name ≡ codes "batch") × HasGoal rows goal × HasLimits rows limits × HasManner rows manner
+MeansFound name rows (Batch goal limits options) = (name ≡ codes "batch") × HasGoal rows goal × HasLimits rows limits × HasManner rows options
 MeansFound name rows (Verify subject) = (name ≡ codes "verify") × HasSubject rows subject
 MeansFound name rows (Certify subject limits) = (name ≡ codes "certify") × HasSubject rows subject × HasLimits rows limits
 MeansFound name rows (After played) = (name ≡ codes "after") × HasPlayed rows played
 MeansFound name rows (TreeAfter played goal limits) = (name ≡ codes "tree") × HasFirst rows played × HasGoal rows goal × HasLimits rows limits
-MeansFound name rows (Solution subject limits telling) =
-    (name ≡ codes "solution") × HasSubject rows subject × HasLimits rows limits × HasTelling rows telling
+MeansFound name rows (Solution subject limits options) =
+    (name ≡ codes "solution") × HasSubject rows subject × HasLimits rows limits × HasTelling rows options
 
 -- a command was found, and it is the order
 abbrev pub HasOrder : Option (Text × List Row) → Order → Type 0

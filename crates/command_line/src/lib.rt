@@ -6,5 +6,7 @@ mod line;
 mod making;
 mod reading;
 
-pub use line::{Action, Drawing, Limits, Line, Manner, Order, Played, Subject, Telling};
+pub use line::{
+    Action, BatchOptions, Drawing, Limits, Line, NamedMove, Order, SolutionOptions, Subject,
+};
 pub use reading::{LineFault, asks_progress, matches, read_order};

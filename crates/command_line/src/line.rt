@@ -7,22 +7,22 @@ pub enum Order<'a> {
     /// A command at one position.
     One(Line<'a>),
     /// A solve of each position of the input.
-    Batch(Goal, Limits, Manner),
+    Batch(Goal, Limits, BatchOptions),
     /// What the certificate of the input proves.
     Verify(Subject<'a>),
     /// The certificate of the answer of a solve.
     Certify(Subject<'a>, Limits),
     /// The position after a move.
-    After(Played<'a>),
+    After(NamedMove<'a>),
     /// The tree of a first move that is given.
-    TreeAfter(Played<'a>, Goal, Limits),
+    TreeAfter(NamedMove<'a>, Goal, Limits),
     /// The keys of a problem and what follows them.
-    Solution(Subject<'a>, Limits, Telling),
+    Solution(Subject<'a>, Limits, SolutionOptions),
 }
 
 /// What a solution tells beside its keys, and how it is written.
 #[derive(Clone, Copy, PartialEq, Eq)]
-pub struct Telling {
+pub struct SolutionOptions {
     /// Whether it tells what follows if the defender were to move.
     pub set_play: bool,
     /// Whether it tells the first moves that a single reply refutes.
@@ -33,7 +33,7 @@ pub struct Telling {
 
 /// How the replies of a batch are written, and what is known of its input.
 #[derive(Clone, Copy, PartialEq, Eq)]
-pub struct Manner {
+pub struct BatchOptions {
     /// Whether the position stands before each answer.
     pub echo: bool,
     /// Whether the keys of each position are written in place of its answer.
@@ -48,7 +48,7 @@ pub struct Manner {
 
 /// A move to be played at a position.
 #[derive(Clone, Copy)]
-pub struct Played<'a> {
+pub struct NamedMove<'a> {
     /// The position's text.
     pub fen: &'a [u8],
     /// The move's name, as `c4c5q`.

@@ -113,8 +113,8 @@ pub fn command<'a>(alloc: Global) -> Result<Command<'a>, AllocError>
     let solving = added(Ok(bare), command_of(alloc, &help::SOLVE));
     let finding = added(solving, command_of(alloc, &help::KEYS));
     let searching = added(finding, command_of(alloc, &help::TREE));
-    let telling = added(searching, command_of(alloc, &help::SOLUTION));
-    let checking = added(telling, command_of(alloc, &help::CHECK));
+    let options = added(searching, command_of(alloc, &help::SOLUTION));
+    let checking = added(options, command_of(alloc, &help::CHECK));
     let verifying = added(checking, command_of(alloc, &help::VERIFY));
     let certifying = added(verifying, command_of(alloc, &help::CERTIFY));
     let moving = added(certifying, command_of(alloc, &help::MOVES));

@@ -8,7 +8,9 @@ ghost use Rattle.command_line.specs.Making.{TakesGoal, Reads, TakesLimits};
 ghost use Rattle.command_line.specs.Program.{program};
 ghost use Rattle.command_line.specs.Words.{HasDrawing, HasGoal, HasLimit, HasLimits, HasManner, HasNumberIfGiven, HasOrder, HasSubject, HasTelling, IsGiven, MeansFound, MeansOrder, MeansNoOrder, progress_word};
 
-use crate::line::{Action, Drawing, Limits, Line, Manner, Order, Played, Subject, Telling};
+use crate::line::{
+    Action, BatchOptions, Drawing, Limits, Line, NamedMove, Order, SolutionOptions, Subject,
+};
 use crate::making::command;
 use clap::error::ErrorKind;
 use clap::{ArgMatches, Error};
@@ -132,10 +134,10 @@ fn drawing_of(values: &ArgMatches<'_>) -> Drawing
     }
 }
 
-fn manner_of(values: &ArgMatches<'_>) -> Manner
+fn manner_of(values: &ArgMatches<'_>) -> BatchOptions
     ensures { HasManner (rows_of (found_of values.now)) result }
 {
-    Manner {
+    BatchOptions {
         echo: is_given(values, "echo"),
         keys: is_given(values, "keys"),
         json: is_given(values, "json"),
@@ -144,10 +146,10 @@ fn manner_of(values: &ArgMatches<'_>) -> Manner
     }
 }
 
-fn telling_of(values: &ArgMatches<'_>) -> Telling
+fn telling_of(values: &ArgMatches<'_>) -> SolutionOptions
     ensures { HasTelling (rows_of (found_of values.now)) result }
 {
-    Telling {
+    SolutionOptions {
         set_play: is_given(values, "set"),
         tries: is_given(values, "tries"),
         figurines: is_given(values, "figurines"),
@@ -182,7 +184,7 @@ fn search_order<'a>(
                 fen,
                 action: Action::Tree(goal, limits),
             })),
-            Some(name) => Some(Order::TreeAfter(Played { fen, name }, goal, limits)),
+            Some(name) => Some(Order::TreeAfter(NamedMove { fen, name }, goal, limits)),
         },
         "certify" => Some(Order::Certify(subject, limits)),
         "solution" => Some(Order::Solution(subject, limits, telling_of(values))),
@@ -222,7 +224,7 @@ fn placed_order<'a>(name: &str, fen: &'a [u8], values: &ArgMatches<'a>) -> Optio
             fen,
             action: Action::Show(drawing_of(values)),
         })),
-        "after" => Some(Order::After(Played {
+        "after" => Some(Order::After(NamedMove {
             fen,
             name: word_of(values, "MOVE")?,
         })),

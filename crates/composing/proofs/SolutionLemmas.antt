@@ -6,7 +6,7 @@ use Rattle.rules.specs.declared.goal.Goal.{Goal}
 use Rattle.problems.specs.Answer.{IsFewest}
 use Rattle.command_line.specs.declared.line.Limits.{Limits}
 use Rattle.command_line.specs.declared.line.Subject.{Subject}
-use Rattle.command_line.specs.declared.line.Telling.{Telling}
+use Rattle.command_line.specs.declared.line.SolutionOptions.{SolutionOptions}
 use Rattle.refusals.specs.Reply.{answered}
 use Rattle.refusals.specs.declared.refusal.Refusal.{Refusal}
 use Rattle.endings.specs.Outcome.{Gives, IsSoundText}
@@ -19,22 +19,22 @@ use Rattle.composing.specs.Solution.{IsPublished, IsSolutionReply, ShowsSolution
 use Rattle.replies.proofs.ReplyLemmas.{gives_weaker}
 
 -- the text of the solution of the position's root is published
-pub published_text : (goal : Goal) (b : PlainBoard) (telling : Telling) (notation : Notation) (solution : Solution Global) (text written : List ℕ)
-    → IsSolution goal b (extras_of telling) solution → notation ≡ notation_of goal telling → IsSolutionText notation b solution written → text ≡ written
-    → IsPublished goal b telling text
-published_text goal b telling notation solution text written is same_notation is_text same_text = (
+pub published_text : (goal : Goal) (b : PlainBoard) (options : SolutionOptions) (notation : Notation) (solution : Solution Global) (text written : List ℕ)
+    → IsSolution goal b (extras_of options) solution → notation ≡ notation_of goal options → IsSolutionText notation b solution written → text ≡ written
+    → IsPublished goal b options text
+published_text goal b options notation solution text written is same_notation is_text same_text = (
   solution,
   is,
-  subst (λ t. IsSolutionText (notation_of goal telling) b solution t) (sym same_text) (subst (λ n. IsSolutionText n b solution written) same_notation is_text),
+  subst (λ t. IsSolutionText (notation_of goal options) b solution t) (sym same_text) (subst (λ n. IsSolutionText n b solution written) same_notation is_text),
 )
 
 -- the solution is shown
-pub published_shown : (goal : Goal) (b : PlainBoard) (telling : Telling) (limits : Limits) (plies : ℕ) (text : List ℕ) → fault_of limits ≡ None → plies ≤ limits.limit
-    → IsFewest goal b plies → IsPublished goal b telling text → ShowsSolution goal b telling limits (answered text)
-published_shown goal b telling limits plies text none within fewest is = rw none (inl (plies, within, fewest, (text, is, refl)))
+pub published_shown : (goal : Goal) (b : PlainBoard) (options : SolutionOptions) (limits : Limits) (plies : ℕ) (text : List ℕ) → fault_of limits ≡ None → plies ≤ limits.limit
+    → IsFewest goal b plies → IsPublished goal b options text → ShowsSolution goal b options limits (answered text)
+published_shown goal b options limits plies text none within fewest is = rw none (inl (plies, within, fewest, (text, is, refl)))
 
 -- what is shown at the sound position is the reply
-pub solution_at_text : (subject : Subject) (telling : Telling) (limits : Limits) (b : PlainBoard) (r : Result (Vec ℕ Global) Refusal) → IsSoundText subject.fen.now b
-    → Gives vec_items (ShowsSolution subject.goal b telling limits) r → Gives vec_items (IsSolutionReply subject telling limits) r
-solution_at_text subject telling limits b r sound gives =
-    gives_weaker vec_items (ShowsSolution subject.goal b telling limits) (IsSolutionReply subject telling limits) r (λ reply shows. inl (b, sound, shows)) gives
+pub solution_at_text : (subject : Subject) (options : SolutionOptions) (limits : Limits) (b : PlainBoard) (r : Result (Vec ℕ Global) Refusal) → IsSoundText subject.fen.now b
+    → Gives vec_items (ShowsSolution subject.goal b options limits) r → Gives vec_items (IsSolutionReply subject options limits) r
+solution_at_text subject options limits b r sound gives =
+    gives_weaker vec_items (ShowsSolution subject.goal b options limits) (IsSolutionReply subject options limits) r (λ reply shows. inl (b, sound, shows)) gives

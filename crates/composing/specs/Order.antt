@@ -10,11 +10,11 @@ use Rattle.composing.specs.Solution.{RunsSolution}
 -- the run is one of the order
 abbrev pub ComposesOrder : Order → Run → Type 0
 ComposesOrder (Certify subject limits) run = RunsCertify subject limits run
-ComposesOrder (Solution subject limits telling) run = RunsSolution subject telling limits run
+ComposesOrder (Solution subject limits options) run = RunsSolution subject options limits run
 ComposesOrder _ run = DoesNothing run
 
 -- the order searches where it is over
 abbrev pub ComposesOver : Order → Type 0
 ComposesOver (Certify subject limits) = IsOver subject.fen.now
-ComposesOver (Solution subject limits telling) = IsOver subject.fen.now
+ComposesOver (Solution subject limits options) = IsOver subject.fen.now
 ComposesOver _ = ⊥

@@ -15,7 +15,7 @@ use Rattle.solutions.specs.Solutions.{IsSolution}
 use Rattle.solution_text.specs.Text.{IsSolutionText}
 use Rattle.command_line.specs.declared.line.Limits.{Limits}
 use Rattle.command_line.specs.declared.line.Subject.{Subject}
-use Rattle.command_line.specs.declared.line.Telling.{Telling}
+use Rattle.command_line.specs.declared.line.SolutionOptions.{SolutionOptions}
 use Rattle.refusals.specs.Reply.{Reply, answered, refused}
 use Rattle.refusals.specs.Refusal.{refusal_of_fen}
 use Rattle.answer_texts.specs.Answers.{none_text}
@@ -24,8 +24,8 @@ use Rattle.replies.specs.Output.{fault_of, refusal_of_solve}
 use Rattle.endings.specs.Run.{Run, WritesReply}
 
 -- what is asked for beside the keys
-abbrev pub extras_of : Telling → Extras
-extras_of telling = record { set_play = telling.set_play; tries = telling.tries }
+abbrev pub extras_of : SolutionOptions → Extras
+extras_of options = record { set_play = options.set_play; tries = options.tries }
 
 -- by which symbols units are named
 abbrev pub symbols_of : Bool → Symbols
@@ -33,31 +33,31 @@ symbols_of true = Figurines
 symbols_of false = Letters
 
 -- how moves are named
-abbrev pub notation_of : Goal → Telling → Notation
-notation_of goal telling = record { symbols = symbols_of telling.figurines; goal = goal }
+abbrev pub notation_of : Goal → SolutionOptions → Notation
+notation_of goal options = record { symbols = symbols_of options.figurines; goal = goal }
 
 -- the text is that of the solution of the position
-abbrev pub IsPublished : Goal → PlainBoard → Telling → List ℕ → Type 0
-IsPublished goal b telling text =
-    (solution : Solution Global) × IsSolution goal b (extras_of telling) solution × IsSolutionText (notation_of goal telling) b solution text
+abbrev pub IsPublished : Goal → PlainBoard → SolutionOptions → List ℕ → Type 0
+IsPublished goal b options text =
+    (solution : Solution Global) × IsSolution goal b (extras_of options) solution × IsSolutionText (notation_of goal options) b solution text
 
 -- the solution, where the goal is forced in some number of plies up to the limit, or that it is in none
-abbrev pub ShowsPublished : Goal → PlainBoard → Telling → ℕ → Reply → Type 0
-ShowsPublished goal b telling limit reply =
-    ((plies : ℕ) × (plies ≤ limit) × IsFewest goal b plies × ((text : List ℕ) × IsPublished goal b telling text × (reply ≡ answered text)))
+abbrev pub ShowsPublished : Goal → PlainBoard → SolutionOptions → ℕ → Reply → Type 0
+ShowsPublished goal b options limit reply =
+    ((plies : ℕ) × (plies ≤ limit) × IsFewest goal b plies × ((text : List ℕ) × IsPublished goal b options text × (reply ≡ answered text)))
     ⊎ (ForcesNothing goal b limit × (reply ≡ answered (none_text limit)))
 
 -- the same, or the refusal of the first value that is outside its limits
-abbrev pub ShowsSolution : Goal → PlainBoard → Telling → Limits → Reply → Type 0
-ShowsSolution goal b telling limits reply =
-    MatchOption (fault_of limits) (ShowsPublished goal b telling limits.limit reply) (λ fault. reply ≡ refused (refusal_of_solve fault))
+abbrev pub ShowsSolution : Goal → PlainBoard → SolutionOptions → Limits → Reply → Type 0
+ShowsSolution goal b options limits reply =
+    MatchOption (fault_of limits) (ShowsPublished goal b options limits.limit reply) (λ fault. reply ≡ refused (refusal_of_solve fault))
 
 -- the same at the sound position of the text, or the refusal of the text's fault
-abbrev pub IsSolutionReply : Subject → Telling → Limits → Reply → Type 0
-IsSolutionReply subject telling limits reply =
-    ((b : PlainBoard) × IsSoundText subject.fen.now b × ShowsSolution subject.goal b telling limits reply)
+abbrev pub IsSolutionReply : Subject → SolutionOptions → Limits → Reply → Type 0
+IsSolutionReply subject options limits reply =
+    ((b : PlainBoard) × IsSoundText subject.fen.now b × ShowsSolution subject.goal b options limits reply)
     ⊎ ((fault : FenFault) × IsSoundFault subject.fen.now fault × (reply ≡ refused (refusal_of_fen fault)))
 
 -- the run is one of a solution, which reads nothing
-abbrev pub RunsSolution : Subject → Telling → Limits → Run → Type 0
-RunsSolution subject telling limits run = (run.failed_reads ≡ 0) × WritesReply (IsSolutionReply subject telling limits) run.ending
+abbrev pub RunsSolution : Subject → SolutionOptions → Limits → Run → Type 0
+RunsSolution subject options limits run = (run.failed_reads ≡ 0) × WritesReply (IsSolutionReply subject options limits) run.ending

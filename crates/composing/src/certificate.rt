@@ -12,7 +12,7 @@ use devices::{Failed, Sink, write_all};
 use moves::{Board, Goal, read_sound};
 use problems::Question;
 use refusals::Refusal;
-use replies::{Host, Searched, refusal_of, searched_at};
+use replies::{Context, Searched, refusal_of, searched_at};
 use std::sync::Wait;
 use std::thread::Threads;
 use std::time::Clock;
@@ -57,19 +57,19 @@ impl From<Fault> for Cut {
 
 /// The answer at a position, with what makes its certificate.
 fn begin_at<R: Threads + Wait + Eprint + Clock + Sync + AllocGlobal>(
-    host: &Host<'_, R>,
+    context: &Context<'_, R>,
     position: &Position,
     goal: Goal,
     limits: Limits,
 ) -> Result<Begun, Refusal>
     ensures { BeginsAt goal position.now limits result }
 {
-    let alloc = host.rt.alloc();
+    let alloc = context.rt.alloc();
     let Searched {
         answer,
         slots,
         seat,
-    } = match searched_at(host, position, goal, limits) {
+    } = match searched_at(context, position, goal, limits) {
         Ok(found) => found,
         Err(fault) => return Err(refusal_of(fault)),
     };
@@ -89,14 +89,14 @@ fn begin_at<R: Threads + Wait + Eprint + Clock + Sync + AllocGlobal>(
 
 /// The answer at the position of a text, with what makes its certificate.
 pub fn begin<R: Threads + Wait + Eprint + Clock + Sync + AllocGlobal>(
-    host: &Host<'_, R>,
+    context: &Context<'_, R>,
     subject: &Subject<'_>,
     limits: Limits,
 ) -> Result<Begun, Refusal>
     ensures { BeginsCertificate subject.now limits result }
 {
     let position = read_sound(subject.fen)?;
-    begin_at(host, &position, subject.goal, limits)
+    begin_at(context, &position, subject.goal, limits)
 }
 
 /// Makes a line and writes it. Answers whether there was one.

@@ -7,12 +7,12 @@ ghost use Rattle.composing.specs.Solution.{IsPublished, IsSolutionReply, ShowsSo
 
 use algebraic::{Notation, Symbols};
 use board::Position;
-use command_line::{Limits, Subject, Telling};
+use command_line::{Limits, SolutionOptions, Subject};
 use decision::{Memory, Never, Scout};
-use moves::{Goal, read_sound};
-use problems::{Answer, Root};
+use moves::{Board, Goal, read_sound};
+use problems::{Answer, MOST_LIMIT, Root};
 use refusals::Refusal;
-use replies::{Host, Searched, none_line, refusal_of, searched_at};
+use replies::{Context, Searched, none_line, refusal_of, searched_at};
 use searcher::{Halt, Searcher};
 use solution_text::solution_text;
 use solutions::{Extras, solution_of};
@@ -21,10 +21,10 @@ use std::sync::Wait;
 use std::thread::Threads;
 use std::time::Clock;
 
-fn notation_of(goal: Goal, telling: Telling) -> Notation
-    ensures { result ≡ notation_of goal telling }
+fn notation_of(goal: Goal, options: SolutionOptions) -> Notation
+    ensures { result ≡ notation_of goal options }
 {
-    let symbols = if telling.figurines {
+    let symbols = if options.figurines {
         Symbols::Figurines
     } else {
         Symbols::Letters
@@ -38,12 +38,12 @@ fn published(
     found: Searched,
     root: &Root,
     plies: u8,
-    telling: Telling,
+    options: SolutionOptions,
 ) -> Result<Vec<u8>, AllocError>
     requires root { IsRoot root.now }
     requires plies { plies ≤ 63 }
     requires fewest { IsFewest root.now.goal root.now.board plies }
-    ensures { IfOk result (λ text. IsPublished root.now.goal root.now.board telling text.items) }
+    ensures { IfOk result (λ text. IsPublished root.now.goal root.now.board options text.items) }
 {
     let Searched {
         slots,
@@ -60,37 +60,37 @@ fn published(
         scout: &mut scout,
     };
     let extras = Extras {
-        set_play: telling.set_play,
-        tries: telling.tries,
+        set_play: options.set_play,
+        tries: options.tries,
     };
     let solution = match solution_of(alloc, &mut searcher, root, plies, extras) {
         Ok(solution) => solution,
         Err(Halt::NoMemory) => return Err(AllocError),
         Err(Halt::Stopped) => unreachable!(),
     };
-    let notation = notation_of(root.goal, telling);
+    let notation = notation_of(root.goal, options);
     Ok(solution_text(alloc, notation, &root.board, &solution)?.into_bytes())
 }
 
 /// The solution of a position, or that nothing is forced within the limit.
 fn solution_at<R: Threads + Wait + Eprint + Clock + Sync + AllocGlobal>(
-    host: &Host<'_, R>,
+    context: &Context<'_, R>,
     position: &Position,
     goal: Goal,
     limits: Limits,
-    telling: Telling,
+    options: SolutionOptions,
 ) -> Result<Vec<u8>, Refusal>
-    ensures { Gives vec_items (ShowsSolution goal position.now telling limits) result }
+    ensures { Gives vec_items (ShowsSolution goal position.now options limits) result }
 {
-    let alloc = host.rt.alloc();
-    let found = match searched_at(host, position, goal, limits) {
+    let alloc = context.rt.alloc();
+    let found = match searched_at(context, position, goal, limits) {
         Ok(found) => found,
         Err(fault) => return Err(refusal_of(fault)),
     };
     match found.answer {
         Answer::Mate { plies, .. } => {
-            let root = Root::of(position, goal);
-            Ok(published(alloc, found, &root, plies, telling)?)
+            let root = Root::on(Board::of(position), goal, MOST_LIMIT);
+            Ok(published(alloc, found, &root, plies, options)?)
         }
         Answer::NoneWithin(limit) => none_line(alloc, limit),
     }
@@ -98,13 +98,13 @@ fn solution_at<R: Threads + Wait + Eprint + Clock + Sync + AllocGlobal>(
 
 /// The solution of the position of a text.
 pub fn solution_reply<R: Threads + Wait + Eprint + Clock + Sync + AllocGlobal>(
-    host: &Host<'_, R>,
+    context: &Context<'_, R>,
     subject: &Subject<'_>,
     limits: Limits,
-    telling: Telling,
+    options: SolutionOptions,
 ) -> Result<Vec<u8>, Refusal>
-    ensures { Gives vec_items (IsSolutionReply subject.now telling limits) result }
+    ensures { Gives vec_items (IsSolutionReply subject.now options limits) result }
 {
     let position = read_sound(subject.fen)?;
-    solution_at(host, &position, subject.goal, limits, telling)
+    solution_at(context, &position, subject.goal, limits, options)
 }

@@ -13,13 +13,13 @@ ghost use Rattle.composing.specs.Solution.{IsSolutionReply};
 
 use crate::certificate::{Begun, Cut, begin, write_claims};
 use crate::problem::solution_reply;
-use command_line::{Limits, LineFault, Order, Subject, Telling, read_order};
+use command_line::{Limits, LineFault, Order, SolutionOptions, Subject, read_order};
 use devices::{Sink, write_all};
 use endings::{
     ANSWERED, REFUSED_WORDS, fail_to_write, finish, give_up_for_memory, proof_refused,
     refuse_and_tell, search_refused,
 };
-use replies::{Host, host_of, tell_if_over};
+use replies::{Context, context_of, tell_if_over};
 use std::convert::AsStr;
 use std::io::Write;
 use std::sync::Wait;
@@ -28,7 +28,7 @@ use std::time::Clock;
 
 /// Answers a position as `solve` does, with the answer's certificate. `errors` is told why it was refused.
 fn run_certify<R: Threads + Wait + Eprint + Clock + Sync + AllocGlobal, K: Sink, E: Write>(
-    host: &Host<'_, R>,
+    context: &Context<'_, R>,
     subject: &Subject<'_>,
     limits: Limits,
     writer: &mut K,
@@ -38,14 +38,14 @@ fn run_certify<R: Threads + Wait + Eprint + Clock + Sync + AllocGlobal, K: Sink,
     ensures runs { WritesCertificate subject.now limits (ending_of K.contents K.failures writer.old writer.new result) }
     ensures silent { MayTell result ⊎ IsOver subject.now.fen.now ⊎ (errors.new ≡ errors.old) }
 {
-    match begin(host, subject, limits) {
+    match begin(context, subject, limits) {
         Ok(begun) => {
             tell_if_over(errors, subject.fen, None);
-            write_begun(host.rt, subject, begun, writer, errors)
+            write_begun(context.rt, subject, begun, writer, errors)
         }
         Err(refusal) => {
             let refused = search_refused(subject.fen, refusal);
-            refuse_and_tell(host.rt, writer, errors, &refused)
+            refuse_and_tell(context.rt, writer, errors, &refused)
         }
     }
 }
@@ -84,9 +84,9 @@ fn write_begun<R: AllocGlobal, K: Sink, E: Write>(
 
 /// Answers the solution of a position. `errors` is told why it was refused.
 fn run_solution<R: Threads + Wait + Eprint + Clock + Sync + AllocGlobal, K: Sink, E: Write>(
-    host: &Host<'_, R>,
+    context: &Context<'_, R>,
     subject: &Subject<'_>,
-    asked: (Limits, Telling),
+    asked: (Limits, SolutionOptions),
     writer: &mut K,
     errors: &mut E,
 ) -> u8
@@ -95,15 +95,15 @@ fn run_solution<R: Threads + Wait + Eprint + Clock + Sync + AllocGlobal, K: Sink
         (ending_of K.contents K.failures writer.old writer.new result) }
     ensures silent { MayTell result ⊎ IsOver subject.now.fen.now ⊎ (errors.new ≡ errors.old) }
 {
-    let (limits, telling) = asked;
-    match solution_reply(host, subject, limits, telling) {
+    let (limits, options) = asked;
+    match solution_reply(context, subject, limits, options) {
         Ok(text) => {
             tell_if_over(errors, subject.fen, None);
             finish(writer, errors, text.as_slice(), ANSWERED)
         }
         Err(refusal) => {
             let refused = search_refused(subject.fen, refusal);
-            refuse_and_tell(host.rt, writer, errors, &refused)
+            refuse_and_tell(context.rt, writer, errors, &refused)
         }
     }
 }
@@ -122,11 +122,11 @@ pub fn run<R: Threads + Wait + Eprint + Clock + Sync + AllocGlobal, W: AsStr, K:
 {
     match read_order(rt.alloc(), words) {
         Ok(Order::Certify(subject, limits)) => {
-            run_certify(&host_of(rt, words), &subject, limits, writer, errors)
+            run_certify(&context_of(rt, words), &subject, limits, writer, errors)
         }
-        Ok(Order::Solution(subject, limits, telling)) => {
-            let host = host_of(rt, words);
-            run_solution(&host, &subject, (limits, telling), writer, errors)
+        Ok(Order::Solution(subject, limits, options)) => {
+            let context = context_of(rt, words);
+            run_solution(&context, &subject, (limits, options), writer, errors)
         }
         Ok(
             Order::One(_)

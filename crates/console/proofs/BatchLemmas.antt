@@ -24,14 +24,14 @@ use Rattle.refusals.specs.Refusal.{refusal_of_fen}
 use Rattle.refusals.specs.declared.refusal.Refusal.{Refusal}
 use Rattle.answer_texts.specs.Said.{said_in}
 use Rattle.console.specs.Batch.{AnswersLines, EndsBatch, HasReplyText, IsAskedReply, IsLineReply, RunsBatch, answered_lines, joined, left_out, lines_of, onto}
-use Rattle.console.specs.Desk.{Fails, GivesAsked, GivesFound, GivesNext, IsFirstOf, IsAskedRefusal, PassesOver, RepliesTo, SameSolver, Step, TakesAnswered, TakesLines, TakesStep, stop_of}
+use Rattle.console.specs.BatchRun.{Fails, GivesAsked, GivesFound, GivesNext, IsFirstOf, IsAskedRefusal, PassesOver, RepliesTo, SameSolver, Step, TakesAnswered, TakesLines, TakesStep, stop_of}
 use Rattle.devices.specs.Lines.{HasNoFeed, IsFed, IsLastOf, IsReadAs, TakesLine, left_of}
 use Rattle.endings.specs.Run.{Ending, Finishes, Refuses, Run, no_memory}
 use Rattle.rounds.specs.declared.task.SolveFault.{SolveFault}
 use Rattle.rounds.specs.declared.task.SolveFault.TheVariants as solve
 use Rattle.console.specs.declared.batch.Solver.{Solver}
-use Rattle.console.specs.declared.batch.Stop.{Stop}
-use Rattle.console.specs.declared.batch.Stop.TheVariants.{ReadFailed, WriteFailed, NoMemory}
+use Rattle.console.specs.declared.batch.BatchStop.{BatchStop}
+use Rattle.console.specs.declared.batch.BatchStop.TheVariants.{ReadFailed, WriteFailed, NoMemory}
 use Rattle.devices.specs.declared.lines.Taken.{Taken}
 use Rattle.devices.specs.declared.lines.Next.{Next}
 use Rattle.devices.specs.declared.lines.Next.TheVariants.{Line}
@@ -55,11 +55,11 @@ asked_gives batch asked b (Err why) sound (inr refused) = inr (inl (b, sound, re
 
 -- the text of a refusal is a reply
 pub refusal_reply : (batch : Batch) (asked : Asked) (why : Refusal) (text : List ℕ) → IsAskedRefusal batch asked why
-    → IsRefusalText batch.manner.json (Some asked.fen.now) why text → IsAskedReply batch asked text
+    → IsRefusalText batch.options.json (Some asked.fen.now) why text → IsAskedReply batch asked text
 refusal_reply batch asked why text (inl (b, sound, (fault, is, same))) written =
-    inl (b, sound, rw is (subst (λ w. IsRefusalText batch.manner.json (Some asked.fen.now) w text) same written))
+    inl (b, sound, rw is (subst (λ w. IsRefusalText batch.options.json (Some asked.fen.now) w text) same written))
 refusal_reply batch asked why text (inr (fault, is, same)) written =
-    inr (fault, is, subst (λ w. IsRefusalText batch.manner.json (Some asked.fen.now) w text) same written)
+    inr (fault, is, subst (λ w. IsRefusalText batch.options.json (Some asked.fen.now) w text) same written)
 
 -- ---- lines
 
@@ -210,7 +210,7 @@ lines_end s s' left step written reads writes same r w (front, texts, fed, zip, 
   ),
 )
 
-pub lines_stop : (s s' : Solver) (left : Option (List ℕ)) (step : Step) (written : Option (List ℕ)) (reads writes : ℕ) (stop : Stop) → SameSolver s s'
+pub lines_stop : (s s' : Solver) (left : Option (List ℕ)) (step : Step) (written : Option (List ℕ)) (reads writes : ℕ) (stop : BatchStop) → SameSolver s s'
     → step.failed_reads ≡ reads → step.failed_writes ≡ writes → KeptSoFar s left step.left written step.written → TakesStep s' step (Err stop)
     → TakesLines s (whole_step step left written reads writes) (Some stop)
 lines_stop s s' left step written reads writes ReadFailed same r w (front, texts, fed, zip, gone, appended) (nothing, one) = (
@@ -295,7 +295,7 @@ step_written s step true next text (line, (none, last), read) gives grown fails 
     )
 
 -- a failed write ends the batch
-pub step_unwritten : (s : Solver) (step : Step) (r : Result Bool Stop) (taken : Taken) (text : Vec ℕ Global) → IsErr r × IsErrAnd r (λ stop. stop ≡ WriteFailed)
+pub step_unwritten : (s : Solver) (step : Step) (r : Result Bool BatchStop) (taken : Taken) (text : Vec ℕ Global) → IsErr r × IsErrAnd r (λ stop. stop ≡ WriteFailed)
     → TakesLine step.left step.left_after taken → GivesNext s taken.next (Some text) → AppendsBeginning step.written step.written_after (vec_items text) → Fails step 0 1
     → TakesStep s step r
 step_unwritten s step (Ok more) taken text err takes gives cut fails = absurd err.1
@@ -341,7 +341,7 @@ passed_all count so_many left now after taken less is_last (bytes, front, gone) 
     )
 
 -- the lines behind those that are passed over are those that are answered
-answered_behind : (s : Solver) (left now : Option (List ℕ)) (status : ℕ) (texts : List (List ℕ)) → PassesOver (left_out s.batch.manner.skip) left now true
+answered_behind : (s : Solver) (left now : Option (List ℕ)) (status : ℕ) (texts : List (List ℕ)) → PassesOver (left_out s.batch.options.skip) left now true
     → OfInput now (λ input. AnswersLines s.batch status texts (lines_of input)) → OfInput left (Answers s.batch status texts)
 answered_behind s left now status texts (bytes, front, gone) (input, same, answers) = (
   bytes ++ input,
@@ -349,7 +349,7 @@ answered_behind s left now status texts (bytes, front, gone) (input, same, answe
   subst (λ lines. AnswersLines s.batch status texts lines) (sym (front input)) answers,
 )
 
-pub batch_behind : (s : Solver) (left : Option (List ℕ)) (step : Step) (reads : ℕ) (stop : Option Stop) → PassesOver (left_out s.batch.manner.skip) left step.left true
+pub batch_behind : (s : Solver) (left : Option (List ℕ)) (step : Step) (reads : ℕ) (stop : Option BatchStop) → PassesOver (left_out s.batch.options.skip) left step.left true
     → step.failed_reads ≡ reads → TakesLines s step stop → TakesAnswered s (whole_step step left step.written reads step.failed_writes) stop
 batch_behind s left step reads None passes r (texts, answers, (written, fails)) =
     (texts, answered_behind s left step.left 0 texts passes answers, (written, fails_since step left step.written reads step.failed_writes 0 0 r refl fails))
@@ -361,7 +361,7 @@ batch_behind s left step reads (Some NoMemory) passes r (texts, answers, (writte
     (texts, answered_behind s left step.left 3 texts passes answers, (written, fails_since step left step.written reads step.failed_writes 0 0 r refl fails))
 
 -- there are no lines but those that are left out
-pub batch_of_none : (s : Solver) (step : Step) → PassesOver (left_out s.batch.manner.skip) step.left step.left_after false → Appends step.written step.written_after []
+pub batch_of_none : (s : Solver) (step : Step) → PassesOver (left_out s.batch.options.skip) step.left step.left_after false → Appends step.written step.written_after []
     → Fails step 0 0 → TakesAnswered s step None
 batch_of_none s step (input, same, none) grown fails = ([], (input, same, ([], [], none, tt, λ _. refl)), (grown, fails))
 
@@ -382,7 +382,7 @@ batch_unread s step input.NoMemory grown reads writes =
 
 -- ---- a run
 
--- of a desk at which nothing was read, all of the input is left
+-- of a batch in which nothing was read, all of the input is left
 pub fresh_left : (u : Unread) (known : Option (List ℕ)) → u.from ≡ 0 → u.to ≡ 0 → left_of u known ≡ known
 fresh_left u None from to = refl
 fresh_left u (Some xs) from to = let none : u.to - u.from ≡ 0 = omega (arith, from, to) in ap (λ k. Some (take k (drop u.from u.chunk) ++ xs)) none

@@ -37,18 +37,18 @@ abbrev pub IsFoundReply : Batch → Asked → PlainBoard → List ℕ → Type 0
 IsFoundReply batch asked b text =
     let limits = with_plies batch.limits (limit_of batch.limits.limit asked.moves) in
     MatchOption (fault_of limits)
-    ((found : Found) × IsFoundAt batch.manner.keys batch.goal b limits.limit found × IsFoundText batch asked found text)
-    (λ fault. IsRefusalText batch.manner.json (Some asked.fen.now) (refusal_of_solve fault) text)
+    ((found : Found) × IsFoundAt batch.options.keys batch.goal b limits.limit found × IsFoundText batch asked found text)
+    (λ fault. IsRefusalText batch.options.json (Some asked.fen.now) (refusal_of_solve fault) text)
 
 -- the same at the sound position of the text, or the refusal of the text's fault
 abbrev pub IsAskedReply : Batch → Asked → List ℕ → Type 0
 IsAskedReply batch asked text =
     ((b : PlainBoard) × IsSoundText asked.fen.now b × IsFoundReply batch asked b text)
-    ⊎ ((fault : FenFault) × IsSoundFault asked.fen.now fault × IsRefusalText batch.manner.json (Some asked.fen.now) (refusal_of_fen fault) text)
+    ⊎ ((fault : FenFault) × IsSoundFault asked.fen.now fault × IsRefusalText batch.options.json (Some asked.fen.now) (refusal_of_fen fault) text)
 
 -- what is written for a remark: the line as it is, and nothing among JSON
 abbrev pub remark_text : Batch → List ℕ → List ℕ
-remark_text batch said = if batch.manner.json then [] else line_of said
+remark_text batch said = if batch.options.json then [] else line_of said
 
 -- what is written for what a line says: for a remark, or for what it asks
 abbrev pub IsReplyText : Batch → List ℕ → List ℕ → Type 0
@@ -57,16 +57,16 @@ IsReplyText batch said text =
 
 -- a text with the position before it, and a tab, where that is asked for; a remark and JSON as they are
 abbrev pub with_position : Batch → List ℕ → List ℕ → List ℕ
-with_position batch said text = if batch.manner.echo && not (batch.manner.json || is_remark said) then said ++ (9 ∷ text) else text
+with_position batch said text = if batch.options.echo && not (batch.options.json || is_remark said) then said ++ (9 ∷ text) else text
 
--- what is written for what a line says, in the manner that was asked for
+-- what is written for what a line says, with the options that were asked for
 abbrev pub HasReplyText : Batch → List ℕ → List ℕ → Type 0
 HasReplyText batch said text = (plain : List ℕ) × IsReplyText batch said plain × (text ≡ with_position batch said plain)
 
 -- what is written for a line; one of more than 256 bytes, its feed not counted, is too long
 abbrev pub IsLineReply : Batch → List ℕ → List ℕ → Type 0
 IsLineReply batch line text =
-    MatchBool (nat_lt 256 (length (without_line_feed line))) (IsRefusalText batch.manner.json None TooLong text) (HasReplyText batch (said_in line) text)
+    MatchBool (nat_lt 256 (length (without_line_feed line))) (IsRefusalText batch.options.json None TooLong text) (HasReplyText batch (said_in line) text)
 
 -- the texts, all in one
 abbrev pub joined : List (List ℕ) → List ℕ
@@ -81,7 +81,7 @@ left_out (Some count) = count
 
 -- the lines of the input that are answered: all but those at its beginning that are left out
 abbrev pub answered_lines : Batch → List ℕ → List (List ℕ)
-answered_lines batch input = drop (left_out batch.manner.skip) (lines_of input)
+answered_lines batch input = drop (left_out batch.options.skip) (lines_of input)
 
 -- the texts are the replies to the first of the lines, one each, and to all of them where the status is 0
 abbrev pub AnswersLines : Batch → ℕ → List (List ℕ) → List (List ℕ) → Type 0

@@ -4,4 +4,4 @@ pub mod Batch
 pub mod Playing
 pub mod Order
 -- inside
-pub mod Desk
+pub mod BatchRun

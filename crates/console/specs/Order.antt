@@ -16,17 +16,17 @@ use Rattle.console.specs.Run.{RunsLine}
 -- the run is one of the order
 abbrev pub RunsOrder : Order → Run → Type 0
 RunsOrder (One line) run = RunsLine line run
-RunsOrder (Batch goal limits manner) run = RunsBatch (record { goal = goal; limits = limits; manner = manner }) run
+RunsOrder (Batch goal limits options) run = RunsBatch (record { goal = goal; limits = limits; options = options }) run
 RunsOrder (After played) run = RunsAfter played run
 RunsOrder (TreeAfter played goal limits) run = RunsFirst played goal limits run
 RunsOrder (Verify subject) run = DoesNothing run
 RunsOrder (Certify subject limits) run = DoesNothing run
-RunsOrder (Solution subject limits telling) run = DoesNothing run
+RunsOrder (Solution subject limits options) run = DoesNothing run
 
 -- the order reads the input: a batch does, but where its limits are refused, and a check where its position is sound
 abbrev pub MayReadOf : Order → Type 0
 MayReadOf (One line) = MayRead line
-MayReadOf (Batch goal limits manner) = fault_of limits ≡ None
+MayReadOf (Batch goal limits options) = fault_of limits ≡ None
 MayReadOf _ = ⊥
 
 -- the action is a search at a position
@@ -43,5 +43,5 @@ SearchesOver line = IsSearch line.action × IsOver line.fen.now
 -- standard error may be told more than why a run has no answer: by a batch, of each line that is refused or over, and by a search where it is over
 abbrev pub TellsMore : Order → Type 0
 TellsMore (One line) = SearchesOver line
-TellsMore (Batch goal limits manner) = ⊤
+TellsMore (Batch goal limits options) = ⊤
 TellsMore _ = ⊥

@@ -6,20 +6,20 @@ ghost use Rattle.answer_texts.specs.Asking.{with_plies};
 ghost use Rattle.answer_texts.specs.Said.{said_in};
 ghost use Rattle.console.specs.Batch.{HasReplyText, IsAskedReply, IsReplyText, left_out, remark_text, with_position};
 ghost use Rattle.answer_texts.specs.Forms.{IsRefusalText};
-ghost use Rattle.console.specs.Desk.{Finds, GivesAsked, GivesFound, GivesNext, IsDesk, IsSolver, OpensDesk, PassesOver, SameSolver, TakesAnswered, TakesLines, TakesStep, step_of, stop_of};
-ghost use Rattle.console.specs.declared.batch.Stop.TheVariants.{NoMemory, WriteFailed};
+ghost use Rattle.console.specs.BatchRun.{Finds, GivesAsked, GivesFound, GivesNext, IsBatchRun, IsSolver, OpensBatchRun, PassesOver, SameSolver, TakesAnswered, TakesLines, TakesStep, step_of, stop_of};
+ghost use Rattle.console.specs.declared.batch.BatchStop.TheVariants.{NoMemory, WriteFailed};
 
 use crate::beside::{find_beside, find_over};
 use answer_texts::{
     Asked, Batch, Found, asked_in, found_text, is_remark, limit_of, refused_object, said_in,
 };
 use board::Position;
-use command_line::{Limits, Manner};
+use command_line::{BatchOptions, Limits};
 use devices::{Failed, InputFault, Next, Sink, Source, Taken, Unread, write_all};
 use entry::MateLore;
 use moves::read_sound;
 use refusals::{Asking, Refusal, Refused, advise, refused_text, write_sentence};
-use replies::{Host, refusal_of, search_of, tell_if_over};
+use replies::{Context, refusal_of, search_of, tell_if_over};
 use rounds::{SolveFault, Task, make_table};
 use searcher::NoGate;
 use slots::{Seat, Slots};
@@ -41,7 +41,7 @@ pub struct Solver {
 
 /// Where the lines of a batch are read and answered.
 #[derive(Drop)]
-pub struct Desk {
+pub struct BatchRun {
     pub solver: Solver,
     pub unread: Unread,
     /// The number of the line that was read last.
@@ -50,47 +50,47 @@ pub struct Desk {
 
 /// What ends a batch before the end of its input.
 #[derive(Clone, Copy)]
-pub enum Stop {
+pub enum BatchStop {
     ReadFailed,
     WriteFailed,
     NoMemory,
 }
 
-impl From<InputFault> for Stop {
+impl From<InputFault> for BatchStop {
     ghost from_gives = { λ fault stop. stop ≡ stop_of fault };
 
-    fn from(fault: InputFault) -> Stop {
+    fn from(fault: InputFault) -> BatchStop {
         match fault {
-            InputFault::ReadFailed => Stop::ReadFailed,
-            _ => Stop::NoMemory,
+            InputFault::ReadFailed => BatchStop::ReadFailed,
+            _ => BatchStop::NoMemory,
         }
     }
 }
 
-impl From<Failed> for Stop {
+impl From<Failed> for BatchStop {
     ghost from_gives = { λ _ stop. stop ≡ WriteFailed };
 
-    fn from(_failed: Failed) -> Stop {
-        Stop::WriteFailed
+    fn from(_failed: Failed) -> BatchStop {
+        BatchStop::WriteFailed
     }
 }
 
-impl From<AllocError> for Stop {
+impl From<AllocError> for BatchStop {
     ghost from_gives = { λ _ stop. stop ≡ NoMemory };
 
-    fn from(_error: AllocError) -> Stop {
-        Stop::NoMemory
+    fn from(_error: AllocError) -> BatchStop {
+        BatchStop::NoMemory
     }
 }
 
-impl Desk {
-    /// A desk with a table for these limits, or the first of them that is refused.
-    pub fn open(alloc: Global, batch: Batch) -> Result<Desk, SolveFault>
-        ensures { OpensDesk batch result }
+impl BatchRun {
+    /// A batch that is about to run, with a table for these limits, or the first of them that is refused.
+    pub fn open(alloc: Global, batch: Batch) -> Result<BatchRun, SolveFault>
+        ensures { OpensBatchRun batch result }
     {
         let search = search_of(batch.limits);
         let (slots, seats) = make_table(alloc, search.limit, search.workers, search.slots)?;
-        Ok(Desk {
+        Ok(BatchRun {
             solver: Solver {
                 batch,
                 slots,
@@ -104,7 +104,7 @@ impl Desk {
 
 /// What is asked of a position within so many plies, by the table of the batch.
 fn find_at<R: Threads + Wait + Eprint + Clock + Sync + AllocGlobal>(
-    host: &Host<'_, R>,
+    context: &Context<'_, R>,
     solver: &mut Solver,
     limit: u32,
     position: &Position,
@@ -112,13 +112,13 @@ fn find_at<R: Threads + Wait + Eprint + Clock + Sync + AllocGlobal>(
     requires { IsSolver solver.old }
     ensures solver { IsSolver solver.new }
     ensures same { SameSolver solver.old solver.new }
-    ensures finds { Finds solver.old.batch.manner.keys solver.old.batch.goal position.now
+    ensures finds { Finds solver.old.batch.options.keys solver.old.batch.goal position.now
         (with_plies solver.old.batch.limits limit) result }
 {
     let Batch {
         goal,
         limits,
-        manner,
+        options,
     } = solver.batch;
     let limits = Limits {
         limit,
@@ -126,7 +126,7 @@ fn find_at<R: Threads + Wait + Eprint + Clock + Sync + AllocGlobal>(
         slots: limits.slots,
     };
     let limit = search_of(limits).limit;
-    let Some(watch) = host.watch_of(position, manner.keys, limits) else {
+    let Some(watch) = context.watch_of(position, options.keys, limits) else {
         let task = Task {
             position,
             goal,
@@ -134,8 +134,8 @@ fn find_at<R: Threads + Wait + Eprint + Clock + Sync + AllocGlobal>(
             gate: &NoGate,
         };
         return find_over(
-            host.rt,
-            manner.keys,
+            context.rt,
+            options.keys,
             &task,
             &solver.slots,
             &mut solver.seats,
@@ -147,15 +147,15 @@ fn find_at<R: Threads + Wait + Eprint + Clock + Sync + AllocGlobal>(
         limit,
         gate: &watch,
     };
-    let seats = mem::replace(&mut solver.seats, Vec::new(host.rt.alloc()));
-    let (found, seats) = find_beside(host.rt, manner.keys, &task, &solver.slots, seats);
+    let seats = mem::replace(&mut solver.seats, Vec::new(context.rt.alloc()));
+    let (found, seats) = find_beside(context.rt, options.keys, &task, &solver.slots, seats);
     solver.seats = seats;
     found
 }
 
 /// What is written for what is found at a position, or why nothing is.
 fn position_text<R: Threads + Wait + Eprint + Clock + Sync + AllocGlobal>(
-    host: &Host<'_, R>,
+    context: &Context<'_, R>,
     solver: &mut Solver,
     asked: &Asked<'_>,
     position: &Position,
@@ -166,15 +166,15 @@ fn position_text<R: Threads + Wait + Eprint + Clock + Sync + AllocGlobal>(
     ensures gives { GivesFound solver.old.batch asked.now position.now result }
 {
     let limit = limit_of(solver.batch.limits.limit, asked.moves);
-    match find_at(host, solver, limit, position) {
-        Ok(found) => Ok(found_text(host.rt.alloc(), &solver.batch, asked, &found)?),
+    match find_at(context, solver, limit, position) {
+        Ok(found) => Ok(found_text(context.rt.alloc(), &solver.batch, asked, &found)?),
         Err(fault) => Err(refusal_of(fault)),
     }
 }
 
 /// What is written for what a line asks, or why it is refused.
 fn answered_text<R: Threads + Wait + Eprint + Clock + Sync + AllocGlobal>(
-    host: &Host<'_, R>,
+    context: &Context<'_, R>,
     solver: &mut Solver,
     asked: &Asked<'_>,
 ) -> Result<Vec<u8>, Refusal>
@@ -184,7 +184,7 @@ fn answered_text<R: Threads + Wait + Eprint + Clock + Sync + AllocGlobal>(
     ensures gives { GivesAsked solver.old.batch asked.now result }
 {
     let position = read_sound(asked.fen)?;
-    position_text(host, solver, asked, &position)
+    position_text(context, solver, asked, &position)
 }
 
 /// Tells why a line is refused, in one sentence.
@@ -216,7 +216,7 @@ fn refusal_line<E: Write>(
 fn echoed(alloc: Global, batch: &Batch, said: &[u8], plain: Vec<u8>) -> Result<Vec<u8>, AllocError>
     ensures { IfOk result (λ text. text.items ≡ with_position batch.now said.now plain.items) }
 {
-    if !batch.manner.echo || batch.manner.json || is_remark(said) {
+    if !batch.options.echo || batch.options.json || is_remark(said) {
         return Ok(plain);
     }
     let mut text = Vec::new(alloc);
@@ -228,7 +228,7 @@ fn echoed(alloc: Global, batch: &Batch, said: &[u8], plain: Vec<u8>) -> Result<V
 
 /// What is written for a line.
 fn line_text<R: Threads + Wait + Eprint + Clock + Sync + AllocGlobal, E: Write>(
-    host: &Host<'_, R>,
+    context: &Context<'_, R>,
     solver: &mut Solver,
     line: &[u8],
     number: u64,
@@ -241,8 +241,8 @@ fn line_text<R: Threads + Wait + Eprint + Clock + Sync + AllocGlobal, E: Write>(
 {
     let batch = solver.batch;
     let said = said_in(line);
-    let plain = plain_text(host, solver, said, number, errors)?;
-    echoed(host.rt.alloc(), &batch, said, plain)
+    let plain = plain_text(context, solver, said, number, errors)?;
+    echoed(context.rt.alloc(), &batch, said, plain)
 }
 
 /// What is written for a remark.
@@ -250,7 +250,7 @@ fn remark_text(alloc: Global, batch: &Batch, said: &[u8]) -> Result<Vec<u8>, All
     ensures { IfOk result (λ text. text.items ≡ remark_text batch.now said.now) }
 {
     let mut text = Vec::new(alloc);
-    if !batch.manner.json {
+    if !batch.options.json {
         text.extend_from_slice(said)?;
         text.push(b'\n')?;
     }
@@ -259,7 +259,7 @@ fn remark_text(alloc: Global, batch: &Batch, said: &[u8]) -> Result<Vec<u8>, All
 
 /// What is written for what a line says, without its position.
 fn plain_text<R: Threads + Wait + Eprint + Clock + Sync + AllocGlobal, E: Write>(
-    host: &Host<'_, R>,
+    context: &Context<'_, R>,
     solver: &mut Solver,
     said: &[u8],
     number: u64,
@@ -270,17 +270,17 @@ fn plain_text<R: Threads + Wait + Eprint + Clock + Sync + AllocGlobal, E: Write>
     ensures same { SameSolver solver.old solver.new }
     ensures text { IfOk result (λ text. IsReplyText solver.old.batch said.now text.items) }
 {
-    let alloc = host.rt.alloc();
+    let alloc = context.rt.alloc();
     if is_remark(said) {
         return remark_text(alloc, &solver.batch, said);
     }
     let asked = asked_in(alloc, said)?;
-    asked_text(host, solver, &asked, number, errors)
+    asked_text(context, solver, &asked, number, errors)
 }
 
 /// What is written for what a line asks.
 fn asked_text<R: Threads + Wait + Eprint + Clock + Sync + AllocGlobal, E: Write>(
-    host: &Host<'_, R>,
+    context: &Context<'_, R>,
     solver: &mut Solver,
     asked: &Asked<'_>,
     number: u64,
@@ -291,8 +291,8 @@ fn asked_text<R: Threads + Wait + Eprint + Clock + Sync + AllocGlobal, E: Write>
     ensures same { SameSolver solver.old solver.new }
     ensures text { IfOk result (λ text. IsAskedReply solver.old.batch asked.now text.items) }
 {
-    let json = solver.batch.manner.json;
-    match answered_text(host, solver, asked) {
+    let json = solver.batch.options.json;
+    match answered_text(context, solver, asked) {
         Ok(text) => {
             tell_if_over(errors, asked.fen, Some(number));
             Ok(text)
@@ -306,14 +306,14 @@ fn asked_text<R: Threads + Wait + Eprint + Clock + Sync + AllocGlobal, E: Write>
                 fen: asked.fen,
                 asking: Asking::Line(number),
             };
-            refusal_line(host.rt.alloc(), json, errors, Some(asked.fen), &why)
+            refusal_line(context.rt.alloc(), json, errors, Some(asked.fen), &why)
         }
     }
 }
 
 /// What is written for what comes next of the input, or nothing at its end.
 fn next_text<R: Threads + Wait + Eprint + Clock + Sync + AllocGlobal, E: Write>(
-    host: &Host<'_, R>,
+    context: &Context<'_, R>,
     solver: &mut Solver,
     next: Next,
     number: u64,
@@ -332,10 +332,10 @@ fn next_text<R: Threads + Wait + Eprint + Clock + Sync + AllocGlobal, E: Write>(
                 fen: b"",
                 asking: Asking::Line(number),
             };
-            let json = solver.batch.manner.json;
-            Ok(Some(refusal_line(host.rt.alloc(), json, errors, None, &refused)?))
+            let json = solver.batch.options.json;
+            Ok(Some(refusal_line(context.rt.alloc(), json, errors, None, &refused)?))
         }
-        Next::Line(line) => Ok(Some(line_text(host, solver, line.as_slice(), number, errors)?)),
+        Next::Line(line) => Ok(Some(line_text(context, solver, line.as_slice(), number, errors)?)),
     }
 }
 
@@ -346,29 +346,31 @@ fn answer_next<
     K: Sink,
     E: Write,
 >(
-    host: &Host<'_, R>,
-    desk: &mut Desk,
+    context: &Context<'_, R>,
+    run: &mut BatchRun,
     reader: &mut S,
     writer: &mut K,
     errors: &mut E,
-) -> Result<bool, Stop>
-    requires desk { IsDesk desk.old }
+) -> Result<bool, BatchStop>
+    requires run { IsBatchRun run.old }
     requires reads { S.failures reader.old < u64.MAX }
     requires writes { K.failures writer.old < u64.MAX }
-    ensures desk { IsDesk desk.new }
-    ensures same { SameSolver desk.old.solver desk.new.solver }
-    ensures step { TakesStep desk.old.solver (step_of desk.old desk.new S.remaining S.failures reader.old reader.new
+    ensures run { IsBatchRun run.new }
+    ensures same { SameSolver run.old.solver run.new.solver }
+    ensures step { TakesStep run.old.solver (step_of run.old run.new S.remaining S.failures reader.old reader.new
         K.contents K.failures writer.old writer.new) result }
 {
-    desk.number = desk.number.saturating_add(1);
-    host.line.store(desk.number, Ordering::SeqCst);
-    let Taken { next, is_last } = desk.unread.next_line(host.rt, host.rt.alloc(), reader)?;
-    let Some(text) = next_text(host, &mut desk.solver, next, desk.number, errors)? else {
-        host.tally.clear(errors);
+    run.number = run.number.saturating_add(1);
+    context.line.store(run.number, Ordering::SeqCst);
+    let Taken { next, is_last } = run
+        .unread
+        .next_line(context.rt, context.rt.alloc(), reader)?;
+    let Some(text) = next_text(context, &mut run.solver, next, run.number, errors)? else {
+        context.tally.clear(errors);
         return Ok(false);
     };
     write_all(writer, text.as_slice())?;
-    host.tally.tell(host.rt, desk.number, errors);
+    context.tally.tell(context.rt, run.number, errors);
     Ok(!is_last)
 }
 
@@ -379,20 +381,20 @@ fn answer_lines<
     K: Sink,
     E: Write,
 >(
-    host: &Host<'_, R>,
-    desk: &mut Desk,
+    context: &Context<'_, R>,
+    run: &mut BatchRun,
     reader: &mut S,
     writer: &mut K,
     errors: &mut E,
-) -> Option<Stop>
-    requires desk { IsDesk desk.old }
+) -> Option<BatchStop>
+    requires run { IsBatchRun run.old }
     requires reads { S.failures reader.old < u64.MAX }
     requires writes { K.failures writer.old < u64.MAX }
-    ensures lines { TakesLines desk.old.solver (step_of desk.old desk.new S.remaining S.failures reader.old reader.new
+    ensures lines { TakesLines run.old.solver (step_of run.old run.new S.remaining S.failures reader.old reader.new
         K.contents K.failures writer.old writer.new) result }
 {
-    for _ in host.rt.forever() {
-        match answer_next(host, desk, reader, writer, errors) {
+    for _ in context.rt.forever() {
+        match answer_next(context, run, reader, writer, errors) {
             Ok(true) => {}
             Ok(false) => return None,
             Err(stop) => return Some(stop),
@@ -402,10 +404,10 @@ fn answer_lines<
 }
 
 /// How many lines at the beginning of the input are left out.
-pub fn left_out(manner: Manner) -> u32
-    ensures { result ≡ left_out manner.skip }
+pub fn left_out(options: BatchOptions) -> u32
+    ensures { result ≡ left_out options.skip }
 {
-    manner.skip.unwrap_or(0)
+    options.skip.unwrap_or(0)
 }
 
 /// Reads so many lines, and does nothing with them. Answers whether more may come.
@@ -438,26 +440,26 @@ pub fn answer_batch<
     K: Sink,
     E: Write,
 >(
-    host: &Host<'_, R>,
-    desk: &mut Desk,
+    context: &Context<'_, R>,
+    run: &mut BatchRun,
     reader: &mut S,
     writer: &mut K,
     errors: &mut E,
-) -> Option<Stop>
-    requires desk { IsDesk desk.old }
+) -> Option<BatchStop>
+    requires run { IsBatchRun run.old }
     requires reads { S.failures reader.old < u64.MAX }
     requires writes { K.failures writer.old < u64.MAX }
-    ensures lines { TakesAnswered desk.old.solver
-        (step_of desk.old desk.new S.remaining S.failures reader.old reader.new
+    ensures lines { TakesAnswered run.old.solver
+        (step_of run.old run.new S.remaining S.failures reader.old reader.new
         K.contents K.failures writer.old writer.new) result }
 {
-    let count = left_out(desk.solver.batch.manner);
-    match pass_over(host.rt, &mut desk.unread, reader, count) {
+    let count = left_out(run.solver.batch.options);
+    match pass_over(context.rt, &mut run.unread, reader, count) {
         Ok(true) => {
-            desk.number = u64::from(count);
-            answer_lines(host, desk, reader, writer, errors)
+            run.number = u64::from(count);
+            answer_lines(context, run, reader, writer, errors)
         }
         Ok(false) => None,
-        Err(fault) => Some(Stop::from(fault)),
+        Err(fault) => Some(BatchStop::from(fault)),
     }
 }

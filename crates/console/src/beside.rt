@@ -1,21 +1,21 @@
 //! Replies with a sign of life beside them.
-ghost use Rattle.std.specs.Prelude.{◌≡◌, ◌⊎◌, ◌+◌, ◌<◌, ℕ, All, List, [], IfErr, IfOk, IfSome, None, Option, Some, length, vec_items};
+ghost use Rattle.std.specs.Prelude.{◌≡◌, ◌+◌, ℕ, All, List, [], IfErr, IfOk, IfSome, None, Option, Some, length, vec_items};
 ghost use Rattle.slots.specs.Promise.{IsSeatOf};
 ghost use Rattle.answer_texts.specs.Asking.{IsFoundAt};
 ghost use Rattle.rounds.specs.Limits.{task_fault, IsTaskRefusal};
 ghost use Rattle.rounds.specs.Seats.{AreSeats};
 ghost use Rattle.replies.specs.Outcome.{GivesReply};
-ghost use Rattle.replies.specs.Output.{input_of, MayRead};
+ghost use Rattle.replies.specs.Output.{input_of};
 ghost use Rattle.endings.specs.Outcome.{reads_failed};
 
 use answer_texts::Found;
 use command_line::{Action, Line};
 use devices::{Failed, Source};
-use endings::Trouble;
+use endings::ReplyFault;
 use entry::MateLore;
 use moves::read_sound;
 use progress::{Course, Watch, shown};
-use replies::{Host, Told, last_round, reply, reply_told};
+use replies::{Context, Told, last_round, reply_told};
 use rounds::{SolveFault, Task, keys_over, solve_over};
 use searcher::Gate;
 use slots::{Seat, Slots};
@@ -49,20 +49,23 @@ fn course_of(action: Action) -> Option<(Course, u32)>
 }
 
 /// A watch over the line's search, if it is to be shown.
-fn watch_of<R: Clock + AllocGlobal>(host: &Host<'_, R>, line: &Line<'_>) -> Option<Watch>
+pub(crate) fn watch_of<R: Clock + AllocGlobal>(
+    context: &Context<'_, R>,
+    line: &Line<'_>,
+) -> Option<Watch>
     ensures { IfSome result (λ _. (known : Option (List ℕ)) → input_of line.now.action known ≡ Some []) }
 {
     let (course, slots) = course_of(line.action)?;
     let position = read_sound(line.fen).ok()?;
-    host.watch(&position, course, slots)
+    context.watch(&position, course, slots)
 }
 
 /// The reply to a line that reads no input, with a thread beside it that shows its search.
-fn reply_beside<R: Threads + Wait + Eprint + Clock + Sync + AllocGlobal>(
+pub(crate) fn reply_beside<R: Threads + Wait + Eprint + Clock + Sync + AllocGlobal>(
     rt: &R,
     watch: &Watch,
     line: &Line<'_>,
-) -> Result<Vec<u8>, Trouble>
+) -> Result<Vec<u8>, ReplyFault>
     ensures given { GivesReply vec_items line.now (Some []) result }
     ensures counts { reads_failed result ≡ 0 }
 {
@@ -71,7 +74,7 @@ fn reply_beside<R: Threads + Wait + Eprint + Clock + Sync + AllocGlobal>(
     shown(
         rt,
         watch,
-        move || -> Result<Vec<u8>, Trouble>
+        move || -> Result<Vec<u8>, ReplyFault>
             ensures { GivesReply vec_items (record { fen = fen.entry; action = action }) (Some []) result
                 × (reads_failed result ≡ 0) }
         {
@@ -82,23 +85,6 @@ fn reply_beside<R: Threads + Wait + Eprint + Clock + Sync + AllocGlobal>(
             reply_told(rt, &told, &Line { fen, action }, &mut Nothing)
         },
     )
-}
-
-/// The text that answers a line, as `reply` gives it, with a sign of life where one is asked for.
-pub fn reply_shown<R: Threads + Wait + Eprint + Clock + Sync + AllocGlobal, S: Source>(
-    host: &Host<'_, R>,
-    line: &Line<'_>,
-    reader: &mut S,
-) -> Result<Vec<u8>, Trouble>
-    requires { S.failures reader.old < u64.MAX }
-    ensures given { GivesReply vec_items line.now (S.remaining reader.old) result }
-    ensures asked { MayRead line.now ⊎ (reader.new ≡ reader.old) }
-    ensures counts { S.failures reader.new ≡ S.failures reader.old + reads_failed result }
-{
-    match watch_of(host, line) {
-        Some(watch) => reply_beside(host.rt, &watch, line),
-        None => reply(host.rt, host.rt.alloc(), line, reader),
-    }
 }
 
 /// The answer of a task, or its keys, searched over a table.

@@ -1,6 +1,8 @@
 //! A run of the program over any reader and writer.
-ghost use Rattle.std.specs.Prelude.{◌≡◌, ◌⊎◌, ◌<◌, None, map};
+ghost use Rattle.std.specs.Prelude.{◌≡◌, ◌⊎◌, ◌+◌, ◌<◌, None, map, vec_items};
+ghost use Rattle.replies.specs.Outcome.{GivesReply};
 ghost use Rattle.replies.specs.Output.{fault_of, MayRead};
+ghost use Rattle.endings.specs.Outcome.{reads_failed};
 ghost use Rattle.endings.specs.Run.{ending_of, run_of, EndsReply, MayTell, Refuses};
 ghost use Rattle.endings.specs.Words.{MeansSome, RunsWords};
 ghost use Rattle.console.specs.Batch.{RunsBatch};
@@ -8,18 +10,19 @@ ghost use Rattle.console.specs.Order.{MayReadOf, RunsOrder, SearchesOver, TellsM
 ghost use Rattle.console.specs.Playing.{WritesAfter};
 ghost use Rattle.console.specs.Run.{RunsLine};
 
-use crate::batch::{Desk, Stop, answer_batch, left_out};
-use crate::beside::reply_shown;
+use crate::batch::{BatchRun, BatchStop, answer_batch, left_out};
+use crate::beside::{reply_beside, watch_of};
 use crate::over::{asking_of, tell_if_line_is_over};
 use answer_texts::Batch;
-use command_line::{Line, LineFault, Manner, Order, Played, asks_progress, read_order};
+use command_line::{BatchOptions, Line, LineFault, NamedMove, Order, asks_progress, read_order};
 use devices::{Sink, Source};
 use endings::{
-    ANSWERED, REFUSED_WORDS, Trouble, fail_to_read, fail_to_write, finish, give_up_for_memory,
+    ANSWERED, REFUSED_WORDS, ReplyFault, fail_to_read, fail_to_write, finish, give_up_for_memory,
     has_no_answer, refuse, refuse_and_tell, search_refused,
 };
 use refusals::{Asking, Refusal, Refused, advise, advise_move};
-use replies::{Host, Tally, after_reply, first_reply, host_of, refusal_of};
+use replies::{Context, Tally, Told, after_reply, context_of, first_reply, refusal_of, reply_told};
+use searcher::NoGate;
 use std::convert::AsStr;
 use std::io::{self, Write, sink};
 use std::sync::Wait;
@@ -41,23 +44,46 @@ pub fn run_line<R: Threads + Wait + Eprint + Clock + Sync + AllocGlobal, S: Sour
     ensures runs { RunsLine line.now (run_of S.remaining S.failures reader.old reader.new
         (ending_of K.contents K.failures writer.old writer.new result)) }
 {
-    let host = Host {
+    let context = Context {
         rt,
         shows: false,
         line: AtomicU64::new(0),
         tally: Tally::quiet(),
     };
-    run_line_on(&host, line, reader, writer, &mut sink())
+    run_line_on(&context, line, reader, writer, &mut sink())
 }
 
-/// Answers a line for a host that may show how far a search is. `errors` is told why a line was refused;
+/// The text that answers a line, with a sign of life where one is asked for.
+fn reply_shown<R: Threads + Wait + Eprint + Clock + Sync + AllocGlobal, S: Source>(
+    context: &Context<'_, R>,
+    line: &Line<'_>,
+    reader: &mut S,
+) -> Result<Vec<u8>, ReplyFault>
+    requires { S.failures reader.old < u64.MAX }
+    ensures given { GivesReply vec_items line.now (S.remaining reader.old) result }
+    ensures asked { MayRead line.now ⊎ (reader.new ≡ reader.old) }
+    ensures counts { S.failures reader.new ≡ S.failures reader.old + reads_failed result }
+{
+    match watch_of(context, line) {
+        Some(watch) => reply_beside(context.rt, &watch, line),
+        None => {
+            let told = Told {
+                alloc: context.rt.alloc(),
+                gate: &NoGate,
+            };
+            reply_told(context.rt, &told, line, reader)
+        }
+    }
+}
+
+/// Answers a line for a context that may show how far a search is. `errors` is told why a line was refused;
 /// whether it takes that changes nothing.
 fn run_line_on<
     R: Threads + Wait + Eprint + Clock + Sync + AllocGlobal,
     S: Source,
     K: Sink,
     E: Write,
->(host: &Host<'_, R>, line: &Line<'_>, reader: &mut S, writer: &mut K, errors: &mut E) -> u8
+>(context: &Context<'_, R>, line: &Line<'_>, reader: &mut S, writer: &mut K, errors: &mut E) -> u8
     requires reads { S.failures reader.old < u64.MAX }
     requires writes { K.failures writer.old < u64.MAX }
     ensures unread { MayRead line.now ⊎ (reader.new ≡ reader.old) }
@@ -65,21 +91,21 @@ fn run_line_on<
         (ending_of K.contents K.failures writer.old writer.new result)) }
     ensures silent { MayTell result ⊎ SearchesOver line.now ⊎ (errors.new ≡ errors.old) }
 {
-    match reply_shown(host, line, reader) {
+    match reply_shown(context, line, reader) {
         Ok(text) => {
             tell_if_line_is_over(errors, line);
             finish(writer, errors, text.as_slice(), ANSWERED)
         }
-        Err(Trouble::Refused(refusal)) => {
+        Err(ReplyFault::Refused(refusal)) => {
             let asking = asking_of(line.action);
             let refused = Refused {
                 refusal,
                 fen: line.fen,
                 asking,
             };
-            refuse_and_tell(host.rt, writer, errors, &refused)
+            refuse_and_tell(context.rt, writer, errors, &refused)
         }
-        Err(Trouble::ReadFailed) => fail_to_read(errors),
+        Err(ReplyFault::ReadFailed) => fail_to_read(errors),
     }
 }
 
@@ -89,29 +115,29 @@ pub fn run_batch<
     S: Source,
     K: Sink,
     E: Write,
->(host: &Host<'_, R>, batch: Batch, reader: &mut S, writer: &mut K, errors: &mut E) -> u8
+>(context: &Context<'_, R>, batch: Batch, reader: &mut S, writer: &mut K, errors: &mut E) -> u8
     requires reads { S.failures reader.old < u64.MAX }
     requires writes { K.failures writer.old < u64.MAX }
     ensures unread { (fault_of batch.limits ≡ None) ⊎ (reader.new ≡ reader.old) }
     ensures runs { RunsBatch batch (run_of S.remaining S.failures reader.old reader.new
         (ending_of K.contents K.failures writer.old writer.new result)) }
 {
-    match Desk::open(host.rt.alloc(), batch) {
-        Ok(mut desk) => match answer_batch(host, &mut desk, reader, writer, errors) {
+    match BatchRun::open(context.rt.alloc(), batch) {
+        Ok(mut opened) => match answer_batch(context, &mut opened, reader, writer, errors) {
             None => ANSWERED,
-            Some(Stop::NoMemory) => give_up_for_memory(writer, errors),
-            Some(Stop::ReadFailed) => fail_to_read(errors),
-            Some(Stop::WriteFailed) => fail_to_write(errors),
+            Some(BatchStop::NoMemory) => give_up_for_memory(writer, errors),
+            Some(BatchStop::ReadFailed) => fail_to_read(errors),
+            Some(BatchStop::WriteFailed) => fail_to_write(errors),
         },
         Err(fault) => {
             let refused = search_refused(b"", refusal_of(fault));
-            refuse_and_tell(host.rt, writer, errors, &refused)
+            refuse_and_tell(context.rt, writer, errors, &refused)
         }
     }
 }
 
 /// Tells why no position is written for a move.
-fn tell_move<E: Write>(errors: &mut E, played: &Played<'_>, refusal: Refusal) -> io::Result<()> {
+fn tell_move<E: Write>(errors: &mut E, played: &NamedMove<'_>, refusal: Refusal) -> io::Result<()> {
     match refusal {
         Refusal::Move => advise_move(errors, played.fen, played.name),
         _ => {
@@ -130,7 +156,7 @@ fn refuse_move<R: AllocGlobal, K: Sink, E: Write>(
     rt: &R,
     writer: &mut K,
     errors: &mut E,
-    played: &Played<'_>,
+    played: &NamedMove<'_>,
     refusal: Refusal,
 ) -> u8
     requires { K.failures writer.old < u64.MAX }
@@ -147,7 +173,7 @@ fn refuse_move<R: AllocGlobal, K: Sink, E: Write>(
 /// Writes a reply to a move that is named, or why there is none.
 fn write_played<R: AllocGlobal, K: Sink, E: Write>(
     rt: &R,
-    played: &Played<'_>,
+    played: &NamedMove<'_>,
     writer: &mut K,
     errors: &mut E,
     reply: Result<Vec<u8>, Refusal>,
@@ -165,7 +191,7 @@ fn write_played<R: AllocGlobal, K: Sink, E: Write>(
 /// Answers the position after a move. `errors` is told why it was refused.
 fn run_after<R: AllocGlobal, K: Sink, E: Write>(
     rt: &R,
-    played: &Played<'_>,
+    played: &NamedMove<'_>,
     writer: &mut K,
     errors: &mut E,
 ) -> u8
@@ -177,13 +203,17 @@ fn run_after<R: AllocGlobal, K: Sink, E: Write>(
     write_played(rt, played, writer, errors, reply)
 }
 
-/// The host of a batch of this manner, and whether the words ask for a sign of life.
-fn batch_host<'a, R: Clock, W: AsStr>(rt: &'a R, words: &[W], manner: Manner) -> Host<'a, R> {
-    Host {
+/// The context of a batch with these options, and whether the words ask for a sign of life.
+fn batch_context<'a, R: Clock, W: AsStr>(
+    rt: &'a R,
+    words: &[W],
+    options: BatchOptions,
+) -> Context<'a, R> {
+    Context {
         rt,
         shows: asks_progress(words),
         line: AtomicU64::new(0),
-        tally: Tally::new(rt, manner.lines, left_out(manner)),
+        tally: Tally::new(rt, options.lines, left_out(options)),
     }
 }
 
@@ -203,14 +233,14 @@ pub fn run<
     ensures silent { MayTell result ⊎ MeansSome TellsMore (map W.text words.now) ⊎ (errors.new ≡ errors.old) }
 {
     match read_order(rt.alloc(), words) {
-        Ok(Order::One(line)) => run_line_on(&host_of(rt, words), &line, reader, writer, errors),
-        Ok(Order::Batch(goal, limits, manner)) => {
+        Ok(Order::One(line)) => run_line_on(&context_of(rt, words), &line, reader, writer, errors),
+        Ok(Order::Batch(goal, limits, options)) => {
             run_batch(
-                &batch_host(rt, words, manner),
+                &batch_context(rt, words, options),
                 Batch {
                     goal,
                     limits,
-                    manner,
+                    options,
                 },
                 reader,
                 writer,

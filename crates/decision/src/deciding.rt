@@ -129,8 +129,8 @@ fn decide_with<S: Stop, A: Allocator>(
     ensures goes_on { GoesOn caller.old caller.new }
     ensures stop { S.stays scout.old.stop scout.new.stop }
     ensures history { KnowsCalls caller.new.seat.now }
-    ensures decided { MatchOption result (S.told scout.new.stop)
-        (λ d. IsDecided q.now (slots_of caller.old.slots.now) n (number caller.old.seat.now) d (adds caller.old caller.new)) }
+    ensures decided { MatchOption result (S.told scout.new.stop) (λ d. IsDecided q.now
+        (slots_of caller.old.slots.now) n (number caller.old.seat.now) d (adds caller.old caller.new)) }
 {
     let reply = ask_near(caller, q, n);
     match settled(reply, n) {
@@ -226,29 +226,6 @@ fn search_on<S: Stop, A: Allocator>(
     search_from(caller, &mut lead, q, n, known)
 }
 
-/// `search_on`, with a memory of its own, where nothing stops it.
-#[inline(never)]
-fn search_alone<A: Allocator>(
-    caller: &mut Caller<'_, A>,
-    q: &Question,
-    n: u8,
-    known: Interval,
-) -> bool
-    requires plies { n ≤ 63 }
-    requires known { IsKnownOf q.now known }
-    ensures goes_on { GoesOn caller.old caller.new }
-    ensures answer { IsTrue result ↔ IsForced q.now n }
-{
-    let mut scout = Scout {
-        stop: Never,
-        memory: Memory::new(),
-    };
-    let Some(yes) = search_on(caller, &mut scout, q, n, known) else {
-        unreachable!()
-    };
-    yes
-}
-
 /// The answer alone, as the far slots have it, or else by a search, or `None` where that was told to stop.
 fn ask_until<S: Stop, A: Allocator>(
     caller: &mut Caller<'_, A>,
@@ -268,31 +245,8 @@ fn ask_until<S: Stop, A: Allocator>(
     }
 }
 
-/// The answer alone, as the far slots have it, or else by a search.
-fn ask_alone<A: Allocator>(caller: &mut Caller<'_, A>, q: &Question, n: u8) -> bool
-    requires { n ≤ 63 }
-    ensures goes_on { GoesOn caller.old caller.new }
-    ensures answer { IsTrue result ↔ IsForced q.now n }
-{
-    let known = look_far(caller, q, n);
-    match decided(known, n) {
-        Some(yes) => yes,
-        None => search_alone(caller, q, n, known),
-    }
-}
-
 /// Up to so many plies the answer alone is found sooner than the table is asked.
 const UNASKED: u8 = 2;
-
-/// The answer alone for at most two plies, with a memory of its own.
-// It stands apart, since a new memory is cleared.
-#[inline(never)]
-fn short_alone(q: &Question, n: u8) -> bool
-    requires { n ≤ 2 }
-    ensures { IsTrue result ↔ IsForced q.now n }
-{
-    short_leaf(&mut Memory::new(), q, n)
-}
 
 /// Whether the attacker forces the goal within n plies, or `None` where the search was told to stop: the answer alone. The far slots
 /// are asked, for the position turned about, and an attacker's position is searched round by round.
@@ -316,7 +270,7 @@ pub fn is_forced_until<S: Stop, A: Allocator>(
     ask_until(&mut caller, scout, &image(q), n)
 }
 
-/// `is_forced_until`, where nothing stops it. Where the table knows the answer, no memory is made for a search.
+/// `is_forced_until`, where nothing stops it. Who asks often keeps a memory, and asks that one.
 pub fn is_forced<A: Allocator>(
     slots: &Slots<MateLore, A>,
     seat: &mut Seat,
@@ -328,11 +282,14 @@ pub fn is_forced<A: Allocator>(
     ensures continues { Continues slots.now seat.old seat.new }
     ensures answer { IsTrue result ↔ IsForced q.now n }
 {
-    if n <= UNASKED {
-        return short_alone(q, n);
-    }
-    let mut caller = Caller { slots, seat };
-    ask_alone(&mut caller, &image(q), n)
+    let mut scout = Scout {
+        stop: Never,
+        memory: Memory::new(),
+    };
+    let Some(yes) = is_forced_until(slots, seat, &mut scout, q, n) else {
+        unreachable!()
+    };
+    yes
 }
 
 /// Whether the attacker forces the goal from the position within n plies, whatever the table holds and whatever its other callers

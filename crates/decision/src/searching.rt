@@ -182,7 +182,7 @@ fn search<S: Stop, A: Allocator>(
 
 /// The answer for some plies, and what is known with it.
 #[derive(Drop)]
-pub(crate) struct Found {
+pub(crate) struct Outcome {
     pub(crate) yes: bool,
     pub(crate) known: Interval,
 }
@@ -196,7 +196,7 @@ pub(crate) fn search_in_rounds<S: Stop, A: Allocator>(
     q: &Question,
     n: u8,
     known: Interval,
-) -> Option<Found>
+) -> Option<Outcome>
     requires plies { n ≤ 63 }
     requires known { IsKnownOf q.now known }
     ensures goes_on { Searches S.stays caller.old caller.new lead.old lead.new }
@@ -209,13 +209,13 @@ pub(crate) fn search_in_rounds<S: Stop, A: Allocator>(
         let yes = search(caller, lead, q, plies)?;
         known = known_with(q, plies, yes, known);
         if yes {
-            return Some(Found { yes, known });
+            return Some(Outcome { yes, known });
         }
         plies += 2;
     }
     let yes = search(caller, lead, q, n)?;
     let known = known_with(q, n, yes, known);
-    Some(Found { yes, known })
+    Some(Outcome { yes, known })
 }
 
 /// The plies of the first round.

@@ -8,8 +8,8 @@ use Rattle.endings.specs.Run.{Ending, Finishes, EndsReply, WritesReply}
 use Rattle.std.proofs.KnownBytes.{Appends-trans}
 use Rattle.std.specs.Io.KnownBytes.{Appends}
 use Rattle.refusals.specs.declared.refusal.Refusal.TheVariants.{NoMemory}
-use Rattle.endings.specs.declared.trouble.Trouble.{Trouble}
-use Rattle.endings.specs.declared.trouble.Trouble.TheVariants.{Refused, ReadFailed}
+use Rattle.endings.specs.declared.reply_fault.ReplyFault.{ReplyFault}
+use Rattle.endings.specs.declared.reply_fault.ReplyFault.TheVariants.{Refused, ReadFailed}
 
 -- a text is written behind another
 pub finishes_after : (a b c : Option (List ℕ)) (old mid new status asked : ℕ) (text more : List ℕ) → Appends a b text → mid ≡ old + 0
@@ -21,8 +21,8 @@ finishes_after a b c old mid new status asked text more written same (inr ((take
     inr ((text ++ taken, rest, ap (λ l. text ++ l) cut ∙ sym (append_assoc text taken rest), Appends-trans a b c text taken written grown), omega (arith, same, one), four)
 
 -- a refusal that is right, or is want of memory, is given
-pub refusal_gives : {B : Type 0} (bytes : B → List ℕ) (Is : Reply → Type 0) (r : Result B Trouble) (refusal : Refusal) → (refusal ≡ NoMemory) ⊎ Is (refused refusal)
-    → IsErr r × IsErrAnd r (λ trouble. trouble ≡ Refused refusal) → GivesIfRead bytes Is r
+pub refusal_gives : {B : Type 0} (bytes : B → List ℕ) (Is : Reply → Type 0) (r : Result B ReplyFault) (refusal : Refusal) → (refusal ≡ NoMemory) ⊎ Is (refused refusal)
+    → IsErr r × IsErrAnd r (λ fault. fault ≡ Refused refusal) → GivesIfRead bytes Is r
 refusal_gives bytes Is (Ok b) refusal right err = absurd err.1
 refusal_gives bytes Is (Err (Refused other)) refusal right err =
     let same : refusal ≡ other = cc in subst (λ x. (x ≡ NoMemory) ⊎ Is (refused x)) same right

@@ -6,8 +6,8 @@ use Rattle.refusals.specs.declared.refusal.Refusal.{Refusal}
 use Rattle.refusals.specs.declared.refusal.Refusal.TheVariants.{TooLong, NoMemory}
 use Rattle.devices.specs.declared.transfer.InputFault.{InputFault}
 use Rattle.devices.specs.declared.transfer.InputFault.TheVariants as input
-use Rattle.endings.specs.declared.trouble.Trouble.{Trouble}
-use Rattle.endings.specs.declared.trouble.Trouble.TheVariants.{Refused, ReadFailed}
+use Rattle.endings.specs.declared.reply_fault.ReplyFault.{ReplyFault}
+use Rattle.endings.specs.declared.reply_fault.ReplyFault.TheVariants.{Refused, ReadFailed}
 use Rattle.board.specs.Fen.{IsFenText}
 use Rattle.rules.specs.Reach.{IsSound}
 
@@ -21,18 +21,18 @@ Gives bytes Is (Ok text) = Is (answered (bytes text))
 Gives bytes Is (Err refusal) = (refusal ≡ NoMemory) ⊎ Is (refused refusal)
 
 -- the same, where a failed read says nothing
-abbrev pub GivesIfRead : {B : Type 0} → (B → List ℕ) → (Reply → Type 0) → Result B Trouble → Type 0
+abbrev pub GivesIfRead : {B : Type 0} → (B → List ℕ) → (Reply → Type 0) → Result B ReplyFault → Type 0
 GivesIfRead bytes Is (Ok text) = Is (answered (bytes text))
 GivesIfRead bytes Is (Err (Refused refusal)) = (refusal ≡ NoMemory) ⊎ Is (refused refusal)
 GivesIfRead bytes Is (Err ReadFailed) = ⊤
 
 -- how many reads failed
-abbrev pub reads_failed : {B : Type 0} → Result B Trouble → ℕ
+abbrev pub reads_failed : {B : Type 0} → Result B ReplyFault → ℕ
 reads_failed (Err ReadFailed) = 1
 reads_failed _ = 0
 
--- the trouble of each fault of the input
-abbrev pub trouble_of : InputFault → Trouble
-trouble_of input.ReadFailed = ReadFailed
-trouble_of input.TooLong = Refused TooLong
-trouble_of input.NoMemory = Refused NoMemory
+-- what a fault of the input is of a reply
+abbrev pub reply_fault_of : InputFault → ReplyFault
+reply_fault_of input.ReadFailed = ReadFailed
+reply_fault_of input.TooLong = Refused TooLong
+reply_fault_of input.NoMemory = Refused NoMemory

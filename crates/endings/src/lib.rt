@@ -3,8 +3,8 @@
 
 mod beginning;
 mod ending;
+mod reply_fault;
 mod telling;
-mod trouble;
 mod words;
 
 pub use beginning::{Input, Keeping};
@@ -12,6 +12,6 @@ pub use ending::{
     ANSWERED, REFUSED_WORDS, fail_to_read, fail_to_write, finish, give_up_for_memory,
     has_no_answer, refuse,
 };
+pub use reply_fault::ReplyFault;
 pub use telling::{proof_refused, refuse_and_tell, search_refused};
-pub use trouble::Trouble;
 pub use words::{end_wordless, explain_if_refused};

@@ -1,7 +1,7 @@
 //! A job board: `make` alone requests memory.
 ghost use Rattle.std.specs.Prelude.{◌≡◌};
 
-use least::{Least, MakeFault, Wins};
+use jobs::{Least, MakeFault, Wins};
 use std::alloc::Global;
 
 /// One job that wins.

@@ -39,10 +39,6 @@ other_three q answer other h = (
   ])),
 )
 
--- what is so now
-pub none_left : (q : Question) (answer : Bool) → is_own q ≡ false → (IsTrue answer ↔ IsReached q.goal q.position) → IsTrue answer ↔ IsForced q 0
-none_left q answer other h = (λ is. to_other _ _ _ other (h.0 is), λ f. h.1 (on_other _ _ _ other f))
-
 -- the defender has no move: the goal is reached now or never
 pub other_stuck : (q : Question) (answer : Bool) → is_own q ≡ false → ((m : Ply) → IsLawful q.position m → ⊥) → (IsTrue answer ↔ IsReached q.goal q.position) → IsTrue answer ↔ IsForced q 2
 other_stuck q answer other none h = (

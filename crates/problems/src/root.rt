@@ -1,39 +1,51 @@
-//! The position that is solved, with its lawful moves.
-ghost use Rattle.std.specs.Prelude.{◌≡◌, ◌≤◌, length};
-ghost use Rattle.problems.specs.Questions.{question};
-ghost use Rattle.problems.specs.Roots.{IsRoot, IsJobOf, IsQuestionOf};
+//! A problem with its lawful moves.
+ghost use Rattle.std.specs.Prelude.{◌≤◌};
 
+use crate::problem::Problem;
 use crate::question::Question;
 use arrayvec::ArrayVec;
-use board::Position;
 use moves::{Board, Goal, Move, after, lawful_on};
 
-/// The position, with its lawful moves: the jobs, by number.
+/// A board, what is played for and within how many plies, of 0 to 63, with the lawful moves: the jobs, by number.
 #[derive(Drop)]
 pub struct Root {
     pub board: Board,
     pub goal: Goal,
+    pub limit: u8,
     pub moves: ArrayVec<Move, 512>,
+    ghost limited: { limit ≤ 63 },
 }
 
 impl Root {
-    /// The root of a position, for the side to move.
-    pub fn of(position: &Position, goal: Goal) -> Root
-        ensures position { result.board ≡ position.now }
-        ensures goal { result.goal ≡ goal }
+    ghost use Rattle.std.specs.Prelude.{◌≡◌, length};
+    ghost use Rattle.problems.specs.Questions.{question};
+    ghost use Rattle.problems.specs.Roots.{IsRoot, IsJobOf, IsQuestionOf};
+
+    /// The root of a problem.
+    pub fn of(problem: &Problem) -> Root
+        ensures position { result.board ≡ problem.now.position }
+        ensures goal { result.goal ≡ problem.now.goal }
+        ensures limit { result.limit ≡ problem.now.limit }
         ensures lists { IsRoot result }
     {
-        Root::on(Board::of(position), goal)
+        Root::on(Board::of(&problem.position), problem.goal, problem.limit)
     }
 
-    /// `of`, on a board.
-    pub fn on(board: Board, goal: Goal) -> Root
+    /// The root of a board, for the side to move.
+    pub fn on(board: Board, goal: Goal, limit: u8) -> Root
+        requires limit { limit ≤ 63 }
         ensures position { result.board ≡ board }
         ensures goal { result.goal ≡ goal }
+        ensures limit { result.limit ≡ limit }
         ensures lists { IsRoot result }
     {
         let moves = lawful_on(&board);
-        Root { board, goal, moves }
+        Root {
+            board,
+            goal,
+            limit,
+            moves,
+        }
     }
 
     /// How many jobs there are.

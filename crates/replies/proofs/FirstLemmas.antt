@@ -13,7 +13,7 @@ use Rattle.wintree.specs.Text.{text as plan_text}
 use Rattle.problems.specs.Roots.{IsJobOf}
 use Rattle.problems.specs.declared.root.Root.{Root}
 use Rattle.command_line.specs.declared.line.Limits.{Limits}
-use Rattle.command_line.specs.declared.line.Played.{Played}
+use Rattle.command_line.specs.declared.line.NamedMove.{NamedMove}
 use Rattle.refusals.specs.Reply.{Reply, answered, line_of}
 use Rattle.refusals.specs.declared.refusal.Refusal.{Refusal}
 use Rattle.endings.specs.Outcome.{Gives, IsSoundText}
@@ -33,16 +33,16 @@ nothing_shown : (goal : Goal) (b : PlainBoard) (m : Ply) (limits : Limits) (limi
 nothing_shown goal b m limits limit reply none same is text =
     rw none (inr (subst (λ n. IsOpened goal b m n None) same is, subst (λ n. reply ≡ answered (none_text n)) same text))
 
-pub tree_shown : (r : Root) (job : ℕ) (limits : Limits) (limit : ℕ) (plan : Plan) (text : List ℕ) → fault_of limits ≡ None → limit ≡ limits.limit
-    → IsOpenedJob r job limit (Some plan) → text ≡ line_of (plan_text plan) → ShowsJob r job limits (answered text)
-tree_shown r job limits limit plan text none same is written = λ m at.
-    subst (λ t. ShowsTreeFound r.goal r.board m limits (answered t)) (sym written) (found_shown r.goal r.board m limits limit plan none same (is m at))
+pub tree_shown : (r : Root) (job : ℕ) (limits : Limits) (plan : Plan) (text : List ℕ) → fault_of limits ≡ None → r.limit ≡ limits.limit
+    → IsOpenedJob r job (Some plan) → text ≡ line_of (plan_text plan) → ShowsJob r job limits (answered text)
+tree_shown r job limits plan text none same is written = λ m at.
+    subst (λ t. ShowsTreeFound r.goal r.board m limits (answered t)) (sym written) (found_shown r.goal r.board m limits r.limit plan none same (is m at))
 
-pub none_shown : (r : Root) (job : ℕ) (limits : Limits) (limit : ℕ) (result : Result (Vec ℕ Global) Refusal) → fault_of limits ≡ None → limit ≡ limits.limit
-    → IsOpenedJob r job limit None → Gives vec_items (λ reply. reply ≡ answered (none_text limit)) result → Gives vec_items (ShowsJob r job limits) result
-none_shown r job limits limit result none same is gives =
-    gives_weaker vec_items (λ reply. reply ≡ answered (none_text limit)) (ShowsJob r job limits) result
-    (λ reply text m at. nothing_shown r.goal r.board m limits limit reply none same (is m at) text) gives
+pub none_shown : (r : Root) (job : ℕ) (limits : Limits) (result : Result (Vec ℕ Global) Refusal) → fault_of limits ≡ None → r.limit ≡ limits.limit
+    → IsOpenedJob r job None → Gives vec_items (λ reply. reply ≡ answered (none_text r.limit)) result → Gives vec_items (ShowsJob r job limits) result
+none_shown r job limits result none same is gives =
+    gives_weaker vec_items (λ reply. reply ≡ answered (none_text r.limit)) (ShowsJob r job limits) result
+    (λ reply text m at. nothing_shown r.goal r.board m limits r.limit reply none same (is m at) text) gives
 
 -- of the lawful move of the name
 pub named_shown : (goal : Goal) (b : PlainBoard) (name : List ℕ) (limits : Limits) (r : Root) (job : ℕ) (result : Result (Vec ℕ Global) Refusal) → r.goal ≡ goal → r.board ≡ b
@@ -60,7 +60,7 @@ named_shown goal b name limits r job result same_goal same_board (lists, below) 
     listed xs job m below at = (job, below, get_or_from_slice_get xs job m m at)
 
 -- at the sound position
-pub first_at_text : (played : Played) (goal : Goal) (limits : Limits) (b : PlainBoard) (r : Result (Vec ℕ Global) Refusal) → IsSoundText played.fen.now b
+pub first_at_text : (played : NamedMove) (goal : Goal) (limits : Limits) (b : PlainBoard) (r : Result (Vec ℕ Global) Refusal) → IsSoundText played.fen.now b
     → Gives vec_items (ShowsFirst goal b played.name.now limits) r → Gives vec_items (IsFirstReply played goal limits) r
 first_at_text played goal limits b r sound gives =
     gives_weaker vec_items (ShowsFirst goal b played.name.now limits) (IsFirstReply played goal limits) r (λ reply shows. inl (b, sound, shows)) gives

@@ -5,7 +5,7 @@ use Rattle.board.specs.Board.{PlainBoard}
 use Rattle.board.specs.declared.fault.FenFault.{FenFault}
 use Rattle.rules.specs.Reading.{IsSoundFault}
 use Rattle.devices.specs.Input.{IsInput, IsTooLong, OfInput}
-use Rattle.endings.specs.Outcome.{Gives, GivesIfRead, trouble_of, IsSoundText}
+use Rattle.endings.specs.Outcome.{Gives, GivesIfRead, reply_fault_of, IsSoundText}
 use Rattle.replies.specs.Outcome.{GivesReply}
 use Rattle.replies.specs.Output.{IsOutput, ShowsCommand, input_of}
 use Rattle.refusals.specs.Reply.{Reply, answered, refused}
@@ -16,14 +16,14 @@ use Rattle.refusals.specs.declared.refusal.Refusal.{Refusal}
 use Rattle.refusals.specs.declared.refusal.Refusal.TheVariants.{NoMemory, TooLong}
 use Rattle.devices.specs.declared.transfer.InputFault.{InputFault}
 use Rattle.devices.specs.declared.transfer.InputFault.TheVariants as input
-use Rattle.endings.specs.declared.trouble.Trouble.{Trouble}
-use Rattle.endings.specs.declared.trouble.Trouble.TheVariants.{Refused, ReadFailed}
+use Rattle.endings.specs.declared.reply_fault.ReplyFault.{ReplyFault}
+use Rattle.endings.specs.declared.reply_fault.ReplyFault.TheVariants.{Refused, ReadFailed}
 use Rattle.devices.proofs.InputLemmas.{of_any, of_input_then}
 use Rattle.endings.proofs.EndingLemmas.{refusal_gives}
 
 -- a text of a fault is refused, whatever the input
-pub fault_gives : {B : Type 0} (bytes : B → List ℕ) (line : Line) (known : Option (List ℕ)) (r : Result B Trouble) (fault : FenFault)
-    → IsSoundFault line.fen.now fault → IsErr r × IsErrAnd r (λ trouble. trouble ≡ Refused (refusal_of_fen fault)) → GivesReply bytes line known r
+pub fault_gives : {B : Type 0} (bytes : B → List ℕ) (line : Line) (known : Option (List ℕ)) (r : Result B ReplyFault) (fault : FenFault)
+    → IsSoundFault line.fen.now fault → IsErr r × IsErrAnd r (λ told. told ≡ Refused (refusal_of_fen fault)) → GivesReply bytes line known r
 fault_gives bytes line known r fault is err =
     of_any (input_of line.action known) _
     (λ input. refusal_gives bytes (IsOutput line input) r (refusal_of_fen fault) (inr (inr (fault, is, refl))) err)
@@ -34,7 +34,7 @@ output_at : (line : Line) (input : List ℕ) (b : PlainBoard) (action : Action) 
 output_at line input b action reply sound is shows = inl (b, sound, subst (λ a. ShowsCommand b a input reply) (sym is) shows)
 
 -- what a command gives at the sound position of the line, a reply gives
-gives_at : {B : Type 0} (bytes : B → List ℕ) (line : Line) (input : List ℕ) (b : PlainBoard) (action : Action) (r : Result B Trouble)
+gives_at : {B : Type 0} (bytes : B → List ℕ) (line : Line) (input : List ℕ) (b : PlainBoard) (action : Action) (r : Result B ReplyFault)
     → IsSoundText line.fen.now b → line.action ≡ action → GivesIfRead bytes (ShowsCommand b action input) r → GivesIfRead bytes (IsOutput line input) r
 gives_at bytes line input b action (Ok text) sound is gives = output_at line input b action _ sound is gives
 gives_at bytes line input b action (Err (Refused refusal)) sound is (inl none) = inl none
@@ -42,7 +42,7 @@ gives_at bytes line input b action (Err (Refused refusal)) sound is (inr shows) 
 gives_at bytes line input b action (Err ReadFailed) sound is gives = tt
 
 -- the same with the input that the command reads
-pub gives_reply : {B : Type 0} (bytes : B → List ℕ) (line : Line) (known : Option (List ℕ)) (b : PlainBoard) (action : Action) (r : Result B Trouble)
+pub gives_reply : {B : Type 0} (bytes : B → List ℕ) (line : Line) (known : Option (List ℕ)) (b : PlainBoard) (action : Action) (r : Result B ReplyFault)
     → IsSoundText line.fen.now b → line.action ≡ action → OfInput (input_of action known) (λ input. GivesIfRead bytes (ShowsCommand b action input) r)
     → GivesReply bytes line known r
 gives_reply {B} bytes line known b action r sound is gives =
@@ -50,7 +50,7 @@ gives_reply {B} bytes line known b action r sound is gives =
     (of_input_then (input_of action known) _ _ gives (λ input one. gives_at bytes line input b action r sound is one))
 
 -- the same of a command that reads no input
-pub gives_unread : {B : Type 0} (bytes : B → List ℕ) (line : Line) (known : Option (List ℕ)) (b : PlainBoard) (action : Action) (r : Result B Trouble)
+pub gives_unread : {B : Type 0} (bytes : B → List ℕ) (line : Line) (known : Option (List ℕ)) (b : PlainBoard) (action : Action) (r : Result B ReplyFault)
     → IsSoundText line.fen.now b → line.action ≡ action → input_of action known ≡ Some [] → GivesIfRead bytes (ShowsCommand b action []) r
     → GivesReply bytes line known r
 gives_unread {B} bytes line known b action r sound is none gives =
@@ -74,9 +74,9 @@ shows_fit : (most : ℕ) (ShowsCommand : List ℕ → Reply → Type 0) (input :
 shows_fit most ShowsCommand input reply fits shows = rw (le-ltb most (length input) fits) shows
 
 -- what is refused of the input that was read is refused of the reader's input
-pub input_refused : {B : Type 0} (bytes : B → List ℕ) (most : ℕ) (ShowsCommand : List ℕ → Reply → Type 0) (known : Option (List ℕ)) (read : List ℕ) (r : Result B Trouble) (refusal : Refusal)
+pub input_refused : {B : Type 0} (bytes : B → List ℕ) (most : ℕ) (ShowsCommand : List ℕ → Reply → Type 0) (known : Option (List ℕ)) (read : List ℕ) (r : Result B ReplyFault) (refusal : Refusal)
     → IsInput most known read → (refusal ≡ NoMemory) ⊎ ShowsCommand read (refused refusal)
-    → IsErr r × IsErrAnd r (λ trouble. trouble ≡ Refused refusal)
+    → IsErr r × IsErrAnd r (λ fault. fault ≡ Refused refusal)
     → OfInput known (λ input. GivesIfRead bytes (IfFits most ShowsCommand input) r)
 input_refused {B} bytes most ShowsCommand known read r refusal is right err =
     let here : GivesIfRead bytes (IfFits most ShowsCommand read) r = refusal_gives bytes (IfFits most ShowsCommand read) r refusal
@@ -84,8 +84,8 @@ input_refused {B} bytes most ShowsCommand known read r refusal is right err =
     (read, is.1, here)
 
 -- an input that wasn't taken is too long, or memory is wanting, or a read failed
-pub input_unread : {B : Type 0} (bytes : B → List ℕ) (most : ℕ) (ShowsCommand : List ℕ → Reply → Type 0) (known : Option (List ℕ)) (r : Result B Trouble) (fault : InputFault)
-    → (fault ≡ input.TooLong → IsTooLong most known) → IsErr r × IsErrAnd r (λ trouble. trouble ≡ trouble_of fault)
+pub input_unread : {B : Type 0} (bytes : B → List ℕ) (most : ℕ) (ShowsCommand : List ℕ → Reply → Type 0) (known : Option (List ℕ)) (r : Result B ReplyFault) (fault : InputFault)
+    → (fault ≡ input.TooLong → IsTooLong most known) → IsErr r × IsErrAnd r (λ told. told ≡ reply_fault_of fault)
     → OfInput known (λ input. GivesIfRead bytes (IfFits most ShowsCommand input) r)
 input_unread bytes most ShowsCommand known (Ok text) fault long err = absurd err.1
 input_unread bytes most ShowsCommand known (Err (Refused refusal)) input.TooLong long err =

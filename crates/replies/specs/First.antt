@@ -12,7 +12,7 @@ use Rattle.wintree.specs.Plan.{Plan}
 use Rattle.wintree.specs.Text.{text as plan_text}
 use Rattle.trees.specs.First.{IsOpened, TakesNone}
 use Rattle.command_line.specs.declared.line.Limits.{Limits}
-use Rattle.command_line.specs.declared.line.Played.{Played}
+use Rattle.command_line.specs.declared.line.NamedMove.{NamedMove}
 use Rattle.refusals.specs.Reply.{Reply, answered, refused, line_of}
 use Rattle.refusals.specs.Refusal.{refusal_of_fen}
 use Rattle.refusals.specs.declared.refusal.Refusal.TheVariants.{Move}
@@ -51,7 +51,7 @@ ShowsJob r job limits reply = (m : Ply) → slice_get r.moves.items job ≡ Some
 -- ---- the reply
 
 -- the same at the sound position of a text, or the refusal of the text's fault
-abbrev pub IsFirstReply : Played → Goal → Limits → Reply → Type 0
+abbrev pub IsFirstReply : NamedMove → Goal → Limits → Reply → Type 0
 IsFirstReply played goal limits reply =
     ((b : PlainBoard) × IsSoundText played.fen.now b × ShowsFirst goal b played.name.now limits reply)
     ⊎ ((fault : FenFault) × IsSoundFault played.fen.now fault × (reply ≡ refused (refusal_of_fen fault)))

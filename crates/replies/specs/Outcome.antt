@@ -15,7 +15,7 @@ use Rattle.replies.specs.Output.{fault_of, input_of, IsOutput}
 use Rattle.command_line.specs.declared.line.Line.{Line}
 use Rattle.command_line.specs.declared.line.Limits.{Limits}
 use Rattle.devices.specs.declared.transfer.InputFault.TheVariants as input
-use Rattle.endings.specs.declared.trouble.Trouble.{Trouble}
+use Rattle.endings.specs.declared.reply_fault.ReplyFault.{ReplyFault}
 use Rattle.endings.specs.Outcome.{GivesIfRead}
 
 -- for values of any size: the answer within the limit, or the first fault of the values, or want of memory
@@ -35,6 +35,6 @@ FindsTree goal b limits (Ok None) = (fault_of limits ≡ None) × ForcesNothing 
 FindsTree goal b limits (Err fault) = (fault_of limits ≡ Some fault) ⊎ ((fault_of limits ≡ None) × (fault ≡ solve.NoMemory))
 
 -- a reply to the line with the input that it reads
-abbrev pub GivesReply : {B : Type 0} → (B → List ℕ) → Line → Option (List ℕ) → Result B Trouble → Type 0
+abbrev pub GivesReply : {B : Type 0} → (B → List ℕ) → Line → Option (List ℕ) → Result B ReplyFault → Type 0
 GivesReply bytes line known result =
     OfInput (input_of line.action known) (λ input. GivesIfRead bytes (IsOutput line input) result)

@@ -11,11 +11,11 @@ ghost use Rattle.replies.specs.Playing.{NamesNone};
 use crate::refusal::refusal_of;
 use crate::replying::{Search, none_line, search_of, tree_line};
 use board::Position;
-use command_line::{Limits, Played};
+use command_line::{Limits, NamedMove};
 use decision::{Memory, Never, Scout};
 use entry::MateLore;
-use moves::{Goal, read_sound};
-use problems::Root;
+use moves::{Board, Goal, read_sound};
+use problems::{MOST_LIMIT, Root};
 use refusals::Refusal;
 use rounds::{SolveFault, make_table};
 use searcher::{Halt, Searcher};
@@ -39,10 +39,9 @@ fn named_job(alloc: Global, root: &Root, name: &[u8]) -> Result<Option<u16>, All
     Ok(None)
 }
 
-/// The plies of the limit, a table for the search, and a seat there.
-fn own_table(alloc: Global, limits: Limits) -> Result<(u8, Slots<MateLore>, Seat), SolveFault>
-    ensures limit { IfOk result (λ made. made.0 ≡ limits.limit) }
-    ensures seat { IfOk result (λ made. IsSeatOf made.1 made.2) }
+/// A table for the search, and a seat there.
+fn own_table(alloc: Global, limits: Limits) -> Result<(Slots<MateLore>, Seat), SolveFault>
+    ensures seat { IfOk result (λ made. IsSeatOf made.0 made.1) }
     ensures accepted { IfOk result (λ _. fault_of limits ≡ None) }
     ensures refused { IfErr result (IsRefusal limits.limit limits.workers limits.slots) }
 {
@@ -53,15 +52,16 @@ fn own_table(alloc: Global, limits: Limits) -> Result<(u8, Slots<MateLore>, Seat
     } = search_of(limits);
     let (table, mut seats) = make_table(alloc, limit, workers, slots)?;
     let seat = seats.take_last();
-    Ok((limit, table, seat))
+    Ok((table, seat))
 }
 
 /// What is printed of a root's move: its tree, or that it wins within no number of plies up to the limit.
 fn opened_text(alloc: Global, root: &Root, job: u16, limits: Limits) -> Result<Vec<u8>, Refusal>
-    requires { IsJobOf root.now job }
+    requires job { IsJobOf root.now job }
+    requires limit { fault_of limits ≡ None → root.now.limit ≡ limits.limit }
     ensures { Gives vec_items (ShowsJob root.now job limits) result }
 {
-    let (limit, table, mut seat) = match own_table(alloc, limits) {
+    let (table, mut seat) = match own_table(alloc, limits) {
         Ok(made) => made,
         Err(fault) => return Err(refusal_of(fault)),
     };
@@ -74,9 +74,9 @@ fn opened_text(alloc: Global, root: &Root, job: u16, limits: Limits) -> Result<V
         seat: &mut seat,
         scout: &mut scout,
     };
-    match tree_of_first(alloc, &mut searcher, root, job, limit) {
+    match tree_of_first(alloc, &mut searcher, root, job) {
         Ok(Some(tree)) => Ok(tree_line(alloc, &tree)?),
-        Ok(None) => none_line(alloc, limit),
+        Ok(None) => none_line(alloc, root.limit),
         Err(Halt::NoMemory) => Err(Refusal::NoMemory),
         Err(Halt::Stopped) => unreachable!(),
     }
@@ -91,7 +91,9 @@ fn first_shown(
 ) -> Result<Vec<u8>, Refusal>
     ensures { Gives vec_items (ShowsFirst goal position.now name.now limits) result }
 {
-    let root = Root::of(position, goal);
+    // a greater limit is refused, once the name is that of a lawful move
+    let limit = search_of(limits).limit.min(MOST_LIMIT);
+    let root = Root::on(Board::of(position), goal, limit);
     match named_job(alloc, &root, name)? {
         Some(job) => opened_text(alloc, &root, job, limits),
         None => Err(Refusal::Move),
@@ -101,7 +103,7 @@ fn first_shown(
 /// The tree of the first move of this name, on a line, where it wins within the limit.
 pub fn first_reply(
     alloc: Global,
-    played: &Played<'_>,
+    played: &NamedMove<'_>,
     goal: Goal,
     limits: Limits,
 ) -> Result<Vec<u8>, Refusal>

@@ -21,13 +21,13 @@ use answer_texts::{answer_text, checked_text, keys_text, moves_text, none_text};
 use board::Position;
 use command_line::{Action, Limits, Line};
 use devices::{Source, read_all, without_line_feed};
-use endings::Trouble;
+use endings::ReplyFault;
 use entry::MateLore;
 use moves::{Goal, lawful, read_sound};
 use problems::{Answer, Key};
 use refusals::Refusal;
-use rounds::{SolveFault, Task, keys_over, make_table, solve, solve_over};
-use searcher::{Gate, NoGate};
+use rounds::{SolveFault, Task, keys_over, make_table, solve_over};
+use searcher::Gate;
 use slots::{Seat, Slots};
 use std::alloc::{AllocError, Allocator, Global};
 use std::sync::Wait;
@@ -119,13 +119,12 @@ fn answer_within<R: Threads + Wait + Sync, T: Gate>(
 ) -> Result<Answer, SolveFault>
     ensures { Solves goal position.now limits result }
 {
-    let Search {
-        limit,
-        workers,
-        slots,
-    } = search_of(limits);
-    let Told { alloc, gate } = *told;
-    solve(rt, alloc, position, goal, limit, workers, slots, gate)
+    let Lent {
+        task,
+        table,
+        mut seats,
+    } = lend(told, position, goal, limits)?;
+    solve_over(rt, told.alloc, &task, &table, &mut seats)
 }
 
 /// The answer within the limits, with the table that it was found over and its seats there.
@@ -286,7 +285,7 @@ fn check_text<S: Source>(
     position: &Position,
     goal: Goal,
     reader: &mut S,
-) -> Result<Vec<u8>, Trouble>
+) -> Result<Vec<u8>, ReplyFault>
     requires { S.failures reader.old < u64.MAX }
     ensures shown { OfInput (S.remaining reader.old)
         (λ input. GivesIfRead vec_items (ShowsCheck goal position.now input) result) }
@@ -297,33 +296,14 @@ fn check_text<S: Source>(
     Ok(verdict_text(alloc, position, goal, text)?)
 }
 
-/// The text that answers a line. Only `check` asks the reader for anything, and only where the
-/// position is sound.
-pub fn reply<R: Threads + Wait + Sync, S: Source>(
-    rt: &R,
-    alloc: Global,
-    line: &Line<'_>,
-    reader: &mut S,
-) -> Result<Vec<u8>, Trouble>
-    requires { S.failures reader.old < u64.MAX }
-    ensures given { GivesReply vec_items line.now (S.remaining reader.old) result }
-    ensures asked { MayRead line.now ⊎ (reader.new ≡ reader.old) }
-    ensures counts { S.failures reader.new ≡ S.failures reader.old + reads_failed result }
-{
-    let told = Told {
-        alloc,
-        gate: &NoGate,
-    };
-    reply_told(rt, &told, line, reader)
-}
-
-/// The text that answers a line, where a gate is told of each job of a search.
+/// The text that answers a line, where a gate is told of each job of a search. Only `check` asks the reader for anything, and only where
+/// the position is sound.
 pub fn reply_told<R: Threads + Wait + Sync, T: Gate, S: Source>(
     rt: &R,
     told: &Told<'_, T>,
     line: &Line<'_>,
     reader: &mut S,
-) -> Result<Vec<u8>, Trouble>
+) -> Result<Vec<u8>, ReplyFault>
     requires { S.failures reader.old < u64.MAX }
     ensures given { GivesReply vec_items line.now (S.remaining reader.old) result }
     ensures asked { MayRead line.now ⊎ (reader.new ≡ reader.old) }

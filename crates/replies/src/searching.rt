@@ -1,7 +1,7 @@
 //! The answer at one position, with a sign of life beside its search.
 ghost use Rattle.replies.specs.Searching.{SolvesOver};
 
-use crate::host::Host;
+use crate::context::Context;
 use crate::replying::{Told, searched_within};
 use crate::searched::Searched;
 use board::Position;
@@ -58,15 +58,15 @@ fn searched_beside<R: Threads + Wait + Eprint + Clock + Sync + AllocGlobal>(
 
 /// The answer at a position, with a sign of life where one is asked for.
 pub fn searched_at<R: Threads + Wait + Eprint + Clock + Sync + AllocGlobal>(
-    host: &Host<'_, R>,
+    context: &Context<'_, R>,
     position: &Position,
     goal: Goal,
     limits: Limits,
 ) -> Result<Searched, SolveFault>
     ensures { SolvesOver goal position.now limits result }
 {
-    match host.watch_of(position, false, limits) {
-        Some(watch) => searched_beside(host.rt, &watch, position, goal, limits),
-        None => search_told(host.rt, &NoGate, position, goal, limits),
+    match context.watch_of(position, false, limits) {
+        Some(watch) => searched_beside(context.rt, &watch, position, goal, limits),
+        None => search_told(context.rt, &NoGate, position, goal, limits),
     }
 }

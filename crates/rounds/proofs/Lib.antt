@@ -1,4 +1,3 @@
-pub mod Deals
 pub mod Going
 pub mod Lists
 pub mod Rows

@@ -8,18 +8,18 @@ use Rattle.atomic_table.specs.declared.shared.Seat.{Seat}
 use Rattle.slots.specs.declared.views.View.{View}
 use Rattle.slots.specs.Promise.{IsSeatOf}
 use Rattle.crossbeam_deque.specs.Handles.{worker_view}
-use Rattle.rounds.specs.declared.bench.Bench.{Bench}
-use Rattle.rounds.specs.declared.bench.RootJobs.{RootJobs}
+use Rattle.rounds.specs.declared.shared.Round.{Round}
+use Rattle.rounds.specs.declared.shared.RootJobs.{RootJobs}
 use Rattle.rounds.specs.declared.share.Part.{Part}
 use Rattle.rounds.specs.declared.share.Share.{Share}
 use Rattle.problems.specs.Jobs.{RootJobWins}
-use Rattle.rounds.specs.Deals.{Deals}
+use Rattle.jobs.specs.Deals.{Deals}
 use Rattle.rounds.specs.Seats.{AreSeats}
-use Rattle.rounds.specs.Shares.{IsBench, WinsHere, AreDealt, seats_back}
+use Rattle.rounds.specs.Shares.{IsRound, WinsHere, AreDealt, seats_back}
 use Rattle.rounds.proofs.Lists.{Each-snoc}
 
 -- a job that wins in the round is one that the round's word may tell of
-pub may_lower : {T : Type 0} (b : Bench T) (n job : ℕ) → IsBench n b → job < n → WinsHere b job
+pub may_lower : {T : Type 0} (b : Round T) (n job : ℕ) → IsRound n b → job < n → WinsHere b job
     → (job < b.least.now.jobs) × RootJobWins b.least.now.wins.goal b.least.now.wins.position b.least.now.wins.plies job
 may_lower b n job is below win = (
   omega (arith, is.jobs, below),
@@ -43,6 +43,13 @@ pub seat_taken : {J : Type 0} (seats seats' all : List (Seat ℕ View)) (seat : 
 seat_taken seats seats' all seat xs ys s taken put same so_far =
     ap (λ l. seats' ++ l) (back_more xs ys s put ∙ ap (λ x. x ∷ seats_back xs) same) ∙ sym (append_assoc seats' (seat ∷ []) (seats_back xs)) ∙ sym (ap (λ l. l ++ seats_back xs) taken) ∙ so_far
 
+back_length : {J : Type 0} (xs : List (Share J)) → length (seats_back xs) ≡ length xs
+back_length xs = length-reverse (map (λ s. s.seat) xs) ∙ length-map xs (λ (s : Share _). s.seat)
+
+-- as many shares as there were seats
+pub back_count : {J : Type 0} (xs : List (Share J)) (seats : List (Seat ℕ View)) → seats_back xs ≡ seats → length xs ≡ length seats
+back_count xs seats same = sym (back_length xs) ∙ ap length same
+
 -- they are seats of the table, one a share
 module _ {J : Type 0} (t : TableId) where
   each_back : (xs : List (Share J)) → All (λ s. IsSeatOf t s.seat) xs → All (IsSeatOf t) (seats_back xs)
@@ -52,4 +59,4 @@ module _ {J : Type 0} (t : TableId) where
       (All-push (IsSeatOf t) (seats_back xs) x.seat (each_back xs (All-tail (λ s. IsSeatOf t s.seat) x xs a)) (All-head (λ s. IsSeatOf t s.seat) x xs a))
 
   pub back_seats : (xs : List (Share J)) → All (λ s. IsSeatOf t s.seat) xs → AreSeats t (length xs) (seats_back xs)
-  back_seats xs seats = (length-reverse (map (λ s. s.seat) xs) ∙ length-map xs (λ (s : Share J). s.seat), each_back xs seats)
+  back_seats xs seats = (back_length xs, each_back xs seats)

@@ -3,7 +3,6 @@ pub mod Limits
 pub mod Seats
 pub mod Going
 -- inside
-pub mod Deals
 pub mod RootSets
 pub mod Telling
 pub mod Verdicts

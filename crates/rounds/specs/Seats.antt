@@ -4,9 +4,9 @@ use Rattle.atomic_table.specs.Seated.{TableId}
 use Rattle.atomic_table.specs.declared.shared.Seat.{Seat}
 use Rattle.slots.specs.declared.views.View.{View}
 use Rattle.slots.specs.Promise.{IsSeatOf}
-use Rattle.least.specs.declared.views.JobView.{JobView}
-use Rattle.least.specs.JobBoard.{JobBoard}
-use Rattle.least.specs.Promise.{IsJobSeatOf}
+use Rattle.jobs.specs.declared.views.JobView.{JobView}
+use Rattle.jobs.specs.JobBoard.{JobBoard}
+use Rattle.jobs.specs.Promise.{IsJobSeatOf}
 
 -- so many seats of the table
 abbrev pub AreSeats : TableId → ℕ → List (Seat ℕ View) → Type 0

@@ -3,13 +3,13 @@ ghost use Rattle.std.specs.Prelude.{◌≡◌, ◌≤◌, All, IfErr, IfOk, None
 ghost use Rattle.slots.specs.Promise.{IsSeatOf};
 ghost use Rattle.decision.specs.Calls.{Continues};
 ghost use Rattle.problems.specs.Keys.{ListsKeys};
-ghost use Rattle.problems.specs.Roots.{IsRoot, IsLimit};
+ghost use Rattle.problems.specs.Roots.{IsRoot};
 ghost use Rattle.rounds.specs.Limits.{task_fault, IsTaskRefusal};
 ghost use Rattle.rounds.specs.Seats.{AreSeats};
 ghost use Rattle.rounds.specs.Going.{SeatGoesOn, SeatsGoOn};
 
-use crate::bench::Search;
 use crate::gated::Gated;
+use crate::shared::Solve;
 use crate::solving::problem_of;
 use crate::task::{Asked, SolveFault, Task};
 use entry::MateLore;
@@ -23,9 +23,8 @@ use std::thread;
 use std::thread::Threads;
 
 /// Decides jobs until all were taken by some thread: what it finds stands in the table alone.
-fn help<D: Decider>(decider: &mut D, root: &Root, next: &AtomicU64, limit: u8)
-    requires root { IsRoot root.now }
-    requires limit { IsLimit limit }
+fn help<D: Decider>(decider: &mut D, root: &Root, next: &AtomicU64)
+    requires { IsRoot root.now }
     ensures { D.goes decider.old decider.new }
 {
     let jobs = root.jobs();
@@ -36,19 +35,13 @@ fn help<D: Decider>(decider: &mut D, root: &Root, next: &AtomicU64, limit: u8)
         if jobs <= job {
             return;
         }
-        let _ = plies_of(decider, root, job, limit);
+        let _ = plies_of(decider, root, job);
     }
 }
 
 /// All threads decide the jobs, each job by one of them. No answer rests on it.
-fn prepare<T: Gate, R: Threads + Wait + Sync>(
-    rt: &R,
-    search: &Search<'_, T>,
-    limit: u8,
-    seats: &mut Vec<Seat>,
-)
+fn prepare<T: Gate, R: Threads + Wait + Sync>(rt: &R, search: &Solve<'_, T>, seats: &mut Vec<Seat>)
     requires root { IsRoot search.now.root }
-    requires limit { IsLimit limit }
     requires seats { All (IsSeatOf search.now.slots.now) seats.old.items }
     ensures seats { AreSeats search.now.slots.now (length seats.old.items) seats.new.items }
     ensures capacity { vec_capacity seats.new ≡ vec_capacity seats.old }
@@ -64,7 +57,7 @@ fn prepare<T: Gate, R: Threads + Wait + Sync>(
         seats.as_mut_slice(),
         threads,
         &|_, seat: &mut Seat|
-            requires { IsRoot search.now.root × IsLimit limit × IsSeatOf search.now.slots.now seat.now }
+            requires { IsRoot search.now.root × IsSeatOf search.now.slots.now seat.now }
             ensures { IsSeatOf search.entry.now.slots.now seat.exit.now
                 × SeatGoesOn T.keeps search.entry.now.slots.now seat.entry.now seat.exit.now }
         {
@@ -73,7 +66,7 @@ fn prepare<T: Gate, R: Threads + Wait + Sync>(
                 seat,
                 gate: search.gate,
             };
-            help(&mut gated, &search.root, &next, limit)
+            help(&mut gated, &search.root, &next)
         },
     );
 }
@@ -81,22 +74,22 @@ fn prepare<T: Gate, R: Threads + Wait + Sync>(
 /// All keys, decided by one seat.
 fn own_keys<T: Gate>(
     alloc: Global,
-    search: &Search<'_, T>,
-    problem: &Problem,
+    search: &Solve<'_, T>,
     seat: &mut Seat,
 ) -> Result<Vec<Key>, Halt>
+    requires root { IsRoot search.now.root }
     requires seat { IsSeatOf search.now.slots.now seat.old }
     ensures seat { IsSeatOf search.now.slots.now seat.new }
     ensures goes_on { SeatGoesOn T.keeps search.now.slots.now seat.old seat.new }
-    ensures lists { IfOk result (λ keys. ListsKeys problem.now.goal problem.now.position problem.now.limit keys.items) }
+    ensures lists { IfOk result
+        (λ keys. ListsKeys search.now.root.goal search.now.root.board search.now.root.limit keys.items) }
 {
     let mut gated = Gated {
         slots: search.slots,
         seat,
         gate: search.gate,
     };
-    let root = Root::of(&problem.position, problem.goal);
-    keys_of(alloc, &mut gated, &root, problem.limit)
+    keys_of(alloc, &mut gated, &search.root)
 }
 
 /// Each first move that forces the goal within the limit, in order, with the fewest plies that it takes:
@@ -117,14 +110,14 @@ pub fn keys_over<T: Gate, R: Threads + Wait + Sync>(
     ensures go_on { SeatsGoOn T.keeps slots.now seats.old.items seats.new.items }
 {
     let problem = problem_of(task, seats.len())?;
-    let search = Search {
-        root: Root::of(&problem.position, problem.goal),
+    let search = Solve {
+        root: Root::of(&problem),
         slots,
         gate: task.gate,
     };
-    prepare(rt, &search, problem.limit, seats);
+    prepare(rt, &search, seats);
     let mut own = seats.take_last();
-    let keys = own_keys(alloc, &search, &problem, &mut own);
+    let keys = own_keys(alloc, &search, &mut own);
     seats.push_reserved(own);
     keys.map_err(|_| SolveFault::NoMemory)
 }

@@ -1,13 +1,12 @@
 //! The root moves of a solve as jobs, which workers steal from one another, round by round.
 #![tactic(auto)]
 
-mod bench;
-mod deal;
 mod gated;
 mod help;
 mod keys;
 mod round;
 mod share;
+mod shared;
 mod solving;
 mod task;
 mod telling;

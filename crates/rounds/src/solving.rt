@@ -3,13 +3,13 @@ ghost use Rattle.std.specs.Prelude.{◌≡◌, ◌+◌, All, IfOk, IfErr, None, 
 ghost use Rattle.slots.specs.Promise.{slots_of, IsSeatOf, AllNew};
 ghost use Rattle.problems.specs.Answer.{IsAnswer};
 ghost use Rattle.problems.specs.Problems.{IsProblemOf};
-ghost use Rattle.problems.specs.Roots.{IsRoot, IsLimit};
+ghost use Rattle.problems.specs.Roots.{IsRoot};
 ghost use Rattle.rounds.specs.Limits.{limits_fault, IsRefusal, task_fault, IsTaskRefusal};
 ghost use Rattle.rounds.specs.Seats.{AreSeats, AreCallers};
 ghost use Rattle.rounds.specs.Going.{SeatsGoOn};
 
-use crate::bench::Search;
 use crate::round::round;
+use crate::shared::Solve;
 use crate::task::{SolveFault, Task};
 use board::Position;
 use entry::MateLore;
@@ -25,17 +25,8 @@ use std::thread::Threads;
 /// The most workers of a solve, the caller's own thread not counted.
 pub const MOST_WORKERS: u8 = 16;
 
-/// The limits that a solve keeps to.
-#[derive(Clone, Copy)]
-struct Limits {
-    plies: u8,
-    workers: u8,
-    slots: usize,
-}
-
-/// The limits, or the first of them that is outside what is taken.
-fn limits_of(plies: u8, workers: u8, slots: usize) -> Result<Limits, SolveFault>
-    ensures kept { IfOk result (λ limits. limits ≡ record { plies = plies; workers = workers; slots = slots }) }
+/// The first of the limits of a solve that is outside what is taken, if one is.
+fn test_limits(plies: u8, workers: u8, slots: usize) -> Result<(), SolveFault>
     ensures accepted { IfOk result (λ _. limits_fault plies workers slots ≡ None) }
     ensures refused { IfErr result (λ fault. limits_fault plies workers slots ≡ Some fault) }
 {
@@ -48,11 +39,7 @@ fn limits_of(plies: u8, workers: u8, slots: usize) -> Result<Limits, SolveFault>
     if slots < 1 || MOST_SLOTS < slots {
         return Err(SolveFault::Slots);
     }
-    Ok(Limits {
-        plies,
-        workers,
-        slots,
-    })
+    Ok(())
 }
 
 /// The problem of a task, for 1 to 17 threads, or the first fault of its limit and their number.
@@ -100,42 +87,11 @@ pub fn make_table_in<A: Allocator + Copy>(
     ensures new { IfOk result (λ r. AllNew r.0 r.1.items) }
     ensures refused { IfErr result (IsRefusal limit workers slots) }
 {
-    let limits = limits_of(limit, workers, slots)?;
-    match Slots::make_in(alloc, limits.slots, usize::from(limits.workers) + 1) {
+    test_limits(limit, workers, slots)?;
+    match Slots::make_in(alloc, slots, usize::from(workers) + 1) {
         Ok(made) => Ok(made),
         Err(_) => Err(SolveFault::NoMemory),
     }
-}
-
-/// The rounds: 1, 3, 5 and so on up to the limit. An even number of plies forces no more than the odd one
-/// below it.
-fn play_rounds<T: Gate, R: Threads + Wait + Sync>(
-    rt: &R,
-    alloc: Global,
-    search: &Search<'_, T>,
-    limit: u8,
-    seats: &mut Vec<Seat>,
-) -> Result<Answer, AllocError>
-    requires root { IsRoot search.now.root }
-    requires limit { IsLimit limit }
-    requires seats { AreCallers search.now.slots.now seats.old.items }
-    ensures answer { IfOk result (IsAnswer search.now.root.goal search.now.root.board limit) }
-    ensures seats { AreSeats search.now.slots.now (length seats.old.items) seats.new.items }
-    ensures go_on { SeatsGoOn T.keeps search.now.slots.now seats.old.items seats.new.items }
-{
-    for number in 0..(limit + 1) / 2 {
-        let plies = 2 * number + 1;
-        match round::<Brand, T, R>(rt, alloc, search, plies, seats)? {
-            Some(job) => {
-                return Ok(Answer::Mate {
-                    plies,
-                    first: search.root.moves[usize::from(job)],
-                });
-            }
-            None => search.gate.end(plies, Ended::Round),
-        }
-    }
-    Ok(Answer::NoneWithin(limit))
 }
 
 /// The fewest plies in which the side to move forces the goal, with the least first move, or that there are
@@ -155,20 +111,26 @@ pub fn solve_over<T: Gate, R: Threads + Wait + Sync>(
     ensures seats { AreSeats slots.now (length seats.old.items) seats.new.items }
     ensures go_on { SeatsGoOn T.keeps slots.now seats.old.items seats.new.items }
 {
-    let Problem {
-        position,
-        goal,
-        limit,
-    } = problem_of(task, seats.len())?;
-    let search = Search {
-        root: Root::of(&position, goal),
+    let problem = problem_of(task, seats.len())?;
+    let root = Root::of(&problem);
+    let search = Solve {
+        root,
         slots,
         gate: task.gate,
     };
-    let Ok(answer) = play_rounds(rt, alloc, &search, limit, seats) else {
-        return Err(SolveFault::NoMemory);
-    };
-    Ok(answer)
+    // the rounds: an even number of plies forces no more than the odd one below it
+    for number in 0..(problem.limit + 1) / 2 {
+        let plies = 2 * number + 1;
+        match round::<Brand, T, R>(rt, alloc, &search, plies, seats) {
+            Ok(Some(job)) => {
+                let first = search.root.moves[usize::from(job)];
+                return Ok(Answer::Mate { plies, first });
+            }
+            Ok(None) => search.gate.end(plies, Ended::Round),
+            Err(_) => return Err(SolveFault::NoMemory),
+        }
+    }
+    Ok(Answer::NoneWithin(problem.limit))
 }
 
 /// The fewest plies in which the side to move forces the goal, with the least first move, or that there are none up to the

@@ -4,8 +4,8 @@ ghost use Rattle.slots.specs.Promise.{IsSeatOf};
 ghost use Rattle.problems.specs.Roots.{IsJobOf, IsLimit, WinsIn};
 ghost use Rattle.rounds.specs.Going.{SeatGoesOn};
 
-use crate::bench::Search;
 use crate::gated::Gated;
+use crate::shared::Solve;
 use crate::task::job_ended;
 use decision::decide_on;
 use problems::{Question, Root};
@@ -52,7 +52,7 @@ impl<T: Gate> Decider for Gated<'_, T> {
 
 /// Whether the job wins within so many plies, decided by one seat.
 pub(crate) fn decide_job<T: Gate>(
-    search: &Search<'_, T>,
+    search: &Solve<'_, T>,
     seat: &mut Seat,
     job: u16,
     plies: u8,

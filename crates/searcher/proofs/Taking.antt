@@ -69,8 +69,8 @@ abbrev pub Before : Root → Ply → Ply → Type 0
 Before r = IsPlyBefore r.board.game
 
 -- the move wins within the limit, in the plies of the key
-abbrev pub IsKey : Root → ℕ → Key → Type 0
-IsKey r limit k = (k.plies ≤ limit) × Takes r.goal r.board k.plies k.first
+abbrev pub IsKey : Root → Key → Type 0
+IsKey r k = (k.plies ≤ r.limit) × Takes r.goal r.board k.plies k.first
 
 abbrev pub first_of : Key → Ply
 first_of k = k.first
@@ -90,34 +90,36 @@ module _ (r : Root) (job : ℕ) (m : Ply) (at : slice_get r.moves.items job ≡ 
   move_wins : (k : ℕ) → WinsIn r k job → Wins r.goal r.board k m
   move_wins k w = subst (Wins r.goal r.board k) (same_some w.0 m (sym w.1 ∙ at)) w.2
 
-  takes_move : (n : ℕ) → TakesIn r n job → Takes r.goal r.board n m
+  -- a number of plies that the job takes is one that its move takes
+  pub takes_move : (n : ℕ) → TakesIn r n job → Takes r.goal r.board n m
   takes_move n t = record { some = t.some; wins = move_wins n t.wins; fewer = λ k some less w. t.fewer k some less (m, at, w) }
 
-  takes_job : (n : ℕ) → Takes r.goal r.board n m → TakesIn r n job
+  -- and the other way
+  pub takes_job : (n : ℕ) → Takes r.goal r.board n m → TakesIn r n job
   takes_job n t = record { some = t.some; wins = (m, at, t.wins); fewer = λ k some less w. t.fewer k some less (move_wins k w) }
 
-module _ (r : Root) (limit : ℕ) (ks : List Key) (job : ℕ) (below : job < length r.moves.items) (picks : Picks (Before r) first_of (IsKey r limit) (take job r.moves.items) ks) where
+module _ (r : Root) (ks : List Key) (job : ℕ) (below : job < length r.moves.items) (picks : Picks (Before r) first_of (IsKey r) (take job r.moves.items) ks) where
   -- the job is a key
-  pub one_key : (m : Ply) (n : ℕ) → IsRoot r → m ≡ get_or r.moves.items job m → InOrder (Before r) first_of (IsKey r limit) ks → n ≤ limit → TakesIn r n job
-      → InOrder (Before r) first_of (IsKey r limit) (ks ++ (record { first = m; plies = n }) ∷ [])
-      × Picks (Before r) first_of (IsKey r limit) (take (job + 1) r.moves.items) (ks ++ (record { first = m; plies = n }) ∷ [])
+  pub one_key : (m : Ply) (n : ℕ) → IsRoot r → m ≡ get_or r.moves.items job m → InOrder (Before r) first_of (IsKey r) ks → n ≤ r.limit → TakesIn r n job
+      → InOrder (Before r) first_of (IsKey r) (ks ++ (record { first = m; plies = n }) ∷ [])
+      × Picks (Before r) first_of (IsKey r) (take (job + 1) r.moves.items) (ks ++ (record { first = m; plies = n }) ∷ [])
   one_key m n root is sorted within takes =
-      keep (Before r) first_of (IsKey r limit) r.moves.items ks job (record { first = m; plies = n }) below is root.ordered sorted picks (within, here)
+      keep (Before r) first_of (IsKey r) r.moves.items ks job (record { first = m; plies = n }) below is root.ordered sorted picks (within, here)
       (λ l same p. λ i. record { first = sym same i; plies = one_number r.goal r.board m n l.plies here (subst (Takes r.goal r.board l.plies) same p.1) i })
     where
       here : Takes r.goal r.board n m
       here = takes_move r job m (slice_get_read r.moves.items (length r.moves.items) job m refl below is) n takes
 
   -- it is none
-  pub no_key : (m : Ply) → m ≡ get_or r.moves.items job m → ((n : ℕ) → n ≤ limit → TakesIn r n job → ⊥) → Picks (Before r) first_of (IsKey r limit) (take (job + 1) r.moves.items) ks
+  pub no_key : (m : Ply) → m ≡ get_or r.moves.items job m → ((n : ℕ) → n ≤ r.limit → TakesIn r n job → ⊥) → Picks (Before r) first_of (IsKey r) (take (job + 1) r.moves.items) ks
   no_key m is none =
-      skip (Before r) first_of (IsKey r limit) r.moves.items ks job m below is picks
+      skip (Before r) first_of (IsKey r) r.moves.items ks job m below is picks
       (λ l same p. none l.plies p.0 (takes_job r job m (slice_get_read r.moves.items (length r.moves.items) job m refl below is) l.plies (subst (Takes r.goal r.board l.plies) same p.1)))
 
 -- after all jobs these are all keys
-pub all_keys : (r : Root) (limit : ℕ) (ks : List Key) (jobs : ℕ) → IsRoot r → length r.moves.items ≤ jobs → InOrder (Before r) first_of (IsKey r limit) ks
-    → Picks (Before r) first_of (IsKey r limit) (take jobs r.moves.items) ks → ListsKeys r.goal r.board limit ks
-all_keys r limit ks jobs root all sorted picks = record {
+pub all_keys : (r : Root) (ks : List Key) (jobs : ℕ) → IsRoot r → length r.moves.items ≤ jobs → InOrder (Before r) first_of (IsKey r) ks
+    → Picks (Before r) first_of (IsKey r) (take jobs r.moves.items) ks → ListsKeys r.goal r.board r.limit ks
+all_keys r ks jobs root all sorted picks = record {
   ordered = sorted;
   exact = λ k. (
     λ c. ((whole k).0 c).1,
@@ -125,5 +127,5 @@ all_keys r limit ks jobs root all sorted picks = record {
   );
 }
   where
-    whole : Picks (Before r) first_of (IsKey r limit) r.moves.items ks
-    whole = subst (λ ms. Picks (Before r) first_of (IsKey r limit) ms ks) (take_all jobs r.moves.items all) picks
+    whole : Picks (Before r) first_of (IsKey r) r.moves.items ks
+    whole = subst (λ ms. Picks (Before r) first_of (IsKey r) ms ks) (take_all jobs r.moves.items all) picks

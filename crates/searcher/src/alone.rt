@@ -18,17 +18,11 @@ use slots::{Seat, Slots};
 use std::alloc::{AllocError, Allocator};
 
 /// `solve_by`, over a table.
-fn solve_root<A: Allocator>(
-    slots: &Slots<MateLore, A>,
-    seat: &mut Seat,
-    root: &Root,
-    limit: u8,
-) -> Answer
+fn solve_root<A: Allocator>(slots: &Slots<MateLore, A>, seat: &mut Seat, root: &Root) -> Answer
     requires seat { IsSeatOf slots.now seat.old }
     requires root { IsRoot root.now }
-    requires limit { limit ≤ 63 }
     ensures continues { Continues slots.now seat.old seat.new }
-    ensures answer { IsAnswer root.now.goal root.now.board limit result }
+    ensures answer { IsAnswer root.now.goal root.now.board root.now.limit result }
 {
     let mut scout = Scout {
         stop: Never,
@@ -39,7 +33,7 @@ fn solve_root<A: Allocator>(
         seat,
         scout: &mut scout,
     };
-    let Some(answer) = solve_by(&mut searcher, root, limit) else {
+    let Some(answer) = solve_by(&mut searcher, root) else {
         unreachable!()
     };
     answer
@@ -55,8 +49,7 @@ pub fn solve_alone<A: Allocator>(
     ensures continues { Continues slots.now seat.old seat.new }
     ensures answer { IsAnswer problem.now.goal problem.now.position problem.now.limit result }
 {
-    let root = Root::of(&problem.position, problem.goal);
-    solve_root(slots, seat, &root, problem.limit)
+    solve_root(slots, seat, &Root::of(problem))
 }
 
 /// The fewest plies in which the side to move forces the goal, with the least first move, or that there are none up to the limit, of 0 to
@@ -73,8 +66,7 @@ pub fn solve_board_alone<A: Allocator>(
     ensures continues { Continues slots.now seat.old seat.new }
     ensures answer { IsAnswer goal board.now limit result }
 {
-    let root = Root::on(board.copied(), goal);
-    solve_root(slots, seat, &root, limit)
+    solve_root(slots, seat, &Root::on(board.copied(), goal, limit))
 }
 
 /// `keys_of`, over a table. After a want of memory the table and the seat serve the next call.
@@ -97,8 +89,7 @@ pub fn keys_alone<A: Allocator, B: Allocator>(
         seat,
         scout: &mut scout,
     };
-    let root = Root::of(&problem.position, problem.goal);
-    match keys_of(alloc, &mut searcher, &root, problem.limit) {
+    match keys_of(alloc, &mut searcher, &Root::of(problem)) {
         Ok(keys) => Ok(keys),
         Err(Halt::NoMemory) => Err(AllocError),
         Err(Halt::Stopped) => unreachable!(),

@@ -11,15 +11,14 @@ use std::alloc::Allocator;
 
 /// The fewest plies, up to the limit, within which the job wins, if it does: rounds of 1, 3, 5 and so on. `None` where the decider was
 /// told to stop.
-pub fn plies_of<D: Decider>(decider: &mut D, root: &Root, job: u16, limit: u8) -> Option<Option<u8>>
+pub fn plies_of<D: Decider>(decider: &mut D, root: &Root, job: u16) -> Option<Option<u8>>
     requires job { IsJobOf root.now job }
-    requires limit { limit ≤ 63 }
     ensures goes { D.goes decider.old decider.new }
     ensures plies { MatchOption result (D.told decider.new)
-        (λ found. MatchOption found ((n : ℕ) → n ≤ limit → TakesIn root.now n job → ⊥)
-        (λ n. (n ≤ limit) × TakesIn root.now n job)) }
+        (λ found. MatchOption found ((n : ℕ) → n ≤ root.now.limit → TakesIn root.now n job → ⊥)
+        (λ n. (n ≤ root.now.limit) × TakesIn root.now n job)) }
 {
-    for number in 0..(limit + 1) / 2 {
+    for number in 0..(root.limit + 1) / 2 {
         let plies = 2 * number + 1;
         if decider.wins(root, job, plies)? {
             return Some(Some(plies));
@@ -34,19 +33,17 @@ pub fn keys_of<D: Decider, A: Allocator>(
     alloc: A,
     decider: &mut D,
     root: &Root,
-    limit: u8,
 ) -> Result<Vec<Key, A>, Halt>
     requires root { IsRoot root.now }
-    requires limit { limit ≤ 63 }
     ensures goes { D.goes decider.old decider.new }
-    ensures keys { IfOk result (λ keys. ListsKeys root.now.goal root.now.board limit keys.items) }
+    ensures keys { IfOk result (λ keys. ListsKeys root.now.goal root.now.board root.now.limit keys.items) }
     ensures halt { IfErr result (λ halt. halt ≡ Stopped → D.told decider.new) }
 {
     let mut keys = Vec::new(alloc);
     decider.begin(0, root.jobs());
     for job in 0..root.jobs() {
         let first = root.moves[usize::from(job)];
-        let Some(found) = plies_of(decider, root, job, limit) else {
+        let Some(found) = plies_of(decider, root, job) else {
             return Err(Halt::Stopped);
         };
         if let Some(plies) = found {

@@ -1,5 +1,5 @@
 //! A solve by whoever decides: round after round, each by the root's moves in order.
-ghost use Rattle.std.specs.Prelude.{◌≤◌, MatchOption};
+ghost use Rattle.std.specs.Prelude.{MatchOption};
 ghost use Rattle.problems.specs.Answer.{IsAnswer};
 ghost use Rattle.problems.specs.Roots.{IsRoot, IsLimit, EndsRound};
 
@@ -25,18 +25,17 @@ pub fn least_win<D: Decider>(decider: &mut D, root: &Root, plies: u8) -> Option<
 
 /// The fewest plies in which the side to move forces the goal, with the least first move, or that there are none up to the limit; or
 /// `None` where the decider was told to stop.
-pub fn solve_by<D: Decider>(decider: &mut D, root: &Root, limit: u8) -> Option<Answer>
+pub fn solve_by<D: Decider>(decider: &mut D, root: &Root) -> Option<Answer>
     requires root { IsRoot root.now }
-    requires limit { limit ≤ 63 }
     ensures goes { D.goes decider.old decider.new }
-    ensures answer { MatchOption result (D.told decider.new) (IsAnswer root.now.goal root.now.board limit) }
+    ensures answer { MatchOption result (D.told decider.new) (IsAnswer root.now.goal root.now.board root.now.limit) }
 {
-    for number in 0..(limit + 1) / 2 {
+    for number in 0..(root.limit + 1) / 2 {
         let plies = 2 * number + 1;
         if let Some(job) = least_win(decider, root, plies)? {
             let first = root.moves[usize::from(job)];
             return Some(Answer::Mate { plies, first });
         }
     }
-    Some(Answer::NoneWithin(limit))
+    Some(Answer::NoneWithin(root.limit))
 }

@@ -22,7 +22,7 @@ pub(crate) fn least_move<D: Decider>(
     ensures goes { D.goes decider.old decider.new }
     ensures least { MatchOption result (D.told decider.new) (IsLeastWin goal board.now plies) }
 {
-    let root = Root::on(board.copied(), goal);
+    let root = Root::on(board.copied(), goal, plies);
     match least_win(decider, &root, plies)? {
         Some(job) => Some(root.moves[usize::from(job)]),
         None => unreachable!(),

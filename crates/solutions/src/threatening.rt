@@ -34,8 +34,8 @@ pub(crate) fn threats_of<D: Decider, A: Allocator>(
     let Some(next) = passed(board) else {
         return Ok(Threats::Check);
     };
-    let root = Root::on(next, goal);
-    match solve_by(decider, &root, left) {
+    let root = Root::on(next, goal, left);
+    match solve_by(decider, &root) {
         None => Err(Halt::Stopped),
         Some(Answer::NoneWithin(_)) => Ok(Threats::Zugzwang),
         Some(Answer::Mate { plies, .. }) => Ok(Threats::Moves {

@@ -46,16 +46,14 @@ fn variation_of<D: Decider, A: Allocator + Copy>(
     decider: &mut D,
     root: &Root,
     reply: Move,
-    limit: u8,
 ) -> Result<Option<Variation<A>>, Halt>
     requires root { IsRoot root.now }
-    requires limit { limit ≤ 63 }
     ensures goes { D.goes decider.old decider.new }
-    ensures found { IfOk result (λ found. MatchOption found (ForcesNothing root.now.goal root.now.board limit)
-        (λ v. (v.reply ≡ reply) × (v.plies ≤ limit) × TellsVariation root.now.goal root.now.board v)) }
+    ensures found { IfOk result (λ found. MatchOption found (ForcesNothing root.now.goal root.now.board root.now.limit)
+        (λ v. (v.reply ≡ reply) × (v.plies ≤ root.now.limit) × TellsVariation root.now.goal root.now.board v)) }
     ensures halt { IfErr result (λ halt. halt ≡ Stopped → D.told decider.new) }
 {
-    match solve_by(decider, root, limit) {
+    match solve_by(decider, root) {
         None => Err(Halt::Stopped),
         Some(Answer::NoneWithin(_)) => Ok(None),
         Some(Answer::Mate { plies, .. }) => {
@@ -80,8 +78,8 @@ pub(crate) fn variations_of<D: Decider, A: Allocator + Copy>(
     let mut variations = Vec::new(alloc);
     let replies = lawful_on(board);
     for reply in replies.as_slice() {
-        let root = Root::on(after(board, *reply), goal);
-        if let Some(variation) = variation_of(alloc, decider, &root, *reply, limit)? {
+        let root = Root::on(after(board, *reply), goal, limit);
+        if let Some(variation) = variation_of(alloc, decider, &root, *reply)? {
             variations.push(variation)?;
         }
     }

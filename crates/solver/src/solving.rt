@@ -28,8 +28,7 @@ impl Solver {
             seat: &mut self.seat,
             scout: &mut self.scout,
         };
-        let root = Root::of(&problem.position, problem.goal);
-        solve_by(&mut searcher, &root, problem.limit)
+        solve_by(&mut searcher, &Root::of(problem))
     }
 
     /// Each first move that forces the goal within the limit, in order, with the fewest plies that it takes; or that it was told to stop,
@@ -45,8 +44,7 @@ impl Solver {
             seat: &mut self.seat,
             scout: &mut self.scout,
         };
-        let root = Root::of(&problem.position, problem.goal);
-        keys_of(alloc, &mut searcher, &root, problem.limit)
+        keys_of(alloc, &mut searcher, &Root::of(problem))
     }
 
     /// The tree of a position whose fewest plies to the goal these are: at each turn of the attacker it takes the fewest plies, and then

@@ -64,8 +64,7 @@ impl Parts {
             seat: &mut self.seat,
             scout: &mut self.scout,
         };
-        let root = Root::of(&problem.position, problem.goal);
-        solve_by(&mut searcher, &root, problem.limit)
+        solve_by(&mut searcher, &Root::of(problem))
     }
 }
 

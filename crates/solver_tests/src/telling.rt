@@ -6,7 +6,7 @@ ghost use Rattle.problems.specs.Roots.{IsRoot};
 use crate::stopped::{made, read};
 use decision::{Memory, Scout, Stop};
 use entry::MateLore;
-use moves::Goal;
+use moves::{Board, Goal};
 use problems::{Answer, Root};
 use searcher::{Searcher, solve_by};
 use slots::{Seat, Slots};
@@ -64,14 +64,12 @@ fn solved(
     seat: &mut Seat,
     scout: &mut Scout<Watcher>,
     root: &Root,
-    limit: u8,
 ) -> Option<Answer>
     requires seat { IsSeatOf slots.now seat.old }
     requires root { IsRoot root.now }
-    requires limit { limit ≤ 63 }
 {
     let mut searcher = Searcher { slots, seat, scout };
-    solve_by(&mut searcher, root, limit)
+    solve_by(&mut searcher, root)
 }
 
 /// What is heard while it is decided that nothing is forced within so many plies.
@@ -92,8 +90,8 @@ fn heard_in<R: Abort + AllocGlobal>(rt: &R, text: &[u8], limit: u8) -> Vec<Place
     };
     let memory = Memory::new();
     let mut scout = Scout { stop, memory };
-    let root = Root::of(&read(rt, text), Goal::Mate);
-    let answer = solved(&slots, &mut seat, &mut scout, &root, limit);
+    let root = Root::on(Board::of(&read(rt, text)), Goal::Mate, limit);
+    let answer = solved(&slots, &mut seat, &mut scout, &root);
     assert!(rt; answer == Some(Answer::NoneWithin(limit)));
     let watcher = scout.stop;
     watcher.heard

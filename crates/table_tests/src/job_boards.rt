@@ -1,8 +1,8 @@
 //! The sizes that a job board takes, and two callers of one: that a seat learns of a job which another lowered is in no clause.
 ghost use Rattle.std.specs.Prelude.{◌≡◌, ◌⊎◌, ℕ, ◌<◌};
-ghost use Rattle.least.specs.Promise.{IsJobSeatOf, JobWins};
+ghost use Rattle.jobs.specs.Promise.{IsJobSeatOf, JobWins};
 
-use least::{JobSeat, Least, MakeFault, Wins};
+use jobs::{JobSeat, Least, MakeFault, Wins};
 use std::test::*;
 use std::thread::{Threads, join, spawn};
 

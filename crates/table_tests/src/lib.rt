@@ -1,8 +1,10 @@
-//! Tests of the tables: of the free one, its plain form and the job board.
+//! Tests of the tables: of the free one, its plain form, the job board and the jobs that threads steal.
 #![tactic(auto)]
 
 #[cfg(test)]
 mod bounded;
+#[cfg(test)]
+mod dealt_jobs;
 #[cfg(test)]
 mod held;
 #[cfg(test)]

@@ -2,4 +2,3 @@ pub mod Forcing
 pub mod Fewest
 pub mod Lists
 pub mod Unique
-pub mod Firsts

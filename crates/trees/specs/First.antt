@@ -26,5 +26,5 @@ IsOpened goal b m limit None = TakesNone goal b limit m
 IsOpened goal b m limit (Some plan) = (plies : ℕ) × (plies ≤ limit) × Takes goal b plies m × IsBestOf goal b m plan
 
 -- what is found of the root's move of this number
-abbrev pub IsOpenedJob : Root → ℕ → ℕ → Option Plan → Type 0
-IsOpenedJob r job limit found = (m : Ply) → slice_get r.moves.items job ≡ Some m → IsOpened r.goal r.board m limit found
+abbrev pub IsOpenedJob : Root → ℕ → Option Plan → Type 0
+IsOpenedJob r job found = (m : Ply) → slice_get r.moves.items job ≡ Some m → IsOpened r.goal r.board m r.limit found

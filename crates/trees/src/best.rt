@@ -10,14 +10,13 @@ use problems::Root;
 use searcher::{Decider, least_win};
 
 /// The fewest plies, where the side to move forces the goal within the limit; or `None` where the decider was told to stop.
-fn fewest_plies<D: Decider>(decider: &mut D, root: &Root, limit: u8) -> Option<u8>
-    requires limit { limit ≤ 63 }
-    requires forced { Forces root.now.goal root.now.board.mover root.now.board limit }
+fn fewest_plies<D: Decider>(decider: &mut D, root: &Root) -> Option<u8>
+    requires forced { Forces root.now.goal root.now.board.mover root.now.board root.now.limit }
     ensures goes { D.goes decider.old decider.new }
     ensures fewest { MatchOption result (D.told decider.new) (λ n. IsLimit n × IsFewest root.now.goal root.now.board n) }
 {
     let q = root.question();
-    for round in 0..(limit + 1) / 2 {
+    for round in 0..(root.limit + 1) / 2 {
         let plies = 2 * round + 1;
         if decider.forces(&q, plies)? {
             return Some(plies);
@@ -38,8 +37,8 @@ pub(crate) fn best_move<D: Decider>(
     ensures goes { D.goes decider.old decider.new }
     ensures best { MatchOption result (D.told decider.new) (IsBestMove goal board.now) }
 {
-    let root = Root::on(board.copied(), goal);
-    let plies = fewest_plies(decider, &root, limit)?;
+    let root = Root::on(board.copied(), goal, limit);
+    let plies = fewest_plies(decider, &root)?;
     match least_win(decider, &root, plies)? {
         Some(job) => Some(root.moves[usize::from(job)]),
         None => unreachable!(),

@@ -17,15 +17,13 @@ pub fn tree_of_first<D: Decider, B: Allocator + Copy>(
     decider: &mut D,
     root: &Root,
     job: u16,
-    limit: u8,
 ) -> Result<Option<Tree<B>>, Halt>
     requires job { IsJobOf root.now job }
-    requires limit { limit ≤ 63 }
     ensures goes { D.goes decider.old decider.new }
-    ensures found { IfOk result (IsOpenedJob root.now job limit) }
+    ensures found { IfOk result (IsOpenedJob root.now job) }
     ensures halt { IfErr result (λ halt. halt ≡ Stopped → D.told decider.new) }
 {
-    let Some(found) = plies_of(decider, root, job, limit) else {
+    let Some(found) = plies_of(decider, root, job) else {
         return Err(Halt::Stopped);
     };
     let Some(plies) = found else {

@@ -23,9 +23,9 @@ use Rattle.endings.specs.Outcome.{GivesIfRead, IsSoundText}
 use Rattle.refusals.specs.Reply.{Reply, answered, refused}
 use Rattle.answer_texts.specs.Answers.{answer_text}
 use Rattle.refusals.specs.Refusal.{refusal_of_fen}
-use Rattle.verdicts.specs.Verdict.{ShowsProved, IsVerdict, GivesVerdict, trouble_of_certificate}
-use Rattle.endings.specs.declared.trouble.Trouble.{Trouble}
-use Rattle.endings.specs.declared.trouble.Trouble.TheVariants.{Refused, ReadFailed}
+use Rattle.verdicts.specs.Verdict.{ShowsProved, IsVerdict, GivesVerdict, reply_fault_of_certificate}
+use Rattle.endings.specs.declared.reply_fault.ReplyFault.{ReplyFault}
+use Rattle.endings.specs.declared.reply_fault.ReplyFault.TheVariants.{Refused, ReadFailed}
 use Rattle.endings.proofs.EndingLemmas.{refusal_gives}
 use Rattle.devices.proofs.InputLemmas.{of_any, of_input_then}
 use Rattle.refusals.specs.declared.refusal.Refusal.{Refusal}
@@ -34,7 +34,7 @@ use Rattle.endings.specs.Run.{Run, Finishes, Refuses}
 use Rattle.verdicts.specs.Verifying.{RunsVerify}
 
 -- what is given is given for what follows of it
-gives_weaker : {B : Type 0} (bytes : B → List ℕ) (P Q : Reply → Type 0) (r : Result B Trouble) → ((reply : Reply) → P reply → Q reply) → GivesIfRead bytes P r
+gives_weaker : {B : Type 0} (bytes : B → List ℕ) (P Q : Reply → Type 0) (r : Result B ReplyFault) → ((reply : Reply) → P reply → Q reply) → GivesIfRead bytes P r
     → GivesIfRead bytes Q r
 gives_weaker bytes P Q (Ok text) so gives = so (answered (bytes text)) gives
 gives_weaker bytes P Q (Err (Refused why)) so (inl none) = inl none
@@ -42,14 +42,14 @@ gives_weaker bytes P Q (Err (Refused why)) so (inr shows) = inr (so (refused why
 gives_weaker bytes P Q (Err ReadFailed) so gives = tt
 
 -- what is shown at the sound position of the subject is the verdict
-pub verdict_at : {B : Type 0} (bytes : B → List ℕ) (subject : Subject) (known : Option (List ℕ)) (b : PlainBoard) (r : Result B Trouble) → IsSoundText subject.fen.now b
+pub verdict_at : {B : Type 0} (bytes : B → List ℕ) (subject : Subject) (known : Option (List ℕ)) (b : PlainBoard) (r : Result B ReplyFault) → IsSoundText subject.fen.now b
     → OfInput known (λ input. GivesIfRead bytes (ShowsProved subject.goal b input) r) → GivesVerdict bytes subject known r
 verdict_at bytes subject known b r sound gives = of_input_then known _ _ gives
     (λ input one. gives_weaker bytes (ShowsProved subject.goal b input) (IsVerdict subject input) r (λ reply shows. inl (b, sound, shows)) one)
 
 -- and so is the refusal of the text's fault, whatever the input
-pub verdict_fault : {B : Type 0} (bytes : B → List ℕ) (subject : Subject) (known : Option (List ℕ)) (r : Result B Trouble) (fault : FenFault)
-    → IsSoundFault subject.fen.now fault → IsErr r × IsErrAnd r (λ trouble. trouble ≡ Refused (refusal_of_fen fault)) → GivesVerdict bytes subject known r
+pub verdict_fault : {B : Type 0} (bytes : B → List ℕ) (subject : Subject) (known : Option (List ℕ)) (r : Result B ReplyFault) (fault : FenFault)
+    → IsSoundFault subject.fen.now fault → IsErr r × IsErrAnd r (λ told. told ≡ Refused (refusal_of_fen fault)) → GivesVerdict bytes subject known r
 verdict_fault bytes subject known r fault is err =
     of_any known _ (λ input. refusal_gives bytes (IsVerdict subject input) r (refusal_of_fen fault) (inr (inr (fault, is, refl))) err)
 
@@ -60,11 +60,11 @@ answer_shown bytes goal b known answer text right proves is = of_input_then know
     (λ input one. inl (answer, (right, certificate_begins goal b answer input one, one), ap answered is))
 
 -- and so is what a fault tells
-pub fault_shown : {B : Type 0} (bytes : B → List ℕ) (goal : Goal) (b : PlainBoard) (known : Option (List ℕ)) (fault : Fault) (trouble : Trouble) → ((fault ≡ certificate.NoMemory → ⊥) → (fault ≡ certificate.ReadFailed → ⊥) → OfInput known (IsRefusedWith goal b fault)) → trouble ≡ trouble_of_certificate fault
-    → OfInput known (λ input. GivesIfRead bytes (ShowsProved goal b input) (Err trouble))
-fault_shown bytes goal b known fault trouble tells is = subst (λ (t : Trouble). OfInput known (λ input. GivesIfRead bytes (ShowsProved goal b input) (Err t))) (sym is) (of_fault fault tells)
+pub fault_shown : {B : Type 0} (bytes : B → List ℕ) (goal : Goal) (b : PlainBoard) (known : Option (List ℕ)) (fault : Fault) (told : ReplyFault) → ((fault ≡ certificate.NoMemory → ⊥) → (fault ≡ certificate.ReadFailed → ⊥) → OfInput known (IsRefusedWith goal b fault)) → told ≡ reply_fault_of_certificate fault
+    → OfInput known (λ input. GivesIfRead bytes (ShowsProved goal b input) (Err told))
+fault_shown bytes goal b known fault told tells is = subst (λ (t : ReplyFault). OfInput known (λ input. GivesIfRead bytes (ShowsProved goal b input) (Err t))) (sym is) (of_fault fault tells)
   where
-    of_fault : (fault : Fault) → ((fault ≡ certificate.NoMemory → ⊥) → (fault ≡ certificate.ReadFailed → ⊥) → OfInput known (IsRefusedWith goal b fault)) → OfInput known (λ input. GivesIfRead bytes (ShowsProved goal b input) (Err (trouble_of_certificate fault)))
+    of_fault : (fault : Fault) → ((fault ≡ certificate.NoMemory → ⊥) → (fault ≡ certificate.ReadFailed → ⊥) → OfInput known (IsRefusedWith goal b fault)) → OfInput known (λ input. GivesIfRead bytes (ShowsProved goal b input) (Err (reply_fault_of_certificate fault)))
     of_fault certificate.Answer tells = of_input_then known _ _ (tells (λ e. cc) (λ e. cc)) (λ input one. inr (inr (refusal.Answer, one, refl)))
     of_fault (certificate.Claim line) tells = of_input_then known _ _ (tells (λ e. cc) (λ e. cc)) (λ input one. inr (inr (refusal.Claim line, one, refl)))
     of_fault certificate.TooLong tells = of_input_then known _ _ (tells (λ e. cc) (λ e. cc)) (λ input one. inr (inr (refusal.TooLong, one, refl)))

@@ -19,20 +19,20 @@ use Rattle.endings.specs.Outcome.{IsSoundText, GivesIfRead}
 use Rattle.refusals.specs.Refusal.{refusal_of_fen}
 use Rattle.refusals.specs.declared.refusal.Refusal.{Refusal}
 use Rattle.refusals.specs.declared.refusal.Refusal.TheVariants as refusal
-use Rattle.endings.specs.declared.trouble.Trouble.{Trouble}
-use Rattle.endings.specs.declared.trouble.Trouble.TheVariants.{Refused, ReadFailed}
+use Rattle.endings.specs.declared.reply_fault.ReplyFault.{ReplyFault}
+use Rattle.endings.specs.declared.reply_fault.ReplyFault.TheVariants.{Refused, ReadFailed}
 
 -- it is the answer up to each limit that fits, the text begins with it, and is a certificate of it
 abbrev pub IsProved : Goal → PlainBoard → List ℕ → Answer → Type 0
 IsProved goal b text answer = ((limit : ℕ) → IsUpTo limit answer → IsAnswer goal b limit answer) × HasFirstLine goal answer text × IsCertificate goal b answer text
 
--- the trouble of each fault of a certificate
-abbrev pub trouble_of_certificate : Fault → Trouble
-trouble_of_certificate certificate.Answer = Refused refusal.Answer
-trouble_of_certificate (certificate.Claim line) = Refused (refusal.Claim line)
-trouble_of_certificate certificate.TooLong = Refused refusal.TooLong
-trouble_of_certificate certificate.NoMemory = Refused refusal.NoMemory
-trouble_of_certificate certificate.ReadFailed = ReadFailed
+-- what a fault of a certificate is of a reply
+abbrev pub reply_fault_of_certificate : Fault → ReplyFault
+reply_fault_of_certificate certificate.Answer = Refused refusal.Answer
+reply_fault_of_certificate (certificate.Claim line) = Refused (refusal.Claim line)
+reply_fault_of_certificate certificate.TooLong = Refused refusal.TooLong
+reply_fault_of_certificate certificate.NoMemory = Refused refusal.NoMemory
+reply_fault_of_certificate certificate.ReadFailed = ReadFailed
 
 -- the refusals of a certificate's text, and what each tells of it: it is a certificate of no answer
 abbrev pub IsRefusedFor : Goal → PlainBoard → List ℕ → Refusal → Type 0
@@ -54,5 +54,5 @@ IsVerdict subject input reply =
     ⊎ ((fault : FenFault) × IsSoundFault subject.fen.now fault × (reply ≡ refused (refusal_of_fen fault)))
 
 -- a reply to the certificate that is read
-abbrev pub GivesVerdict : {B : Type 0} → (B → List ℕ) → Subject → Option (List ℕ) → Result B Trouble → Type 0
+abbrev pub GivesVerdict : {B : Type 0} → (B → List ℕ) → Subject → Option (List ℕ) → Result B ReplyFault → Type 0
 GivesVerdict bytes subject known result = OfInput known (λ input. GivesIfRead bytes (IsVerdict subject input) result)

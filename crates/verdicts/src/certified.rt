@@ -3,28 +3,28 @@ ghost use Rattle.std.specs.Prelude.{◌≡◌, ◌⊎◌, ◌+◌, ◌<◌, vec_
 ghost use Rattle.board.specs.Board.{PlainBoard};
 ghost use Rattle.devices.specs.Input.{OfInput};
 ghost use Rattle.endings.specs.Outcome.{GivesIfRead, reads_failed, IsSoundText};
-ghost use Rattle.verdicts.specs.Verdict.{ShowsProved, GivesVerdict, trouble_of_certificate};
+ghost use Rattle.verdicts.specs.Verdict.{ShowsProved, GivesVerdict, reply_fault_of_certificate};
 
 use answer_texts::answer_text;
 use board::Position;
 use command_line::Subject;
 use devices::Source;
-use endings::Trouble;
+use endings::ReplyFault;
 use moves::{Board, Goal, read_sound};
 use refusals::Refusal;
 use std::alloc::Allocator;
 use verifying::{Fault, verify_input};
 
-/// The trouble of each fault of a certificate.
-fn trouble_of_certificate(fault: Fault) -> Trouble
-    ensures { result ≡ trouble_of_certificate fault }
+/// What a fault of a certificate is of a reply.
+fn reply_fault_of_certificate(fault: Fault) -> ReplyFault
+    ensures { result ≡ reply_fault_of_certificate fault }
 {
     match fault {
-        Fault::Answer => Trouble::Refused(Refusal::Answer),
-        Fault::Claim(line) => Trouble::Refused(Refusal::Claim(line)),
-        Fault::TooLong => Trouble::Refused(Refusal::TooLong),
-        Fault::NoMemory => Trouble::Refused(Refusal::NoMemory),
-        Fault::ReadFailed => Trouble::ReadFailed,
+        Fault::Answer => ReplyFault::Refused(Refusal::Answer),
+        Fault::Claim(line) => ReplyFault::Refused(Refusal::Claim(line)),
+        Fault::TooLong => ReplyFault::Refused(Refusal::TooLong),
+        Fault::NoMemory => ReplyFault::Refused(Refusal::NoMemory),
+        Fault::ReadFailed => ReplyFault::ReadFailed,
     }
 }
 
@@ -34,7 +34,7 @@ fn verified_at<S: Source, A: Allocator + Copy>(
     position: &Position,
     goal: Goal,
     reader: &mut S,
-) -> Result<Vec<u8, A>, Trouble>
+) -> Result<Vec<u8, A>, ReplyFault>
     requires { S.failures reader.old < u64.MAX }
     ensures shown { OfInput (S.remaining reader.old)
         (λ input. GivesIfRead vec_items (ShowsProved goal position.now input) result) }
@@ -42,7 +42,7 @@ fn verified_at<S: Source, A: Allocator + Copy>(
 {
     match verify_input(alloc, &Board::of(position), goal, reader) {
         Ok(answer) => Ok(answer_text(alloc, goal, answer)?.into_bytes()),
-        Err(fault) => Err(trouble_of_certificate(fault)),
+        Err(fault) => Err(reply_fault_of_certificate(fault)),
     }
 }
 
@@ -51,7 +51,7 @@ pub fn verified<S: Source, A: Allocator + Copy>(
     alloc: A,
     subject: &Subject<'_>,
     reader: &mut S,
-) -> Result<Vec<u8, A>, Trouble>
+) -> Result<Vec<u8, A>, ReplyFault>
     requires { S.failures reader.old < u64.MAX }
     ensures given { GivesVerdict vec_items subject.now (S.remaining reader.old) result }
     ensures asked { ((b : PlainBoard) × IsSoundText subject.now.fen.now b) ⊎ (reader.new ≡ reader.old) }

@@ -9,7 +9,7 @@ use crate::certified::verified;
 use command_line::{LineFault, Order, Subject, read_order};
 use devices::{Sink, Source};
 use endings::{
-    ANSWERED, Input, REFUSED_WORDS, Trouble, fail_to_read, finish, give_up_for_memory,
+    ANSWERED, Input, REFUSED_WORDS, ReplyFault, fail_to_read, finish, give_up_for_memory,
     proof_refused, refuse_and_tell,
 };
 use std::convert::AsStr;
@@ -32,11 +32,11 @@ fn run_verify<R: AllocGlobal, S: Source + Input, K: Sink, E: Write>(
 {
     match verified(rt.alloc(), subject, reader) {
         Ok(text) => finish(writer, errors, text.as_slice(), ANSWERED),
-        Err(Trouble::Refused(refusal)) => {
+        Err(ReplyFault::Refused(refusal)) => {
             let refused = proof_refused(subject, reader.beginning(), refusal);
             refuse_and_tell(rt, writer, errors, &refused)
         }
-        Err(Trouble::ReadFailed) => fail_to_read(errors),
+        Err(ReplyFault::ReadFailed) => fail_to_read(errors),
     }
 }
 

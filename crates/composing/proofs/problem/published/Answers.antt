@@ -4,5 +4,5 @@ use Rattle.composing.proofs.problem.published.Goals as goal
 
 pub returns : goal.returns
 returns c =
-    published_text c.args.root.now.goal c.args.root.now.board c.args.telling c.notation_of-notation.result c.in-Ok.solution c.into_bytes.result.items _
+    published_text c.args.root.now.goal c.args.root.now.board c.args.options c.notation_of-notation.result c.in-Ok.solution c.into_bytes.result.items _
     c.in-Ok.ensures.solution c.notation_of-notation.ensures c.in_ok-solution_text.ensures (ap vec_items c.into_bytes.ensures.value)

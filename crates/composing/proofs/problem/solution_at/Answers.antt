@@ -1,4 +1,4 @@
-use Rattle.std.proofs.Common.{Ok, arith, subst, sym, vec_items}
+use Rattle.std.proofs.Common.{Ok, arith, subst, sym, vec_items, ◌∙◌}
 use Rattle.board.specs.Board.{PlainBoard}
 use Rattle.rules.specs.declared.goal.Goal.{Goal}
 use Rattle.problems.specs.Answer.{IsFewest}
@@ -17,14 +17,14 @@ published-requires-clause-plies g c =
 pub published-requires-clause-fewest : goal.published-requires-clause-fewest
 published-requires-clause-fewest g c =
     let solved = subst (λ a. Solves c.args.goal c.args.position.now c.args.limits (Ok a)) c.in-Mate.is c.in-Ok.ensures in
-    subst (λ (x : Goal). IsFewest x c.of-root.result.board c.in-Mate.plies) (sym c.of-root.ensures.goal)
-    (subst (λ (b : PlainBoard). IsFewest c.args.goal b c.in-Mate.plies) (sym c.of-root.ensures.position) solved.1.1)
+    subst (λ (x : Goal). IsFewest x c.on-root.result.board c.in-Mate.plies) (sym c.on-root.ensures.goal)
+    (subst (λ (b : PlainBoard). IsFewest c.args.goal b c.in-Mate.plies) (sym (c.on-root.ensures.position ∙ c.of.ensures)) solved.1.1)
 
 pub returns-in_ok-published-in-Mate : goal.returns-in_ok-published-in-Mate
 returns-in_ok-published-in-Mate g c =
     let b = c.args.position.now in
     let text = vec_items c.in_ok-published-in-Mate.field-0 in
     let solved = subst (λ a. Solves c.args.goal b c.args.limits (Ok a)) c.in-Mate.is c.in-Ok.ensures in
-    published_shown c.args.goal b c.args.telling c.args.limits c.in-Mate.plies text solved.0 solved.1.0 solved.1.1
-    (subst (λ (x : Goal). IsPublished x b c.args.telling text) c.of-root.ensures.goal
-    (subst (λ (x : PlainBoard). IsPublished c.of-root.result.goal x c.args.telling text) c.of-root.ensures.position c.in_ok-published-in-Mate.ensures))
+    published_shown c.args.goal b c.args.options c.args.limits c.in-Mate.plies text solved.0 solved.1.0 solved.1.1
+    (subst (λ (x : Goal). IsPublished x b c.args.options text) c.on-root.ensures.goal
+    (subst (λ (x : PlainBoard). IsPublished c.on-root.result.goal x c.args.options text) (c.on-root.ensures.position ∙ c.of.ensures) c.in_ok-published-in-Mate.ensures))

@@ -25,7 +25,7 @@ returns-in-Ok-Solution-clause-silent g c =
     elim c.run_solution.ensures.silent [
       | inl told ↦ inl told
       | inr rest ↦ elim rest [
-        | inl over ↦ inr (inl (Solution one.subject one.limits one.telling, rw one.field-0-is at one.ensures.order, over))
+        | inl over ↦ inr (inl (Solution one.subject one.limits one.options, rw one.field-0-is at one.ensures.order, over))
         | inr same ↦ inr (inr same)
       ]
     ]

@@ -1,16 +1,16 @@
 use Rattle.std.proofs.Common.{◌∙◌, refl, arith}
-use Rattle.console.specs.Desk.{step_of}
+use Rattle.console.specs.BatchRun.{step_of}
 use Rattle.devices.specs.Lines.{left_of}
 use Rattle.console.proofs.BatchLemmas.{kept_first, kept_more, lines_end, lines_stop}
 use Rattle.console.proofs.batch.answer_lines.Goals as goal
 
 pub loop-init : goal.loop-init
 loop-init g c = record {
-  desk = c.requires.desk;
+  run = c.requires.run;
   same = refl;
   reads = refl;
   writes = refl;
-  kept = kept_first c.args.desk.now.solver (left_of c.args.desk.now.unread (g.S.Source.remaining c.args.reader.now)) (g.K.Sink.contents c.args.writer.now);
+  kept = kept_first c.args.run.now.solver (left_of c.args.run.now.unread (g.S.Source.remaining c.args.reader.now)) (g.K.Sink.contents c.args.writer.now);
 }
 
 pub loop-preserved : goal.loop-preserved
@@ -19,12 +19,12 @@ loop-preserved g c =
     let step = rw c.in-Ok-true.field-0-test at c.in-Ok-true.ensures.step in
     let (line, text, feeds, taken, reply, grown, none) = step in
     record {
-      desk = c.answer_next.ensures.desk;
+      run = c.answer_next.ensures.run;
       same = c.answer_next.ensures.same ∙ so_far.same;
       reads = omega (arith, none.0, so_far.reads);
       writes = omega (arith, none.1, so_far.writes);
-      kept = kept_more c.args.desk.now.solver c.loop.desk.solver (left_of c.args.desk.now.unread (g.S.Source.remaining c.args.reader.now))
-          (step_of c.loop.desk c.answer_next.new.desk g.S.Source.remaining g.S.Source.failures c.loop.reader c.answer_next.new.reader
+      kept = kept_more c.args.run.now.solver c.loop.run.solver (left_of c.args.run.now.unread (g.S.Source.remaining c.args.reader.now))
+          (step_of c.loop.run c.answer_next.new.run g.S.Source.remaining g.S.Source.failures c.loop.reader c.answer_next.new.reader
           g.K.Sink.contents g.K.Sink.failures c.loop.writer c.answer_next.new.writer)
           (g.K.Sink.contents c.args.writer.now) so_far.same so_far.kept step;
     }
@@ -33,8 +33,8 @@ pub returns-in-Ok-false : goal.returns-in-Ok-false
 returns-in-Ok-false g c =
     let so_far = c.loop.invariant in
     record {
-      lines = lines_end c.args.desk.now.solver c.loop.desk.solver (left_of c.args.desk.now.unread (g.S.Source.remaining c.args.reader.now))
-          (step_of c.loop.desk c.answer_next.new.desk g.S.Source.remaining g.S.Source.failures c.loop.reader c.answer_next.new.reader
+      lines = lines_end c.args.run.now.solver c.loop.run.solver (left_of c.args.run.now.unread (g.S.Source.remaining c.args.reader.now))
+          (step_of c.loop.run c.answer_next.new.run g.S.Source.remaining g.S.Source.failures c.loop.reader c.answer_next.new.reader
           g.K.Sink.contents g.K.Sink.failures c.loop.writer c.answer_next.new.writer)
           (g.K.Sink.contents c.args.writer.now) (g.S.Source.failures c.args.reader.now) (g.K.Sink.failures c.args.writer.now) so_far.same so_far.reads so_far.writes
           so_far.kept (rw c.in-Ok-false.field-0-test at c.in-Ok-false.ensures.step);
@@ -44,8 +44,8 @@ pub returns-in-Err : goal.returns-in-Err
 returns-in-Err g c =
     let so_far = c.loop.invariant in
     record {
-      lines = lines_stop c.args.desk.now.solver c.loop.desk.solver (left_of c.args.desk.now.unread (g.S.Source.remaining c.args.reader.now))
-          (step_of c.loop.desk c.answer_next.new.desk g.S.Source.remaining g.S.Source.failures c.loop.reader c.answer_next.new.reader
+      lines = lines_stop c.args.run.now.solver c.loop.run.solver (left_of c.args.run.now.unread (g.S.Source.remaining c.args.reader.now))
+          (step_of c.loop.run c.answer_next.new.run g.S.Source.remaining g.S.Source.failures c.loop.reader c.answer_next.new.reader
           g.K.Sink.contents g.K.Sink.failures c.loop.writer c.answer_next.new.writer)
           (g.K.Sink.contents c.args.writer.now) (g.S.Source.failures c.args.reader.now) (g.K.Sink.failures c.args.writer.now) c.in-Err.stop so_far.same so_far.reads so_far.writes
           so_far.kept c.in-Err.ensures.step;

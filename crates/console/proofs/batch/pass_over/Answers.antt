@@ -1,6 +1,6 @@
 use Rattle.std.proofs.Common.{ℕ, refl, arith, subst, true}
 use Rattle.devices.specs.Lines.{left_of}
-use Rattle.console.specs.Desk.{PassesOver}
+use Rattle.console.specs.BatchRun.{PassesOver}
 use Rattle.console.proofs.BatchLemmas.{passed_all, passed_first, passed_more}
 use Rattle.console.proofs.batch.pass_over.Goals as goal
 

@@ -1,7 +1,7 @@
 -- So many lines are passed over, and no read has failed.
 use Rattle.std.proofs.Common.{◌≡◌, true}
 use Rattle.devices.specs.Lines.{IsUnread, left_of}
-use Rattle.console.specs.Desk.{PassesOver}
+use Rattle.console.specs.BatchRun.{PassesOver}
 use Rattle.console.proofs.batch.pass_over.Given as goal
 
 abbrev pub invariant-loop : goal.invariant-loop

@@ -14,5 +14,5 @@ after-below-requires g c =
 pub loop-preserved : goal.loop-preserved
 loop-preserved g c = record {
   seat = c.decide_until.ensures.continues.seat;
-  goes_on = continues_more c.args.bench.now.search.now.slots.now c.args.seat.now c.loop.seat c.decide_until.new.seat c.loop.invariant.goes_on c.decide_until.ensures.continues;
+  goes_on = continues_more c.args.round.now.search.now.slots.now c.args.seat.now c.loop.seat c.decide_until.new.seat c.loop.invariant.goes_on c.decide_until.ensures.continues;
 }

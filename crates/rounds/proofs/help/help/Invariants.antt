@@ -4,6 +4,6 @@ use Rattle.rounds.proofs.help.help.Given as goal
 
 abbrev pub invariant-loop : goal.invariant-loop
 invariant-loop g l = record {
-  seat : IsSeatOf l.fn.bench.search.now.slots.now l.seat;
-  goes_on : Continues l.fn.bench.search.now.slots.now l.fn.seat l.seat;
+  seat : IsSeatOf l.fn.round.search.now.slots.now l.seat;
+  goes_on : Continues l.fn.round.search.now.slots.now l.fn.seat l.seat;
 }

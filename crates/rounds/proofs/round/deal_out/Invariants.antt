@@ -1,5 +1,5 @@
 use Rattle.std.proofs.Common.{◌≡◌, ◌+◌, length, All}
-use Rattle.least.specs.Promise.{IsJobSeatOf}
+use Rattle.jobs.specs.Promise.{IsJobSeatOf}
 use Rattle.rounds.specs.Shares.{IsPart, AreDealt}
 use Rattle.rounds.proofs.round.deal_out.Given as goal
 
@@ -9,7 +9,7 @@ invariant-loop-from g l =
     record {
       made : length l.parts.items ≡ l.from;
       count : length l.parts.items + length l.job_seats.items ≡ length l.fn.job_seats.items;
-      job_seats : All (IsJobSeatOf l.fn.bench.least.now) l.job_seats.items;
-      parts : All (IsPart g.J.Count.jobs l.fn.bench) l.parts.items;
+      job_seats : All (IsJobSeatOf l.fn.round.least.now) l.job_seats.items;
+      parts : All (IsPart g.J.Count.jobs l.fn.round) l.parts.items;
       dealt : AreDealt g.J.Count.jobs (length l.fn.job_seats.items) l.parts.items;
     }

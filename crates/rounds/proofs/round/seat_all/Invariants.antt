@@ -9,9 +9,9 @@ invariant-loop-part g l =
     record {
       pairs : length l.seats.items ≡ length l.parts.items;
       count : length l.shares.items + length l.parts.items ≡ length l.fn.parts.items;
-      parts : All (IsPart g.J.Count.jobs l.bench) l.parts.items;
-      seats : All (IsSeatOf l.bench.search.now.slots.now) l.seats.items;
-      shares : All (IsShare g.J.Count.jobs l.bench) l.shares.items;
+      parts : All (IsPart g.J.Count.jobs l.round) l.parts.items;
+      seats : All (IsSeatOf l.round.search.now.slots.now) l.seats.items;
+      shares : All (IsShare g.J.Count.jobs l.round) l.shares.items;
       same : l.seats.items ++ seats_back l.shares.items ≡ l.fn.seats.items;
       left : vec_capacity l.seats ≡ vec_capacity l.fn.seats;
       room : vec_capacity l.shares ≡ vec_capacity l.fn.shares;

@@ -7,7 +7,7 @@ use Rattle.rounds.proofs.round.settle.Given as goal
 abbrev pub invariant-loop-job : goal.invariant-loop-job
 invariant-loop-job g l =
     record {
-      own : IsShare g.J.Count.jobs l.fn.bench l.own;
-      goes_on : SeatGoesOn g.T.Gate.keeps l.fn.bench.search.now.slots.now l.fn.own.seat l.own.seat;
-      none : (k : ℕ) → k < l.job → WinsHere l.fn.bench k → ⊥;
+      own : IsShare g.J.Count.jobs l.fn.round l.own;
+      goes_on : SeatGoesOn g.T.Gate.keeps l.fn.round.search.now.slots.now l.fn.own.seat l.own.seat;
+      none : (k : ℕ) → k < l.job → WinsHere l.fn.round k → ⊥;
     }

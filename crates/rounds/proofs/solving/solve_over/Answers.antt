@@ -1,5 +1,57 @@
-use Rattle.rounds.proofs.Going.{seats_none}
+use Rattle.std.proofs.Common.{ℕ, ◌<◌, ◌≤◌, refl, arith, rules, sym, subst, ◌∙◌, ◌+◌, ◌*◌}
+use Rattle.board.specs.Board.{PlainBoard}
+use Rattle.rules.specs.declared.goal.Goal.{Goal}
+use Rattle.problems.specs.Answer.{IsAnswer}
+use Rattle.problems.specs.declared.answer.Answer.TheVariants.{Mate, NoneWithin}
+use Rattle.problems.specs.Roots.{EndsRound}
+use Rattle.problems.proofs.Jobs.{move_at, answered, more_rounds}
+use Rattle.problems.proofs.Winning.{nothing_at_once}
+use Rattle.rounds.proofs.Going.{seats_none, seats_more}
 use Rattle.rounds.proofs.solving.solve_over.Goals as goal
 
-pub returns-in_err-position-clause-go_on : goal.returns-in_err-position-clause-go_on
-returns-in_err-position-clause-go_on g c = seats_none g.T.Gate.keeps c.args.slots.now c.args.seats.now.items c.requires
+pub returns-in_err-problem-clause-go_on : goal.returns-in_err-problem-clause-go_on
+returns-in_err-problem-clause-go_on g c = seats_none g.T.Gate.keeps c.args.slots.now c.args.seats.now.items c.requires
+
+pub loop-number-init : goal.loop-number-init
+loop-number-init g c = record {
+  count = refl;
+  seats = search rules;
+  go_on = seats_none g.T.Gate.keeps c.args.slots.now c.args.seats.now.items c.requires;
+  nothing = nothing_at_once c.of-root.result.goal c.of-root.result.board;
+}
+
+pub returns-in-Ok-Some-clause-answer : goal.returns-in-Ok-Some-clause-answer
+returns-in-Ok-Some-clause-answer g c =
+    let r = c.of-root.result in
+    let p = c.in_ok-problem.ensures.problem in
+    let n = 2 * c.loop-number.number + 1 in
+    let first = c.index-deref-from.result in
+    subst (λ (at : Goal × PlainBoard × ℕ). IsAnswer at.0 at.1 at.2 (Mate n first)) (λ i. ((c.of-root.ensures.goal ∙ p.plays_for) i, (c.of-root.ensures.position ∙ p.position) i, p.within i))
+    (answered r.goal r.board r.moves.items c.of-root.ensures.lists c.loop-number.number n c.in_ok-problem.problem.limit c.in-Ok-Some.job first
+    refl (search rules) c.loop-number.invariant.nothing
+    (move_at r.moves.items c.deref.result.now c.from.result c.in-Ok-Some.job first c.deref.ensures.0 c.from.ensures c.index-deref-from.is)
+    (subst (EndsRound r n) c.in-Ok-Some.field-0-is c.in-Ok-Some.ensures.end))
+
+pub returns-clause-answer : goal.returns-clause-answer
+returns-clause-answer g c =
+    let p = c.in_ok-problem.ensures.problem in
+    subst (λ (at : Goal × PlainBoard × ℕ). IsAnswer at.0 at.1 at.2 (NoneWithin c.in_ok-problem.problem.limit)) (λ i. ((c.of-root.ensures.goal ∙ p.plays_for) i, (c.of-root.ensures.position ∙ p.position) i, p.within i))
+    (refl, λ n within. c.loop-number.invariant.nothing n (omega (arith, within, c.loop-number-test.false)))
+
+pub returns-in-Ok-Some-clause-go_on : goal.returns-in-Ok-Some-clause-go_on
+returns-in-Ok-Some-clause-go_on g c =
+    seats_more g.T.Gate.keeps c.args.slots.now c.args.seats.now.items c.loop-number.seats.items c.round.new.seats.items c.loop-number.invariant.go_on c.round.ensures.go_on
+
+pub returns-in-Err-clause-go_on : goal.returns-in-Err-clause-go_on
+returns-in-Err-clause-go_on g c =
+    seats_more g.T.Gate.keeps c.args.slots.now c.args.seats.now.items c.loop-number.seats.items c.round.new.seats.items c.loop-number.invariant.go_on c.round.ensures.go_on
+
+pub loop-number-preserved : goal.loop-number-preserved
+loop-number-preserved g c = let r = c.of-root.result in record {
+  count = c.round.ensures.seats.0 ∙ c.loop-number.invariant.count;
+  seats = let i = c.loop-number.invariant.seats in
+      (subst (λ n. 0 < n) (sym c.round.ensures.seats.0) i.0, subst (λ n. n ≤ 17) (sym c.round.ensures.seats.0) i.1, c.round.ensures.seats.1);
+  go_on = seats_more g.T.Gate.keeps c.args.slots.now c.args.seats.now.items c.loop-number.seats.items c.round.new.seats.items c.loop-number.invariant.go_on c.round.ensures.go_on;
+  nothing = more_rounds r.goal r.board r.moves.items c.of-root.ensures.lists c.loop-number.number (2 * c.loop-number.number + 1) refl c.loop-number.invariant.nothing
+      (subst (EndsRound r (2 * c.loop-number.number + 1)) c.in-Ok-None.field-0-is c.in-Ok-None.ensures.end);
+}

@@ -18,17 +18,17 @@ loop-job-preserved g c =
     elim c.match-found.branch [
       | in-Some-found+in_ok-push w ↦
           let takes = some_at c.in-Some.found w.in-Some-found.plies _ _ w.in-Some-found.is c.in-Some.ensures.plies in
-          let more = one_key r c.args.limit c.loop-job.keys.items c.loop-job.job below i.exact c.index-deref-from.result w.in-Some-found.plies c.requires.root is i.ordered takes.0 takes.1 in
+          let more = one_key r c.loop-job.keys.items c.loop-job.job below i.exact c.index-deref-from.result w.in-Some-found.plies c.requires.root is i.ordered takes.0 takes.1 in
           record { goes = goes; ordered = rw (w.keys-is, w.in_ok-push.ensures.items) more.0; exact = rw (w.keys-is, w.in_ok-push.ensures.items) more.1 }
       | in_default-found w ↦
           record {
             goes = goes;
             ordered = rw w.keys-is i.ordered;
-            exact = rw w.keys-is (no_key r c.args.limit c.loop-job.keys.items c.loop-job.job below i.exact c.index-deref-from.result is
+            exact = rw w.keys-is (no_key r c.loop-job.keys.items c.loop-job.job below i.exact c.index-deref-from.result is
                 (none_at c.in-Some.found _ _ w.in_default-found.not-Some c.in-Some.ensures.plies));
           }
     ]
 
 pub returns-clause-keys : goal.returns-clause-keys
 returns-clause-keys g c =
-    all_keys c.args.root.now c.args.limit c.loop-job.keys.items c.loop-job.job c.requires.root (omega (arith, c.loop-job-test.false, c.jobs-job-end.ensures.value)) c.loop-job.invariant.ordered c.loop-job.invariant.exact
+    all_keys c.args.root.now c.loop-job.keys.items c.loop-job.job c.requires.root (omega (arith, c.loop-job-test.false, c.jobs-job-end.ensures.value)) c.loop-job.invariant.ordered c.loop-job.invariant.exact

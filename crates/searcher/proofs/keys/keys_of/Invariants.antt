@@ -8,6 +8,6 @@ abbrev pub invariant-loop-job : goal.invariant-loop-job
 invariant-loop-job g l =
     record {
       goes : g.D.Decider.goes l.fn.decider l.decider;
-      ordered : InOrder (Before l.root) first_of (IsKey l.root l.limit) l.keys.items;
-      exact : Picks (Before l.root) first_of (IsKey l.root l.limit) (take l.job l.root.moves.items) l.keys.items;
+      ordered : InOrder (Before l.root) first_of (IsKey l.root) l.keys.items;
+      exact : Picks (Before l.root) first_of (IsKey l.root) (take l.job l.root.moves.items) l.keys.items;
     }

@@ -23,4 +23,4 @@ loop-number-preserved g c = record {
 }
 
 pub returns-clause-plies : goal.returns-clause-plies
-returns-clause-plies g c = takes_none c.args.root.now c.args.job c.loop-number.number c.args.limit (omega (arith, c.loop-number-test.false)) c.loop-number.invariant.none
+returns-clause-plies g c = takes_none c.args.root.now c.args.job c.loop-number.number c.args.root.now.limit (omega (arith, c.loop-number-test.false)) c.loop-number.invariant.none

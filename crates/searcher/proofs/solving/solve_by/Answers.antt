@@ -16,7 +16,7 @@ returns-in-Some-clause-goes g c = g.met.D.Decider.goes_on _ _ _ c.loop-number.in
 
 pub returns-in-Some-clause-answer : goal.returns-in-Some-clause-answer
 returns-in-Some-clause-answer g c = let r = c.args.root.now in
-    answered r.goal r.board r.moves.items c.requires.root c.loop-number.number (2 * c.loop-number.number + 1) c.args.limit c.in-Some.job c.index-deref-from.result
+    answered r.goal r.board r.moves.items c.requires.root c.loop-number.number (2 * c.loop-number.number + 1) r.limit c.in-Some.job c.index-deref-from.result
     refl (omega (arith, c.loop-number-test.true)) c.loop-number.invariant.nothing
     (move_at r.moves.items c.deref.result.now c.from.result c.in-Some.job c.index-deref-from.result c.deref.ensures.0 c.from.ensures c.index-deref-from.is)
     (subst (EndsRound r (2 * c.loop-number.number + 1)) c.in-Some.is c.in_ok-job.ensures.least)

@@ -1,4 +1,4 @@
-use Rattle.std.proofs.Common.{sym, ◌∙◌, arith}
+use Rattle.std.proofs.Common.{◌≤◌, sym, subst, ◌∙◌, arith}
 use Rattle.std.proofs.lemmas.Bool.{false≢true}
 use Rattle.board.specs.Board.{PlainBoard}
 use Rattle.rules.specs.declared.goal.Goal.{Goal}
@@ -17,8 +17,8 @@ returns-in_default-clause-threats g c = (not_reached c.args.goal c.args.board.no
 pub continuations_of-requires-clause-plies : goal.continuations_of-requires-clause-plies
 continuations_of-requires-clause-plies g c =
     let r = c.on-root.result in
-    let most = c.requires.left in
-    let found = mate_found r.goal r.board c.args.left c.in-Some-Mate.field-0 c.in-Some-Mate.plies c.in-Some-Mate.field-0-1 c.in-Some-Mate.field-0-is c.in-Some-Mate.ensures.answer in
+    let most = r.limited in
+    let found = mate_found r.goal r.board r.limit c.in-Some-Mate.field-0 c.in-Some-Mate.plies c.in-Some-Mate.field-0-1 c.in-Some-Mate.field-0-is c.in-Some-Mate.ensures.answer in
     (some_ply r.goal r.board.mover r.board c.in-Some-Mate.plies (same_side-self r.board.mover) found.1.forced, omega (arith, found.0))
 
 pub returns-in_err-continuations_of-in-Some-Mate-clause-goes : goal.returns-in_err-continuations_of-in-Some-Mate-clause-goes
@@ -31,7 +31,7 @@ pub returns-in-Some-NoneWithin-clause-threats : goal.returns-in-Some-NoneWithin-
 returns-in-Some-NoneWithin-clause-threats g c = let r = c.on-root.result in (
   not_reached c.args.goal c.args.board.now (c.has_lawful_move.ensures.0 c.if-not-has_lawful_move.false),
   c.in-Some.ensures.1,
-  carried (λ (x : Goal) (b : PlainBoard). ForcesNothing x b c.args.left) r.goal c.args.goal r.board c.in-Some.next (passed c.args.board.now) c.on-root.ensures.goal c.on-root.ensures.position c.in-Some.ensures.0 (nothing_found r.goal r.board c.args.left c.in-Some-NoneWithin.field-0 c.in-Some-NoneWithin.field-0-0 c.in-Some-NoneWithin.field-0-is c.in-Some-NoneWithin.ensures.answer),
+  carried (λ (x : Goal) (b : PlainBoard). ForcesNothing x b c.args.left) r.goal c.args.goal r.board c.in-Some.next (passed c.args.board.now) c.on-root.ensures.goal c.on-root.ensures.position c.in-Some.ensures.0 (subst (ForcesNothing r.goal r.board) c.on-root.ensures.limit (nothing_found r.goal r.board r.limit c.in-Some-NoneWithin.field-0 c.in-Some-NoneWithin.field-0-0 c.in-Some-NoneWithin.field-0-is c.in-Some-NoneWithin.ensures.answer)),
 )
 
 pub returns-in_ok-continuations_of-in-Some-Mate-clause-goes : goal.returns-in_ok-continuations_of-in-Some-Mate-clause-goes
@@ -41,10 +41,10 @@ pub returns-in_ok-continuations_of-in-Some-Mate-clause-threats : goal.returns-in
 returns-in_ok-continuations_of-in-Some-Mate-clause-threats g c =
     let n = c.in-Some-Mate.plies in
     let r = c.on-root.result in
-    let found = mate_found r.goal r.board c.args.left c.in-Some-Mate.field-0 n c.in-Some-Mate.field-0-1 c.in-Some-Mate.field-0-is c.in-Some-Mate.ensures.answer in (
+    let found = mate_found r.goal r.board r.limit c.in-Some-Mate.field-0 n c.in-Some-Mate.field-0-1 c.in-Some-Mate.field-0-is c.in-Some-Mate.ensures.answer in (
       not_reached c.args.goal c.args.board.now (c.has_lawful_move.ensures.0 c.if-not-has_lawful_move.false),
       c.in-Some.ensures.1,
-      found.0,
+      subst (λ k. n ≤ k) c.on-root.ensures.limit found.0,
       carried (λ (x : Goal) (b : PlainBoard). IsFewest x b n) r.goal c.args.goal r.board c.in-Some.next (passed c.args.board.now) c.on-root.ensures.goal c.on-root.ensures.position c.in-Some.ensures.0 found.1,
       carried (λ (x : Goal) (b : PlainBoard). ListsContinuations x b n c.in_ok-continuations_of-in-Some-Mate.field-0.items) r.goal c.args.goal r.board c.in-Some.next (passed c.args.board.now) c.on-root.ensures.goal c.on-root.ensures.position c.in-Some.ensures.0 c.in_ok-continuations_of-in-Some-Mate.ensures.moves,
     )

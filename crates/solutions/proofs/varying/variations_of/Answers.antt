@@ -1,4 +1,4 @@
-use Rattle.std.proofs.Common.{sym, subst}
+use Rattle.std.proofs.Common.{ℕ, ◌≤◌, sym, subst}
 use Rattle.board.specs.Board.{PlainBoard}
 use Rattle.rules.specs.declared.goal.Goal.{Goal}
 use Rattle.rules.specs.Order.{ListsLawful}
@@ -43,10 +43,10 @@ loop-reply-preserved g c =
           let tells = subst (λ (at : Goal × PlainBoard). TellsVariation at.0 at.1 w.in-Some.variation) (λ i. (c.on-root.ensures.goal i, c.on-root.ensures.position i)) found.2 in
           record {
             goes = goes;
-            varies = rw w.variations-is (vary_one c.args.goal q n xs lists old i r c.loop-reply-test.true c.reply-item.is p c.after.ensures varies w.in-Some.variation w.push.new.self.items w.in_ok-push.ensures.items found.0 found.1 tells);
+            varies = rw w.variations-is (vary_one c.args.goal q n xs lists old i r c.loop-reply-test.true c.reply-item.is p c.after.ensures varies w.in-Some.variation w.push.new.self.items w.in_ok-push.ensures.items found.0 (subst (λ k. w.in-Some.variation.plies ≤ k) c.on-root.ensures.limit found.1) tells);
           }
       | in_default w ↦
-          let nothing = subst (λ (at : Goal × PlainBoard). ForcesNothing at.0 at.1 n) (λ i. (c.on-root.ensures.goal i, c.on-root.ensures.position i)) (none_at c.in_ok-variation.field-0 _ _ w.in_default.not-Some c.in_ok-variation.ensures.found) in
+          let nothing = subst (λ (at : Goal × PlainBoard × ℕ). ForcesNothing at.0 at.1 at.2) (λ i. (c.on-root.ensures.goal i, c.on-root.ensures.position i, c.on-root.ensures.limit i)) (none_at c.in_ok-variation.field-0 _ _ w.in_default.not-Some c.in_ok-variation.ensures.found) in
           record {
             goes = goes;
             varies = rw w.variations-is (vary_skip c.args.goal q n xs lists old i r c.loop-reply-test.true c.reply-item.is p c.after.ensures varies nothing);

@@ -16,7 +16,7 @@ returns-then-branch-clause-goes g c = g.met.D.Decider.goes_on _ _ _ c.loop-round
 
 pub returns-then-branch-clause-fewest : goal.returns-then-branch-clause-fewest
 returns-then-branch-clause-fewest g c =
-    let most = c.requires.limit in
+    let most = c.args.root.now.limited in
     let test = c.loop-round-test.true in
     let answer = subst (λ (q : Question). IsTrue c.in_ok-forces.field-0 ↔ IsForced q (2 * c.loop-round.round + 1)) c.question-q.ensures c.in_ok-forces.ensures.answer in (
       omega arith,
@@ -34,4 +34,4 @@ loop-round-preserved g c =
     }
 
 pub unreachable-requires : goal.unreachable-requires
-unreachable-requires g c = let past = c.loop-round-test.false in c.loop-round.invariant.nothing c.args.limit (omega (arith, past)) c.requires.forced
+unreachable-requires g c = let past = c.loop-round-test.false in c.loop-round.invariant.nothing c.args.root.now.limit (omega (arith, past)) c.requires.forced

@@ -9,4 +9,4 @@ returns-in_ok-answer_text-in-Ok-clause-shown g c =
 
 pub returns-in-Err-clause-shown : goal.returns-in-Err-clause-shown
 returns-in-Err-clause-shown g c =
-    fault_shown (λ (x : List ℕ). x) c.args.goal c.args.position.now (g.S.Source.remaining c.args.reader.now) c.in-Err.fault c.trouble_of_certificate.result (rw (← c.of.ensures) c.in-Err.ensures.refused) c.trouble_of_certificate.ensures
+    fault_shown (λ (x : List ℕ). x) c.args.goal c.args.position.now (g.S.Source.remaining c.args.reader.now) c.in-Err.fault c.reply_fault_of_certificate.result (rw (← c.of.ensures) c.in-Err.ensures.refused) c.reply_fault_of_certificate.ensures

@@ -1,5 +1,23 @@
-use Rattle.rounds.proofs.Going.{goes_more}
+use Rattle.std.proofs.Common.{rules}
+use Rattle.rounds.specs.Going.{SeatGoesOn}
+use Rattle.rounds.proofs.Going.{goes_none, goes_more}
 use Rattle.rounds.proofs.share.Share.work.Goals as goal
 
+pub loop-preserved : goal.loop-preserved
+loop-preserved g c = record {
+  share = c.take_up.ensures.share;
+  goes_on = goes_more g.T.Gate.keeps c.args.round.now.search.now.slots.now c.args.self.now.seat c.loop.self.seat c.take_up.new.self.seat c.loop.invariant.goes_on c.take_up.ensures.goes_on;
+}
+
+pub loop-init : goal.loop-init
+loop-init g c = record {
+  share = c.requires;
+  goes_on = goes_none g.T.Gate.keeps c.args.round.now.search.now.slots.now c.args.self.now.seat c.requires.seat;
+}
+
 pub returns-clause-goes_on : goal.returns-clause-goes_on
-returns-clause-goes_on g c = goes_more g.T.Gate.keeps c.args.bench.now.search.now.slots.now c.args.self.now.seat c.take_all.new.self.seat c.help_all.new.self.seat c.take_all.ensures.goes_on c.help_all.ensures.goes_on
+returns-clause-goes_on g c =
+    let keeps = g.T.Gate.keeps in
+    let t = c.args.round.now.search.now.slots.now in
+    let taken : SeatGoesOn keeps t c.args.self.now.seat c.match-next.self.seat = search rules in
+    goes_more keeps t c.args.self.now.seat c.match-next.self.seat c.help_all.new.self.seat taken c.help_all.ensures.goes_on

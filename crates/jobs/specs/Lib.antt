@@ -1,0 +1,5 @@
+-- to be believed
+pub mod JobBoard
+pub mod Rule
+pub mod Promise
+pub mod Deals

@@ -1,4 +1,0 @@
--- to be believed
-pub mod JobBoard
-pub mod Rule
-pub mod Promise

@@ -1,0 +1,10 @@
+use Rattle.rounds.specs.Shares.{IsShare}
+use Rattle.rounds.specs.Going.{SeatGoesOn}
+use Rattle.rounds.proofs.share.Share.work.Given as goal
+
+abbrev pub invariant-loop : goal.invariant-loop
+invariant-loop g l =
+    record {
+      share : IsShare g.J.Count.jobs l.fn.round l.self;
+      goes_on : SeatGoesOn g.T.Gate.keeps l.fn.round.search.now.slots.now l.fn.self.seat l.self.seat;
+    }
