@@ -40,6 +40,8 @@ mod tables;
 #[cfg(test)]
 mod turnings;
 #[cfg(test)]
+mod whole_texts;
+#[cfg(test)]
 mod winning;
 #[cfg(test)]
 mod without_lists;

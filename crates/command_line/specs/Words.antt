@@ -90,6 +90,7 @@ pub record HasTelling (rows : List Row) (options : SolutionOptions) : Type 0 whe
   pub set_play : IsTrue options.set_play ↔ IsGiven (codes "set") rows
   pub tries : IsTrue options.tries ↔ IsGiven (codes "tries") rows
   pub figurines : IsTrue options.figurines ↔ IsGiven (codes "figurines") rows
+  pub short : IsTrue options.short ↔ IsGiven (codes "short") rows
 
 -- what was found for the position and for the goal
 abbrev pub HasSubject : List Row → Subject → Type 0

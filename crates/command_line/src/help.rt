@@ -131,14 +131,15 @@ pub const SOLUTION: Verb = Verb {
     more: "\
 The output is what a composer publishes, or `none within 3`: each key, with an
 exclamation mark, then what it threatens or `zugzwang`, and below it each reply
-of the defender with the best line behind it and its duals. More keys than one
-are cooks.
+of the defender, the move that meets it and its duals, and so on to the end;
+`1...~` stands before what follows a threat. More keys than one are cooks.
 
 More examples:
   minimate solution --mate 2 --set --tries 'k5/6/2K3/6/6/1R4 w'
+  minimate solution --mate 3 --short '2k3/6/6/2K3/6/5Q w'
   minimate solution --mate 2 --figurines 'k5/6/2K3/6/6/1R4 w'",
     searches: true,
-    own: &[FEN, SET, TRIES, FIGURINES],
+    own: &[FEN, SET, TRIES, FIGURINES, SHORT],
 };
 
 pub const CHECK: Verb = Verb {
@@ -355,6 +356,15 @@ const FIGURINES: Argument = Argument {
     help: "Name units by figurines",
     more: "\
 Names units by figurines in place of the letters K Q R B N.",
+};
+
+const SHORT: Argument = Argument {
+    name: "short",
+    form: Form::Flag,
+    help: "Tell one line behind each reply to a key",
+    more: "\
+Tells the best line alone behind each reply to a key, in place of all
+that follows it.",
 };
 
 const SVG: Argument = Argument {

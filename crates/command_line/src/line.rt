@@ -29,6 +29,8 @@ pub struct SolutionOptions {
     pub tries: bool,
     /// Whether units are named by figurines.
     pub figurines: bool,
+    /// Whether one line stands behind each reply to a key, in place of all that follows.
+    pub short: bool,
 }
 
 /// How the replies of a batch are written, and what is known of its input.

@@ -153,6 +153,7 @@ fn telling_of(values: &ArgMatches<'_>) -> SolutionOptions
         set_play: is_given(values, "set"),
         tries: is_given(values, "tries"),
         figurines: is_given(values, "figurines"),
+        short: is_given(values, "short"),
     }
 }
 

@@ -1,5 +1,5 @@
 -- A solution, from what its parts give.
-use Rattle.std.proofs.Common.{◌≡◌, ◌≤◌, ℕ, List, None, Result, Vec, inl, refl, subst, sym, vec_items}
+use Rattle.std.proofs.Common.{◌≡◌, ◌≤◌, ℕ, Bool, true, false, List, None, Result, Vec, inl, refl, subst, sym, vec_items}
 use Rattle.std.specs.declared.alloc.Global.{Global}
 use Rattle.board.specs.Board.{PlainBoard}
 use Rattle.rules.specs.declared.goal.Goal.{Goal}
@@ -15,18 +15,23 @@ use Rattle.algebraic.specs.declared.naming.Notation.{Notation}
 use Rattle.solutions.specs.declared.solution.Solution.{Solution}
 use Rattle.solutions.specs.Solutions.{IsSolution}
 use Rattle.solution_text.specs.Text.{IsSolutionText}
-use Rattle.composing.specs.Solution.{IsPublished, IsSolutionReply, ShowsSolution, extras_of, notation_of}
+use Rattle.solution_text.specs.WholeText.{IsWholeSolution}
+use Rattle.composing.specs.Solution.{IsInForm, IsPublished, IsSolutionReply, ShowsSolution, extras_of, notation_of}
 use Rattle.replies.proofs.ReplyLemmas.{gives_weaker}
 
--- the text of the solution of the position's root is published
-pub published_text : (goal : Goal) (b : PlainBoard) (options : SolutionOptions) (notation : Notation) (solution : Solution Global) (text written : List ℕ)
-    → IsSolution goal b (extras_of options) solution → notation ≡ notation_of goal options → IsSolutionText notation b solution written → text ≡ written
+-- the short form is published where it is asked for
+pub short_text : (goal : Goal) (b : PlainBoard) (options : SolutionOptions) (notation : Notation) (solution : Solution Global) (text : List ℕ)
+    → options.short ≡ true → IsSolution goal b (extras_of options) solution → notation ≡ notation_of goal options → IsSolutionText notation b solution text
     → IsPublished goal b options text
-published_text goal b options notation solution text written is same_notation is_text same_text = (
-  solution,
-  is,
-  subst (λ t. IsSolutionText (notation_of goal options) b solution t) (sym same_text) (subst (λ n. IsSolutionText n b solution written) same_notation is_text),
-)
+short_text goal b options notation solution text short is same_notation is_text =
+    subst (λ (s : Bool). IsInForm s goal b options text) (sym short) (solution, is, subst (λ n. IsSolutionText n b solution text) same_notation is_text)
+
+-- and else the whole solution
+pub whole_text : (goal : Goal) (b : PlainBoard) (options : SolutionOptions) (notation : Notation) (text : List ℕ)
+    → options.short ≡ false → notation ≡ notation_of goal options → IsWholeSolution notation.symbols goal b (extras_of options) text
+    → IsPublished goal b options text
+whole_text goal b options notation text whole same_notation is =
+    subst (λ (s : Bool). IsInForm s goal b options text) (sym whole) (subst (λ (n : Notation). IsWholeSolution n.symbols goal b (extras_of options) text) same_notation is)
 
 -- the solution is shown
 pub published_shown : (goal : Goal) (b : PlainBoard) (options : SolutionOptions) (limits : Limits) (plies : ℕ) (text : List ℕ) → fault_of limits ≡ None → plies ≤ limits.limit

@@ -13,6 +13,7 @@ use Rattle.solutions.specs.declared.extras.Extras.{Extras}
 use Rattle.solutions.specs.declared.solution.Solution.{Solution}
 use Rattle.solutions.specs.Solutions.{IsSolution}
 use Rattle.solution_text.specs.Text.{IsSolutionText}
+use Rattle.solution_text.specs.WholeText.{IsWholeSolution}
 use Rattle.command_line.specs.declared.line.Limits.{Limits}
 use Rattle.command_line.specs.declared.line.Subject.{Subject}
 use Rattle.command_line.specs.declared.line.SolutionOptions.{SolutionOptions}
@@ -36,10 +37,15 @@ symbols_of false = Letters
 abbrev pub notation_of : Goal → SolutionOptions → Notation
 notation_of goal options = record { symbols = symbols_of options.figurines; goal = goal }
 
--- the text is that of the solution of the position
-abbrev pub IsPublished : Goal → PlainBoard → SolutionOptions → List ℕ → Type 0
-IsPublished goal b options text =
+-- the text is that of the solution of the position, in its short form or whole
+abbrev pub IsInForm : Bool → Goal → PlainBoard → SolutionOptions → List ℕ → Type 0
+IsInForm true goal b options text =
     (solution : Solution Global) × IsSolution goal b (extras_of options) solution × IsSolutionText (notation_of goal options) b solution text
+IsInForm false goal b options text = IsWholeSolution (symbols_of options.figurines) goal b (extras_of options) text
+
+-- the text is that of the solution of the position, in the form that is asked for
+abbrev pub IsPublished : Goal → PlainBoard → SolutionOptions → List ℕ → Type 0
+IsPublished goal b options text = IsInForm options.short goal b options text
 
 -- the solution, where the goal is forced in some number of plies up to the limit, or that it is in none
 abbrev pub ShowsPublished : Goal → PlainBoard → SolutionOptions → ℕ → Reply → Type 0

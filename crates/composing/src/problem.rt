@@ -1,8 +1,9 @@
 //! The solution of a problem: the answer by all threads, and then what follows it, by one seat over the same table.
-ghost use Rattle.std.specs.Prelude.{◌≡◌, ◌≤◌, IfOk, vec_items};
+ghost use Rattle.std.specs.Prelude.{◌≡◌, IfErr, IfOk, string_bytes, vec_items};
 ghost use Rattle.problems.specs.Answer.{IsFewest};
 ghost use Rattle.endings.specs.Outcome.{Gives};
 ghost use Rattle.problems.specs.Roots.{IsRoot};
+ghost use Rattle.searcher.specs.declared.halt.Halt.TheVariants.{Stopped};
 ghost use Rattle.composing.specs.Solution.{IsPublished, IsSolutionReply, ShowsSolution, notation_of};
 
 use algebraic::{Notation, Symbols};
@@ -10,11 +11,11 @@ use board::Position;
 use command_line::{Limits, SolutionOptions, Subject};
 use decision::{Memory, Never, Scout};
 use moves::{Board, Goal, read_sound};
-use problems::{Answer, MOST_LIMIT, Root};
+use problems::{Answer, Root};
 use refusals::Refusal;
 use replies::{Context, Searched, none_line, refusal_of, searched_at};
-use searcher::{Halt, Searcher};
-use solution_text::solution_text;
+use searcher::{Decider, Halt, Searcher};
+use solution_text::{solution_text, whole_solution};
 use solutions::{Extras, solution_of};
 use std::alloc::{AllocError, Global};
 use std::sync::Wait;
@@ -32,17 +33,42 @@ fn notation_of(goal: Goal, options: SolutionOptions) -> Notation
     Notation { symbols, goal }
 }
 
-/// The text of the solution of a position whose fewest plies these are, by the table of what has found them.
+/// The text of the solution in the form that is asked for, where the root's limit is the fewest plies.
+fn form_text<D: Decider>(
+    alloc: Global,
+    decider: &mut D,
+    root: &Root,
+    options: SolutionOptions,
+) -> Result<String, Halt>
+    requires root { IsRoot root.now }
+    requires fewest { IsFewest root.now.goal root.now.board root.now.limit }
+    ensures text { IfOk result (λ text. IsPublished root.now.goal root.now.board options (string_bytes text)) }
+    ensures halt { IfErr result (λ halt. halt ≡ Stopped → D.told decider.new) }
+{
+    let extras = Extras {
+        set_play: options.set_play,
+        tries: options.tries,
+    };
+    let notation = notation_of(root.goal, options);
+    if !options.short {
+        return whole_solution(alloc, decider, root, notation.symbols, extras);
+    }
+    let solution = solution_of(alloc, decider, root, root.limit, extras)?;
+    match solution_text(alloc, notation, &root.board, &solution) {
+        Ok(text) => Ok(text),
+        Err(_) => Err(Halt::NoMemory),
+    }
+}
+
+/// The text of the solution of a root whose limit is the fewest plies, by the table of what has found them.
 fn published(
     alloc: Global,
     found: Searched,
     root: &Root,
-    plies: u8,
     options: SolutionOptions,
 ) -> Result<Vec<u8>, AllocError>
     requires root { IsRoot root.now }
-    requires plies { plies ≤ 63 }
-    requires fewest { IsFewest root.now.goal root.now.board plies }
+    requires fewest { IsFewest root.now.goal root.now.board root.now.limit }
     ensures { IfOk result (λ text. IsPublished root.now.goal root.now.board options text.items) }
 {
     let Searched {
@@ -59,17 +85,11 @@ fn published(
         seat: &mut seat,
         scout: &mut scout,
     };
-    let extras = Extras {
-        set_play: options.set_play,
-        tries: options.tries,
-    };
-    let solution = match solution_of(alloc, &mut searcher, root, plies, extras) {
-        Ok(solution) => solution,
-        Err(Halt::NoMemory) => return Err(AllocError),
+    match form_text(alloc, &mut searcher, root, options) {
+        Ok(text) => Ok(text.into_bytes()),
+        Err(Halt::NoMemory) => Err(AllocError),
         Err(Halt::Stopped) => unreachable!(),
-    };
-    let notation = notation_of(root.goal, options);
-    Ok(solution_text(alloc, notation, &root.board, &solution)?.into_bytes())
+    }
 }
 
 /// The solution of a position, or that nothing is forced within the limit.
@@ -89,8 +109,8 @@ fn solution_at<R: Threads + Wait + Eprint + Clock + Sync + AllocGlobal>(
     };
     match found.answer {
         Answer::Mate { plies, .. } => {
-            let root = Root::on(Board::of(position), goal, MOST_LIMIT);
-            Ok(published(alloc, found, &root, plies, options)?)
+            let root = Root::on(Board::of(position), goal, plies);
+            Ok(published(alloc, found, &root, options)?)
         }
         Answer::NoneWithin(limit) => none_line(alloc, limit),
     }

@@ -34,7 +34,7 @@ fn is_flag(word: &str) -> bool {
     matches!(
         word,
         "--progress" | "--echo" | "--keys" | "--json" | "--set" | "--tries" | "--figurines"
-    ) || matches!(word, "--svg" | "--unicode" | "--black")
+    ) || matches!(word, "--short" | "--svg" | "--unicode" | "--black")
 }
 
 fn is_number(word: &str) -> bool {

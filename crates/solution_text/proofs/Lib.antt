@@ -1,3 +1,6 @@
 pub mod Texts
 pub mod BestLine
 pub mod Asked
+pub mod Told
+pub mod Played
+pub mod Breaks

@@ -9,7 +9,7 @@ use Rattle.solutions.specs.Solutions.{passed}
 use Rattle.solution_text.specs.Text.{AreTexts, IsVariationText, IsSetPlayText}
 
 -- one more text behind the others
-AreTexts-push : {X : Type 0} (P : X → List ℕ → Type 0) (xs : List X) (x : X) (text one : List ℕ) → AreTexts P xs text → P x one → AreTexts P (xs ++ x ∷ []) (text ++ one)
+pub AreTexts-push : {X : Type 0} (P : X → List ℕ → Type 0) (xs : List X) (x : X) (text one : List ℕ) → AreTexts P xs text → P x one → AreTexts P (xs ++ x ∷ []) (text ++ one)
 AreTexts-push P [] x text one all here = (one, [], here, refl, ap (λ t. t ++ one) all ∙ sym (append-nil one))
 AreTexts-push P (y ∷ xs) x text one all here =
     let (first, rest, there, behind, is) = all in

@@ -25,9 +25,10 @@ AreTexts P (x ∷ xs) text = (first : List ℕ) × (rest : List ℕ) × P x firs
 
 -- ---- lines and variations
 
--- the attacker's second move, behind a blank, as ` 2.Qa2#`
-abbrev pub IsSecond : Notation → PlainBoard → Ply → List ℕ → Type 0
-IsSecond notation b m text = (name : Name) × IsName notation b m name × (text ≡ codes " 2." ++ name_text name)
+-- the attacker's move of this number, behind a blank, as ` 2.Qa2#`
+abbrev pub IsNumbered : Notation → ℕ → PlainBoard → Ply → List ℕ → Type 0
+IsNumbered notation number b m text =
+    (name : Name) × IsName notation b m name × (text ≡ codes " " ++ (decimal number ++ (codes "." ++ name_text name)))
 
 -- a line from the attacker's move of this number, as ` 2.Qc4+ Ka5 3.Qa4#`
 abbrev pub IsLineText : Notation → ℕ → PlainBoard → List Ply → List ℕ → Type 0
@@ -41,18 +42,18 @@ IsLineText notation number b (m ∷ r ∷ line) text =
     × (text ≡ codes " " ++ (decimal number ++ (codes "." ++ (name_text attack ++ (codes " " ++ (name_text reply ++ rest))))))
 
 -- the duals: all continuations but the first, as `, dual 2.Qd4+ 2.Rb1+`
-abbrev pub AreDualsText : Notation → PlainBoard → List Ply → List ℕ → Type 0
-AreDualsText notation b [] text = text ≡ []
-AreDualsText notation b (m ∷ []) text = text ≡ []
-AreDualsText notation b (m ∷ l ∷ others) text =
-    (duals : List ℕ) × AreTexts (IsSecond notation b) (l ∷ others) duals × (text ≡ codes ", dual" ++ duals)
+abbrev pub AreDualsText : Notation → ℕ → PlainBoard → List Ply → List ℕ → Type 0
+AreDualsText notation number b [] text = text ≡ []
+AreDualsText notation number b (m ∷ []) text = text ≡ []
+AreDualsText notation number b (m ∷ l ∷ others) text =
+    (duals : List ℕ) × AreTexts (IsNumbered notation number b) (l ∷ others) duals × (text ≡ codes ", dual" ++ duals)
 
 -- a variation, on a line of its own, as `  1...Kc5 2.Qa3+ Kb5 3.Qa4#, dual 2.Qd4+`
 abbrev pub IsVariationText : {A : Type 0} → Notation → PlainBoard → Variation A → List ℕ → Type 0
 IsVariationText notation q v text =
     (p : PlainBoard) × IsMove q v.reply p × (reply : Name) × IsName notation q v.reply reply
     × (line : List ℕ) × IsLineText notation 2 p v.line.items line
-    × (duals : List ℕ) × AreDualsText notation p v.moves.items duals
+    × (duals : List ℕ) × AreDualsText notation 2 p v.moves.items duals
     × (text ≡ codes "  1..." ++ (name_text reply ++ (line ++ (duals ++ codes "\n"))))
 
 -- ---- keys, set play and tries
@@ -62,19 +63,19 @@ abbrev pub threat_word : List Ply → List ℕ
 threat_word (m ∷ []) = codes " threat"
 threat_word _ = codes " threats"
 
--- what a key threatens that leads to q, as ` threat 2.Qa2#`
-abbrev pub AreThreatsText : {A : Type 0} → Notation → PlainBoard → Threats A → List ℕ → Type 0
-AreThreatsText notation q End text = text ≡ []
-AreThreatsText notation q Check text = text ≡ []
-AreThreatsText notation q Zugzwang text = text ≡ codes " zugzwang"
-AreThreatsText notation q (Moves plies moves) text =
-    (threats : List ℕ) × AreTexts (IsSecond notation (passed q)) moves.items threats × (text ≡ threat_word moves.items ++ threats)
+-- what is threatened with the attacker's move of this number by a move that leads to q, as ` threat 2.Qa2#`
+abbrev pub AreThreatsText : {A : Type 0} → Notation → ℕ → PlainBoard → Threats A → List ℕ → Type 0
+AreThreatsText notation number q End text = text ≡ []
+AreThreatsText notation number q Check text = text ≡ []
+AreThreatsText notation number q Zugzwang text = text ≡ codes " zugzwang"
+AreThreatsText notation number q (Moves plies moves) text =
+    (threats : List ℕ) × AreTexts (IsNumbered notation number (passed q)) moves.items threats × (text ≡ threat_word moves.items ++ threats)
 
 -- a key with its threats, as `1.Rb1! threat 2.Qa2#`, and its variations
 abbrev pub IsKeyText : {A : Type 0} → Notation → PlainBoard → KeyPlay A → List ℕ → Type 0
 IsKeyText notation b k text =
     (q : PlainBoard) × IsMove b k.first q × (key : Name) × IsName notation b k.first key
-    × (threats : List ℕ) × AreThreatsText notation q k.threats threats
+    × (threats : List ℕ) × AreThreatsText notation 2 q k.threats threats
     × (variations : List ℕ) × AreTexts (IsVariationText notation q) k.variations.items variations
     × (text ≡ codes "1." ++ (name_text key ++ (codes "!" ++ (threats ++ (codes "\n" ++ variations)))))
 

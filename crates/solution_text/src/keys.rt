@@ -3,7 +3,7 @@ ghost use Rattle.std.specs.Prelude.{◌≡◌, ℕ, All, IfOk, string_bytes};
 ghost use Rattle.solutions.specs.Solutions.{AreThreats, IsKeyPlay};
 ghost use Rattle.solution_text.specs.Text.{AreTexts, threat_word, AreThreatsText, IsKeyText};
 
-use crate::lines::second_moves;
+use crate::lines::numbered_moves;
 use crate::variations::variations_text;
 use algebraic::Notation;
 use moves::{Board, Move, after};
@@ -19,15 +19,16 @@ fn threat_word(moves: &[Move]) -> &'static str
     }
 }
 
-/// What is threatened on the board that a key leads to.
-fn threats_text<A: Allocator + Copy, B: Allocator>(
+/// What is threatened, with the attacker's move of this number, on the board that a move of his leads to.
+pub(crate) fn threats_text<A: Allocator + Copy, B: Allocator>(
     alloc: A,
     notation: Notation,
+    number: u16,
     board: &Board,
     threats: &Threats<B>,
 ) -> Result<String<A>, AllocError>
     requires { (n : ℕ) × AreThreats notation.goal board.now n threats.now }
-    ensures { IfOk result (λ text. AreThreatsText notation board.now threats.now (string_bytes text)) }
+    ensures { IfOk result (λ text. AreThreatsText notation number board.now threats.now (string_bytes text)) }
 {
     match threats {
         Threats::End | Threats::Check => Ok(String::new(alloc)),
@@ -37,7 +38,7 @@ fn threats_text<A: Allocator + Copy, B: Allocator>(
                 unreachable!()
             };
             let word = threat_word(moves.as_slice());
-            let moves = second_moves(alloc, notation, &passed, moves.as_slice())?;
+            let moves = numbered_moves(alloc, notation, number, &passed, moves.as_slice())?;
             format!(in alloc; "{word}{moves}")
         }
     }
@@ -55,7 +56,7 @@ fn key_text<A: Allocator + Copy, B: Allocator>(
 {
     let next = after(board, key.first);
     let name = notation.name(board, key.first);
-    let threats = threats_text(alloc, notation, &next, &key.threats)?;
+    let threats = threats_text(alloc, notation, 2, &next, &key.threats)?;
     let variations = variations_text(alloc, notation, &next, key.variations.as_slice())?;
     format!(in alloc; "1.{name}!{threats}\n{variations}")
 }

@@ -1,10 +1,15 @@
 //! The text of a solution, as composers write it.
 #![tactic(auto)]
 
+mod broken;
 mod keys;
 mod lines;
+mod sequels;
+mod teller;
 mod tries;
 mod variations;
 mod whole;
+mod whole_lines;
 
 pub use whole::solution_text;
+pub use whole_lines::whole_solution;

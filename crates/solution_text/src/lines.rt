@@ -2,27 +2,28 @@
 ghost use Rattle.std.specs.Prelude.{◌≡◌, ◌+◌, ◌≤◌, ℕ, All, IfOk, string_bytes};
 ghost use Rattle.rules.specs.Moves.{IsLawful};
 ghost use Rattle.solutions.specs.Lines.{IsBestLine};
-ghost use Rattle.solution_text.specs.Text.{AreTexts, IsSecond, IsLineText};
+ghost use Rattle.solution_text.specs.Text.{AreTexts, IsNumbered, IsLineText};
 
 use algebraic::Notation;
 use moves::{Board, Move, after};
 use std::alloc::{AllocError, Allocator};
 use std::fmt::Write;
 
-/// Each as the attacker's second move.
-pub(crate) fn second_moves<A: Allocator>(
+/// Each as the attacker's move of this number.
+pub(crate) fn numbered_moves<A: Allocator>(
     alloc: A,
     notation: Notation,
+    number: u16,
     board: &Board,
     moves: &[Move],
 ) -> Result<String<A>, AllocError>
     requires { All (IsLawful board.now) moves.now }
-    ensures { IfOk result (λ text. AreTexts (IsSecond notation board.now) moves.now (string_bytes text)) }
+    ensures { IfOk result (λ text. AreTexts (IsNumbered notation number board.now) moves.now (string_bytes text)) }
 {
     let mut text = String::new(alloc);
     for m in moves {
         let name = notation.name(board, *m);
-        write!(text, " 2.{name}")?;
+        write!(text, " {number}.{name}")?;
     }
     Ok(text)
 }

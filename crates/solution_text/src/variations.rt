@@ -4,26 +4,27 @@ ghost use Rattle.rules.specs.Moves.{IsLawful};
 ghost use Rattle.solutions.specs.Solutions.{IsVariation};
 ghost use Rattle.solution_text.specs.Text.{AreTexts, AreDualsText, IsVariationText};
 
-use crate::lines::{line_text, second_moves};
+use crate::lines::{line_text, numbered_moves};
 use algebraic::Notation;
 use moves::{Board, Move, after};
 use solutions::Variation;
 use std::alloc::{AllocError, Allocator};
 
-/// The continuations but the first.
-fn duals_text<A: Allocator + Copy>(
+/// The continuations but the first, each as the attacker's move of this number.
+pub(crate) fn duals_text<A: Allocator + Copy>(
     alloc: A,
     notation: Notation,
+    number: u16,
     board: &Board,
     moves: &[Move],
 ) -> Result<String<A>, AllocError>
     requires { All (IsLawful board.now) moves.now }
-    ensures { IfOk result (λ text. AreDualsText notation board.now moves.now (string_bytes text)) }
+    ensures { IfOk result (λ text. AreDualsText notation number board.now moves.now (string_bytes text)) }
 {
     match moves {
         [] | [_] => Ok(String::new(alloc)),
         [_, duals @ ..] => {
-            let duals = second_moves(alloc, notation, board, duals)?;
+            let duals = numbered_moves(alloc, notation, number, board, duals)?;
             format!(in alloc; ", dual{duals}")
         }
     }
@@ -43,7 +44,7 @@ fn variation_text<A: Allocator + Copy, B: Allocator>(
     let next = after(board, variation.reply);
     let reply = notation.name(board, variation.reply);
     let line = line_text(alloc, notation, &next, 2, variation.line.as_slice())?;
-    let duals = duals_text(alloc, notation, &next, variation.moves.as_slice())?;
+    let duals = duals_text(alloc, notation, 2, &next, variation.moves.as_slice())?;
     format!(in alloc; "  1...{reply}{line}{duals}\n")
 }
 

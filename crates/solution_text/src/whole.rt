@@ -35,7 +35,7 @@ fn cooked_text<A: Allocator>(alloc: A, keys: usize) -> Result<String<A>, AllocEr
 }
 
 /// The number of moves, and of keys where there are several.
-fn headline<A: Allocator + Copy>(
+pub(crate) fn headline<A: Allocator + Copy>(
     alloc: A,
     goal: Goal,
     plies: u8,

@@ -30,7 +30,7 @@ pub(crate) fn least_move<D: Decider>(
 }
 
 /// All moves that force the goal within so many plies.
-pub(crate) fn continuations_of<D: Decider, A: Allocator>(
+pub fn continuations_of<D: Decider, A: Allocator>(
     alloc: A,
     decider: &mut D,
     root: &Root,

@@ -16,11 +16,14 @@ mod trying;
 mod variation;
 mod varying;
 
+pub use continuing::continuations_of;
 pub use extras::Extras;
 pub use first_try::Try;
 pub use key_play::KeyPlay;
 pub use passing::passed;
 pub use solution::Solution;
 pub use solving::solution_of;
+pub use threatening::threats_of;
 pub use threats::Threats;
+pub use trying::tries_of;
 pub use variation::Variation;

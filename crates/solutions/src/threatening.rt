@@ -15,7 +15,7 @@ use searcher::{Decider, Halt, solve_by};
 use std::alloc::Allocator;
 
 /// The threats of a key that leads to the board, with so many plies left.
-pub(crate) fn threats_of<D: Decider, A: Allocator>(
+pub fn threats_of<D: Decider, A: Allocator>(
     alloc: A,
     decider: &mut D,
     board: &Board,

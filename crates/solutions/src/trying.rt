@@ -39,7 +39,7 @@ fn refutation_of<D: Decider>(
 }
 
 /// The tries, where the keys take so many plies: none where they end the game at once.
-pub(crate) fn tries_of<D: Decider, A: Allocator>(
+pub fn tries_of<D: Decider, A: Allocator>(
     alloc: A,
     decider: &mut D,
     root: &Root,

@@ -179,7 +179,8 @@ fn reads_a_solution(rt: HostRuntime) {
             assert_eq!(rt; subject.fen, FEN.as_bytes());
             assert!(rt; subject.goal == Goal::Mate);
             assert_eq!(rt; limits.limit, 3);
-            assert!(rt; telling.tries && telling.figurines && !telling.set_play);
+            assert!(rt; telling.tries && telling.figurines);
+            assert!(rt; !telling.set_play && !telling.short);
         }
         _ => panic!(rt; "no solution"),
     }

@@ -1,4 +1,4 @@
-use Rattle.std.proofs.Common.{Ok, arith, subst, sym, vec_items, ◌∙◌}
+use Rattle.std.proofs.Common.{ℕ, Ok, arith, subst, sym, vec_items, ◌∙◌}
 use Rattle.board.specs.Board.{PlainBoard}
 use Rattle.rules.specs.declared.goal.Goal.{Goal}
 use Rattle.problems.specs.Answer.{IsFewest}
@@ -8,8 +8,8 @@ use Rattle.rounds.proofs.Limits.{limit_within}
 use Rattle.composing.proofs.SolutionLemmas.{published_shown}
 use Rattle.composing.proofs.problem.solution_at.Goals as goal
 
-pub published-requires-clause-plies : goal.published-requires-clause-plies
-published-requires-clause-plies g c =
+pub on-root-requires : goal.on-root-requires
+on-root-requires g c =
     let solved = subst (λ a. Solves c.args.goal c.args.position.now c.args.limits (Ok a)) c.in-Mate.is c.in-Ok.ensures in
     let most = limit_within c.args.limits.limit c.args.limits.workers c.args.limits.slots solved.0 in
     omega (arith, solved.1.0, most.1)
@@ -17,8 +17,7 @@ published-requires-clause-plies g c =
 pub published-requires-clause-fewest : goal.published-requires-clause-fewest
 published-requires-clause-fewest g c =
     let solved = subst (λ a. Solves c.args.goal c.args.position.now c.args.limits (Ok a)) c.in-Mate.is c.in-Ok.ensures in
-    subst (λ (x : Goal). IsFewest x c.on-root.result.board c.in-Mate.plies) (sym c.on-root.ensures.goal)
-    (subst (λ (b : PlainBoard). IsFewest c.args.goal b c.in-Mate.plies) (sym (c.on-root.ensures.position ∙ c.of.ensures)) solved.1.1)
+    subst (λ (at : Goal × PlainBoard × ℕ). IsFewest at.0 at.1 at.2) (λ i. (sym c.on-root.ensures.goal i, sym (c.on-root.ensures.position ∙ c.of.ensures) i, sym c.on-root.ensures.limit i)) solved.1.1
 
 pub returns-in_ok-published-in-Mate : goal.returns-in_ok-published-in-Mate
 returns-in_ok-published-in-Mate g c =

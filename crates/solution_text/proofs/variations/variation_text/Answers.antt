@@ -21,5 +21,5 @@ duals_text-requires g c =
 pub returns : goal.returns
 returns g c =
     let line = subst (λ l. IsLineText c.args.notation 2 c.after-next.result l (string_bytes c.in_ok-line.line)) c.as_slice.ensures.value c.in_ok-line.ensures in
-    let duals = subst (λ l. AreDualsText c.args.notation c.after-next.result l (string_bytes c.in_ok-duals.duals)) c.as_slice-2.ensures.value c.in_ok-duals.ensures in
+    let duals = subst (λ l. AreDualsText c.args.notation 2 c.after-next.result l (string_bytes c.in_ok-duals.duals)) c.as_slice-2.ensures.value c.in_ok-duals.ensures in
     IfOk-weaker c.format.result _ _ (λ text spelled. (c.after-next.result, c.after-next.ensures, c.name-reply.result, c.name-reply.ensures, string_bytes c.in_ok-line.line, line, string_bytes c.in_ok-duals.duals, duals, spelled)) c.format.ensures.ok

@@ -1,9 +1,9 @@
 use Rattle.std.proofs.Common.{subst, sym, refl, string_bytes}
 use Rattle.std.proofs.lemmas.List.{take_all}
 use Rattle.rules.specs.Moves.{IsLawful}
-use Rattle.solution_text.specs.Text.{AreTexts, IsSecond}
+use Rattle.solution_text.specs.Text.{AreTexts, IsNumbered}
 use Rattle.solution_text.proofs.Texts.{AreTexts-more}
-use Rattle.solution_text.proofs.lines.second_moves.Goals as goal
+use Rattle.solution_text.proofs.lines.numbered_moves.Goals as goal
 
 pub name-name-requires : goal.name-name-requires
 name-name-requires g c =
@@ -11,9 +11,9 @@ name-name-requires g c =
 
 pub loop-m-preserved : goal.loop-m-preserved
 loop-m-preserved g c =
-    let P = IsSecond c.args.notation c.args.board.now in
+    let P = IsNumbered c.args.notation c.args.number c.args.board.now in
     AreTexts-more P c.args.moves.now c.loop-m.m-index c.m-item.result (string_bytes c.loop-m.text) _ (string_bytes c.write.new.self) c.loop-m-test.true c.m-item.is c.loop-m.invariant (c.name-name.result, c.name-name.ensures, refl) c.in_ok-write.ensures.bytes
 
 pub returns : goal.returns
 returns g c =
-    subst (λ ms. AreTexts (IsSecond c.args.notation c.args.board.now) ms (string_bytes c.loop-m.text)) (take_all c.loop-m.m-index c.args.moves.now c.loop-m-test.false) c.loop-m.invariant
+    subst (λ ms. AreTexts (IsNumbered c.args.notation c.args.number c.args.board.now) ms (string_bytes c.loop-m.text)) (take_all c.loop-m.m-index c.args.moves.now c.loop-m-test.false) c.loop-m.invariant

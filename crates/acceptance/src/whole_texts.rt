@@ -1,0 +1,98 @@
+//! Texts of whole solutions, as tools/check_solution works them out: its rules, its search and its names share no line with the program.
+ghost use Rattle.problems.specs.Roots.{IsRoot};
+
+use crate::composing::ALL;
+use crate::tables::{last_seat, position};
+use algebraic::Symbols;
+use decision::{Memory, Never, Scout};
+use entry::MateLore;
+use moves::{Board, Goal};
+use problems::{Answer, Root};
+use searcher::{Halt, Searcher, solve_by};
+use slots::Slots;
+use solution_text::whole_solution;
+use std::process::Abort;
+
+/// The text of the whole solution of a root whose side to move forces the goal within its plies.
+fn whole_in<R: Abort + AllocGlobal>(rt: &R, root: &Root) -> Result<String, Halt>
+    requires { IsRoot root.now }
+{
+    let (table, mut seats) = Slots::<MateLore>::make(rt.alloc(), 4096, 1).expect(rt, "a table");
+    let Some(mut seat) = last_seat(&table, &mut seats) else {
+        panic!(rt; "no seat")
+    };
+    let mut scout = Scout {
+        stop: Never,
+        memory: Memory::new(),
+    };
+    let mut searcher = Searcher {
+        slots: &table,
+        seat: &mut seat,
+        scout: &mut scout,
+    };
+    let Some(Answer::Mate { plies, .. }) = solve_by(&mut searcher, root) else {
+        panic!(rt; "no mate")
+    };
+    let fewest = Root::on(root.board.copied(), root.goal, plies);
+    whole_solution(rt.alloc(), &mut searcher, &fewest, Symbols::Letters, ALL)
+}
+
+/// A position, the goal, the plies it is searched for, and the text.
+const WHOLE: [(&str, Goal, u8, &str); 5] = [
+    (
+        "2k3/6/6/2K3/6/5Q w",
+        Goal::Mate,
+        5,
+        "\
+mate in 3, cooked by 1 key\n\
+no set play\n\
+tries\n\
+1.Qb5+? Kxb5!\n\
+1.Kb4? Kd5!\n\
+1.Kd4? Kb6!\n\
+1.Qf5! threat 2.Kc4\n  1...~ 2.Kc4 threats 3.Qc5# 3.Qe6# 3.Qf6#\n    2...Kb6 3.Qb5#\n    2...Kd6 3.Qd5#, dual 3.Qf6#\n  1...Kb6 2.Kb4 threats 3.Qb5# 3.Qe6# 3.Qf6#, dual 2.Kc4\n    2...Ka6 3.Qa5#, dual 3.Qb5# 3.Qe6# 3.Qf6#\n    2...Kc6 3.Qc5#, dual 3.Qe6#\n  1...Kd6 2.Kb4 zugzwang, dual 2.Kc4 2.Kd4\n    2...Kc6 3.Qc5#, dual 3.Qe6#\n\
+1.Kc4! threat 2.Qf6#\n  1...Kb6 2.Qa1 zugzwang, dual 2.Qf5\n    2...Kc6 3.Qa6#, dual 3.Qf6#\n  1...Kd6 2.Qf6#\n",
+    ),
+    (
+        "2k2/5/5/2K2/4R w",
+        Goal::Mate,
+        5,
+        "\
+mate in 3\n\
+set play\n  1...Kd5 2.Kc3 zugzwang\n    2...Kc5 3.Re5#\n\
+tries\n\
+1.Kb3? Kd4!\n\
+1.Kc3! threat 2.Re5#\n  1...Kb5 2.Ra1 zugzwang\n    2...Kc5 3.Ra5#\n  1...Kd5 2.Re2 zugzwang, dual 2.Re3\n    2...Kc5 3.Re5#\n",
+    ),
+    (
+        "1K1k1/qR3/5/5/5 w",
+        Goal::Mate,
+        7,
+        "\
+mate in 4\n\
+no set play\n\
+no tries\n\
+1.Rxa4! zugzwang\n  1...Ke5 2.Kc4 threats 3.Ra1 3.Ra2 3.Kd3\n    2...~ 3.Ra1 threat 4.Re1#, dual 3.Ra2 3.Kd3\n      3...Ke4 4.Re1#\n    2...Ke4 3.Ra3 zugzwang\n      3...Ke5 4.Re3#\n",
+    ),
+    (
+        "k5/6/2K3/6/6/1R4 w",
+        Goal::MateOrStale,
+        5,
+        "goal in 1\nno set play\nno tries\n1.Rb5=!\n",
+    ),
+    (
+        "k4/2P2/1K3/5/5 w",
+        Goal::Mate,
+        5,
+        "mate in 1, cooked by 1 key\nno set play\nno tries\n1.c5=Q#!\n1.c5=R#!\n",
+    ),
+];
+
+#[test]
+fn whole_texts_are_those_of_another_program(rt: HostRuntime) {
+    for (text, goal, limit, expected) in &WHOLE {
+        let root = Root::on(Board::of(&position(&rt, text)), *goal, *limit);
+        let told = whole_in(&rt, &root).expect(&rt, "a solution");
+        assert_eq!(rt; told.as_str(), *expected, "{text}");
+    }
+}

@@ -1,7 +1,0 @@
-use Rattle.std.proofs.Common.{take, string_bytes}
-use Rattle.solution_text.specs.Text.{AreTexts, IsSecond}
-use Rattle.solution_text.proofs.lines.second_moves.Given as goal
-
--- the moves so far
-abbrev pub invariant-loop-m : goal.invariant-loop-m
-invariant-loop-m g l = AreTexts (IsSecond l.notation l.board) (take l.m-index l.moves) (string_bytes l.text)

@@ -1,0 +1,41 @@
+use Rattle.std.proofs.Common.{length, get_or, sym, ap, subst, ◌∙◌, string_bytes}
+use Rattle.std.proofs.lemmas.List.Elements.{Contains-get_or}
+use Rattle.rules.specs.declared.goal.Goal.{Goal}
+use Rattle.problems.specs.Answer.{IsFewest}
+use Rattle.solutions.specs.Lines.{ListsContinuations}
+use Rattle.solution_text.specs.Text.{headline}
+use Rattle.solution_text.specs.WholeText.{IsWholeSolution}
+use Rattle.solution_text.specs.Telling.{TellsKeys}
+use Rattle.solution_text.proofs.Played.{whole_told}
+use Rattle.solution_text.proofs.whole_lines.lines_text.Goals as goal
+
+pub plays_text-requires-clause-keys : goal.plays_text-requires-clause-keys
+plays_text-requires-clause-keys g c =
+    let r = c.args.root.now in
+    let keys = c.as_slice.result.now in
+    let lists = subst (ListsContinuations r.goal r.board r.limit) (sym c.as_slice.ensures.value) c.in_ok-keys.ensures.moves in
+    λ k d below. (lists.exact (get_or keys k d)).0 (Contains-get_or keys k d below)
+
+pub returns-in_err-format-clause-goes : goal.returns-in_err-format-clause-goes
+returns-in_err-format-clause-goes g c =
+    g.met.D.Decider.goes_on _ _ _ (g.met.D.Decider.goes_on _ _ _ (g.met.D.Decider.goes_on _ _ _ c.continuations_of.ensures.goes c.whole_set_play.ensures.goes) c.whole_tries.ensures.goes) c.plays_text.ensures.goes
+
+pub returns-clause-goes : goal.returns-clause-goes
+returns-clause-goes g c =
+    g.met.D.Decider.goes_on _ _ _ (g.met.D.Decider.goes_on _ _ _ (g.met.D.Decider.goes_on _ _ _ c.continuations_of.ensures.goes c.whole_set_play.ensures.goes) c.whole_tries.ensures.goes) c.plays_text.ensures.goes
+
+pub returns-clause-solution : goal.returns-clause-solution
+returns-clause-solution g c =
+    let r = c.args.root.now in
+    let notation = c.args.teller.now.notation in
+    let items = c.in_ok-keys.keys.items in
+    let text = string_bytes c.in_ok-format.field-0 in
+    let same = sym c.requires.goal in
+    let count = c.len.ensures ∙ sym c.as_slice.ensures.len ∙ ap (length {A = _}) c.as_slice.ensures.value in
+    let plays = subst (λ ms. TellsKeys notation r.board r.limit ms (string_bytes c.in_ok-plays.plays)) c.as_slice.ensures.value c.in_ok-plays.ensures.keys in
+    subst (λ (x : Goal). IsWholeSolution notation.symbols x r.board c.args.extras text) c.requires.goal
+    (whole_told notation r.board r.limit c.args.extras items (string_bytes c.in_ok-head.head) (string_bytes c.in_ok-set_play.set_play) (string_bytes c.in_ok-tries.tries) (string_bytes c.in_ok-plays.plays) text
+    (subst (λ (x : Goal). IsFewest x r.board r.limit) same c.requires.fewest)
+    (subst (λ (x : Goal). ListsContinuations x r.board r.limit items) same c.in_ok-keys.ensures.moves)
+    (c.in_ok-head.ensures ∙ ap (headline r.goal r.limit) count ∙ ap (λ (x : Goal). headline x r.limit (length items)) same)
+    c.in_ok-set_play.ensures.set_play c.in_ok-tries.ensures.tries plays c.in_ok-format.ensures.ok)

@@ -1,0 +1,97 @@
+-- The text of a whole solution. Each reply stands on a line of its own, two blanks farther in for each move of the attacker before it.
+use Rattle.std.specs.Prelude.{◌≡◌, ℕ, zero, suc, ◌+◌, List, [], ◌∷◌, ◌++◌, length, codes}
+use Rattle.std.specs.Fmt.{decimal}
+use Rattle.board.specs.Board.{PlainBoard}
+use Rattle.rules.specs.declared.goal.Goal.{Goal}
+use Rattle.rules.specs.Squares.{Ply}
+use Rattle.rules.specs.Moves.{IsMove}
+use Rattle.algebraic.specs.declared.name.Name.{Name}
+use Rattle.algebraic.specs.declared.naming.Notation.{Notation}
+use Rattle.algebraic.specs.declared.symbols.Symbols.{Symbols}
+use Rattle.algebraic.specs.Text.{name_text}
+use Rattle.algebraic.specs.Naming.{IsName}
+use Rattle.solutions.specs.declared.extras.Extras.{Extras}
+use Rattle.solutions.specs.Solutions.{passed}
+use Rattle.solutions.specs.Whole.{Sequel, sequel, Play, play, Threat, over, check, zugzwang, short, long, Sequels, done, more, Whole, IsComplete}
+use Rattle.solution_text.specs.Text.{AreTexts, IsNumbered, AreDualsText, threat_word, AreTriesText, IsTextOf, headline}
+
+-- two blanks for each
+abbrev pub indent : ℕ → List ℕ
+indent zero = []
+indent (suc n) = indent n ++ codes "  "
+
+-- the moves that are threatened, as ` threats 2.Kc4 2.Kd4`
+abbrev pub AreThreatened : Notation → ℕ → PlainBoard → List Ply → List ℕ → Type 0
+AreThreatened notation number q moves text =
+    (threats : List ℕ) × AreTexts (IsNumbered notation number (passed q)) moves threats × (text ≡ threat_word moves ++ threats)
+
+-- a threat, behind the move that threatens and on its line
+abbrev pub IsThreatText : Notation → ℕ → PlainBoard → Threat → List ℕ → Type 0
+IsThreatText notation number q over text = text ≡ []
+IsThreatText notation number q check text = text ≡ []
+IsThreatText notation number q zugzwang text = text ≡ codes " zugzwang"
+IsThreatText notation number q (short moves) text = AreThreatened notation number q moves text
+IsThreatText notation number q (long (sequel m duals then)) text = AreThreatened notation number q (m ∷ duals) text
+
+abbrev mutual
+  -- a sequel from the attacker's move of this number, as ` 2.Kb4 zugzwang, dual 2.Kb5` and the lines behind it
+  pub IsSequelText : Notation → ℕ → PlainBoard → Sequel → List ℕ → Type 0
+  IsSequelText notation number b (sequel m duals then) text =
+      (q : PlainBoard) × IsMove b m q × (name : Name) × IsName notation b m name
+      × (others : List ℕ) × AreDualsText notation number b (m ∷ duals) others
+      × (rest : List ℕ) × IsPlayText notation number q others then rest
+      × (text ≡ codes " " ++ (decimal number ++ (codes "." ++ (name_text name ++ rest))))
+
+  -- what stands behind the attacker's move of this number: its threat, the rest of its line, the lines of a longer threat, and the replies
+  pub IsPlayText : Notation → ℕ → PlainBoard → List ℕ → Play → List ℕ → Type 0
+  IsPlayText notation number q end (play threat replies) text =
+      (head : List ℕ) × IsThreatText notation (number + 1) q threat head
+      × (lines : List ℕ) × IsLongText notation number q threat lines
+      × (rest : List ℕ) × AreSequelsText notation number q replies rest
+      × (text ≡ head ++ (end ++ (codes "\n" ++ (lines ++ rest))))
+
+  -- what follows a longer threat, behind a pass, as `  1...~ 2.Kc4 zugzwang` and the lines behind it
+  pub IsLongText : Notation → ℕ → PlainBoard → Threat → List ℕ → Type 0
+  IsLongText notation number q over text = text ≡ []
+  IsLongText notation number q check text = text ≡ []
+  IsLongText notation number q zugzwang text = text ≡ []
+  IsLongText notation number q (short moves) text = text ≡ []
+  IsLongText notation number q (long s) text =
+      (line : List ℕ) × IsSequelText notation (number + 1) (passed q) s line
+      × (text ≡ indent number ++ (decimal number ++ (codes "...~" ++ line)))
+
+  -- the replies to the attacker's move of this number, as `  1...Kb6 2.Kb4 zugzwang` and the lines behind it
+  pub AreSequelsText : Notation → ℕ → PlainBoard → Sequels → List ℕ → Type 0
+  AreSequelsText notation number q done text = text ≡ []
+  AreSequelsText notation number q (more r s others) text =
+      (first : List ℕ) × (rest : List ℕ)
+      × ((p : PlainBoard) × IsMove q r p × (reply : Name) × IsName notation q r reply
+      × (line : List ℕ) × IsSequelText notation (number + 1) p s line
+      × (first ≡ indent number ++ (decimal number ++ (codes "..." ++ (name_text reply ++ line)))))
+      × AreSequelsText notation number q others rest × (text ≡ first ++ rest)
+
+-- a key, as `1.Qf5! threat 2.Kc4`, and the lines behind it
+abbrev pub IsPlayedText : Notation → PlainBoard → Ply × Play → List ℕ → Type 0
+IsPlayedText notation b (m, then) text =
+    (q : PlainBoard) × IsMove b m q × (key : Name) × IsName notation b m key
+    × (rest : List ℕ) × IsPlayText notation 1 q [] then rest
+    × (text ≡ codes "1." ++ (name_text key ++ (codes "!" ++ rest)))
+
+-- the set play, under a heading
+abbrev pub IsWholeSetPlayText : Notation → PlainBoard → Sequels → List ℕ → Type 0
+IsWholeSetPlayText notation b done text = text ≡ codes "no set play\n"
+IsWholeSetPlayText notation b (more r s others) text =
+    (lines : List ℕ) × AreSequelsText notation 1 (passed b) (more r s others) lines × (text ≡ codes "set play\n" ++ lines)
+
+-- the headline, the set play and the tries where they were asked for, and the keys
+abbrev pub IsWholeText : Notation → PlainBoard → Whole → List ℕ → Type 0
+IsWholeText notation b w text =
+    (set_play : List ℕ) × IsTextOf (IsWholeSetPlayText notation b) w.set_play set_play
+    × (tries : List ℕ) × IsTextOf (AreTriesText notation b) w.tries tries
+    × (keys : List ℕ) × AreTexts (IsPlayedText notation b) w.keys keys
+    × (text ≡ headline notation.goal w.plies (length w.keys) ++ (set_play ++ (tries ++ keys)))
+
+-- the text is that of the whole solution of the position
+abbrev pub IsWholeSolution : Symbols → Goal → PlainBoard → Extras → List ℕ → Type 0
+IsWholeSolution symbols goal b extras text =
+    (w : Whole) × IsComplete goal b extras w × IsWholeText (record { symbols = symbols; goal = goal }) b w text

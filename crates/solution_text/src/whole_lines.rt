@@ -1,0 +1,166 @@
+//! The whole solution of a problem, told as it is found.
+ghost use Rattle.std.specs.Prelude.{◌≡◌, ◌≤◌, All, IfErr, IfOk, string_bytes};
+ghost use Rattle.problems.specs.Answer.{Wins, IsFewest};
+ghost use Rattle.problems.specs.Roots.{IsRoot};
+ghost use Rattle.searcher.specs.declared.halt.Halt.TheVariants.{Stopped};
+ghost use Rattle.solution_text.specs.Telling.{TellsKey, TellsKeys, TellsSetPlay, TellsTries};
+ghost use Rattle.solution_text.specs.WholeText.{IsWholeSolution};
+
+use crate::broken::Broken;
+use crate::sequels::{play_text, sequels_text};
+use crate::teller::Teller;
+use crate::tries::tries_text;
+use crate::whole::headline;
+use algebraic::{Notation, Symbols};
+use moves::{Move, after};
+use problems::Root;
+use searcher::{Decider, Halt};
+use solutions::{Extras, continuations_of, passed, tries_of};
+use std::alloc::Allocator;
+
+/// A key with the play behind it, where the root's limit is the fewest plies.
+fn played_text<D: Decider, A: Allocator + Copy>(
+    teller: &Teller<A>,
+    decider: &mut D,
+    root: &Root,
+    key: Move,
+) -> Result<String<A>, Broken>
+    requires number { teller.now.number ≡ 1 }
+    requires goal { teller.now.notation.goal ≡ root.now.goal }
+    requires key { Wins root.now.goal root.now.board root.now.limit key }
+    ensures goes { D.goes decider.old decider.new }
+    ensures key { IfOk result (λ text.
+        TellsKey teller.now.notation root.now.board root.now.limit key (string_bytes text)) }
+    ensures halt { IfErr result (λ broken. broken.halt ≡ Stopped → D.told decider.new) }
+{
+    let next = after(&root.board, key);
+    let name = teller.notation.name(&root.board, key);
+    let play = play_text(teller, decider, &next, root.limit.saturating_sub(2), "")?;
+    Ok(format!(in teller.alloc; "1.{name}!{play}")?)
+}
+
+/// These keys, each with the play behind it.
+fn plays_text<D: Decider, A: Allocator + Copy>(
+    teller: &Teller<A>,
+    decider: &mut D,
+    root: &Root,
+    keys: &[Move],
+) -> Result<String<A>, Broken>
+    requires number { teller.now.number ≡ 1 }
+    requires goal { teller.now.notation.goal ≡ root.now.goal }
+    requires keys { All (Wins root.now.goal root.now.board root.now.limit) keys.now }
+    ensures goes { D.goes decider.old decider.new }
+    ensures keys { IfOk result (λ text.
+        TellsKeys teller.now.notation root.now.board root.now.limit keys.now (string_bytes text)) }
+    ensures halt { IfErr result (λ broken. broken.halt ≡ Stopped → D.told decider.new) }
+{
+    let mut text = String::new(teller.alloc);
+    for key in keys {
+        let one = played_text(teller, decider, root, *key)?;
+        text.push_str(one.as_str())?;
+    }
+    Ok(text)
+}
+
+/// The set play, where it is asked for.
+fn whole_set_play<D: Decider, A: Allocator + Copy>(
+    teller: &Teller<A>,
+    decider: &mut D,
+    root: &Root,
+    asked: bool,
+) -> Result<String<A>, Broken>
+    requires number { teller.now.number ≡ 1 }
+    requires goal { teller.now.notation.goal ≡ root.now.goal }
+    ensures goes { D.goes decider.old decider.new }
+    ensures set_play { IfOk result (λ text.
+        TellsSetPlay teller.now.notation root.now.board root.now.limit asked (string_bytes text)) }
+    ensures halt { IfErr result (λ broken. broken.halt ≡ Stopped → D.told decider.new) }
+{
+    if !asked {
+        return Ok(String::new(teller.alloc));
+    }
+    let Some(next) = passed(&root.board) else {
+        return Ok(format!(in teller.alloc; "no set play\n")?);
+    };
+    let lines = sequels_text(teller, decider, &next, root.limit.saturating_sub(2))?;
+    if lines.as_str().is_empty() {
+        return Ok(format!(in teller.alloc; "no set play\n")?);
+    }
+    Ok(format!(in teller.alloc; "set play\n{lines}")?)
+}
+
+/// The tries, where they are asked for.
+fn whole_tries<D: Decider, A: Allocator + Copy>(
+    teller: &Teller<A>,
+    decider: &mut D,
+    root: &Root,
+    asked: bool,
+) -> Result<String<A>, Broken>
+    requires goal { teller.now.notation.goal ≡ root.now.goal }
+    requires root { IsRoot root.now }
+    ensures goes { D.goes decider.old decider.new }
+    ensures tries { IfOk result (λ text.
+        TellsTries teller.now.notation root.now.board root.now.limit asked (string_bytes text)) }
+    ensures halt { IfErr result (λ broken. broken.halt ≡ Stopped → D.told decider.new) }
+{
+    if !asked {
+        return Ok(String::new(teller.alloc));
+    }
+    let tries = tries_of(teller.alloc, decider, root, root.limit)?;
+    Ok(tries_text(teller.alloc, teller.notation, &root.board, tries.as_slice())?)
+}
+
+/// The lines of the whole solution.
+fn lines_text<D: Decider, A: Allocator + Copy>(
+    teller: &Teller<A>,
+    decider: &mut D,
+    root: &Root,
+    extras: Extras,
+) -> Result<String<A>, Broken>
+    requires number { teller.now.number ≡ 1 }
+    requires goal { teller.now.notation.goal ≡ root.now.goal }
+    requires root { IsRoot root.now }
+    requires fewest { IsFewest root.now.goal root.now.board root.now.limit }
+    ensures goes { D.goes decider.old decider.new }
+    ensures solution { IfOk result (λ text. IsWholeSolution
+        teller.now.notation.symbols root.now.goal root.now.board extras (string_bytes text)) }
+    ensures halt { IfErr result (λ broken. broken.halt ≡ Stopped → D.told decider.new) }
+{
+    let alloc = teller.alloc;
+    let keys = continuations_of(alloc, decider, root, root.limit)?;
+    let head = headline(alloc, root.goal, root.limit, keys.len())?;
+    let set_play = whole_set_play(teller, decider, root, extras.set_play)?;
+    let tries = whole_tries(teller, decider, root, extras.tries)?;
+    let plays = plays_text(teller, decider, root, keys.as_slice())?;
+    Ok(format!(in alloc; "{head}{set_play}{tries}{plays}")?)
+}
+
+/// The text of the whole solution of a root whose limit is the fewest plies to the goal; or that the decider was told to stop, or that
+/// memory is wanting. It is kept in memory until it is whole, and grows with each reply of each move.
+pub fn whole_solution<D: Decider, A: Allocator + Copy>(
+    alloc: A,
+    decider: &mut D,
+    root: &Root,
+    symbols: Symbols,
+    extras: Extras,
+) -> Result<String<A>, Halt>
+    requires root { IsRoot root.now }
+    requires fewest { IsFewest root.now.goal root.now.board root.now.limit }
+    ensures goes { D.goes decider.old decider.new }
+    ensures solution { IfOk result (λ text.
+        IsWholeSolution symbols root.now.goal root.now.board extras (string_bytes text)) }
+    ensures halt { IfErr result (λ halt. halt ≡ Stopped → D.told decider.new) }
+{
+    let teller = Teller {
+        alloc,
+        notation: Notation {
+            symbols,
+            goal: root.goal,
+        },
+        number: 1,
+    };
+    match lines_text(&teller, decider, root, extras) {
+        Ok(text) => Ok(text),
+        Err(broken) => Err(broken.halt),
+    }
+}
