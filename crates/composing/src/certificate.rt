@@ -65,14 +65,11 @@ fn begin_at<R: Threads + Wait + Eprint + Clock + Sync + AllocGlobal>(
     ensures { BeginsAt goal position.now limits result }
 {
     let alloc = context.rt.alloc();
-    let Searched {
-        answer,
-        slots,
-        seat,
-    } = match searched_at(context, position, goal, limits) {
+    let Searched { answer, table } = match searched_at(context, position, goal, limits) {
         Ok(found) => found,
         Err(fault) => return Err(refusal_of(fault)),
     };
+    let (slots, seat) = table.into_alone();
     let line = answer_text(alloc, goal, answer)?.into_bytes();
     let root = Question {
         position: Board::of(position),

@@ -13,7 +13,7 @@ use decision::{Memory, Never, Scout};
 use moves::{Board, Goal, read_sound};
 use problems::{Answer, Root};
 use refusals::Refusal;
-use replies::{Context, Searched, none_line, refusal_of, searched_at};
+use replies::{Context, Table, none_line, refusal_of, searched_at};
 use searcher::{Decider, Halt, Searcher};
 use solution_text::{solution_text, whole_solution};
 use solutions::{Extras, solution_of};
@@ -63,7 +63,7 @@ fn form_text<D: Decider>(
 /// The text of the solution of a root whose limit is the fewest plies, by the table of what has found them.
 fn published(
     alloc: Global,
-    found: Searched,
+    table: Table,
     root: &Root,
     options: SolutionOptions,
 ) -> Result<Vec<u8>, AllocError>
@@ -71,11 +71,7 @@ fn published(
     requires fewest { IsFewest root.now.goal root.now.board root.now.limit }
     ensures { IfOk result (λ text. IsPublished root.now.goal root.now.board options text.items) }
 {
-    let Searched {
-        slots,
-        mut seat,
-        ..
-    } = found;
+    let (slots, mut seat) = table.into_alone();
     let mut scout = Scout {
         stop: Never,
         memory: Memory::new(),
@@ -110,7 +106,7 @@ fn solution_at<R: Threads + Wait + Eprint + Clock + Sync + AllocGlobal>(
     match found.answer {
         Answer::Mate { plies, .. } => {
             let root = Root::on(Board::of(position), goal, plies);
-            Ok(published(alloc, found, &root, options)?)
+            Ok(published(alloc, found.table, &root, options)?)
         }
         Answer::NoneWithin(limit) => none_line(alloc, limit),
     }

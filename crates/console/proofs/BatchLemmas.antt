@@ -24,12 +24,11 @@ use Rattle.refusals.specs.Refusal.{refusal_of_fen}
 use Rattle.refusals.specs.declared.refusal.Refusal.{Refusal}
 use Rattle.answer_texts.specs.Said.{said_in}
 use Rattle.console.specs.Batch.{AnswersLines, EndsBatch, HasReplyText, IsAskedReply, IsLineReply, RunsBatch, answered_lines, joined, left_out, lines_of, onto}
-use Rattle.console.specs.BatchRun.{Fails, GivesAsked, GivesFound, GivesNext, IsFirstOf, IsAskedRefusal, PassesOver, RepliesTo, SameSolver, Step, TakesAnswered, TakesLines, TakesStep, stop_of}
+use Rattle.console.specs.BatchRun.{Fails, GivesAsked, GivesFound, GivesNext, IsFirstOf, IsAskedRefusal, PassesOver, Step, TakesAnswered, TakesLines, TakesStep, stop_of}
 use Rattle.devices.specs.Lines.{HasNoFeed, IsFed, IsLastOf, IsReadAs, TakesLine, left_of}
 use Rattle.endings.specs.Run.{Ending, Finishes, Refuses, Run, no_memory}
 use Rattle.rounds.specs.declared.task.SolveFault.{SolveFault}
 use Rattle.rounds.specs.declared.task.SolveFault.TheVariants as solve
-use Rattle.console.specs.declared.batch.Solver.{Solver}
 use Rattle.console.specs.declared.batch.BatchStop.{BatchStop}
 use Rattle.console.specs.declared.batch.BatchStop.TheVariants.{ReadFailed, WriteFailed, NoMemory}
 use Rattle.devices.specs.declared.lines.Taken.{Taken}
@@ -103,30 +102,30 @@ zip_all R (x ∷ xs) us (y ∷ ys) vs p q = (p.0, zip_all R xs us ys vs p.1 q)
 -- ---- lines so far
 
 -- the replies to lines with their feeds are written, and those lines are gone
-abbrev pub KeptSoFar : Solver → Option (List ℕ) → Option (List ℕ) → Option (List ℕ) → Option (List ℕ) → Type 0
-KeptSoFar s left now written written_now = (front : List (List ℕ)) × (texts : List (List ℕ)) × All IsFed front × AllZip (RepliesTo s) front texts
+abbrev pub KeptSoFar : Batch → Option (List ℕ) → Option (List ℕ) → Option (List ℕ) → Option (List ℕ) → Type 0
+KeptSoFar batch left now written written_now = (front : List (List ℕ)) × (texts : List (List ℕ)) × All IsFed front × AllZip (IsLineReply batch) front texts
     × Consumes left now (joined front) × Appends written written_now (joined texts)
 
-pub kept_first : (s : Solver) (left written : Option (List ℕ)) → KeptSoFar s left left written written
-kept_first s left written = ([], [], All-nil IsFed, tt, Consumes-nil left, Appends-nil written)
+pub kept_first : (batch : Batch) (left written : Option (List ℕ)) → KeptSoFar batch left left written written
+kept_first batch left written = ([], [], All-nil IsFed, tt, Consumes-nil left, Appends-nil written)
 
 -- a reply for the same question
-same_reply : (s s' : Solver) (line text : List ℕ) → SameSolver s s' → RepliesTo s' line text → RepliesTo s line text
-same_reply s s' line text same reply = subst (λ b. IsLineReply b line text) same reply
+same_reply : (batch later : Batch) (line text : List ℕ) → later ≡ batch → IsLineReply later line text → IsLineReply batch line text
+same_reply batch later line text same reply = subst (λ b. IsLineReply b line text) same reply
 
-same_replies : (s s' : Solver) (lines texts : List (List ℕ)) → SameSolver s s' → AllZip (RepliesTo s') lines texts → AllZip (RepliesTo s) lines texts
-same_replies s s' [] [] same zip = tt
-same_replies s s' [] (text ∷ texts) same zip = absurd zip
-same_replies s s' (line ∷ lines) [] same zip = absurd zip
-same_replies s s' (line ∷ lines) (text ∷ texts) same zip = (same_reply s s' line text same zip.0, same_replies s s' lines texts same zip.1)
+same_replies : (batch later : Batch) (lines texts : List (List ℕ)) → later ≡ batch → AllZip (IsLineReply later) lines texts → AllZip (IsLineReply batch) lines texts
+same_replies batch later [] [] same zip = tt
+same_replies batch later [] (text ∷ texts) same zip = absurd zip
+same_replies batch later (line ∷ lines) [] same zip = absurd zip
+same_replies batch later (line ∷ lines) (text ∷ texts) same zip = (same_reply batch later line text same zip.0, same_replies batch later lines texts same zip.1)
 
-pub kept_more : (s s' : Solver) (left : Option (List ℕ)) (step : Step) (written : Option (List ℕ)) → SameSolver s s' → KeptSoFar s left step.left written step.written
-    → TakesStep s' step (Ok true) → KeptSoFar s left step.left_after written step.written_after
-kept_more s s' left step written same (front, texts, fed, zip, gone, appended) (line, text, feeds, taken, reply, grown, none) = (
+pub kept_more : (batch later : Batch) (left : Option (List ℕ)) (step : Step) (written : Option (List ℕ)) → later ≡ batch → KeptSoFar batch left step.left written step.written
+    → TakesStep later step (Ok true) → KeptSoFar batch left step.left_after written step.written_after
+kept_more batch later left step written same (front, texts, fed, zip, gone, appended) (line, text, feeds, taken, reply, grown, none) = (
   front ++ line ∷ [],
   texts ++ text ∷ [],
   All-push IsFed front line fed feeds,
-  AllZip-push (RepliesTo s) front texts line text zip (same_reply s s' line text same reply),
+  AllZip-push (IsLineReply batch) front texts line text zip (same_reply batch later line text same reply),
   subst (Consumes left step.left_after) (joined_more front line) (Consumes-trans left step.left step.left_after (joined front) line gone taken),
   subst (Appends written step.written_after) (joined_more texts text) (Appends-trans written step.written step.written_after (joined texts) text appended grown),
 )
@@ -137,38 +136,38 @@ nothing_more : (written mid after : Option (List ℕ)) (text : List ℕ) → App
 nothing_more written mid after text grown none = subst (Appends written after) (append-nil text) (Appends-trans written mid after text [] grown none)
 
 -- the lines that are answered, where others may be left
-front_answered : (s : Solver) (status : ℕ) (left now : Option (List ℕ)) (front texts : List (List ℕ)) → (status ≡ 0 → ⊥) → All IsFed front
-    → AllZip (RepliesTo s) front texts → Consumes left now (joined front) → OfInput left (λ input. AnswersLines s.batch status texts (lines_of input))
-front_answered s status None now front texts other fed zip gone =
+front_answered : (batch : Batch) (status : ℕ) (left now : Option (List ℕ)) (front texts : List (List ℕ)) → (status ≡ 0 → ⊥) → All IsFed front
+    → AllZip (IsLineReply batch) front texts → Consumes left now (joined front) → OfInput left (λ input. AnswersLines batch status texts (lines_of input))
+front_answered batch status None now front texts other fed zip gone =
     (joined front, tt, (front, [], ap lines_of (sym (append-nil (joined front))) ∙ fed_front front [] fed, zip, λ e. absurd (other e)))
-front_answered s status (Some xs) None front texts other fed zip gone = absurd gone
-front_answered s status (Some xs) (Some ys) front texts other fed zip gone =
+front_answered batch status (Some xs) None front texts other fed zip gone = absurd gone
+front_answered batch status (Some xs) (Some ys) front texts other fed zip gone =
     (xs, refl, (front, lines_of ys, ap lines_of gone ∙ fed_front front ys fed, zip, λ e. absurd (other e)))
 
 -- the same with one line more
-one_answered : (s : Solver) (status : ℕ) (left now : Option (List ℕ)) (front texts : List (List ℕ)) (line text : List ℕ) → (status ≡ 0 → ⊥) → All IsFed front
-    → AllZip (RepliesTo s) front texts → Consumes left now (joined front) → IsFirstOf now line → RepliesTo s line text
-    → OfInput left (λ input. AnswersLines s.batch status (texts ++ text ∷ []) (lines_of input))
-one_answered s status None now front texts line text other fed zip gone (one, first) reply = (
+one_answered : (batch : Batch) (status : ℕ) (left now : Option (List ℕ)) (front texts : List (List ℕ)) (line text : List ℕ) → (status ≡ 0 → ⊥) → All IsFed front
+    → AllZip (IsLineReply batch) front texts → Consumes left now (joined front) → IsFirstOf now line → IsLineReply batch line text
+    → OfInput left (λ input. AnswersLines batch status (texts ++ text ∷ []) (lines_of input))
+one_answered batch status None now front texts line text other fed zip gone (one, first) reply = (
   joined front ++ line,
   tt,
   (
     front ++ line ∷ [],
     [],
     fed_front front line fed ∙ ap (λ l. front ++ l) one ∙ sym (append-nil (front ++ line ∷ [])),
-    AllZip-push (RepliesTo s) front texts line text zip reply,
+    AllZip-push (IsLineReply batch) front texts line text zip reply,
     λ e. absurd (other e),
   ),
 )
-one_answered s status (Some xs) None front texts line text other fed zip gone first reply = absurd gone
-one_answered s status (Some xs) (Some ys) front texts line text other fed zip gone (one, (rest, first)) reply = (
+one_answered batch status (Some xs) None front texts line text other fed zip gone first reply = absurd gone
+one_answered batch status (Some xs) (Some ys) front texts line text other fed zip gone (one, (rest, first)) reply = (
   xs,
   refl,
   (
     front ++ line ∷ [],
     rest,
     ap lines_of gone ∙ fed_front front ys fed ∙ ap (λ l. front ++ l) first ∙ sym (append_assoc front (line ∷ []) rest),
-    AllZip-push (RepliesTo s) front texts line text zip reply,
+    AllZip-push (IsLineReply batch) front texts line text zip reply,
     λ e. absurd (other e),
   ),
 )
@@ -187,10 +186,10 @@ fails_since : (step : Step) (left written : Option (List ℕ)) (reads writes m n
     → Fails (whole_step step left written reads writes) m n
 fails_since step left written reads writes m n r w fails = (fails.0 ∙ ap (λ k. k + m) r, fails.1 ∙ ap (λ k. k + n) w)
 
-pub lines_end : (s s' : Solver) (left : Option (List ℕ)) (step : Step) (written : Option (List ℕ)) (reads writes : ℕ) → SameSolver s s'
-    → step.failed_reads ≡ reads → step.failed_writes ≡ writes → KeptSoFar s left step.left written step.written → TakesStep s' step (Ok false)
-    → TakesLines s (whole_step step left written reads writes) None
-lines_end s s' left step written reads writes same r w (front, texts, fed, zip, gone, appended) (line, text, (none, last), (others, replies, is), grown, fails) = (
+pub lines_end : (batch later : Batch) (left : Option (List ℕ)) (step : Step) (written : Option (List ℕ)) (reads writes : ℕ) → later ≡ batch
+    → step.failed_reads ≡ reads → step.failed_writes ≡ writes → KeptSoFar batch left step.left written step.written → TakesStep later step (Ok false)
+    → TakesLines batch (whole_step step left written reads writes) None
+lines_end batch later left step written reads writes same r w (front, texts, fed, zip, gone, appended) (line, text, (none, last), (others, replies, is), grown, fails) = (
   texts ++ others,
   (
     joined front ++ line,
@@ -199,7 +198,7 @@ lines_end s s' left step written reads writes same r w (front, texts, fed, zip, 
       front ++ lines_of line,
       [],
       fed_front front line fed ∙ sym (append-nil (front ++ lines_of line)),
-      zip_all (RepliesTo s) front (lines_of line) texts others zip (same_replies s s' (lines_of line) others same replies),
+      zip_all (IsLineReply batch) front (lines_of line) texts others zip (same_replies batch later (lines_of line) others same replies),
       λ _. refl,
     ),
   ),
@@ -210,22 +209,22 @@ lines_end s s' left step written reads writes same r w (front, texts, fed, zip, 
   ),
 )
 
-pub lines_stop : (s s' : Solver) (left : Option (List ℕ)) (step : Step) (written : Option (List ℕ)) (reads writes : ℕ) (stop : BatchStop) → SameSolver s s'
-    → step.failed_reads ≡ reads → step.failed_writes ≡ writes → KeptSoFar s left step.left written step.written → TakesStep s' step (Err stop)
-    → TakesLines s (whole_step step left written reads writes) (Some stop)
-lines_stop s s' left step written reads writes ReadFailed same r w (front, texts, fed, zip, gone, appended) (nothing, one) = (
+pub lines_stop : (batch later : Batch) (left : Option (List ℕ)) (step : Step) (written : Option (List ℕ)) (reads writes : ℕ) (stop : BatchStop) → later ≡ batch
+    → step.failed_reads ≡ reads → step.failed_writes ≡ writes → KeptSoFar batch left step.left written step.written → TakesStep later step (Err stop)
+    → TakesLines batch (whole_step step left written reads writes) (Some stop)
+lines_stop batch later left step written reads writes ReadFailed same r w (front, texts, fed, zip, gone, appended) (nothing, one) = (
   texts,
-  front_answered s 4 left step.left front texts (λ e. absurd (omega (arith, e))) fed zip gone,
+  front_answered batch 4 left step.left front texts (λ e. absurd (omega (arith, e))) fed zip gone,
   (nothing_more written step.written step.written_after (joined texts) appended nothing, fails_since step left written reads writes 1 0 r w one),
 )
-lines_stop s s' left step written reads writes NoMemory same r w (front, texts, fed, zip, gone, appended) (nothing, none) = (
+lines_stop batch later left step written reads writes NoMemory same r w (front, texts, fed, zip, gone, appended) (nothing, none) = (
   texts,
-  front_answered s 3 left step.left front texts (λ e. absurd (omega (arith, e))) fed zip gone,
+  front_answered batch 3 left step.left front texts (λ e. absurd (omega (arith, e))) fed zip gone,
   (nothing_more written step.written step.written_after (joined texts) appended nothing, fails_since step left written reads writes 0 0 r w none),
 )
-lines_stop s s' left step written reads writes WriteFailed same r w (front, texts, fed, zip, gone, appended) (line, text, first, reply, (taken, rest, cut, grown), one) = (
+lines_stop batch later left step written reads writes WriteFailed same r w (front, texts, fed, zip, gone, appended) (line, text, first, reply, (taken, rest, cut, grown), one) = (
   texts ++ text ∷ [],
-  one_answered s 4 left step.left front texts line text (λ e. absurd (omega (arith, e))) fed zip gone first (same_reply s s' line text same reply),
+  one_answered batch 4 left step.left front texts line text (λ e. absurd (omega (arith, e))) fed zip gone first (same_reply batch later line text same reply),
   (
     (
       joined texts ++ taken,
@@ -240,10 +239,10 @@ lines_stop s s' left step written reads writes WriteFailed same r w (front, text
 -- ---- one line
 
 -- any other is answered by what it says
-pub line_reply : (s : Solver) (held : Vec ℕ Global) (text line : List ℕ) → IsReadAs line (Line held) → HasReplyText s.batch (said_in held.items) text
-    → (0 < length line) × RepliesTo s line text
-line_reply s held text line next reply =
-    (next.0, rw (le-ltb 256 (length (without_line_feed line)) next.2) (subst (λ l. HasReplyText s.batch (said_in l) text) next.1 reply))
+pub line_reply : (batch : Batch) (held : Vec ℕ Global) (text line : List ℕ) → IsReadAs line (Line held) → HasReplyText batch (said_in held.items) text
+    → (0 < length line) × IsLineReply batch line text
+line_reply batch held text line next reply =
+    (next.0, rw (le-ltb 256 (length (without_line_feed line)) next.2) (subst (λ l. HasReplyText batch (said_in l) text) next.1 reply))
 
 -- how a line was taken
 abbrev IsTaken : Option (List ℕ) → Option (List ℕ) → Bool → List ℕ → Type 0
@@ -264,30 +263,30 @@ first_taken (Some xs) (Some ys) false line some (fed, gone) =
     (ap lines_of (sym (append-nil line)) ∙ fed_first line [] fed, (lines_of ys, ap lines_of gone ∙ fed_first line ys fed))
 
 -- there was no line
-pub step_ended : (s : Solver) (step : Step) (taken : Taken) → TakesLine step.left step.left_after taken → GivesNext s taken.next None
-    → Appends step.written step.written_after [] → Fails step 0 0 → TakesStep s step (Ok false)
-step_ended s step taken (line, how, read) gives grown fails =
+pub step_ended : (batch : Batch) (step : Step) (taken : Taken) → TakesLine step.left step.left_after taken → GivesNext batch taken.next None
+    → Appends step.written step.written_after [] → Fails step 0 0 → TakesStep batch step (Ok false)
+step_ended batch step taken (line, how, read) gives grown fails =
     let none : line ≡ [] = gives line read in (
       line,
       [],
       empty_last step.left step.left_after taken.is_last line none how,
-      ([], subst (λ l. AllZip (RepliesTo s) (lines_of l) []) (sym none) tt, refl),
+      ([], subst (λ l. AllZip (IsLineReply batch) (lines_of l) []) (sym none) tt, refl),
       grown,
       fails,
     )
 
 -- a line was answered, and no more may come after the last one
-pub step_written : (s : Solver) (step : Step) (is_last : Bool) (next : Next) (text : Vec ℕ Global) → TakesLine step.left step.left_after (record { next = next; is_last = is_last })
-    → GivesNext s next (Some text) → Appends step.written step.written_after (vec_items text) → Fails step 0 0 → TakesStep s step (Ok (not is_last))
-step_written s step false next text (line, (fed, gone), read) gives grown fails = (line, vec_items text, fed, gone, (gives line read).1, grown, fails)
-step_written s step true next text (line, (none, last), read) gives grown fails =
+pub step_written : (batch : Batch) (step : Step) (is_last : Bool) (next : Next) (text : Vec ℕ Global) → TakesLine step.left step.left_after (record { next = next; is_last = is_last })
+    → GivesNext batch next (Some text) → Appends step.written step.written_after (vec_items text) → Fails step 0 0 → TakesStep batch step (Ok (not is_last))
+step_written batch step false next text (line, (fed, gone), read) gives grown fails = (line, vec_items text, fed, gone, (gives line read).1, grown, fails)
+step_written batch step true next text (line, (none, last), read) gives grown fails =
     let (some, reply) = gives line read in (
       line,
       vec_items text,
       (none, last),
       (
         vec_items text ∷ [],
-        subst (λ l. AllZip (RepliesTo s) l (vec_items text ∷ [])) (sym (lines_last line some none)) (reply, tt),
+        subst (λ l. AllZip (IsLineReply batch) l (vec_items text ∷ [])) (sym (lines_last line some none)) (reply, tt),
         sym (append-nil (vec_items text)),
       ),
       grown,
@@ -295,13 +294,13 @@ step_written s step true next text (line, (none, last), read) gives grown fails 
     )
 
 -- a failed write ends the batch
-pub step_unwritten : (s : Solver) (step : Step) (r : Result Bool BatchStop) (taken : Taken) (text : Vec ℕ Global) → IsErr r × IsErrAnd r (λ stop. stop ≡ WriteFailed)
-    → TakesLine step.left step.left_after taken → GivesNext s taken.next (Some text) → AppendsBeginning step.written step.written_after (vec_items text) → Fails step 0 1
-    → TakesStep s step r
-step_unwritten s step (Ok more) taken text err takes gives cut fails = absurd err.1
-step_unwritten s step (Err stop) taken text err (line, how, read) gives cut fails =
+pub step_unwritten : (batch : Batch) (step : Step) (r : Result Bool BatchStop) (taken : Taken) (text : Vec ℕ Global) → IsErr r × IsErrAnd r (λ stop. stop ≡ WriteFailed)
+    → TakesLine step.left step.left_after taken → GivesNext batch taken.next (Some text) → AppendsBeginning step.written step.written_after (vec_items text) → Fails step 0 1
+    → TakesStep batch step r
+step_unwritten batch step (Ok more) taken text err takes gives cut fails = absurd err.1
+step_unwritten batch step (Err stop) taken text err (line, how, read) gives cut fails =
     let (some, reply) = gives line read in
-    subst (λ x. TakesStep s step (Err x)) (sym err.1)
+    subst (λ x. TakesStep batch step (Err x)) (sym err.1)
     (line, vec_items text, first_taken step.left step.left_after taken.is_last line some how, reply, cut, fails)
 
 -- ---- lines that are left out
@@ -341,44 +340,44 @@ passed_all count so_many left now after taken less is_last (bytes, front, gone) 
     )
 
 -- the lines behind those that are passed over are those that are answered
-answered_behind : (s : Solver) (left now : Option (List ℕ)) (status : ℕ) (texts : List (List ℕ)) → PassesOver (left_out s.batch.options.skip) left now true
-    → OfInput now (λ input. AnswersLines s.batch status texts (lines_of input)) → OfInput left (Answers s.batch status texts)
-answered_behind s left now status texts (bytes, front, gone) (input, same, answers) = (
+answered_behind : (batch : Batch) (left now : Option (List ℕ)) (status : ℕ) (texts : List (List ℕ)) → PassesOver (left_out batch.options.skip) left now true
+    → OfInput now (λ input. AnswersLines batch status texts (lines_of input)) → OfInput left (Answers batch status texts)
+answered_behind batch left now status texts (bytes, front, gone) (input, same, answers) = (
   bytes ++ input,
   gone_then_last left now bytes input gone same,
-  subst (λ lines. AnswersLines s.batch status texts lines) (sym (front input)) answers,
+  subst (λ lines. AnswersLines batch status texts lines) (sym (front input)) answers,
 )
 
-pub batch_behind : (s : Solver) (left : Option (List ℕ)) (step : Step) (reads : ℕ) (stop : Option BatchStop) → PassesOver (left_out s.batch.options.skip) left step.left true
-    → step.failed_reads ≡ reads → TakesLines s step stop → TakesAnswered s (whole_step step left step.written reads step.failed_writes) stop
-batch_behind s left step reads None passes r (texts, answers, (written, fails)) =
-    (texts, answered_behind s left step.left 0 texts passes answers, (written, fails_since step left step.written reads step.failed_writes 0 0 r refl fails))
-batch_behind s left step reads (Some ReadFailed) passes r (texts, answers, (written, fails)) =
-    (texts, answered_behind s left step.left 4 texts passes answers, (written, fails_since step left step.written reads step.failed_writes 1 0 r refl fails))
-batch_behind s left step reads (Some WriteFailed) passes r (texts, answers, (written, fails)) =
-    (texts, answered_behind s left step.left 4 texts passes answers, (written, fails_since step left step.written reads step.failed_writes 0 1 r refl fails))
-batch_behind s left step reads (Some NoMemory) passes r (texts, answers, (written, fails)) =
-    (texts, answered_behind s left step.left 3 texts passes answers, (written, fails_since step left step.written reads step.failed_writes 0 0 r refl fails))
+pub batch_behind : (batch : Batch) (left : Option (List ℕ)) (step : Step) (reads : ℕ) (stop : Option BatchStop) → PassesOver (left_out batch.options.skip) left step.left true
+    → step.failed_reads ≡ reads → TakesLines batch step stop → TakesAnswered batch (whole_step step left step.written reads step.failed_writes) stop
+batch_behind batch left step reads None passes r (texts, answers, (written, fails)) =
+    (texts, answered_behind batch left step.left 0 texts passes answers, (written, fails_since step left step.written reads step.failed_writes 0 0 r refl fails))
+batch_behind batch left step reads (Some ReadFailed) passes r (texts, answers, (written, fails)) =
+    (texts, answered_behind batch left step.left 4 texts passes answers, (written, fails_since step left step.written reads step.failed_writes 1 0 r refl fails))
+batch_behind batch left step reads (Some WriteFailed) passes r (texts, answers, (written, fails)) =
+    (texts, answered_behind batch left step.left 4 texts passes answers, (written, fails_since step left step.written reads step.failed_writes 0 1 r refl fails))
+batch_behind batch left step reads (Some NoMemory) passes r (texts, answers, (written, fails)) =
+    (texts, answered_behind batch left step.left 3 texts passes answers, (written, fails_since step left step.written reads step.failed_writes 0 0 r refl fails))
 
 -- there are no lines but those that are left out
-pub batch_of_none : (s : Solver) (step : Step) → PassesOver (left_out s.batch.options.skip) step.left step.left_after false → Appends step.written step.written_after []
-    → Fails step 0 0 → TakesAnswered s step None
-batch_of_none s step (input, same, none) grown fails = ([], (input, same, ([], [], none, tt, λ _. refl)), (grown, fails))
+pub batch_of_none : (batch : Batch) (step : Step) → PassesOver (left_out batch.options.skip) step.left step.left_after false → Appends step.written step.written_after []
+    → Fails step 0 0 → TakesAnswered batch step None
+batch_of_none batch step (input, same, none) grown fails = ([], (input, same, ([], [], none, tt, λ _. refl)), (grown, fails))
 
 -- none of the lines was answered
-unanswered : (s : Solver) (left : Option (List ℕ)) (status : ℕ) → (status ≡ 0 → ⊥) → OfInput left (Answers s.batch status [])
-unanswered s left status other = of_any left _ (λ input. ([], answered_lines s.batch input, refl, tt, λ e. absurd (other e)))
+unanswered : (batch : Batch) (left : Option (List ℕ)) (status : ℕ) → (status ≡ 0 → ⊥) → OfInput left (Answers batch status [])
+unanswered batch left status other = of_any left _ (λ input. ([], answered_lines batch input, refl, tt, λ e. absurd (other e)))
 
 -- a line that is left out can't be read
-pub batch_unread : (s : Solver) (step : Step) (fault : InputFault) → Appends step.written step.written_after []
+pub batch_unread : (batch : Batch) (step : Step) (fault : InputFault) → Appends step.written step.written_after []
     → step.failed_reads_after ≡ step.failed_reads + failed_reads {T = Bool} (Err fault) → step.failed_writes_after ≡ step.failed_writes
-    → TakesAnswered s step (Some (stop_of fault))
-batch_unread s step input.ReadFailed grown reads writes =
-    ([], unanswered s step.left 4 (λ e. absurd (omega (arith, e))), (grown, (reads, omega (arith, writes))))
-batch_unread s step input.TooLong grown reads writes =
-    ([], unanswered s step.left 3 (λ e. absurd (omega (arith, e))), (grown, (reads, omega (arith, writes))))
-batch_unread s step input.NoMemory grown reads writes =
-    ([], unanswered s step.left 3 (λ e. absurd (omega (arith, e))), (grown, (reads, omega (arith, writes))))
+    → TakesAnswered batch step (Some (stop_of fault))
+batch_unread batch step input.ReadFailed grown reads writes =
+    ([], unanswered batch step.left 4 (λ e. absurd (omega (arith, e))), (grown, (reads, omega (arith, writes))))
+batch_unread batch step input.TooLong grown reads writes =
+    ([], unanswered batch step.left 3 (λ e. absurd (omega (arith, e))), (grown, (reads, omega (arith, writes))))
+batch_unread batch step input.NoMemory grown reads writes =
+    ([], unanswered batch step.left 3 (λ e. absurd (omega (arith, e))), (grown, (reads, omega (arith, writes))))
 
 -- ---- a run
 
@@ -388,9 +387,9 @@ fresh_left u None from to = refl
 fresh_left u (Some xs) from to = let none : u.to - u.from ≡ 0 = omega (arith, from, to) in ap (λ k. Some (take k (drop u.from u.chunk) ++ xs)) none
 
 -- the limits are searched, and lines were answered
-pub batch_ran : (s : Solver) (batch : Batch) (run : Run) (left : Option (List ℕ)) (texts : List (List ℕ)) → fault_of s.batch.limits ≡ None
-    → s.batch ≡ batch → left ≡ run.input → OfInput left (Answers s.batch run.ending.status texts) → EndsBatch run (joined texts) → RunsBatch batch run
-batch_ran s batch run left texts searched same_batch same answers ends =
+pub batch_ran : (opened batch : Batch) (run : Run) (left : Option (List ℕ)) (texts : List (List ℕ)) → fault_of opened.limits ≡ None
+    → opened ≡ batch → left ≡ run.input → OfInput left (Answers opened run.ending.status texts) → EndsBatch run (joined texts) → RunsBatch batch run
+batch_ran opened batch run left texts searched same_batch same answers ends =
     let none : fault_of batch.limits ≡ None = subst (λ b. fault_of b.limits ≡ None) same_batch searched in
     rw none (
       texts,

@@ -70,19 +70,6 @@ run_of_no_memory line run unread (inr cut) =
       failed_write = λ h. inl cut.0;
     }
 
--- a run in which a read failed
-pub run_of_failed_read : (line : Line) (run : Run) → run.failed_reads ≡ 1 → run.ending.failed_writes ≡ 0 → run.ending.status ≡ 4 → Writes run.ending []
-    → RunsLine line run
-run_of_failed_read line run one none four nothing = record {
-  status_known = inr (inr (inr four));
-  answered = λ e. absurd (elim e [ inl a ↦ omega arith | inr a ↦ omega arith ]);
-  out_of_memory = λ e. absurd (omega arith);
-  failed = (λ e. omega arith, λ h. four);
-  once = omega arith;
-  failed_read = λ h. nothing;
-  failed_write = λ h. absurd (omega arith);
-}
-
 -- all refusals but `NoMemory` end with status 1
 refusal_cases : (refusal : Refusal) → (refusal ≡ NoMemory) ⊎ ((refusal ≢ NoMemory) × (refusal_status refusal ≡ 1))
 refusal_cases Fields = inr (λ e. cc, refl)

@@ -5,7 +5,6 @@ use Rattle.std.specs.List.{AllZip}
 use Rattle.std.specs.declared.alloc.Global.{Global}
 use Rattle.rules.specs.declared.goal.Goal.{Goal}
 use Rattle.command_line.specs.declared.line.Limits.{Limits}
-use Rattle.rounds.specs.Seats.{AreSeats}
 use Rattle.rounds.specs.declared.task.SolveFault.{SolveFault}
 use Rattle.rounds.specs.declared.task.SolveFault.TheVariants as solve
 use Rattle.devices.specs.Device.{AppendsBeginning}
@@ -27,28 +26,23 @@ use Rattle.answer_texts.specs.declared.asked.Asked.{Asked}
 use Rattle.answer_texts.specs.declared.asked.Batch.{Batch}
 use Rattle.answer_texts.specs.declared.asked.Found.{Found}
 use Rattle.console.specs.declared.batch.BatchRun.{BatchRun}
-use Rattle.console.specs.declared.batch.Solver.{Solver}
 use Rattle.console.specs.declared.batch.BatchStop.{BatchStop}
 use Rattle.console.specs.declared.batch.BatchStop.TheVariants.{ReadFailed, WriteFailed, NoMemory}
 use Rattle.devices.specs.declared.lines.Next.{Next}
 
 -- ---- the batch under way
 
--- its limits are searched, and each of its threads has a seat of its table
-abbrev pub IsSolver : Solver → Type 0
-IsSolver s = (fault_of s.batch.limits ≡ None) × AreSeats s.slots (s.batch.limits.workers + 1) s.seats.items
-
--- the same is asked
-abbrev pub SameSolver : Solver → Solver → Type 0
-SameSolver a b = b.batch ≡ a.batch
+-- its limits are searched
+abbrev pub IsSearched : Batch → Type 0
+IsSearched batch = fault_of batch.limits ≡ None
 
 abbrev pub IsBatchRun : BatchRun → Type 0
-IsBatchRun run = IsSolver run.solver × IsUnread run.unread
+IsBatchRun run = IsSearched run.batch × IsUnread run.unread
 
 -- a batch in which nothing was read, or the first fault of the limits, or want of memory
 abbrev pub OpensBatchRun : Batch → Result BatchRun SolveFault → Type 0
 OpensBatchRun batch (Ok run) =
-    IsBatchRun run × (run.solver.batch ≡ batch) × (run.unread.from ≡ 0) × (run.unread.to ≡ 0)
+    IsBatchRun run × (run.batch ≡ batch) × (run.unread.from ≡ 0) × (run.unread.to ≡ 0)
 OpensBatchRun batch (Err fault) = (fault_of batch.limits ≡ Some fault) ⊎ ((fault_of batch.limits ≡ None) × (fault ≡ solve.NoMemory))
 
 -- what is asked of a position within the limits, for values of any size: it is found, or this is the first fault of the values, or memory is wanting
@@ -91,9 +85,9 @@ pub record Step : Type 0 where
   pub failed_writes_after : ℕ
 
 abbrev pub step_of : {S K : Type 0} → BatchRun → BatchRun → (S → Option (List ℕ)) → (S → ℕ) → S → S → (K → Option (List ℕ)) → (K → ℕ) → K → K → Step
-step_of run desk_after remaining read_failures reader reader_after contents write_failures writer writer_after = record {
+step_of run run_after remaining read_failures reader reader_after contents write_failures writer writer_after = record {
   left = left_of run.unread (remaining reader);
-  left_after = left_of desk_after.unread (remaining reader_after);
+  left_after = left_of run_after.unread (remaining reader_after);
   written = contents writer;
   written_after = contents writer_after;
   failed_reads = read_failures reader;
@@ -106,33 +100,29 @@ step_of run desk_after remaining read_failures reader reader_after contents writ
 abbrev pub Fails : Step → ℕ → ℕ → Type 0
 Fails step reads writes = (step.failed_reads_after ≡ step.failed_reads + reads) × (step.failed_writes_after ≡ step.failed_writes + writes)
 
--- the text is the reply to a line
-abbrev pub RepliesTo : Solver → List ℕ → List ℕ → Type 0
-RepliesTo s line text = IsLineReply s.batch line text
-
 -- the text is the reply to what comes next of the input; none comes at its end
-abbrev pub GivesNext : Solver → Next → Option (Vec ℕ Global) → Type 0
-GivesNext s next None = (line : List ℕ) → IsReadAs line next → line ≡ []
-GivesNext s next (Some text) = (line : List ℕ) → IsReadAs line next → (0 < length line) × RepliesTo s line (vec_items text)
+abbrev pub GivesNext : Batch → Next → Option (Vec ℕ Global) → Type 0
+GivesNext batch next None = (line : List ℕ) → IsReadAs line next → line ≡ []
+GivesNext batch next (Some text) = (line : List ℕ) → IsReadAs line next → (0 < length line) × IsLineReply batch line (vec_items text)
 
 -- the text is the reply to the last line, or is empty where none was left
-abbrev pub RepliesToLast : Solver → List ℕ → List ℕ → Type 0
-RepliesToLast s line text = (texts : List (List ℕ)) × AllZip (RepliesTo s) (lines_of line) texts × (text ≡ joined texts)
+abbrev pub RepliesToLast : Batch → List ℕ → List ℕ → Type 0
+RepliesToLast batch line text = (texts : List (List ℕ)) × AllZip (IsLineReply batch) (lines_of line) texts × (text ≡ joined texts)
 
 -- the line is one, and the first of what was left
 abbrev pub IsFirstOf : Option (List ℕ) → List ℕ → Type 0
 IsFirstOf left line = (lines_of line ≡ line ∷ []) × IfSome left (λ told. (rest : List (List ℕ)) × (lines_of told ≡ line ∷ rest))
 
 -- a line with a feed is taken and answered; or the last one, or there is none; or something stops it
-abbrev pub TakesStep : Solver → Step → Result Bool BatchStop → Type 0
-TakesStep s step (Ok true) = (line : List ℕ) × (text : List ℕ)
-    × IsFed line × Consumes step.left step.left_after line × RepliesTo s line text × Appends step.written step.written_after text × Fails step 0 0
-TakesStep s step (Ok false) = (line : List ℕ) × (text : List ℕ)
-    × IsLastOf step.left line × RepliesToLast s line text × Appends step.written step.written_after text × Fails step 0 0
-TakesStep s step (Err ReadFailed) = Appends step.written step.written_after [] × Fails step 1 0
-TakesStep s step (Err WriteFailed) = (line : List ℕ) × (text : List ℕ)
-    × IsFirstOf step.left line × RepliesTo s line text × AppendsBeginning step.written step.written_after text × Fails step 0 1
-TakesStep s step (Err NoMemory) = Appends step.written step.written_after [] × Fails step 0 0
+abbrev pub TakesStep : Batch → Step → Result Bool BatchStop → Type 0
+TakesStep batch step (Ok true) = (line : List ℕ) × (text : List ℕ)
+    × IsFed line × Consumes step.left step.left_after line × IsLineReply batch line text × Appends step.written step.written_after text × Fails step 0 0
+TakesStep batch step (Ok false) = (line : List ℕ) × (text : List ℕ)
+    × IsLastOf step.left line × RepliesToLast batch line text × Appends step.written step.written_after text × Fails step 0 0
+TakesStep batch step (Err ReadFailed) = Appends step.written step.written_after [] × Fails step 1 0
+TakesStep batch step (Err WriteFailed) = (line : List ℕ) × (text : List ℕ)
+    × IsFirstOf step.left line × IsLineReply batch line text × AppendsBeginning step.written step.written_after text × Fails step 0 1
+TakesStep batch step (Err NoMemory) = Appends step.written step.written_after [] × Fails step 0 0
 
 -- the status of a batch that ends so
 abbrev pub stop_status : Option BatchStop → ℕ
@@ -148,9 +138,9 @@ WritesUntil step (Some WriteFailed) text = AppendsBeginning step.written step.wr
 WritesUntil step (Some NoMemory) text = Appends step.written step.written_after text × Fails step 0 0
 
 -- lines are taken and answered
-abbrev pub TakesLines : Solver → Step → Option BatchStop → Type 0
-TakesLines s step stop = (texts : List (List ℕ))
-    × OfInput step.left (λ input. AnswersLines s.batch (stop_status stop) texts (lines_of input)) × WritesUntil step stop (joined texts)
+abbrev pub TakesLines : Batch → Step → Option BatchStop → Type 0
+TakesLines batch step stop = (texts : List (List ℕ))
+    × OfInput step.left (λ input. AnswersLines batch (stop_status stop) texts (lines_of input)) × WritesUntil step stop (joined texts)
 
 -- these bytes are the first so many lines of what begins with them
 abbrev pub IsFront : ℕ → List ℕ → Type 0
@@ -162,9 +152,9 @@ PassesOver count before after true = (bytes : List ℕ) × IsFront count bytes �
 PassesOver count before after false = OfInput before (λ input. drop count (lines_of input) ≡ [])
 
 -- the lines that are left out are passed over, and those behind them are taken and answered
-abbrev pub TakesAnswered : Solver → Step → Option BatchStop → Type 0
-TakesAnswered s step stop = (texts : List (List ℕ))
-    × OfInput step.left (λ input. AnswersLines s.batch (stop_status stop) texts (answered_lines s.batch input)) × WritesUntil step stop (joined texts)
+abbrev pub TakesAnswered : Batch → Step → Option BatchStop → Type 0
+TakesAnswered batch step stop = (texts : List (List ℕ))
+    × OfInput step.left (λ input. AnswersLines batch (stop_status stop) texts (answered_lines batch input)) × WritesUntil step stop (joined texts)
 
 -- what stops a batch at each fault of the input
 abbrev pub stop_of : InputFault → BatchStop

@@ -2,47 +2,37 @@
 ghost use Rattle.std.specs.Prelude.{◌≡◌, ◌+◌, ◌<◌, IfOk, option_map};
 ghost use Rattle.devices.specs.Input.{failed_reads};
 ghost use Rattle.devices.specs.Lines.{IsUnread, left_of};
-ghost use Rattle.answer_texts.specs.Asking.{with_plies};
+ghost use Rattle.answer_texts.specs.Asking.{IsFoundAt, with_plies};
 ghost use Rattle.answer_texts.specs.Said.{said_in};
 ghost use Rattle.console.specs.Batch.{HasReplyText, IsAskedReply, IsReplyText, left_out, remark_text, with_position};
 ghost use Rattle.answer_texts.specs.Forms.{IsRefusalText};
-ghost use Rattle.console.specs.BatchRun.{Finds, GivesAsked, GivesFound, GivesNext, IsBatchRun, IsSolver, OpensBatchRun, PassesOver, SameSolver, TakesAnswered, TakesLines, TakesStep, step_of, stop_of};
+ghost use Rattle.console.specs.BatchRun.{Finds, GivesAsked, GivesFound, GivesNext, IsBatchRun, IsSearched, OpensBatchRun, PassesOver, TakesAnswered, TakesLines, TakesStep, step_of, stop_of};
 ghost use Rattle.console.specs.declared.batch.BatchStop.TheVariants.{NoMemory, WriteFailed};
 
-use crate::beside::{find_beside, find_over};
 use answer_texts::{
     Asked, Batch, Found, asked_in, found_text, is_remark, limit_of, refused_object, said_in,
 };
 use board::Position;
 use command_line::{BatchOptions, Limits};
 use devices::{Failed, InputFault, Next, Sink, Source, Taken, Unread, write_all};
-use entry::MateLore;
 use moves::read_sound;
+use problems::Problem;
+use progress::Watch;
 use refusals::{Asking, Refusal, Refused, advise, refused_text, write_sentence};
-use replies::{Context, refusal_of, search_of, tell_if_over};
-use rounds::{SolveFault, Task, make_table};
-use searcher::NoGate;
-use slots::{Seat, Slots};
+use replies::{Context, Table, refusal_of, search_of, table_within, tell_if_over};
+use rounds::SolveFault;
 use std::alloc::{AllocError, Global};
 use std::io::Write;
-use std::mem;
 use std::sync::Wait;
 use std::sync::atomic::Ordering;
 use std::thread::Threads;
 use std::time::Clock;
 
-/// What solves the positions of a batch: one table for all of them.
-#[derive(Drop)]
-pub struct Solver {
-    pub batch: Batch,
-    pub slots: Slots<MateLore>,
-    pub seats: Vec<Seat>,
-}
-
-/// Where the lines of a batch are read and answered.
+/// A batch under way, over one table.
 #[derive(Drop)]
 pub struct BatchRun {
-    pub solver: Solver,
+    pub batch: Batch,
+    pub table: Table,
     pub unread: Unread,
     /// The number of the line that was read last.
     pub number: u64,
@@ -83,91 +73,81 @@ impl From<AllocError> for BatchStop {
     }
 }
 
-impl BatchRun {
-    /// A batch that is about to run, with a table for these limits, or the first of them that is refused.
-    pub fn open(alloc: Global, batch: Batch) -> Result<BatchRun, SolveFault>
-        ensures { OpensBatchRun batch result }
-    {
-        let search = search_of(batch.limits);
-        let (slots, seats) = make_table(alloc, search.limit, search.workers, search.slots)?;
-        Ok(BatchRun {
-            solver: Solver {
-                batch,
-                slots,
-                seats,
-            },
-            unread: Unread::new(),
-            number: 0,
-        })
+/// A batch that is about to run, with a table for these limits, or the first of them that is refused.
+pub fn open_batch(alloc: Global, batch: Batch) -> Result<BatchRun, SolveFault>
+    ensures { OpensBatchRun batch result }
+{
+    let table = table_within(alloc, batch.limits)?;
+    Ok(BatchRun {
+        batch,
+        table,
+        unread: Unread::new(),
+        number: 0,
+    })
+}
+
+/// The answer of a problem, or its keys.
+fn find<R: Threads + Wait + Eprint + Clock + Sync + AllocGlobal>(
+    rt: &R,
+    table: &mut Table,
+    keys: bool,
+    problem: &Problem,
+    watch: Option<&Watch>,
+) -> Result<Found, AllocError>
+    ensures { IfOk result (IsFoundAt keys problem.now.goal problem.now.position problem.now.limit) }
+{
+    if keys {
+        Ok(Found::Keys(replies::keys(rt, table, problem, watch)?))
+    } else {
+        Ok(Found::Answer(replies::solve(rt, table, problem, watch)?))
     }
 }
 
 /// What is asked of a position within so many plies, by the table of the batch.
 fn find_at<R: Threads + Wait + Eprint + Clock + Sync + AllocGlobal>(
     context: &Context<'_, R>,
-    solver: &mut Solver,
+    table: &mut Table,
+    batch: &Batch,
     limit: u32,
     position: &Position,
 ) -> Result<Found, SolveFault>
-    requires { IsSolver solver.old }
-    ensures solver { IsSolver solver.new }
-    ensures same { SameSolver solver.old solver.new }
-    ensures finds { Finds solver.old.batch.options.keys solver.old.batch.goal position.now
-        (with_plies solver.old.batch.limits limit) result }
+    requires { IsSearched batch.now }
+    ensures { Finds batch.now.options.keys batch.now.goal position.now (with_plies batch.now.limits limit) result }
 {
     let Batch {
         goal,
         limits,
         options,
-    } = solver.batch;
+    } = *batch;
     let limits = Limits {
         limit,
         workers: limits.workers,
         slots: limits.slots,
     };
-    let limit = search_of(limits).limit;
-    let Some(watch) = context.watch_of(position, options.keys, limits) else {
-        let task = Task {
-            position,
-            goal,
-            limit,
-            gate: &NoGate,
-        };
-        return find_over(
-            context.rt,
-            options.keys,
-            &task,
-            &solver.slots,
-            &mut solver.seats,
-        );
+    let Some(problem) = Problem::of(position, goal, search_of(limits).limit) else {
+        return Err(SolveFault::Limit);
     };
-    let task = Task {
-        position,
-        goal,
-        limit,
-        gate: &watch,
-    };
-    let seats = mem::replace(&mut solver.seats, Vec::new(context.rt.alloc()));
-    let (found, seats) = find_beside(context.rt, options.keys, &task, &solver.slots, seats);
-    solver.seats = seats;
-    found
+    let watch = context.watch_of(position, options.keys, limits);
+    match find(context.rt, table, options.keys, &problem, watch.as_ref()) {
+        Ok(found) => Ok(found),
+        Err(_) => Err(SolveFault::NoMemory),
+    }
 }
 
 /// What is written for what is found at a position, or why nothing is.
 fn position_text<R: Threads + Wait + Eprint + Clock + Sync + AllocGlobal>(
     context: &Context<'_, R>,
-    solver: &mut Solver,
+    table: &mut Table,
+    batch: &Batch,
     asked: &Asked<'_>,
     position: &Position,
 ) -> Result<Vec<u8>, Refusal>
-    requires { IsSolver solver.old }
-    ensures solver { IsSolver solver.new }
-    ensures same { SameSolver solver.old solver.new }
-    ensures gives { GivesFound solver.old.batch asked.now position.now result }
+    requires { IsSearched batch.now }
+    ensures { GivesFound batch.now asked.now position.now result }
 {
-    let limit = limit_of(solver.batch.limits.limit, asked.moves);
-    match find_at(context, solver, limit, position) {
-        Ok(found) => Ok(found_text(context.rt.alloc(), &solver.batch, asked, &found)?),
+    let limit = limit_of(batch.limits.limit, asked.moves);
+    match find_at(context, table, batch, limit, position) {
+        Ok(found) => Ok(found_text(context.rt.alloc(), batch, asked, &found)?),
         Err(fault) => Err(refusal_of(fault)),
     }
 }
@@ -175,16 +155,15 @@ fn position_text<R: Threads + Wait + Eprint + Clock + Sync + AllocGlobal>(
 /// What is written for what a line asks, or why it is refused.
 fn answered_text<R: Threads + Wait + Eprint + Clock + Sync + AllocGlobal>(
     context: &Context<'_, R>,
-    solver: &mut Solver,
+    table: &mut Table,
+    batch: &Batch,
     asked: &Asked<'_>,
 ) -> Result<Vec<u8>, Refusal>
-    requires { IsSolver solver.old }
-    ensures solver { IsSolver solver.new }
-    ensures same { SameSolver solver.old solver.new }
-    ensures gives { GivesAsked solver.old.batch asked.now result }
+    requires { IsSearched batch.now }
+    ensures { GivesAsked batch.now asked.now result }
 {
     let position = read_sound(asked.fen)?;
-    position_text(context, solver, asked, &position)
+    position_text(context, table, batch, asked, &position)
 }
 
 /// Tells why a line is refused, in one sentence.
@@ -229,20 +208,17 @@ fn echoed(alloc: Global, batch: &Batch, said: &[u8], plain: Vec<u8>) -> Result<V
 /// What is written for a line.
 fn line_text<R: Threads + Wait + Eprint + Clock + Sync + AllocGlobal, E: Write>(
     context: &Context<'_, R>,
-    solver: &mut Solver,
+    table: &mut Table,
+    batch: &Batch,
     line: &[u8],
-    number: u64,
     errors: &mut E,
 ) -> Result<Vec<u8>, AllocError>
-    requires { IsSolver solver.old }
-    ensures solver { IsSolver solver.new }
-    ensures same { SameSolver solver.old solver.new }
-    ensures text { IfOk result (λ text. HasReplyText solver.old.batch (said_in line.now) text.items) }
+    requires { IsSearched batch.now }
+    ensures { IfOk result (λ text. HasReplyText batch.now (said_in line.now) text.items) }
 {
-    let batch = solver.batch;
     let said = said_in(line);
-    let plain = plain_text(context, solver, said, number, errors)?;
-    echoed(context.rt.alloc(), &batch, said, plain)
+    let plain = plain_text(context, table, batch, said, errors)?;
+    echoed(context.rt.alloc(), batch, said, plain)
 }
 
 /// What is written for a remark.
@@ -260,41 +236,36 @@ fn remark_text(alloc: Global, batch: &Batch, said: &[u8]) -> Result<Vec<u8>, All
 /// What is written for what a line says, without its position.
 fn plain_text<R: Threads + Wait + Eprint + Clock + Sync + AllocGlobal, E: Write>(
     context: &Context<'_, R>,
-    solver: &mut Solver,
+    table: &mut Table,
+    batch: &Batch,
     said: &[u8],
-    number: u64,
     errors: &mut E,
 ) -> Result<Vec<u8>, AllocError>
-    requires { IsSolver solver.old }
-    ensures solver { IsSolver solver.new }
-    ensures same { SameSolver solver.old solver.new }
-    ensures text { IfOk result (λ text. IsReplyText solver.old.batch said.now text.items) }
+    requires { IsSearched batch.now }
+    ensures { IfOk result (λ text. IsReplyText batch.now said.now text.items) }
 {
     let alloc = context.rt.alloc();
     if is_remark(said) {
-        return remark_text(alloc, &solver.batch, said);
+        return remark_text(alloc, batch, said);
     }
     let asked = asked_in(alloc, said)?;
-    asked_text(context, solver, &asked, number, errors)
+    asked_text(context, table, batch, &asked, errors)
 }
 
 /// What is written for what a line asks.
 fn asked_text<R: Threads + Wait + Eprint + Clock + Sync + AllocGlobal, E: Write>(
     context: &Context<'_, R>,
-    solver: &mut Solver,
+    table: &mut Table,
+    batch: &Batch,
     asked: &Asked<'_>,
-    number: u64,
     errors: &mut E,
 ) -> Result<Vec<u8>, AllocError>
-    requires { IsSolver solver.old }
-    ensures solver { IsSolver solver.new }
-    ensures same { SameSolver solver.old solver.new }
-    ensures text { IfOk result (λ text. IsAskedReply solver.old.batch asked.now text.items) }
+    requires { IsSearched batch.now }
+    ensures { IfOk result (λ text. IsAskedReply batch.now asked.now text.items) }
 {
-    let json = solver.batch.options.json;
-    match answered_text(context, solver, asked) {
+    match answered_text(context, table, batch, asked) {
         Ok(text) => {
-            tell_if_over(errors, asked.fen, Some(number));
+            tell_if_over(errors, asked.fen, Some(context.number()));
             Ok(text)
         }
         Err(refusal) => {
@@ -304,9 +275,15 @@ fn asked_text<R: Threads + Wait + Eprint + Clock + Sync + AllocGlobal, E: Write>
             let why = Refused {
                 refusal,
                 fen: asked.fen,
-                asking: Asking::Line(number),
+                asking: Asking::Line(context.number()),
             };
-            refusal_line(context.rt.alloc(), json, errors, Some(asked.fen), &why)
+            refusal_line(
+                context.rt.alloc(),
+                batch.options.json,
+                errors,
+                Some(asked.fen),
+                &why,
+            )
         }
     }
 }
@@ -314,15 +291,13 @@ fn asked_text<R: Threads + Wait + Eprint + Clock + Sync + AllocGlobal, E: Write>
 /// What is written for what comes next of the input, or nothing at its end.
 fn next_text<R: Threads + Wait + Eprint + Clock + Sync + AllocGlobal, E: Write>(
     context: &Context<'_, R>,
-    solver: &mut Solver,
+    table: &mut Table,
+    batch: &Batch,
     next: Next,
-    number: u64,
     errors: &mut E,
 ) -> Result<Option<Vec<u8>>, AllocError>
-    requires { IsSolver solver.old }
-    ensures solver { IsSolver solver.new }
-    ensures same { SameSolver solver.old solver.new }
-    ensures text { IfOk result (GivesNext solver.old next) }
+    requires { IsSearched batch.now }
+    ensures { IfOk result (GivesNext batch.now next) }
 {
     match next {
         Next::End => Ok(None),
@@ -330,12 +305,12 @@ fn next_text<R: Threads + Wait + Eprint + Clock + Sync + AllocGlobal, E: Write>(
             let refused = Refused {
                 refusal: Refusal::TooLong,
                 fen: b"",
-                asking: Asking::Line(number),
+                asking: Asking::Line(context.number()),
             };
-            let json = solver.batch.options.json;
+            let json = batch.options.json;
             Ok(Some(refusal_line(context.rt.alloc(), json, errors, None, &refused)?))
         }
-        Next::Line(line) => Ok(Some(line_text(context, solver, line.as_slice(), number, errors)?)),
+        Next::Line(line) => Ok(Some(line_text(context, table, batch, line.as_slice(), errors)?)),
     }
 }
 
@@ -356,8 +331,8 @@ fn answer_next<
     requires reads { S.failures reader.old < u64.MAX }
     requires writes { K.failures writer.old < u64.MAX }
     ensures run { IsBatchRun run.new }
-    ensures same { SameSolver run.old.solver run.new.solver }
-    ensures step { TakesStep run.old.solver (step_of run.old run.new S.remaining S.failures reader.old reader.new
+    ensures same { run.new.batch ≡ run.old.batch }
+    ensures step { TakesStep run.old.batch (step_of run.old run.new S.remaining S.failures reader.old reader.new
         K.contents K.failures writer.old writer.new) result }
 {
     run.number = run.number.saturating_add(1);
@@ -365,7 +340,7 @@ fn answer_next<
     let Taken { next, is_last } = run
         .unread
         .next_line(context.rt, context.rt.alloc(), reader)?;
-    let Some(text) = next_text(context, &mut run.solver, next, run.number, errors)? else {
+    let Some(text) = next_text(context, &mut run.table, &run.batch, next, errors)? else {
         context.tally.clear(errors);
         return Ok(false);
     };
@@ -390,7 +365,7 @@ fn answer_lines<
     requires run { IsBatchRun run.old }
     requires reads { S.failures reader.old < u64.MAX }
     requires writes { K.failures writer.old < u64.MAX }
-    ensures lines { TakesLines run.old.solver (step_of run.old run.new S.remaining S.failures reader.old reader.new
+    ensures lines { TakesLines run.old.batch (step_of run.old run.new S.remaining S.failures reader.old reader.new
         K.contents K.failures writer.old writer.new) result }
 {
     for _ in context.rt.forever() {
@@ -449,11 +424,11 @@ pub fn answer_batch<
     requires run { IsBatchRun run.old }
     requires reads { S.failures reader.old < u64.MAX }
     requires writes { K.failures writer.old < u64.MAX }
-    ensures lines { TakesAnswered run.old.solver
+    ensures lines { TakesAnswered run.old.batch
         (step_of run.old run.new S.remaining S.failures reader.old reader.new
         K.contents K.failures writer.old writer.new) result }
 {
-    let count = left_out(run.solver.batch.options);
+    let count = left_out(run.batch.options);
     match pass_over(context.rt, &mut run.unread, reader, count) {
         Ok(true) => {
             run.number = u64::from(count);

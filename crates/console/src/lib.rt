@@ -2,10 +2,8 @@
 #![tactic(auto)]
 
 mod batch;
-mod beside;
 mod over;
-mod program;
 mod running;
+mod watching;
 
-pub use program::run_program;
-pub use running::{run, run_line};
+pub use running::{run, run_line, run_program};

@@ -4,25 +4,25 @@ ghost use Rattle.replies.specs.Outcome.{GivesReply};
 ghost use Rattle.replies.specs.Output.{fault_of, MayRead};
 ghost use Rattle.endings.specs.Outcome.{reads_failed};
 ghost use Rattle.endings.specs.Run.{ending_of, run_of, EndsReply, MayTell, Refuses};
-ghost use Rattle.endings.specs.Words.{MeansSome, RunsWords};
+ghost use Rattle.endings.specs.Words.{MeansSome, MeansSomeIn, RunsProgram, RunsWords};
 ghost use Rattle.console.specs.Batch.{RunsBatch};
 ghost use Rattle.console.specs.Order.{MayReadOf, RunsOrder, SearchesOver, TellsMore};
 ghost use Rattle.console.specs.Playing.{WritesAfter};
 ghost use Rattle.console.specs.Run.{RunsLine};
 
-use crate::batch::{BatchRun, BatchStop, answer_batch, left_out};
-use crate::beside::{reply_beside, watch_of};
+use crate::batch::{BatchStop, answer_batch, left_out, open_batch};
 use crate::over::{asking_of, tell_if_line_is_over};
+use crate::watching::watch_of;
 use answer_texts::Batch;
 use command_line::{BatchOptions, Line, LineFault, NamedMove, Order, asks_progress, read_order};
 use devices::{Sink, Source};
 use endings::{
-    ANSWERED, REFUSED_WORDS, ReplyFault, fail_to_read, fail_to_write, finish, give_up_for_memory,
-    has_no_answer, refuse, refuse_and_tell, search_refused,
+    ANSWERED, REFUSED_WORDS, ReplyFault, end_wordless, explain_if_refused, fail_to_read,
+    fail_to_write, finish, give_up_for_memory, has_no_answer, refuse, refuse_and_tell,
+    search_refused,
 };
 use refusals::{Asking, Refusal, Refused, advise, advise_move};
-use replies::{Context, Tally, Told, after_reply, context_of, first_reply, refusal_of, reply_told};
-use searcher::NoGate;
+use replies::{Context, Tally, after_reply, context_of, first_reply, refusal_of, reply_to};
 use std::convert::AsStr;
 use std::io::{self, Write, sink};
 use std::sync::Wait;
@@ -44,36 +44,8 @@ pub fn run_line<R: Threads + Wait + Eprint + Clock + Sync + AllocGlobal, S: Sour
     ensures runs { RunsLine line.now (run_of S.remaining S.failures reader.old reader.new
         (ending_of K.contents K.failures writer.old writer.new result)) }
 {
-    let context = Context {
-        rt,
-        shows: false,
-        line: AtomicU64::new(0),
-        tally: Tally::quiet(),
-    };
+    let context = Context::quiet(rt);
     run_line_on(&context, line, reader, writer, &mut sink())
-}
-
-/// The text that answers a line, with a sign of life where one is asked for.
-fn reply_shown<R: Threads + Wait + Eprint + Clock + Sync + AllocGlobal, S: Source>(
-    context: &Context<'_, R>,
-    line: &Line<'_>,
-    reader: &mut S,
-) -> Result<Vec<u8>, ReplyFault>
-    requires { S.failures reader.old < u64.MAX }
-    ensures given { GivesReply vec_items line.now (S.remaining reader.old) result }
-    ensures asked { MayRead line.now ⊎ (reader.new ≡ reader.old) }
-    ensures counts { S.failures reader.new ≡ S.failures reader.old + reads_failed result }
-{
-    match watch_of(context, line) {
-        Some(watch) => reply_beside(context.rt, &watch, line),
-        None => {
-            let told = Told {
-                alloc: context.rt.alloc(),
-                gate: &NoGate,
-            };
-            reply_told(context.rt, &told, line, reader)
-        }
-    }
 }
 
 /// Answers a line for a context that may show how far a search is. `errors` is told why a line was refused;
@@ -91,7 +63,8 @@ fn run_line_on<
         (ending_of K.contents K.failures writer.old writer.new result)) }
     ensures silent { MayTell result ⊎ SearchesOver line.now ⊎ (errors.new ≡ errors.old) }
 {
-    match reply_shown(context, line, reader) {
+    let watch = watch_of(context, line);
+    match reply_to(context.rt, watch.as_ref(), line, reader) {
         Ok(text) => {
             tell_if_line_is_over(errors, line);
             finish(writer, errors, text.as_slice(), ANSWERED)
@@ -122,7 +95,7 @@ pub fn run_batch<
     ensures runs { RunsBatch batch (run_of S.remaining S.failures reader.old reader.new
         (ending_of K.contents K.failures writer.old writer.new result)) }
 {
-    match BatchRun::open(context.rt.alloc(), batch) {
+    match open_batch(context.rt.alloc(), batch) {
         Ok(mut opened) => match answer_batch(context, &mut opened, reader, writer, errors) {
             None => ANSWERED,
             Some(BatchStop::NoMemory) => give_up_for_memory(writer, errors),
@@ -233,19 +206,17 @@ pub fn run<
     ensures silent { MayTell result ⊎ MeansSome TellsMore (map W.text words.now) ⊎ (errors.new ≡ errors.old) }
 {
     match read_order(rt.alloc(), words) {
-        Ok(Order::One(line)) => run_line_on(&context_of(rt, words), &line, reader, writer, errors),
+        Ok(Order::One(line)) => {
+            run_line_on(&context_of(rt, words), &line, reader, writer, errors)
+        }
         Ok(Order::Batch(goal, limits, options)) => {
-            run_batch(
-                &batch_context(rt, words, options),
-                Batch {
-                    goal,
-                    limits,
-                    options,
-                },
-                reader,
-                writer,
-                errors,
-            )
+            let batch = Batch {
+                goal,
+                limits,
+                options,
+            };
+            let context = batch_context(rt, words, options);
+            run_batch(&context, batch, reader, writer, errors)
         }
         Ok(Order::After(played)) => run_after(rt, &played, writer, errors),
         Ok(Order::TreeAfter(played, goal, limits)) => {
@@ -256,5 +227,35 @@ pub fn run<
         Ok(Order::Verify(_) | Order::Certify(..) | Order::Solution(..)) => REFUSED_WORDS,
         Err(LineFault::Words) => REFUSED_WORDS,
         Err(LineFault::NoMemory) => give_up_for_memory(writer, errors),
+    }
+}
+
+/// The commands that it answers.
+const OWN: &[&str] = &[
+    "solve", "tree", "keys", "check", "moves", "show", "after", "batch",
+];
+
+/// Runs the words, or answers why there are none. What is to be said of words that are no line goes to
+/// `errors`, and why a line was refused; whether they take it changes nothing.
+pub fn run_program<
+    R: Threads + Wait + Eprint + Clock + Sync + AllocGlobal,
+    S: Source,
+    K: Sink,
+    E: Write,
+>(rt: &R, words: io::Result<Vec<String>>, reader: &mut S, writer: &mut K, errors: &mut E) -> u8
+    requires reads { S.failures reader.old < u64.MAX }
+    requires writes { K.failures writer.old < u64.MAX }
+    ensures runs { RunsProgram RunsOrder words (run_of S.remaining S.failures reader.old reader.new
+        (ending_of K.contents K.failures writer.old writer.new result)) }
+    ensures unread { MeansSomeIn MayReadOf words ⊎ (reader.new ≡ reader.old) }
+    ensures silent { (result ≡ 2) ⊎ MayTell result ⊎ MeansSomeIn TellsMore words ⊎ (errors.new ≡ errors.old) }
+{
+    match words {
+        Ok(words) => {
+            let status = run(rt, words.as_slice(), reader, writer, errors);
+            explain_if_refused(rt.alloc(), OWN, status, words.as_slice(), errors);
+            status
+        }
+        Err(error) => end_wordless(&error, writer, errors),
     }
 }

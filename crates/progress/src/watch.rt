@@ -1,18 +1,14 @@
 //! What is known of a search while it lasts, and the thread that shows it on standard error.
 ghost use Rattle.std.specs.Prelude.{◌≡◌, ◌↔◌, ◌<◌, ◌≤◌, ℕ, IfOk, IfSome, IsTrue, string_bytes, vec_len};
-ghost use Rattle.atomic_table.specs.Seated.{TableId};
-ghost use Rattle.searcher.specs.Gates.{KeepsOn};
 ghost use Rattle.progress.specs.Text.{drawn_text, sign_text};
 ghost use Rattle.progress.specs.declared.sign.Sign.{Sign};
 ghost use Rattle.progress.specs.Signs.{DrawsFirst, IsRoundAfter, IsSignOf, IsTargetOf, WatchesSearch};
 
+use crate::ended::Ended;
 use crate::place::{WINS, first_named};
 use crate::sign::{CLEARED, Sign, Work, drawn, left_behind};
 use board::Position;
-use entry::MateLore;
 use moves::{Move, lawful};
-use searcher::{Ended, Gate};
-use slots::{Seat, Slots};
 use std::alloc::{AllocError, Global};
 use std::sync::Wait;
 use std::sync::atomic::{AtomicU64, Ordering};
@@ -123,6 +119,21 @@ impl Watch {
         }
     }
 
+    /// Is told by any thread of the search what has ended within so many plies.
+    pub fn end(&self, round: u8, ended: Ended) {
+        match ended {
+            Ended::Loses(job) => self.note(job, round),
+            Ended::Wins(job) => match self.course {
+                Course::Rounds => self.note(job, WINS),
+                Course::Keys(_) => self.note(job, KEY),
+            },
+            Ended::Round => {
+                self.none.store(u64::from(round), Ordering::SeqCst);
+                self.parker.unpark();
+            }
+        }
+    }
+
     /// The plies within which a job is to be decided, where rounds of so many plies have ended with nothing.
     fn target(&self, ended: u8) -> u8
         ensures { IsTargetOf self.now.course ended result }
@@ -184,33 +195,6 @@ impl Watch {
         self.text_of(seconds, job, all[job], none)
     }
 }
-
-impl Gate for Watch {
-    ghost use Rattle.std.specs.Prelude.{◌≡◌};
-
-    ghost keeps = { λ _ before after. after ≡ before };
-
-    fn begin(&self, _round: u8, _job: u16, _slots: &Slots<MateLore>, _seat: &mut Seat) {}
-
-    fn end(&self, round: u8, ended: Ended) {
-        match ended {
-            Ended::Loses(job) => self.note(job, round),
-            Ended::Wins(job) => match self.course {
-                Course::Rounds => self.note(job, WINS),
-                Course::Keys(_) => self.note(job, KEY),
-            },
-            Ended::Round => {
-                self.none.store(u64::from(round), Ordering::SeqCst);
-                self.parker.unpark();
-            }
-        }
-    }
-}
-
-/// In the calls of the gate that draws the sign of life each seat goes on. The function does nothing: its contract is the law.
-pub fn watch_keeps_on()
-    ensures { (table : TableId) → KeepsOn ⟦<Watch as Gate>⟧.keeps table }
-{}
 
 /// Leaves a line behind for each round that has ended with nothing since so many plies, and answers the plies
 /// of the last one. Of a batch's search none is left. A failed write plays no part.

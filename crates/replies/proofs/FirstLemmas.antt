@@ -2,7 +2,6 @@
 use Rattle.std.proofs.Common.{◌≡◌, ℕ, ◌<◌, List, length, Contains, None, Some, Result, Vec, inl, inr, refl, slice_get, sym, subst, vec_items}
 use Rattle.board.specs.Board.{PlainBoard}
 use Rattle.rules.specs.Squares.{Ply}
-use Rattle.rules.specs.Moves.{IsLawful}
 use Rattle.rules.specs.declared.goal.Goal.{Goal}
 use Rattle.wintree.specs.Plan.{Plan}
 use Rattle.trees.specs.First.{IsOpened, IsOpenedJob}
@@ -45,22 +44,24 @@ none_shown r job limits result none same is gives =
     (λ reply text m at. nothing_shown r.goal r.board m limits r.limit reply none same (is m at) text) gives
 
 -- of the lawful move of the name
-pub named_shown : (goal : Goal) (b : PlainBoard) (name : List ℕ) (limits : Limits) (r : Root) (job : ℕ) (result : Result (Vec ℕ Global) Refusal) → r.goal ≡ goal → r.board ≡ b
-    → IsJobOf r job → NamesJob r.moves.items name job → Gives vec_items (ShowsJob r job limits) result → Gives vec_items (ShowsFirst goal b name limits) result
-named_shown goal b name limits r job result same_goal same_board (lists, below) (m, at, named) gives =
-    gives_weaker vec_items (ShowsJob r job limits) (ShowsFirst goal b name limits) result
-    (λ reply shows. inl (
-      m,
-      subst (λ x. IsLawful x m) same_board ((lists.exact m).0 (listed r.moves.items job m below at)),
-      named,
-      subst (λ x. ShowsTreeFound goal x m limits reply) same_board (subst (λ g. ShowsTreeFound g r.board m limits reply) same_goal (shows m at)),
-    )) gives
+pub named_shown : (name : List ℕ) (limits : Limits) (r : Root) (job : ℕ) (result : Result (Vec ℕ Global) Refusal) → IsJobOf r job
+    → NamesJob r.moves.items name job → Gives vec_items (ShowsJob r job limits) result → Gives vec_items (ShowsFirst r.goal r.board name limits) result
+named_shown name limits r job result (lists, below) (m, at, named) gives =
+    gives_weaker vec_items (ShowsJob r job limits) (ShowsFirst r.goal r.board name limits) result
+    (λ reply shows. inl (m, (lists.exact m).0 (listed r.moves.items job m below at), named, shows m at)) gives
   where
     listed : (xs : List Ply) (job : ℕ) (m : Ply) → job < length xs → slice_get xs job ≡ Some m → Contains xs m
     listed xs job m below at = (job, below, get_or_from_slice_get xs job m m at)
 
 -- at the sound position
-pub first_at_text : (played : NamedMove) (goal : Goal) (limits : Limits) (b : PlainBoard) (r : Result (Vec ℕ Global) Refusal) → IsSoundText played.fen.now b
-    → Gives vec_items (ShowsFirst goal b played.name.now limits) r → Gives vec_items (IsFirstReply played goal limits) r
-first_at_text played goal limits b r sound gives =
-    gives_weaker vec_items (ShowsFirst goal b played.name.now limits) (IsFirstReply played goal limits) r (λ reply shows. inl (b, sound, shows)) gives
+pub first_at_text : (played : NamedMove) (goal : Goal) (limits : Limits) (b : PlainBoard) (r : Root) (result : Result (Vec ℕ Global) Refusal)
+    → IsSoundText played.fen.now b → r.goal ≡ goal → r.board ≡ b → Gives vec_items (ShowsFirst r.goal r.board played.name.now limits) result
+    → Gives vec_items (IsFirstReply played goal limits) result
+first_at_text played goal limits b r result sound same_goal same_board gives =
+    gives_weaker vec_items (ShowsFirst r.goal r.board played.name.now limits) (IsFirstReply played goal limits) result
+    (λ reply shows. inl (
+      b,
+      sound,
+      subst (λ x. ShowsFirst goal x played.name.now limits reply) same_board
+          (subst (λ g. ShowsFirst g r.board played.name.now limits reply) same_goal shows),
+    )) gives

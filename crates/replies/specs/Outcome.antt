@@ -28,10 +28,14 @@ abbrev pub FindsKeys : {A : Type 0} → Goal → PlainBoard → Limits → Resul
 FindsKeys goal b limits (Ok keys) = (fault_of limits ≡ None) × ListsKeys goal b limits.limit keys.items
 FindsKeys goal b limits (Err fault) = (fault_of limits ≡ Some fault) ⊎ ((fault_of limits ≡ None) × (fault ≡ solve.NoMemory))
 
--- the same of the best plan, or that nothing is forced within the limit
+-- the best plan, where the goal is forced in some number of plies up to the limit; or none, where it is in none
+abbrev pub IsBestWithin : Goal → PlainBoard → ℕ → Option Plan → Type 0
+IsBestWithin goal b limit (Some plan) = IsBest goal b plan × ((plies : ℕ) × (plies ≤ limit) × IsFewest goal b plies)
+IsBestWithin goal b limit None = ForcesNothing goal b limit
+
+-- the same of a search: the best plan, or that nothing is forced within the limit
 abbrev pub FindsTree : Goal → PlainBoard → Limits → Result (Option Plan) SolveFault → Type 0
-FindsTree goal b limits (Ok (Some plan)) = (fault_of limits ≡ None) × IsBest goal b plan × ((plies : ℕ) × (plies ≤ limits.limit) × IsFewest goal b plies)
-FindsTree goal b limits (Ok None) = (fault_of limits ≡ None) × ForcesNothing goal b limits.limit
+FindsTree goal b limits (Ok found) = (fault_of limits ≡ None) × IsBestWithin goal b limits.limit found
 FindsTree goal b limits (Err fault) = (fault_of limits ≡ Some fault) ⊎ ((fault_of limits ≡ None) × (fault ≡ solve.NoMemory))
 
 -- a reply to the line with the input that it reads

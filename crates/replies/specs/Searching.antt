@@ -17,7 +17,7 @@ use Rattle.refusals.specs.Reply.{Reply, refused}
 use Rattle.refusals.specs.Refusal.{refusal_of_fen}
 use Rattle.replies.specs.Outcome.{Solves}
 use Rattle.rounds.specs.declared.task.SolveFault.{SolveFault}
-use Rattle.replies.specs.declared.searched.Searched.{Searched}
+use Rattle.replies.specs.declared.searching.Searched.{Searched}
 
 -- the answer within the limits, and its table; or the first fault of the values, or want of memory
 abbrev pub SolvesOver : Goal → PlainBoard → Limits → Result Searched SolveFault → Type 0

@@ -37,6 +37,25 @@ pub fn context_of<'a, R, W: AsStr>(rt: &'a R, words: &[W]) -> Context<'a, R>
     }
 }
 
+impl<'a, R> Context<'a, R> {
+    /// A context in which nobody is told how far a search is.
+    pub fn quiet(rt: &'a R) -> Context<'a, R>
+        ensures { result.shows ≡ false }
+    {
+        Context {
+            rt,
+            shows: false,
+            line: AtomicU64::new(0),
+            tally: Tally::quiet(),
+        }
+    }
+
+    /// The number of a batch's line.
+    pub fn number(&self) -> u64 {
+        self.line.load(Ordering::SeqCst)
+    }
+}
+
 impl<R: Clock + AllocGlobal> Context<'_, R> {
     /// A watch over a search at a position that begins now, if it is to be shown.
     pub fn watch(&self, position: &Position, course: Course, slots: u32) -> Option<Watch>
@@ -47,7 +66,7 @@ impl<R: Clock + AllocGlobal> Context<'_, R> {
             return None;
         }
         let start = Instant::now(self.rt).ok()?;
-        let line = match self.line.load(Ordering::SeqCst) {
+        let line = match self.number() {
             0 => None,
             number => Some(number),
         };

@@ -4,23 +4,27 @@
 mod context;
 mod drawn;
 mod first;
+mod gate;
 mod over;
 mod played;
 mod refusal;
 mod replying;
-mod searched;
 mod searching;
+mod solving;
+mod table;
 mod tally;
 
 pub use context::{Context, context_of, last_round};
 pub use first::first_reply;
+pub use gate::{Watched, watched_keeps_on};
 pub use over::tell_if_over;
 pub use played::after_reply;
 pub use refusal::refusal_of;
 pub use replying::{
-    MOST_INPUT, Search, Told, answer_line, key_lines, none_line, plan_line, reply_told, search_of,
-    searched_within, tree_line, verdict_text,
+    MOST_INPUT, Search, answer_line, key_lines, none_line, plan_line, reply_to, search_of,
+    tree_line, verdict_text,
 };
-pub use searched::Searched;
-pub use searching::searched_at;
+pub use searching::{Searched, searched_at, table_within};
+pub use solving::{keys, solve, tree, tree_of};
+pub use table::Table;
 pub use tally::Tally;

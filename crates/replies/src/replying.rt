@@ -1,11 +1,8 @@
 //! The reply to a line: the text of its answer, or why there is none.
-ghost use Rattle.std.specs.Prelude.{◌≡◌, ◌⊎◌, ◌+◌, ◌<◌, ◌≤◌, All, Err, IfErr, IfOk, None, Ok, length, min, vec_items};
+ghost use Rattle.std.specs.Prelude.{◌≡◌, ◌⊎◌, ◌+◌, ◌<◌, ◌≤◌, IfErr, IfOk, None, min, vec_items};
 ghost use Rattle.board.specs.Board.{PlainBoard};
 ghost use Rattle.rules.specs.declared.goal.Goal.{Goal};
 ghost use Rattle.command_line.specs.declared.line.Limits.{Limits};
-ghost use Rattle.slots.specs.Promise.{IsSeatOf};
-ghost use Rattle.rounds.specs.Limits.{IsRefusal};
-ghost use Rattle.rounds.specs.Seats.{AreSeats};
 ghost use Rattle.wintree.specs.Plan.{depth};
 ghost use Rattle.wintree.specs.Text.{text as tree_words};
 ghost use Rattle.devices.specs.Input.{OfInput};
@@ -17,22 +14,22 @@ ghost use Rattle.refusals.specs.Reply.{answered, line_of};
 
 use crate::drawn::drawn;
 use crate::refusal::refusal_of;
+use crate::searching::opened;
+use crate::solving::{keys, solve, tree};
 use answer_texts::{answer_text, checked_text, keys_text, moves_text, none_text};
 use board::Position;
 use command_line::{Action, Limits, Line};
 use devices::{Source, read_all, without_line_feed};
 use endings::ReplyFault;
-use entry::MateLore;
 use moves::{Goal, lawful, read_sound};
 use problems::{Answer, Key};
+use progress::Watch;
 use refusals::Refusal;
-use rounds::{SolveFault, Task, keys_over, make_table, solve_over};
-use searcher::Gate;
-use slots::{Seat, Slots};
+use rounds::SolveFault;
 use std::alloc::{AllocError, Allocator, Global};
 use std::sync::Wait;
 use std::thread::Threads;
-use trees::{Wanted, build_tree_over};
+use std::time::Clock;
 use wintree::{NoMemory, Tree, check, read_tree, tree_text};
 
 /// The most bytes of a tree, with the line feed at its end.
@@ -44,13 +41,6 @@ pub struct Search {
     pub limit: u8,
     pub workers: u8,
     pub slots: usize,
-}
-
-/// What is told of a search while it lasts, and where its memory comes from.
-#[derive(Drop)]
-pub struct Told<'a, T: Gate> {
-    pub alloc: Global,
-    pub gate: &'a T,
 }
 
 /// The number as a byte. One that is too great is outside what is searched with, and stays so as 255.
@@ -73,121 +63,53 @@ pub fn search_of(limits: Limits) -> Search
     }
 }
 
-/// What is asked within the limits, and the table and the seats that it is searched over.
-#[derive(Drop)]
-struct Lent<'a, T: Gate> {
-    task: Task<'a, T>,
-    table: Slots<MateLore>,
-    seats: Vec<Seat>,
-}
-
-fn lend<'a, T: Gate>(
-    told: &Told<'a, T>,
-    position: &'a Position,
-    goal: Goal,
-    limits: Limits,
-) -> Result<Lent<'a, T>, SolveFault>
-    ensures position { IfOk result (λ lent. lent.task.position.now ≡ position.now) }
-    ensures goal { IfOk result (λ lent. lent.task.goal ≡ goal) }
-    ensures limit { IfOk result (λ lent. lent.task.limit ≡ limits.limit) }
-    ensures accepted { IfOk result (λ _. fault_of limits ≡ None) }
-    ensures seats { IfOk result (λ lent. AreSeats lent.table (limits.workers + 1) lent.seats.items) }
-    ensures fault { IfErr result (IsRefusal limits.limit limits.workers limits.slots) }
-{
-    let Search {
-        limit,
-        workers,
-        slots,
-    } = search_of(limits);
-    let (table, seats) = make_table(told.alloc, limit, workers, slots)?;
-    let task = Task {
-        position,
-        goal,
-        limit,
-        gate: told.gate,
-    };
-    Ok(Lent { task, table, seats })
-}
-
 /// The answer within the limits.
-fn answer_within<R: Threads + Wait + Sync, T: Gate>(
+fn answer_within<R: Threads + Wait + Eprint + Clock + Sync + AllocGlobal>(
     rt: &R,
-    told: &Told<'_, T>,
+    watch: Option<&Watch>,
     position: &Position,
     goal: Goal,
     limits: Limits,
 ) -> Result<Answer, SolveFault>
     ensures { Solves goal position.now limits result }
 {
-    let Lent {
-        task,
-        table,
-        mut seats,
-    } = lend(told, position, goal, limits)?;
-    solve_over(rt, told.alloc, &task, &table, &mut seats)
-}
-
-/// The answer within the limits, with the table that it was found over and its seats there.
-pub fn searched_within<R: Threads + Wait + Sync, T: Gate>(
-    rt: &R,
-    told: &Told<'_, T>,
-    position: &Position,
-    goal: Goal,
-    limits: Limits,
-) -> Result<(Answer, Slots<MateLore>, Vec<Seat>), SolveFault>
-    ensures answer { IfOk result (λ found. Solves goal position.now limits (Ok found.0)) }
-    ensures some { IfOk result (λ found. 0 < length found.2.items) }
-    ensures seats { IfOk result (λ found. All (IsSeatOf found.1) found.2.items) }
-    ensures fault { IfErr result (λ fault. Solves goal position.now limits (Err fault)) }
-{
-    let Lent {
-        task,
-        table,
-        mut seats,
-    } = lend(told, position, goal, limits)?;
-    let answer = solve_over(rt, told.alloc, &task, &table, &mut seats)?;
-    Ok((answer, table, seats))
+    let (problem, mut table) = opened(rt.alloc(), position, goal, limits)?;
+    match solve(rt, &mut table, &problem, watch) {
+        Ok(answer) => Ok(answer),
+        Err(_) => Err(SolveFault::NoMemory),
+    }
 }
 
 /// The first moves that force the goal within the limits.
-fn keys_within<R: Threads + Wait + Sync, T: Gate>(
+fn keys_within<R: Threads + Wait + Eprint + Clock + Sync + AllocGlobal>(
     rt: &R,
-    told: &Told<'_, T>,
+    watch: Option<&Watch>,
     position: &Position,
     goal: Goal,
     limits: Limits,
 ) -> Result<Vec<Key>, SolveFault>
     ensures { FindsKeys goal position.now limits result }
 {
-    let Lent {
-        task,
-        table,
-        mut seats,
-    } = lend(told, position, goal, limits)?;
-    keys_over(rt, told.alloc, &task, &table, &mut seats)
+    let (problem, mut table) = opened(rt.alloc(), position, goal, limits)?;
+    match keys(rt, &mut table, &problem, watch) {
+        Ok(keys) => Ok(keys),
+        Err(_) => Err(SolveFault::NoMemory),
+    }
 }
 
 /// The best tree within the limits, or none where nothing is forced.
-fn tree_within<R: Threads + Wait + Sync, T: Gate>(
+fn tree_within<R: Threads + Wait + Eprint + Clock + Sync + AllocGlobal>(
     rt: &R,
-    told: &Told<'_, T>,
+    watch: Option<&Watch>,
     position: &Position,
     goal: Goal,
     limits: Limits,
 ) -> Result<Option<Tree>, SolveFault>
     ensures { FindsTree goal position.now limits result }
 {
-    let (answer, table, mut seats) = searched_within(rt, told, position, goal, limits)?;
-    let Answer::Mate { plies, .. } = answer else {
-        return Ok(None);
-    };
-    let wanted = Wanted {
-        position,
-        goal,
-        plies,
-    };
-    match build_tree_over(rt, told.alloc, &wanted, &table, &mut seats) {
-        Ok(tree) => Ok(Some(tree)),
+    let (problem, mut table) = opened(rt.alloc(), position, goal, limits)?;
+    match tree(rt, &mut table, &problem, watch) {
+        Ok(tree) => Ok(tree),
         Err(_) => Err(SolveFault::NoMemory),
     }
 }
@@ -296,11 +218,10 @@ fn check_text<S: Source>(
     Ok(verdict_text(alloc, position, goal, text)?)
 }
 
-/// The text that answers a line, where a gate is told of each job of a search. Only `check` asks the reader for anything, and only where
-/// the position is sound.
-pub fn reply_told<R: Threads + Wait + Sync, T: Gate, S: Source>(
+/// The text that answers a line. Only `check` asks the reader for anything, and only where the position is sound.
+pub fn reply_to<R: Threads + Wait + Eprint + Clock + Sync + AllocGlobal, S: Source>(
     rt: &R,
-    told: &Told<'_, T>,
+    watch: Option<&Watch>,
     line: &Line<'_>,
     reader: &mut S,
 ) -> Result<Vec<u8>, ReplyFault>
@@ -309,15 +230,15 @@ pub fn reply_told<R: Threads + Wait + Sync, T: Gate, S: Source>(
     ensures asked { MayRead line.now ⊎ (reader.new ≡ reader.old) }
     ensures counts { S.failures reader.new ≡ S.failures reader.old + reads_failed result }
 {
-    let alloc = told.alloc;
+    let alloc = rt.alloc();
     let position = read_sound(line.fen)?;
     match line.action {
         Action::Solve(goal, limits) => {
-            let found = answer_within(rt, told, &position, goal, limits);
+            let found = answer_within(rt, watch, &position, goal, limits);
             Ok(answer_line(alloc, goal, found)?)
         },
         Action::Keys(goal, limits) => {
-            let found = keys_within(rt, told, &position, goal, limits);
+            let found = keys_within(rt, watch, &position, goal, limits);
             Ok(key_lines(alloc, limits.limit, found)?)
         },
         Action::Moves => {
@@ -326,7 +247,7 @@ pub fn reply_told<R: Threads + Wait + Sync, T: Gate, S: Source>(
         }
         Action::Show(drawing) => Ok(drawn(alloc, &position, drawing)?.into_bytes()),
         Action::Tree(goal, limits) => {
-            let found = tree_within(rt, told, &position, goal, limits);
+            let found = tree_within(rt, watch, &position, goal, limits);
             Ok(plan_line(alloc, limits.limit, found)?)
         },
         Action::Check(goal) => check_text(alloc, &position, goal, reader),

@@ -1,59 +1,61 @@
-//! The answer at one position, with a sign of life beside its search.
+//! A table and a problem within limits; and the answer at one position, with a sign of life beside its search.
+ghost use Rattle.std.specs.Prelude.{◌≡◌, IfErr, IfOk, None};
+ghost use Rattle.problems.specs.Problems.{IsProblemOf};
+ghost use Rattle.rounds.specs.Limits.{IsRefusal};
+ghost use Rattle.replies.specs.Output.{fault_of};
 ghost use Rattle.replies.specs.Searching.{SolvesOver};
 
 use crate::context::Context;
-use crate::replying::{Told, searched_within};
-use crate::searched::Searched;
+use crate::replying::{Search, search_of};
+use crate::solving::solve;
+use crate::table::Table;
 use board::Position;
 use command_line::Limits;
 use moves::Goal;
-use progress::{Watch, shown};
-use rounds::SolveFault;
-use searcher::{Gate, NoGate};
+use problems::{Answer, Problem};
+use rounds::{SolveFault, make_table};
+use std::alloc::Global;
 use std::sync::Wait;
 use std::thread::Threads;
 use std::time::Clock;
 
-/// The answer at a position, told to the gate.
-fn search_told<R: Threads + Wait + Sync + AllocGlobal, T: Gate>(
-    rt: &R,
-    gate: &T,
-    position: &Position,
-    goal: Goal,
-    limits: Limits,
-) -> Result<Searched, SolveFault>
-    ensures { SolvesOver goal position.now limits result }
+/// A table within the limits.
+pub fn table_within(alloc: Global, limits: Limits) -> Result<Table, SolveFault>
+    ensures accepted { IfOk result (λ _. fault_of limits ≡ None) }
+    ensures refused { IfErr result (IsRefusal limits.limit limits.workers limits.slots) }
 {
-    let told = Told {
-        alloc: rt.alloc(),
-        gate,
-    };
-    let (answer, slots, mut seats) = searched_within(rt, &told, position, goal, limits)?;
-    let seat = seats.take_last();
-    Ok(Searched {
-        answer,
+    let Search {
+        limit,
+        workers,
         slots,
-        seat,
-    })
+    } = search_of(limits);
+    let (slots, seats) = make_table(alloc, limit, workers, slots)?;
+    Ok(Table { slots, seats })
 }
 
-/// The answer at a position, with a thread beside it that shows the search.
-fn searched_beside<R: Threads + Wait + Eprint + Clock + Sync + AllocGlobal>(
-    rt: &R,
-    watch: &Watch,
+/// The problem of a position, and a table for it, within the limits.
+pub(crate) fn opened(
+    alloc: Global,
     position: &Position,
     goal: Goal,
     limits: Limits,
-) -> Result<Searched, SolveFault>
-    ensures { SolvesOver goal position.now limits result }
+) -> Result<(Problem, Table), SolveFault>
+    ensures problem { IfOk result (λ opened. IsProblemOf position.now goal limits.limit opened.0) }
+    ensures accepted { IfOk result (λ _. fault_of limits ≡ None) }
+    ensures fault { IfErr result (IsRefusal limits.limit limits.workers limits.slots) }
 {
-    shown(
-        rt,
-        watch,
-        move || -> Result<Searched, SolveFault>
-            ensures { SolvesOver goal position.entry.now limits result }
-        { search_told(rt, watch, position, goal, limits) },
-    )
+    let Some(problem) = Problem::of(position, goal, search_of(limits).limit) else {
+        return Err(SolveFault::Limit);
+    };
+    let table = table_within(alloc, limits)?;
+    Ok((problem, table))
+}
+
+/// An answer, with the table by which it was found.
+#[derive(Drop)]
+pub struct Searched {
+    pub answer: Answer,
+    pub table: Table,
 }
 
 /// The answer at a position, with a sign of life where one is asked for.
@@ -65,8 +67,10 @@ pub fn searched_at<R: Threads + Wait + Eprint + Clock + Sync + AllocGlobal>(
 ) -> Result<Searched, SolveFault>
     ensures { SolvesOver goal position.now limits result }
 {
-    match context.watch_of(position, false, limits) {
-        Some(watch) => searched_beside(context.rt, &watch, position, goal, limits),
-        None => search_told(context.rt, &NoGate, position, goal, limits),
+    let (problem, mut table) = opened(context.rt.alloc(), position, goal, limits)?;
+    let watch = context.watch_of(position, false, limits);
+    match solve(context.rt, &mut table, &problem, watch.as_ref()) {
+        Ok(answer) => Ok(Searched { answer, table }),
+        Err(_) => Err(SolveFault::NoMemory),
     }
 }

@@ -2,7 +2,7 @@
 ghost use Rattle.std.specs.Prelude.{◌≡◌, false, IsTrue};
 ghost use Rattle.atomic_table.specs.Seated.{TableId};
 ghost use Rattle.rounds.specs.Going.{KeptSeatsGoOn};
-ghost use Rattle.searcher.specs.declared.gate.Ended.TheVariants.{Wins, Loses};
+ghost use Rattle.progress.specs.declared.ended.Ended.TheVariants.{Wins, Loses};
 
 use board::Position;
 use moves::Goal;

@@ -5,18 +5,8 @@ ghost use Rattle.slots.specs.Promise.{IsSeatOf};
 ghost use Rattle.searcher.specs.Gates.{KeepsOn};
 
 use entry::MateLore;
+use progress::Ended;
 use slots::{Seat, Slots};
-
-/// What has ended.
-#[derive(Clone, Copy, PartialEq, Eq, Debug)]
-pub enum Ended {
-    /// A job of this number, which wins.
-    Wins(u16),
-    /// A job of this number, which doesn't win within the round's plies.
-    Loses(u16),
-    /// A round in which no job wins.
-    Round,
-}
 
 /// Called before a job is decided, by the thread that decides it, with the solve's table and that thread's
 /// seat, and again once it is decided. The round is the number of plies, the job the number of a lawful

@@ -11,8 +11,9 @@ mod solving;
 
 pub use alone::{keys_alone, solve_alone, solve_board_alone};
 pub use decider::Decider;
-pub use gate::{Ended, Gate, NoGate, no_gate_keeps_on};
+pub use gate::{Gate, NoGate, no_gate_keeps_on};
 pub use halt::Halt;
 pub use keys::{keys_of, plies_of};
+pub use progress::Ended;
 pub use searcher::Searcher;
 pub use solving::{least_win, solve_by};

@@ -1,6 +1,6 @@
 -- The replies so far are written, and nothing has failed.
 use Rattle.std.proofs.Common.{◌≡◌}
-use Rattle.console.specs.BatchRun.{IsBatchRun, SameSolver}
+use Rattle.console.specs.BatchRun.{IsBatchRun}
 use Rattle.devices.specs.Lines.{left_of}
 use Rattle.console.proofs.BatchLemmas.{KeptSoFar}
 use Rattle.console.proofs.batch.answer_lines.Given as goal
@@ -8,9 +8,9 @@ use Rattle.console.proofs.batch.answer_lines.Given as goal
 abbrev pub invariant-loop : goal.invariant-loop
 invariant-loop g l = record {
   run : IsBatchRun l.run;
-  same : SameSolver l.fn.run.solver l.run.solver;
+  same : l.run.batch ≡ l.fn.run.batch;
   reads : g.S.Source.failures l.reader ≡ g.S.Source.failures l.fn.reader;
   writes : g.K.Sink.failures l.writer ≡ g.K.Sink.failures l.fn.writer;
-  kept : KeptSoFar l.fn.run.solver (left_of l.fn.run.unread (g.S.Source.remaining l.fn.reader)) (left_of l.run.unread (g.S.Source.remaining l.reader))
+  kept : KeptSoFar l.fn.run.batch (left_of l.fn.run.unread (g.S.Source.remaining l.fn.reader)) (left_of l.run.unread (g.S.Source.remaining l.reader))
       (g.K.Sink.contents l.fn.writer) (g.K.Sink.contents l.writer);
 }

@@ -1,6 +1,6 @@
 use Rattle.std.proofs.lemmas.Result.{IfOk-weaker}
 use Rattle.console.proofs.batch.line_text.Goals as goal
 
-pub returns-clause-text : goal.returns-clause-text
-returns-clause-text g c = IfOk-weaker c.echoed.result _ _
-    (λ text is. rw (← c.said_in-said.ensures) (c.in_ok-plain.plain.items, c.in_ok-plain.ensures.text, is)) c.echoed.ensures
+pub returns : goal.returns
+returns g c = IfOk-weaker c.echoed.result _ _
+    (λ text is. rw (← c.said_in-said.ensures) (c.in_ok-plain.plain.items, c.in_ok-plain.ensures, is)) c.echoed.ensures

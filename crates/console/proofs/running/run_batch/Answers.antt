@@ -8,7 +8,7 @@ pub returns-in-None-clause-runs : goal.returns-in-None-clause-runs
 returns-in-None-clause-runs g c =
     let opened = c.in-Ok.ensures in
     let (texts, answers, (written, (unread, unfailed))) = c.in-None.ensures.lines in
-    batch_ran c.in-Ok.opened.solver c.args.batch _ _ texts opened.0.0.0 opened.1
+    batch_ran c.in-Ok.opened.batch c.args.batch _ _ texts opened.0.0 opened.1
     (fresh_left c.in-Ok.opened.unread (g.S.Source.remaining c.args.reader.now) opened.2 opened.3) answers
     (inl (omega (arith, unread), inl (written, omega (arith, unfailed), refl)))
 
@@ -17,9 +17,9 @@ returns-in-Some-NoMemory-clause-runs g c =
     let opened = c.in-Ok.ensures in
     let (texts, answers, (written, (unread, unfailed))) = rw c.in-Some-NoMemory.field-0-is at c.in-Some-NoMemory.ensures.lines in
     let left = left_of c.in-Ok.opened.unread (g.S.Source.remaining c.args.reader.now) in
-    batch_ran c.in-Ok.opened.solver c.args.batch _ left texts opened.0.0.0 opened.1
+    batch_ran c.in-Ok.opened.batch c.args.batch _ left texts opened.0.0 opened.1
     (fresh_left c.in-Ok.opened.unread (g.S.Source.remaining c.args.reader.now) opened.2 opened.3)
-    (answers_with c.in-Ok.opened.solver.batch 3 c.give_up_for_memory.result left texts (gave_up _ _ c.give_up_for_memory.ensures.written) answers)
+    (answers_with c.in-Ok.opened.batch 3 c.give_up_for_memory.result left texts (gave_up _ _ c.give_up_for_memory.ensures.written) answers)
     (inr (inr (omega (arith, unread), finishes_after _ _ _ _ _ _ _ 3 _ _ written unfailed c.give_up_for_memory.ensures.written)))
 
 pub returns-in-Some-ReadFailed-clause-runs : goal.returns-in-Some-ReadFailed-clause-runs
@@ -27,9 +27,9 @@ returns-in-Some-ReadFailed-clause-runs g c =
     let opened = c.in-Ok.ensures in
     let (texts, answers, (written, (unread, unfailed))) = rw c.in-Some-ReadFailed.field-0-is at c.in-Some-ReadFailed.ensures.lines in
     let left = left_of c.in-Ok.opened.unread (g.S.Source.remaining c.args.reader.now) in
-    batch_ran c.in-Ok.opened.solver c.args.batch _ left texts opened.0.0.0 opened.1
+    batch_ran c.in-Ok.opened.batch c.args.batch _ left texts opened.0.0 opened.1
     (fresh_left c.in-Ok.opened.unread (g.S.Source.remaining c.args.reader.now) opened.2 opened.3)
-    (answers_with c.in-Ok.opened.solver.batch 4 c.fail_to_read.result left texts (λ e. absurd (omega (arith, e, c.fail_to_read.ensures))) answers)
+    (answers_with c.in-Ok.opened.batch 4 c.fail_to_read.result left texts (λ e. absurd (omega (arith, e, c.fail_to_read.ensures))) answers)
     (inr (inl (omega (arith, unread), omega (arith, unfailed), c.fail_to_read.ensures, written)))
 
 pub returns-in-Ok-clause-runs : goal.returns-in-Ok-clause-runs
@@ -37,9 +37,9 @@ returns-in-Ok-clause-runs g c =
     let opened = c.in-Ok.ensures in
     let (texts, answers, (cut, (unread, failed))) = rw c.in-Some-WriteFailed.field-0-is at c.in-Some-WriteFailed.ensures.lines in
     let left = left_of c.in-Ok.opened.unread (g.S.Source.remaining c.args.reader.now) in
-    batch_ran c.in-Ok.opened.solver c.args.batch _ left texts opened.0.0.0 opened.1
+    batch_ran c.in-Ok.opened.batch c.args.batch _ left texts opened.0.0 opened.1
     (fresh_left c.in-Ok.opened.unread (g.S.Source.remaining c.args.reader.now) opened.2 opened.3)
-    (answers_with c.in-Ok.opened.solver.batch 4 c.fail_to_write.result left texts (λ e. absurd (omega (arith, e, c.fail_to_write.ensures))) answers)
+    (answers_with c.in-Ok.opened.batch 4 c.fail_to_write.result left texts (λ e. absurd (omega (arith, e, c.fail_to_write.ensures))) answers)
     (inl (omega (arith, unread), inr (cut, omega (arith, failed), c.fail_to_write.ensures)))
 
 pub returns-clause-runs : goal.returns-clause-runs

@@ -1,7 +1,6 @@
 use Rattle.std.proofs.Common.{◌∙◌, inl, inr, refl, arith}
-use Rattle.std.proofs.KnownBytes.{Appends-nil}
 use Rattle.refusals.specs.Reply.{answered}
-use Rattle.console.proofs.RunLemmas.{run_of_reply, run_of_refusal, run_of_failed_read}
+use Rattle.console.proofs.RunLemmas.{run_of_reply, run_of_refusal}
 use Rattle.console.proofs.running.run_line_on.Goals as goal
 
 pub returns-in-Ok-clause-runs : goal.returns-in-Ok-clause-runs
@@ -24,8 +23,3 @@ returns-in-Err-Refused-clause-runs g c =
     let refused = c.in-Err-Refused in
     run_of_refusal c.args.line.now _ refused.refusal (omega (arith, rw refused.field-0-is at refused.ensures.counts))
     (rw refused.field-0-is at refused.ensures.given) c.refuse_and_tell.ensures.refuses
-
-pub returns-in-Err-ReadFailed-clause-runs : goal.returns-in-Err-ReadFailed-clause-runs
-returns-in-Err-ReadFailed-clause-runs g c =
-    let failed = c.in-Err-ReadFailed in
-    run_of_failed_read c.args.line.now _ (omega (arith, rw failed.field-0-is at failed.ensures.counts)) (omega arith) c.fail_to_read.ensures (Appends-nil _)

@@ -1,10 +1,7 @@
-use Rattle.std.proofs.Common.{inr, refl, subst, ◌∙◌, arith}
+use Rattle.std.proofs.Common.{inr, refl, arith}
 use Rattle.std.proofs.Math.Nat.{min-eq_left}
 use Rattle.std.proofs.lemmas.Grind.{common_steps}
-use Rattle.board.specs.Board.{PlainBoard}
-use Rattle.decision.proofs.Options.{some_at}
 use Rattle.rounds.proofs.Limits.{limit_within}
-use Rattle.replies.specs.Playing.{NamesNone}
 use Rattle.replies.proofs.FirstLemmas.{named_shown}
 use Rattle.replies.proofs.first.first_shown.Goals as goal
 
@@ -19,10 +16,8 @@ opened_text-requires-clause-limit c = λ none.
 
 pub returns-in-Some : goal.returns-in-Some
 returns-in-Some c =
-    let found = some_at c.in_ok-job.field-0 c.in-Some.job _ _ c.in-Some.is c.in_ok-job.ensures in
-    named_shown c.args.goal c.args.position.now c.args.name.now c.args.limits c.on-root.result c.in-Some.job c.opened_text.result
-    c.on-root.ensures.goal (c.on-root.ensures.position ∙ c.of.ensures) found.0 found.1 c.opened_text.ensures
+    let found = rw c.in-Some.is at c.in_ok-job.ensures in
+    named_shown c.args.name.now c.args.limits c.args.root.now c.in-Some.job c.opened_text.result found.0 found.1 c.opened_text.ensures
 
 pub returns-in-None : goal.returns-in-None
-returns-in-None c =
-    inr (inr (subst (λ (b : PlainBoard). NamesNone b c.args.name.now) (c.on-root.ensures.position ∙ c.of.ensures) (rw c.in-None.is at c.in_ok-job.ensures), refl))
+returns-in-None c = inr (inr (rw c.in-None.is at c.in_ok-job.ensures, refl))

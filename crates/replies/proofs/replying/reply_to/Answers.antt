@@ -5,7 +5,7 @@ use Rattle.refusals.specs.Reply.{answered}
 use Rattle.command_line.specs.declared.line.Action.TheVariants.{Solve, Keys, Moves, Show, Tree, Check}
 use Rattle.replies.proofs.ReplyLemmas.{fault_gives, gives_reply, gives_unread}
 use Rattle.endings.proofs.EndingLemmas.{refusal_gives}
-use Rattle.replies.proofs.replying.reply_told.Goals as goal
+use Rattle.replies.proofs.replying.reply_to.Goals as goal
 
 pub returns-in_err-position-clause-given : goal.returns-in_err-position-clause-given
 returns-in_err-position-clause-given g c = fault_gives _ c.args.line.now _ _ c.in_err-position.field-0.0 c.in_err-position.ensures.fault c.from_residual.ensures

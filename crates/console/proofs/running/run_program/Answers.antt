@@ -1,5 +1,5 @@
 use Rattle.std.proofs.Common.{inl, inr}
-use Rattle.console.proofs.program.run_program.Goals as goal
+use Rattle.console.proofs.running.run_program.Goals as goal
 
 pub returns-in-Ok-clause-runs : goal.returns-in-Ok-clause-runs
 returns-in-Ok-clause-runs g c = rw c.in-Ok.is (rw (← c.as_slice.ensures.value) c.run-status.ensures.runs)
