@@ -6,16 +6,16 @@ use crate::tables::position;
 use board::Position;
 use entry::MateLore;
 use moves::Goal;
-use problems::Answer;
+use problems::{Answer, Problem};
 use rounds::{Task, make_table, solve_over};
-use searcher::NoGate;
+use searcher::{NoGate, Table};
 use slots::Slots;
 use std::alloc::Global;
 use std::process::Abort;
 use std::sync::Wait;
 use std::test::Fail;
 use std::thread::Threads;
-use trees::{Wanted, build_tree, build_tree_over};
+use trees::{build_tree, build_tree_over};
 use wintree::{NoMemory, Tree, check, tree_text};
 
 /// The text of a tree, and in how many plies it wins, if it does.
@@ -56,30 +56,33 @@ fn tree_of<R: Threads + Wait + Abort + AllocGlobal + Sync>(
     shown_of(rt.alloc(), position, goal, &tree)
 }
 
-/// The tree, by so many workers and the caller's own thread, over the table and the seats of their solve.
+/// The tree of the problem, by the threads of a table, over which they have solved it.
+fn tree_over<R: Threads + Wait + Abort + AllocGlobal + Sync>(
+    rt: &R,
+    problem: &Problem,
+    table: &mut Table,
+) -> Result<Tree, NoMemory> {
+    let task = Task {
+        problem,
+        slots: &table.slots,
+        gate: &NoGate,
+    };
+    let Ok(Answer::Mate { plies, .. }) = solve_over(rt, rt.alloc(), &task, &mut table.seats) else {
+        panic!(rt; "no mate")
+    };
+    build_tree_over(rt, rt.alloc(), problem, plies, table)
+}
+
+/// The tree, by so many workers and the caller's own thread.
 fn tree_by<R: Threads + Wait + Abort + AllocGlobal + Sync>(
     rt: &R,
     position: &Position,
     goal: Goal,
     workers: u8,
 ) -> Result<Shown, NoMemory> {
-    let (table, mut seats) = make_table(rt.alloc(), 9, workers, 4096).expect(rt, "a table");
-    let task = Task {
-        position,
-        goal,
-        limit: 9,
-        gate: &NoGate,
-    };
-    let Ok(Answer::Mate { plies, .. }) = solve_over(rt, rt.alloc(), &task, &table, &mut seats)
-    else {
-        panic!(rt; "no mate")
-    };
-    let wanted = Wanted {
-        position,
-        goal,
-        plies,
-    };
-    let tree = build_tree_over(rt, rt.alloc(), &wanted, &table, &mut seats)?;
+    let problem = Problem::of(position, goal, 9).expect(rt, "a limit");
+    let mut table = make_table(rt.alloc(), workers, 4096).expect(rt, "a table");
+    let tree = tree_over(rt, &problem, &mut table)?;
     shown_of(rt.alloc(), position, goal, &tree)
 }
 

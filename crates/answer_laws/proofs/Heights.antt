@@ -1,17 +1,12 @@
 -- The height, the depth and the text of a plan that wins.
-use Rattle.std.proofs.Common.{◌≡◌, ◌≤◌, ℕ, ◌+◌, ◌*◌, refl, subst, arith, Option, Some, None, IfSome}
-use Rattle.board.specs.declared.game.Game.{Game}
-use Rattle.board.specs.declared.game.Game.TheVariants.{LosAlamos, Gardner}
-use Rattle.board.specs.declared.game.Kind.{Kind}
-use Rattle.board.specs.declared.game.Kind.TheVariants.{King, Queen, Rook, Bishop, Knight, Pawn}
+use Rattle.std.proofs.Common.{◌≡◌, ◌≤◌, ℕ, ◌+◌, ◌*◌, refl, subst, arith}
 use Rattle.board.specs.Board.{PlainBoard}
 use Rattle.rules.specs.declared.goal.Goal.{Goal}
-use Rattle.rules.specs.Squares.{Place, Ply, IsOnBoard}
-use Rattle.rules.specs.Moves.{IsPromotion, IsPromoted, IsMove}
-use Rattle.rules.proofs.Keeps.{to_on_board}
+use Rattle.rules.specs.Squares.{Ply}
+use Rattle.rules.proofs.Naming.{ply_of_lawful}
 use Rattle.problems.specs.declared.answer.Answer.TheVariants.{Mate}
 use Rattle.problems.specs.Answer.{IsFewest, IsLeastWin, IsAnswer}
-use Rattle.wintree.specs.Plan.{Plan, ends, splits, Replies, last, more, depth, deepest, IsPly, IsPlan, ArePlans}
+use Rattle.wintree.specs.Plan.{Plan, ends, splits, Replies, last, more, depth, deepest, IsPlan, ArePlans}
 use Rattle.wintree.specs.Text.{text, TreeText}
 use Rattle.wintree.specs.Wins.{Wins, EachWins, height, highest}
 use Rattle.wintree.proofs.Forced.{forced_for_mover}
@@ -38,35 +33,14 @@ no_sooner goal b plan n w fewest = fewest_most goal b n (height plan) fewest (fo
 
 -- ---- the moves of a plan that wins
 
-on_larger : (g : Game) (s : Place) → IsOnBoard g s → IsOnBoard LosAlamos s
-on_larger LosAlamos s on = on
-on_larger Gardner s on = record { file = omega (arith, on.file); rank = omega (arith, on.rank) }
-
-promoted : (g : Game) (o : Option Kind) → IfSome o (IsPromotion g) → IfSome o IsPromoted
-promoted g None h = tt
-promoted Gardner (Some k) h = h
-promoted LosAlamos (Some King) h = absurd h
-promoted LosAlamos (Some Queen) h = tt
-promoted LosAlamos (Some Rook) h = tt
-promoted LosAlamos (Some Bishop) h = absurd h
-promoted LosAlamos (Some Knight) h = tt
-promoted LosAlamos (Some Pawn) h = absurd h
-
-ply_of_move : (b : PlainBoard) (m : Ply) (q : PlainBoard) → IsMove b m q → IsPly m
-ply_of_move b m q move = record {
-  from = on_larger b.game m.from move.pseudo.on_board;
-  to = on_larger b.game m.to (to_on_board b m move.unit move.pseudo);
-  promotion = promoted b.game m.promotion move.pseudo.allowed;
-}
-
 mutual
   plan_of_moves : (goal : Goal) (b : PlainBoard) (plan : Plan) → Wins goal b plan → IsPlan plan
-  plan_of_moves goal b (ends m end) w = ply_of_move b m w.0 w.1
-  plan_of_moves goal b (splits m replies) w = (ply_of_move b m w.0 w.1, plans_of_moves goal w.0 replies w.3)
+  plan_of_moves goal b (ends m end) w = ply_of_lawful b m (w.0, w.1)
+  plan_of_moves goal b (splits m replies) w = (ply_of_lawful b m (w.0, w.1), plans_of_moves goal w.0 replies w.3)
 
   plans_of_moves : (goal : Goal) (q : PlainBoard) (replies : Replies) → EachWins goal q replies → ArePlans replies
-  plans_of_moves goal q (last r plan) w = (ply_of_move q r w.0 w.1, plan_of_moves goal w.0 plan w.2)
-  plans_of_moves goal q (more r plan replies) w = (ply_of_move q r w.0.0 w.0.1, plan_of_moves goal w.0.0 plan w.0.2, plans_of_moves goal q replies w.1)
+  plans_of_moves goal q (last r plan) w = (ply_of_lawful q r (w.0, w.1), plan_of_moves goal w.0 plan w.2)
+  plans_of_moves goal q (more r plan replies) w = (ply_of_lawful q r (w.0.0, w.0.1), plan_of_moves goal w.0.0 plan w.0.2, plans_of_moves goal q replies w.1)
 
 pub wins_have_text : (goal : Goal) (b : PlainBoard) (plan : Plan) → Wins goal b plan → TreeText (text plan) plan
 wins_have_text goal b plan w = (plan_of_moves goal b plan w, refl)

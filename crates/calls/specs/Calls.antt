@@ -3,16 +3,17 @@ use Rattle.std.specs.Prelude.{◌≡◌, ◌⊎◌, ℕ, Bool, true, false, List
 use Rattle.std.specs.Borrow.{Bor}
 use Rattle.rules.specs.declared.goal.Goal.{Goal}
 use Rattle.rules.specs.declared.goal.Goal.TheVariants.{Mate, MateOrStale}
-use Rattle.command_line.specs.declared.line.Action.{Action}
-use Rattle.command_line.specs.declared.line.Action.TheVariants.{Moves, Check}
-use Rattle.command_line.specs.declared.line.Line.{Line}
+use Rattle.command_line.specs.declared.line.Action.TheVariants.{Moves, Check, Solve, Keys, Tree}
 use Rattle.command_line.specs.declared.line.Limits.{Limits}
 use Rattle.replies.specs.Output.{IsOutput}
-use Rattle.refusals.specs.Reply.{Reply, refused}
 use Rattle.replies.specs.Playing.{IsAfterReply}
-use Rattle.calls.specs.Playing.{IsFaultReply}
+use Rattle.refusals.specs.Reply.{Reply, refused}
 use Rattle.refusals.specs.declared.refusal.Refusal.TheVariants.{NoMemory}
-use Rattle.calls.specs.declared.answering.Terms.{Terms}
+use Rattle.verdicts.specs.Verdict.{IsVerdict}
+use Rattle.calls.specs.declared.asked.Terms.{Terms}
+use Rattle.calls.specs.declared.asked.Call.{Call}
+use Rattle.calls.specs.declared.asked.Call.TheVariants as call
+use Rattle.calls.specs.Playing.{IsFaultReply}
 use Rattle.calls.specs.Room.{IsPut}
 
 -- the goal that a caller names: mate, or stalemate too
@@ -21,38 +22,24 @@ goal_of false = Mate
 goal_of true = MateOrStale
 
 -- the limits of a search with one worker
-abbrev pub limits_of : ℕ → ℕ → Limits
-limits_of limit slots = record { limit = limit; workers = 1; slots = slots }
+abbrev pub limits_of : Terms → Limits
+limits_of terms = record { limit = terms.limit; workers = 1; slots = terms.slots }
 
 -- the terms with these values
 abbrev pub terms_of : Bool → ℕ → ℕ → Terms
 terms_of stale limit slots = record { stale = stale; limit = limit; slots = slots }
 
--- the room and the number are those of such a reply, or of the refusal for want of memory
-abbrev pub Puts : (Reply → Type 0) → List ℕ → List ℕ → ℕ → Type 0
-Puts Is old new number = (reply : Reply) × (Is reply ⊎ (reply ≡ refused NoMemory)) × IsPut reply.text old new number
+-- the reply to a call at the position of a text: the program's to its line, or what is told of the text, of a move or of a certificate
+abbrev pub IsReply : Bor (List ℕ) → Call → Reply → Type 0
+IsReply fen call.Moves = IsOutput (record { fen = fen; action = Moves }) []
+IsReply fen call.Fault = IsFaultReply fen.now
+IsReply fen (call.After name) = IsAfterReply fen.now name.now
+IsReply fen (call.Check stale tree) = IsOutput (record { fen = fen; action = Check (goal_of stale) }) tree.now
+IsReply fen (call.Verify stale certificate) = IsVerdict (record { fen = fen; goal = goal_of stale }) certificate.now
+IsReply fen (call.Solve terms) = IsOutput (record { fen = fen; action = Solve (goal_of terms.stale) (limits_of terms) }) []
+IsReply fen (call.Keys terms) = IsOutput (record { fen = fen; action = Keys (goal_of terms.stale) (limits_of terms) }) []
+IsReply fen (call.Tree terms) = IsOutput (record { fen = fen; action = Tree (goal_of terms.stale) (limits_of terms) }) []
 
--- the reply is the program's to the line with this input
-abbrev pub Answers : Line → List ℕ → List ℕ → List ℕ → ℕ → Type 0
-Answers line input = Puts (IsOutput line input)
-
--- the reply is that of `minimate moves`
-abbrev pub AnswersMoves : Bor (List ℕ) → List ℕ → List ℕ → ℕ → Type 0
-AnswersMoves fen = Answers (record { fen = fen; action = Moves }) []
-
--- the reply is that of `minimate check` for this goal, with the tree as its input
-abbrev pub AnswersCheck : Bor (List ℕ) → Bool → List ℕ → List ℕ → List ℕ → ℕ → Type 0
-AnswersCheck fen stale tree = Answers (record { fen = fen; action = Check (goal_of stale) }) tree
-
--- the reply is that of a command that searches, on these terms
-abbrev pub AnswersSearch : (Goal → Limits → Action) → Bor (List ℕ) → Terms → List ℕ → List ℕ → ℕ → Type 0
-AnswersSearch Command fen terms =
-    Answers (record { fen = fen; action = Command (goal_of terms.stale) (limits_of terms.limit terms.slots) }) []
-
--- the reply is the position after the move of this name, at the position of a text
-abbrev pub AnswersPlayed : List ℕ → List ℕ → List ℕ → List ℕ → ℕ → Type 0
-AnswersPlayed fen name = Puts (IsAfterReply fen name)
-
--- the reply is the fault of a text, or nothing
-abbrev pub AnswersFault : List ℕ → List ℕ → List ℕ → ℕ → Type 0
-AnswersFault fen = Puts (IsFaultReply fen)
+-- the room and the number are those of that reply, or of the refusal for want of memory
+abbrev pub Answers : Bor (List ℕ) → Call → List ℕ → List ℕ → ℕ → Type 0
+Answers fen call old new number = (reply : Reply) × (IsReply fen call reply ⊎ (reply ≡ refused NoMemory)) × IsPut reply.text old new number

@@ -2,6 +2,3 @@
 pub mod Room
 pub mod Playing
 pub mod Calls
-pub mod Certificates
--- inside
-pub mod Putting

@@ -1,43 +1,42 @@
-//! From a call's values to a line's, and from the reply to the room.
-ghost use Rattle.std.specs.Prelude.{◌≡◌};
+//! The reply to a call, as it is put into the room.
+ghost use Rattle.std.specs.Prelude.{vec_items};
+ghost use Rattle.endings.specs.Outcome.{Gives};
 ghost use Rattle.refusals.specs.Reply.{refused};
 ghost use Rattle.refusals.specs.declared.refusal.Refusal.TheVariants.{NoMemory};
-ghost use Rattle.calls.specs.Calls.{goal_of, limits_of};
-ghost use Rattle.calls.specs.Putting.{PutsReply};
+ghost use Rattle.calls.specs.Calls.{Answers, IsReply};
 ghost use Rattle.calls.specs.Room.{IsPut};
 
+use crate::asked::{Call, goal_of, limits_of};
+use crate::one_thread::{check_reply, keys_reply, moves_reply, solve_reply, tree_reply};
+use crate::playing::fault_reply;
 use crate::room::put;
-use command_line::Limits;
-use moves::Goal;
+use crate::verdict::verify_reply;
 use refusals::{Refusal, refused_text};
+use replies::after_reply;
 use std::alloc::Allocator;
-
-/// What a search is to find, and within what: whether stalemate is a goal too, the limit in plies, and the slots of its table.
-#[derive(Clone, Copy)]
-#[repr(C)]
-pub struct Terms {
-    pub stale: bool,
-    pub limit: u32,
-    pub slots: u32,
-}
 
 /// What is put for want of memory.
 const NO_MEMORY: &[u8] = b"refused: NoMemory\n";
 
-pub(crate) fn goal_of(stale: bool) -> Goal
-    ensures { result ≡ goal_of stale }
+/// The reply's text, or why there is none.
+fn reply_text<A: Allocator + Copy>(
+    alloc: A,
+    fen: &[u8],
+    call: &Call<'_>,
+) -> Result<Vec<u8, A>, Refusal>
+    ensures { Gives vec_items (IsReply fen.entry call.now) result }
 {
-    if stale { Goal::MateOrStale } else { Goal::Mate }
-}
-
-/// The limits of a search with one worker, by which the program would refuse none for its workers.
-pub(crate) fn limits_of(terms: Terms) -> Limits
-    ensures { result ≡ limits_of terms.limit terms.slots }
-{
-    Limits {
-        limit: terms.limit,
-        workers: 1,
-        slots: terms.slots,
+    match *call {
+        Call::Moves => moves_reply(alloc, fen),
+        Call::Fault => fault_reply(alloc, fen),
+        Call::After(name) => after_reply(alloc, fen, name),
+        Call::Check { stale, tree } => check_reply(alloc, fen, goal_of(stale), tree),
+        Call::Verify { stale, certificate } => {
+            verify_reply(alloc, fen, goal_of(stale), certificate)
+        }
+        Call::Solve(terms) => solve_reply(alloc, fen, goal_of(terms.stale), limits_of(terms)),
+        Call::Keys(terms) => keys_reply(alloc, fen, goal_of(terms.stale), limits_of(terms)),
+        Call::Tree(terms) => tree_reply(alloc, fen, goal_of(terms.stale), limits_of(terms)),
     }
 }
 
@@ -48,15 +47,11 @@ pub fn no_memory(room: &mut [u8]) -> usize
     put(NO_MEMORY, room)
 }
 
-/// Puts what a reply writes: its text, or why there is none.
-pub(crate) fn put_reply<A: Allocator>(
-    alloc: A,
-    reply: Result<Vec<u8, A>, Refusal>,
-    room: &mut [u8],
-) -> usize
-    ensures { PutsReply reply room.old room.new result }
+/// Puts the reply to a call, or why there is none, and answers the length of what it puts.
+pub fn reply<A: Allocator + Copy>(alloc: A, fen: &[u8], call: &Call<'_>, room: &mut [u8]) -> usize
+    ensures { Answers fen.entry call.now room.old room.new result }
 {
-    match reply {
+    match reply_text(alloc, fen, call) {
         Ok(text) => put(text.as_slice(), room),
         Err(refusal) => match refused_text(alloc, refusal) {
             Ok(text) => put(text.as_bytes(), room),

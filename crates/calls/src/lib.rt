@@ -2,13 +2,12 @@
 #![tactic(auto)]
 
 mod answering;
-mod calling;
+mod asked;
 mod one_thread;
 mod playing;
 mod room;
 mod text;
 mod verdict;
 
-pub use answering::{Terms, no_memory};
-pub use calling::{after, check, fault, keys, moves, solve, tree};
-pub use verdict::verify;
+pub use answering::{no_memory, reply};
+pub use asked::{Call, Terms, goal_of};

@@ -17,7 +17,7 @@ use moves::{Goal, lawful, read_sound};
 use problems::{Answer, Key, Problem};
 use refusals::Refusal;
 use replies::{MOST_INPUT, Search, answer_line, key_lines, plan_line, search_of, verdict_text};
-use rounds::{SolveFault, make_table_in};
+use rounds::{SolveFault, make_table};
 use searcher::{keys_alone, solve_alone};
 use slots::{Seat, Slots};
 use std::alloc::Allocator;
@@ -41,12 +41,11 @@ fn lent_alone<A: Allocator + Copy>(
         workers,
         slots,
     } = search_of(limits);
-    let (table, mut seats) = make_table_in(alloc, limit, workers, slots)?;
     let Some(problem) = Problem::of(position, goal, limit) else {
-        unreachable!()
+        return Err(SolveFault::Limit);
     };
-    let seat = seats.take_last();
-    Ok((problem, table, seat))
+    let (slots, seat) = make_table(alloc, workers, slots)?.into_alone();
+    Ok((problem, slots, seat))
 }
 
 /// The answer within the limits, with the table that it was found over and a seat there.

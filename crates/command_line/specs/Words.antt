@@ -77,8 +77,8 @@ HasLine name rows line = (first_of (codes "FEN") rows ≡ Some line.fen.now) × 
 abbrev pub HasNumberIfGiven : Text → List Row → Option ℕ → Type 0
 HasNumberIfGiven id rows given = MatchOption given ((n : ℕ) → HasNumber id rows n → ⊥) (HasNumber id rows)
 
--- what was found for the manner of a batch: whether the positions are written too, whether keys are, and as JSON, how many lines there are, and are left out
-pub record HasManner (rows : List Row) (options : BatchOptions) : Type 0 where
+-- what was found for the options of a batch: whether the positions are written too, whether keys are, and as JSON, how many lines there are, and are left out
+pub record HasBatchOptions (rows : List Row) (options : BatchOptions) : Type 0 where
   pub echo : IsTrue options.echo ↔ IsGiven (codes "echo") rows
   pub keys : IsTrue options.keys ↔ IsGiven (codes "keys") rows
   pub json : IsTrue options.json ↔ IsGiven (codes "json") rows
@@ -86,7 +86,7 @@ pub record HasManner (rows : List Row) (options : BatchOptions) : Type 0 where
   pub skip : HasNumberIfGiven (codes "skip") rows options.skip
 
 -- what was found of what a solution tells
-pub record HasTelling (rows : List Row) (options : SolutionOptions) : Type 0 where
+pub record HasSolutionOptions (rows : List Row) (options : SolutionOptions) : Type 0 where
   pub set_play : IsTrue options.set_play ↔ IsGiven (codes "set") rows
   pub tries : IsTrue options.tries ↔ IsGiven (codes "tries") rows
   pub figurines : IsTrue options.figurines ↔ IsGiven (codes "figurines") rows
@@ -107,13 +107,13 @@ HasFirst rows played = (first_of (codes "FEN") rows ≡ Some played.fen.now) × 
 -- the command of that name with what was found for it
 abbrev pub MeansFound : Text → List Row → Order → Type 0
 MeansFound name rows (One line) = HasLine name rows line
-MeansFound name rows (Batch goal limits options) = (name ≡ codes "batch") × HasGoal rows goal × HasLimits rows limits × HasManner rows options
+MeansFound name rows (Batch goal limits options) = (name ≡ codes "batch") × HasGoal rows goal × HasLimits rows limits × HasBatchOptions rows options
 MeansFound name rows (Verify subject) = (name ≡ codes "verify") × HasSubject rows subject
 MeansFound name rows (Certify subject limits) = (name ≡ codes "certify") × HasSubject rows subject × HasLimits rows limits
 MeansFound name rows (After played) = (name ≡ codes "after") × HasPlayed rows played
 MeansFound name rows (TreeAfter played goal limits) = (name ≡ codes "tree") × HasFirst rows played × HasGoal rows goal × HasLimits rows limits
 MeansFound name rows (Solution subject limits options) =
-    (name ≡ codes "solution") × HasSubject rows subject × HasLimits rows limits × HasTelling rows options
+    (name ≡ codes "solution") × HasSubject rows subject × HasLimits rows limits × HasSolutionOptions rows options
 
 -- a command was found, and it is the order
 abbrev pub HasOrder : Option (Text × List Row) → Order → Type 0

@@ -6,7 +6,7 @@ ghost use Rattle.command_line.specs.declared.reading.LineFault.TheVariants.{NoMe
 ghost use Rattle.command_line.specs.declared.line.Order.{Order as TheOrder};
 ghost use Rattle.command_line.specs.Making.{TakesGoal, Reads, TakesLimits};
 ghost use Rattle.command_line.specs.Program.{program};
-ghost use Rattle.command_line.specs.Words.{HasDrawing, HasGoal, HasLimit, HasLimits, HasManner, HasNumberIfGiven, HasOrder, HasSubject, HasTelling, IsGiven, MeansFound, MeansOrder, MeansNoOrder, progress_word};
+ghost use Rattle.command_line.specs.Words.{HasDrawing, HasGoal, HasLimit, HasLimits, HasBatchOptions, HasNumberIfGiven, HasOrder, HasSubject, HasSolutionOptions, IsGiven, MeansFound, MeansOrder, MeansNoOrder, progress_word};
 
 use crate::line::{
     Action, BatchOptions, Drawing, Limits, Line, NamedMove, Order, SolutionOptions, Subject,
@@ -134,8 +134,8 @@ fn drawing_of(values: &ArgMatches<'_>) -> Drawing
     }
 }
 
-fn manner_of(values: &ArgMatches<'_>) -> BatchOptions
-    ensures { HasManner (rows_of (found_of values.now)) result }
+fn batch_options(values: &ArgMatches<'_>) -> BatchOptions
+    ensures { HasBatchOptions (rows_of (found_of values.now)) result }
 {
     BatchOptions {
         echo: is_given(values, "echo"),
@@ -146,8 +146,8 @@ fn manner_of(values: &ArgMatches<'_>) -> BatchOptions
     }
 }
 
-fn telling_of(values: &ArgMatches<'_>) -> SolutionOptions
-    ensures { HasTelling (rows_of (found_of values.now)) result }
+fn solution_options(values: &ArgMatches<'_>) -> SolutionOptions
+    ensures { HasSolutionOptions (rows_of (found_of values.now)) result }
 {
     SolutionOptions {
         set_play: is_given(values, "set"),
@@ -188,7 +188,7 @@ fn search_order<'a>(
             Some(name) => Some(Order::TreeAfter(NamedMove { fen, name }, goal, limits)),
         },
         "certify" => Some(Order::Certify(subject, limits)),
-        "solution" => Some(Order::Solution(subject, limits, telling_of(values))),
+        "solution" => Some(Order::Solution(subject, limits, solution_options(values))),
         _ => None,
     }
 }
@@ -240,7 +240,7 @@ fn order_at<'a>(name: &str, values: &ArgMatches<'a>) -> Option<Order<'a>>
     ensures { Reads (MeansFound name.now (rows_of (found_of values.now))) result }
 {
     match name {
-        "batch" => Some(Order::Batch(goal_of(values)?, limits(values)?, manner_of(values))),
+        "batch" => Some(Order::Batch(goal_of(values)?, limits(values)?, batch_options(values))),
         _ => placed_order(name, word_of(values, "FEN")?, values),
     }
 }

@@ -1,10 +1,8 @@
 -- What `solution` writes.
-use Rattle.std.specs.Prelude.{◌≡◌, ◌⊎◌, ◌≤◌, ℕ, List, Bool, true, false, MatchOption}
+use Rattle.std.specs.Prelude.{◌≡◌, ◌⊎◌, ◌≤◌, ℕ, List, Bool, true, false}
 use Rattle.std.specs.declared.alloc.Global.{Global}
-use Rattle.board.specs.declared.fault.FenFault.{FenFault}
 use Rattle.board.specs.Board.{PlainBoard}
 use Rattle.rules.specs.declared.goal.Goal.{Goal}
-use Rattle.rules.specs.Reading.{IsSoundFault}
 use Rattle.problems.specs.Answer.{IsFewest, ForcesNothing}
 use Rattle.algebraic.specs.declared.naming.Notation.{Notation}
 use Rattle.algebraic.specs.declared.symbols.Symbols.{Symbols}
@@ -17,11 +15,10 @@ use Rattle.solution_text.specs.WholeText.{IsWholeSolution}
 use Rattle.command_line.specs.declared.line.Limits.{Limits}
 use Rattle.command_line.specs.declared.line.Subject.{Subject}
 use Rattle.command_line.specs.declared.line.SolutionOptions.{SolutionOptions}
-use Rattle.refusals.specs.Reply.{Reply, answered, refused}
-use Rattle.refusals.specs.Refusal.{refusal_of_fen}
+use Rattle.refusals.specs.Reply.{Reply, answered}
 use Rattle.answer_texts.specs.Answers.{none_text}
-use Rattle.endings.specs.Outcome.{IsSoundText}
-use Rattle.replies.specs.Output.{fault_of, refusal_of_solve}
+use Rattle.endings.specs.Outcome.{IsReplyAt}
+use Rattle.replies.specs.Output.{ShowsWithin}
 use Rattle.endings.specs.Run.{Run, WritesReply}
 
 -- what is asked for beside the keys
@@ -55,14 +52,11 @@ ShowsPublished goal b options limit reply =
 
 -- the same, or the refusal of the first value that is outside its limits
 abbrev pub ShowsSolution : Goal → PlainBoard → SolutionOptions → Limits → Reply → Type 0
-ShowsSolution goal b options limits reply =
-    MatchOption (fault_of limits) (ShowsPublished goal b options limits.limit reply) (λ fault. reply ≡ refused (refusal_of_solve fault))
+ShowsSolution goal b options limits reply = ShowsWithin limits (ShowsPublished goal b options limits.limit) reply
 
 -- the same at the sound position of the text, or the refusal of the text's fault
 abbrev pub IsSolutionReply : Subject → SolutionOptions → Limits → Reply → Type 0
-IsSolutionReply subject options limits reply =
-    ((b : PlainBoard) × IsSoundText subject.fen.now b × ShowsSolution subject.goal b options limits reply)
-    ⊎ ((fault : FenFault) × IsSoundFault subject.fen.now fault × (reply ≡ refused (refusal_of_fen fault)))
+IsSolutionReply subject options limits reply = IsReplyAt subject.fen.now (λ b. ShowsSolution subject.goal b options limits) reply
 
 -- the run is one of a solution, which reads nothing
 abbrev pub RunsSolution : Subject → SolutionOptions → Limits → Run → Type 0

@@ -27,8 +27,8 @@ use Rattle.console.specs.Batch.{AnswersLines, EndsBatch, HasReplyText, IsAskedRe
 use Rattle.console.specs.BatchRun.{Fails, GivesAsked, GivesFound, GivesNext, IsFirstOf, IsAskedRefusal, PassesOver, Step, TakesAnswered, TakesLines, TakesStep, stop_of}
 use Rattle.devices.specs.Lines.{HasNoFeed, IsFed, IsLastOf, IsReadAs, TakesLine, left_of}
 use Rattle.endings.specs.Run.{Ending, Finishes, Refuses, Run, no_memory}
-use Rattle.rounds.specs.declared.task.SolveFault.{SolveFault}
-use Rattle.rounds.specs.declared.task.SolveFault.TheVariants as solve
+use Rattle.rounds.specs.declared.fault.SolveFault.{SolveFault}
+use Rattle.rounds.specs.declared.fault.SolveFault.TheVariants as solve
 use Rattle.console.specs.declared.batch.BatchStop.{BatchStop}
 use Rattle.console.specs.declared.batch.BatchStop.TheVariants.{ReadFailed, WriteFailed, NoMemory}
 use Rattle.devices.specs.declared.lines.Taken.{Taken}

@@ -5,8 +5,7 @@ use Rattle.std.specs.List.{AllZip}
 use Rattle.std.specs.declared.alloc.Global.{Global}
 use Rattle.rules.specs.declared.goal.Goal.{Goal}
 use Rattle.command_line.specs.declared.line.Limits.{Limits}
-use Rattle.rounds.specs.declared.task.SolveFault.{SolveFault}
-use Rattle.rounds.specs.declared.task.SolveFault.TheVariants as solve
+use Rattle.rounds.specs.declared.fault.SolveFault.{SolveFault}
 use Rattle.devices.specs.Device.{AppendsBeginning}
 use Rattle.devices.specs.Input.{OfInput}
 use Rattle.board.specs.Board.{PlainBoard}
@@ -14,6 +13,7 @@ use Rattle.board.specs.declared.fault.FenFault.{FenFault}
 use Rattle.rules.specs.Reading.{IsSoundFault}
 use Rattle.endings.specs.Outcome.{IsSoundText}
 use Rattle.replies.specs.Output.{fault_of, refusal_of_solve}
+use Rattle.replies.specs.Outcome.{FindsWithin}
 use Rattle.refusals.specs.Refusal.{refusal_of_fen}
 use Rattle.refusals.specs.declared.refusal.Refusal.{Refusal}
 use Rattle.refusals.specs.declared.refusal.Refusal.TheVariants as refusal
@@ -41,14 +41,12 @@ IsBatchRun run = IsSearched run.batch × IsUnread run.unread
 
 -- a batch in which nothing was read, or the first fault of the limits, or want of memory
 abbrev pub OpensBatchRun : Batch → Result BatchRun SolveFault → Type 0
-OpensBatchRun batch (Ok run) =
-    IsBatchRun run × (run.batch ≡ batch) × (run.unread.from ≡ 0) × (run.unread.to ≡ 0)
-OpensBatchRun batch (Err fault) = (fault_of batch.limits ≡ Some fault) ⊎ ((fault_of batch.limits ≡ None) × (fault ≡ solve.NoMemory))
+OpensBatchRun batch result = FindsWithin batch.limits
+    (λ run. IsBatchRun run × (run.batch ≡ batch) × (run.unread.from ≡ 0) × (run.unread.to ≡ 0)) result
 
--- what is asked of a position within the limits, for values of any size: it is found, or this is the first fault of the values, or memory is wanting
+-- what is asked of a position within the limits
 abbrev pub Finds : Bool → Goal → PlainBoard → Limits → Result Found SolveFault → Type 0
-Finds keys goal b limits (Ok found) = (fault_of limits ≡ None) × IsFoundAt keys goal b limits.limit found
-Finds keys goal b limits (Err fault) = (fault_of limits ≡ Some fault) ⊎ ((fault_of limits ≡ None) × (fault ≡ solve.NoMemory))
+Finds keys goal b limits result = FindsWithin limits (IsFoundAt keys goal b limits.limit) result
 
 -- the limits within which a line is searched
 abbrev pub asked_limits : Batch → Asked → Limits

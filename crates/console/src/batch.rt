@@ -19,8 +19,9 @@ use moves::read_sound;
 use problems::Problem;
 use progress::Watch;
 use refusals::{Asking, Refusal, Refused, advise, refused_text, write_sentence};
-use replies::{Context, Table, refusal_of, search_of, table_within, tell_if_over};
+use replies::{Context, refusal_of, search_of, table_within, tell_if_over};
 use rounds::SolveFault;
+use searcher::Table;
 use std::alloc::{AllocError, Global};
 use std::io::Write;
 use std::sync::Wait;
@@ -128,10 +129,7 @@ fn find_at<R: Threads + Wait + Eprint + Clock + Sync + AllocGlobal>(
         return Err(SolveFault::Limit);
     };
     let watch = context.watch_of(position, options.keys, limits);
-    match find(context.rt, table, options.keys, &problem, watch.as_ref()) {
-        Ok(found) => Ok(found),
-        Err(_) => Err(SolveFault::NoMemory),
-    }
+    Ok(find(context.rt, table, options.keys, &problem, watch.as_ref())?)
 }
 
 /// What is written for what is found at a position, or why nothing is.

@@ -1,6 +1,7 @@
 -- How the work on a reply may end.
 use Rattle.std.specs.Prelude.{◌≡◌, ◌⊎◌, ⊤, ℕ, List, Result, Ok, Err}
 use Rattle.board.specs.Board.{PlainBoard, IsPosition}
+use Rattle.board.specs.declared.fault.FenFault.{FenFault}
 use Rattle.refusals.specs.Reply.{Reply, answered, refused}
 use Rattle.refusals.specs.declared.refusal.Refusal.{Refusal}
 use Rattle.refusals.specs.declared.refusal.Refusal.TheVariants.{TooLong, NoMemory}
@@ -10,10 +11,18 @@ use Rattle.endings.specs.declared.reply_fault.ReplyFault.{ReplyFault}
 use Rattle.endings.specs.declared.reply_fault.ReplyFault.TheVariants.{Refused, ReadFailed}
 use Rattle.board.specs.Fen.{IsFenText}
 use Rattle.rules.specs.Reach.{IsSound}
+use Rattle.rules.specs.Reading.{IsSoundFault}
+use Rattle.refusals.specs.Refusal.{refusal_of_fen}
 
 -- the text is that of this position, and the side that isn't to move is out of check
 abbrev pub IsSoundText : List ℕ → PlainBoard → Type 0
 IsSoundText text b = IsPosition b × IsFenText text b × IsSound b
+
+-- what is shown at the sound position of a text, or the refusal of the text's fault
+abbrev pub IsReplyAt : List ℕ → (PlainBoard → Reply → Type 0) → Reply → Type 0
+IsReplyAt text Shows reply =
+    ((b : PlainBoard) × IsSoundText text b × Shows b reply)
+    ⊎ ((fault : FenFault) × IsSoundFault text fault × (reply ≡ refused (refusal_of_fen fault)))
 
 -- a text is that of an answer, and a refusal is right or is want of memory
 abbrev pub Gives : {B : Type 0} → (B → List ℕ) → (Reply → Type 0) → Result B Refusal → Type 0

@@ -3,7 +3,9 @@
 
 use board::Position;
 use moves::{Goal, read_sound};
-use search::{Answer, NoGate, SolveFault, Task, Wanted, build_tree_over, make_table, solve_over};
+use search::{
+    Answer, NoGate, Problem, SolveFault, Table, Task, build_tree_over, make_table, solve_over,
+};
 use std::io;
 use std::io::Write;
 use std::sync::Wait;
@@ -13,32 +15,36 @@ use wintree::{Tree, check, tree_text};
 /// A king and a rook against a king, White to move.
 const POSITION: &[u8] = b"k5/6/2K3/6/6/1R4 w";
 
-/// The tree of the position's mate within five plies, or none: the same table serves the solve and the tree.
+/// The tree of the problem's answer, or none: the same table serves the solve and the tree.
+fn tree_over<R: Threads + Wait + AllocGlobal + Sync>(
+    rt: &R,
+    problem: &Problem,
+    table: &mut Table,
+) -> Result<Option<Tree>, SolveFault> {
+    let task = Task {
+        problem,
+        slots: &table.slots,
+        gate: &NoGate,
+    };
+    match solve_over(rt, rt.alloc(), &task, &mut table.seats)? {
+        Answer::NoneWithin(_) => Ok(None),
+        Answer::Mate { plies, .. } => match build_tree_over(rt, rt.alloc(), problem, plies, table) {
+            Ok(tree) => Ok(Some(tree)),
+            Err(_) => Err(SolveFault::NoMemory),
+        },
+    }
+}
+
+/// The tree of the position's mate within five plies, or none.
 fn mate_of<R: Threads + Wait + AllocGlobal + Sync>(
     rt: &R,
     position: &Position,
 ) -> Result<Option<Tree>, SolveFault> {
-    let goal = Goal::Mate;
-    let (table, mut seats) = make_table(rt.alloc(), 5, 2, 4096)?;
-    let task = Task {
-        position,
-        goal,
-        limit: 5,
-        gate: &NoGate,
+    let Some(problem) = Problem::of(position, Goal::Mate, 5) else {
+        return Err(SolveFault::Limit);
     };
-    let answer = solve_over(rt, rt.alloc(), &task, &table, &mut seats)?;
-    let Answer::Mate { plies, .. } = answer else {
-        return Ok(None);
-    };
-    let wanted = Wanted {
-        position,
-        goal,
-        plies,
-    };
-    match build_tree_over(rt, rt.alloc(), &wanted, &table, &mut seats) {
-        Ok(tree) => Ok(Some(tree)),
-        Err(_) => Err(SolveFault::NoMemory),
-    }
+    let mut table = make_table(rt.alloc(), 2, 4096)?;
+    tree_over(rt, &problem, &mut table)
 }
 
 fn main(rt: HostRuntime) -> io::Result<()> {

@@ -2,12 +2,11 @@
 ghost use Rattle.std.specs.Prelude.{◌≡◌};
 
 use crate::{
-    minimate_after, minimate_check, minimate_fault, minimate_keys, minimate_moves, minimate_solve,
-    minimate_solver_close, minimate_solver_keys, minimate_solver_open, minimate_solver_solve,
-    minimate_solver_tree, minimate_stop_close, minimate_stop_place, minimate_stop_set,
-    minimate_tree,
+    First, Found, SolverHandle, StopHandle, minimate_after, minimate_check, minimate_fault,
+    minimate_keys, minimate_moves, minimate_solve, minimate_solver_close, minimate_solver_keys,
+    minimate_solver_open, minimate_solver_solve, minimate_solver_tree, minimate_stop_close,
+    minimate_stop_place, minimate_stop_set, minimate_tree,
 };
-use handles::{First, Found, SolverHandle, StopHandle};
 use solver::Place;
 use std::process::Abort;
 use std::test::Fail;

@@ -7,9 +7,9 @@ use board::{Position, Side, read_fen};
 use decision::decide;
 use entry::MateLore;
 use moves::{Goal, Move, Square};
-use problems::Answer;
+use problems::{Answer, Problem};
 use rounds::{SolveFault, Task, make_table, solve, solve_over};
-use searcher::NoGate;
+use searcher::{NoGate, Table};
 use slots::{Seat, Slots};
 use std::alloc::Global;
 use std::sync::Wait;
@@ -65,18 +65,20 @@ pub(crate) fn answer_over<R: Threads + Wait + Sync>(rt: &R, alloc: Global) -> &'
     let Some(root) = root() else {
         return "no position";
     };
-    let Ok((table, mut seats)) = make_table(alloc, 3, 2, 64) else {
+    let Some(problem) = Problem::of(&root, Goal::Mate, 3) else {
+        return "no problem";
+    };
+    let Ok(Table { slots, mut seats }) = make_table(alloc, 2, 64) else {
         return "no memory";
     };
     let task = Task {
-        position: &root,
-        goal: Goal::Mate,
-        limit: 3,
+        problem: &problem,
+        slots: &slots,
         gate: &NoGate,
     };
-    match solve_over(rt, alloc, &task, &table, &mut seats) {
+    match solve_over(rt, alloc, &task, &mut seats) {
         Ok(answer) => said_of(answer),
-        Err(SolveFault::NoMemory) if serve(&table, &mut seats, &root) => "no memory",
+        Err(_) if serve(&slots, &mut seats, &root) => "no memory",
         Err(_) => "no more decisions",
     }
 }

@@ -9,6 +9,6 @@ mod root;
 
 pub use answer::{Answer, MOST_LIMIT};
 pub use key::Key;
-pub use problem::Problem;
+pub use problem::{Problem, is_limit};
 pub use question::Question;
 pub use root::Root;

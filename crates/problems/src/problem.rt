@@ -1,4 +1,5 @@
 //! What is solved: a position, what is played for, and within how many plies.
+ghost use Rattle.std.specs.Prelude.{◌↔◌, IsTrue};
 ghost use Rattle.problems.specs.Roots.{IsLimit};
 
 use crate::answer::MOST_LIMIT;
@@ -14,6 +15,13 @@ pub struct Problem {
     ghost limited: { IsLimit limit },
 }
 
+/// Whether so many plies are searched: 1 to 63.
+pub fn is_limit(plies: u8) -> bool
+    ensures { IsTrue result ↔ IsLimit plies }
+{
+    1 <= plies && plies <= MOST_LIMIT
+}
+
 impl Problem {
     ghost use Rattle.std.specs.Prelude.{MatchOption};
     ghost use Rattle.problems.specs.Problems.{IsProblemOf};
@@ -22,7 +30,7 @@ impl Problem {
     pub fn of(position: &Position, goal: Goal, limit: u8) -> Option<Problem>
         ensures { MatchOption result (IsLimit limit → ⊥) (IsProblemOf position.now goal limit) }
     {
-        if limit < 1 || MOST_LIMIT < limit {
+        if !is_limit(limit) {
             return None;
         }
         let position = *position;

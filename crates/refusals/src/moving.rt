@@ -1,41 +1,24 @@
 //! What is told of a move that can't be played, and of a side that has none.
-ghost use Rattle.std.specs.Prelude.{◌≡◌, OnOk, codes};
+ghost use Rattle.std.specs.Prelude.{◌≡◌, IfSome, OnOk, codes};
 ghost use Rattle.std.specs.Io.KnownBytes.{Appends};
 ghost use Rattle.rules.specs.Reach.{IsInCheck};
+ghost use Rattle.rules.specs.Squares.{IsOnBoard};
 ghost use Rattle.refusals.specs.Sentences.{AppendsLine, error_beginning, over_text, side_text};
 
 use crate::sentence::Part::{Bytes, Moves, On, Text};
 use crate::sentence::Sentence::{Four, One, Two};
 use crate::sentence::{Sentence, write_line};
-use board::{Game, Position, Side, Unit};
-use moves::{Move, Square, in_check, lawful, read_sound};
+use board::{Game, Position, Side};
+use moves::{Move, Square, in_check, lawful, read_move, read_sound};
 use std::io::{self, Write};
 
-/// The square of two bytes, if it is one of the board's.
-fn square_of(game: Game, file: u8, rank: u8) -> Option<Square> {
-    let (file, rank) = (file.checked_sub(b'a')?, rank.checked_sub(b'1')?);
-    if file < game.width() && rank < game.width() {
-        Some(Square { file, rank })
-    } else {
-        None
-    }
-}
-
-/// The square that a move's name begins with, if it is written as one is.
-fn origin_of(game: Game, name: &[u8]) -> Option<Square> {
-    let [file, rank, to_file, to_rank, becomes @ ..] = name else {
-        return None;
-    };
-    match (becomes, square_of(game, *to_file, *to_rank)) {
-        ([] | [b'q' | b'r' | b'b' | b'n'], Some(_)) => square_of(game, *file, *rank),
-        _ => None,
-    }
-}
-
-/// The unit on a square, if it is one of the board's.
-fn unit_on(position: &Position, square: Square) -> Option<Unit> {
-    if square.is_on_board(position.game()) {
-        position.unit(square.number(position.game()))
+/// The square that a move's name begins with, if both its squares are the board's.
+fn origin_of(game: Game, name: &[u8]) -> Option<Square>
+    ensures { IfSome result (IsOnBoard game) }
+{
+    let m = read_move(name)?;
+    if m.from.is_on_board(game) && m.to.is_on_board(game) {
+        Some(m.from)
     } else {
         None
     }
@@ -59,7 +42,7 @@ fn move_sentence<'a>(position: &Position, moves: &'a [Move], name: &'a [u8]) -> 
         );
     };
     let (name, square) = (Bytes(name), On(from));
-    match unit_on(position, from) {
+    match position.unit(from.number(position.game())) {
         None => Two("'%': nothing stands on %", (name, square)),
         Some(unit) if unit.side != position.mover() => Four(
             "'%': % is to move, and the unit on % is %'s",

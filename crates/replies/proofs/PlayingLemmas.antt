@@ -1,28 +1,26 @@
--- The lawful move of a name, looked for in the list of them all.
-use Rattle.std.proofs.Common.{◌≡◌, ℕ, ◌+◌, ◌<◌, ◌≤◌, zero, suc, sym, subst, arith, List, [], ◌∷◌, length, take, get_or, All}
-use Rattle.std.proofs.lemmas.List.{take_all}
-use Rattle.std.proofs.lemmas.List.Elements.{All-append, All-contains}
-use Rattle.std.proofs.Math.Seq.{take-suc}
+-- The lawful move of a name.
+use Rattle.std.proofs.Common.{◌≡◌, ℕ, ◌<◌, ◌≤◌, arith, sym, subst, List, length, get_or, None, Some}
+use Rattle.std.proofs.lemmas.Option.{same_Some}
 use Rattle.board.specs.Board.{PlainBoard}
 use Rattle.rules.specs.Squares.{Ply}
 use Rattle.rules.specs.MoveText.{move_text}
+use Rattle.rules.specs.Moves.{IsPly, IsLawful}
 use Rattle.rules.specs.Order.{ListsLawful}
+use Rattle.rules.proofs.Naming.{ply_of_lawful}
 use Rattle.replies.specs.Playing.{NamesNone}
 
--- the moves before, and one more
-pub none_next : (name : List ℕ) (xs : List Ply) (i : ℕ) (m : Ply) → i < length xs → m ≡ get_or xs i m → (move_text m ≡ name → ⊥)
-    → All (λ l. move_text l ≡ name → ⊥) (take i xs) → All (λ l. move_text l ≡ name → ⊥) (take (i + 1) xs)
-none_next name xs i m lt at none before =
-    let up : suc i ≡ i + 1 = omega arith in
-    subst (λ k. All (λ l. move_text l ≡ name → ⊥) (take k xs)) up
-    (subst (All (λ l. move_text l ≡ name → ⊥)) (sym (take-suc xs i m lt))
-    (All-append (λ l. move_text l ≡ name → ⊥) (take i xs) (get_or xs i m ∷ []) before (one (get_or xs i m) (subst (λ l. move_text l ≡ name → ⊥) at none))))
-  where
-    one : (x : Ply) → (move_text x ≡ name → ⊥) → All (λ l. move_text l ≡ name → ⊥) (x ∷ [])
-    one x h zero d small = h
-    one x h (suc k) d small = absurd (omega arith)
+none_is_some : (m : Ply) → None ≡ Some m → ⊥
+none_is_some m e = cc
 
--- where none of the list has the name, no lawful move has it
-pub names_none : (b : PlainBoard) (name : List ℕ) (xs : List Ply) (i : ℕ) → ListsLawful b xs → length xs ≤ i → All (λ l. move_text l ≡ name → ⊥) (take i xs) → NamesNone b name
-names_none b name xs i lists past none m lawful =
-    All-contains (λ l. move_text l ≡ name → ⊥) xs m (subst (All (λ l. move_text l ≡ name → ⊥)) (take_all i xs past) none) ((lists.exact m).1 lawful)
+-- no lawful move has the name where no move has it
+pub none_read : (b : PlainBoard) (name : List ℕ) → ((m : Ply) → IsPly m → move_text m ≡ name → None ≡ Some m) → NamesNone b name
+none_read b name none m lawful is = none_is_some m (none m (ply_of_lawful b m lawful) is)
+
+-- nor where the one that has it isn't lawful
+pub not_lawful : (b : PlainBoard) (name : List ℕ) (named : Ply) → ((m : Ply) → IsPly m → move_text m ≡ name → Some named ≡ Some m) → (IsLawful b named → ⊥) → NamesNone b name
+not_lawful b name named only unlawful m lawful is =
+    unlawful (subst (IsLawful b) (sym (same_Some named m (only m (ply_of_lawful b m lawful) is))) lawful)
+
+-- what isn't on the list of lawful moves isn't lawful
+pub not_listed : (b : PlainBoard) (xs : List Ply) (job : ℕ) (m : Ply) → ListsLawful b xs → length xs ≤ job → ((k : ℕ) → k < job → get_or xs k m ≡ m → ⊥) → IsLawful b m → ⊥
+not_listed b xs job m lists past none lawful = let there = (lists.exact m).1 lawful in none there.0 (omega (arith, there.1, past)) there.2

@@ -1,11 +1,9 @@
 -- What is written for the tree of a first move that is given.
-use Rattle.std.specs.Prelude.{◌≡◌, ◌⊎◌, ℕ, List, MatchOption, Some, slice_get}
-use Rattle.board.specs.declared.fault.FenFault.{FenFault}
+use Rattle.std.specs.Prelude.{◌≡◌, ◌⊎◌, ℕ, List, Some, slice_get}
 use Rattle.board.specs.Board.{PlainBoard}
 use Rattle.rules.specs.declared.goal.Goal.{Goal}
 use Rattle.rules.specs.MoveText.{move_text}
 use Rattle.rules.specs.Moves.{IsLawful}
-use Rattle.rules.specs.Reading.{IsSoundFault}
 use Rattle.rules.specs.Squares.{Ply}
 use Rattle.problems.specs.declared.root.Root.{Root}
 use Rattle.wintree.specs.Plan.{Plan}
@@ -14,11 +12,10 @@ use Rattle.trees.specs.First.{IsOpened, TakesNone}
 use Rattle.command_line.specs.declared.line.Limits.{Limits}
 use Rattle.command_line.specs.declared.line.NamedMove.{NamedMove}
 use Rattle.refusals.specs.Reply.{Reply, answered, refused, line_of}
-use Rattle.refusals.specs.Refusal.{refusal_of_fen}
 use Rattle.refusals.specs.declared.refusal.Refusal.TheVariants.{Move}
 use Rattle.answer_texts.specs.Answers.{none_text}
-use Rattle.endings.specs.Outcome.{IsSoundText}
-use Rattle.replies.specs.Output.{fault_of, refusal_of_solve}
+use Rattle.endings.specs.Outcome.{IsReplyAt}
+use Rattle.replies.specs.Output.{ShowsWithin}
 use Rattle.replies.specs.Playing.{NamesNone}
 
 -- the text of that plan, or that there is none within the limit
@@ -29,8 +26,7 @@ ShowsTreeOf goal b m limit reply =
 
 -- the same, or the refusal of the first value that is outside its limits
 abbrev pub ShowsTreeFound : Goal → PlainBoard → Ply → Limits → Reply → Type 0
-ShowsTreeFound goal b m limits reply =
-    MatchOption (fault_of limits) (ShowsTreeOf goal b m limits.limit reply) (λ fault. reply ≡ refused (refusal_of_solve fault))
+ShowsTreeFound goal b m limits reply = ShowsWithin limits (ShowsTreeOf goal b m limits.limit) reply
 
 -- the same for the lawful move of this name, or that no lawful move has the name
 abbrev pub ShowsFirst : Goal → PlainBoard → List ℕ → Limits → Reply → Type 0
@@ -52,6 +48,4 @@ ShowsJob r job limits reply = (m : Ply) → slice_get r.moves.items job ≡ Some
 
 -- the same at the sound position of a text, or the refusal of the text's fault
 abbrev pub IsFirstReply : NamedMove → Goal → Limits → Reply → Type 0
-IsFirstReply played goal limits reply =
-    ((b : PlainBoard) × IsSoundText played.fen.now b × ShowsFirst goal b played.name.now limits reply)
-    ⊎ ((fault : FenFault) × IsSoundFault played.fen.now fault × (reply ≡ refused (refusal_of_fen fault)))
+IsFirstReply played goal limits reply = IsReplyAt played.fen.now (λ b. ShowsFirst goal b played.name.now limits) reply

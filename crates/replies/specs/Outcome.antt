@@ -1,10 +1,10 @@
 -- How the work on a reply may end.
-use Rattle.std.specs.Prelude.{◌≡◌, ◌≤◌, ◌⊎◌, ℕ, List, Option, None, Some, Result, Ok, Err, Vec}
+use Rattle.std.specs.Prelude.{◌≡◌, ◌⊎◌, ◌≤◌, ℕ, List, Option, None, Some, Result, Ok, Err, Vec}
 use Rattle.board.specs.Board.{PlainBoard}
 use Rattle.rules.specs.declared.goal.Goal.{Goal}
 use Rattle.problems.specs.declared.answer.Answer.{Answer}
-use Rattle.rounds.specs.declared.task.SolveFault.{SolveFault}
-use Rattle.rounds.specs.declared.task.SolveFault.TheVariants as solve
+use Rattle.rounds.specs.declared.fault.SolveFault.{SolveFault}
+use Rattle.rounds.specs.declared.fault.SolveFault.TheVariants as solve
 use Rattle.problems.specs.declared.key.Key.{Key}
 use Rattle.problems.specs.Answer.{IsAnswer, IsFewest, ForcesNothing}
 use Rattle.problems.specs.Keys.{ListsKeys}
@@ -18,15 +18,18 @@ use Rattle.devices.specs.declared.transfer.InputFault.TheVariants as input
 use Rattle.endings.specs.declared.reply_fault.ReplyFault.{ReplyFault}
 use Rattle.endings.specs.Outcome.{GivesIfRead}
 
--- for values of any size: the answer within the limit, or the first fault of the values, or want of memory
-abbrev pub Solves : Goal → PlainBoard → Limits → Result Answer SolveFault → Type 0
-Solves goal b limits (Ok answer) = (fault_of limits ≡ None) × IsAnswer goal b limits.limit answer
-Solves goal b limits (Err fault) = (fault_of limits ≡ Some fault) ⊎ ((fault_of limits ≡ None) × (fault ≡ solve.NoMemory))
+-- for values of any size: what is found where all are taken, or the first fault of the values, or want of memory
+abbrev pub FindsWithin : {X : Type 0} → Limits → (X → Type 0) → Result X SolveFault → Type 0
+FindsWithin limits Is (Ok found) = (fault_of limits ≡ None) × Is found
+FindsWithin limits Is (Err fault) = (fault_of limits ≡ Some fault) ⊎ ((fault_of limits ≡ None) × (fault ≡ solve.NoMemory))
 
--- the same of the first moves that force the goal
+-- the answer within the limit
+abbrev pub Solves : Goal → PlainBoard → Limits → Result Answer SolveFault → Type 0
+Solves goal b limits result = FindsWithin limits (IsAnswer goal b limits.limit) result
+
+-- the first moves that force the goal within the limit
 abbrev pub FindsKeys : {A : Type 0} → Goal → PlainBoard → Limits → Result (Vec Key A) SolveFault → Type 0
-FindsKeys goal b limits (Ok keys) = (fault_of limits ≡ None) × ListsKeys goal b limits.limit keys.items
-FindsKeys goal b limits (Err fault) = (fault_of limits ≡ Some fault) ⊎ ((fault_of limits ≡ None) × (fault ≡ solve.NoMemory))
+FindsKeys goal b limits result = FindsWithin limits (λ keys. ListsKeys goal b limits.limit keys.items) result
 
 -- the best plan, where the goal is forced in some number of plies up to the limit; or none, where it is in none
 abbrev pub IsBestWithin : Goal → PlainBoard → ℕ → Option Plan → Type 0
@@ -35,8 +38,7 @@ IsBestWithin goal b limit None = ForcesNothing goal b limit
 
 -- the same of a search: the best plan, or that nothing is forced within the limit
 abbrev pub FindsTree : Goal → PlainBoard → Limits → Result (Option Plan) SolveFault → Type 0
-FindsTree goal b limits (Ok found) = (fault_of limits ≡ None) × IsBestWithin goal b limits.limit found
-FindsTree goal b limits (Err fault) = (fault_of limits ≡ Some fault) ⊎ ((fault_of limits ≡ None) × (fault ≡ solve.NoMemory))
+FindsTree goal b limits result = FindsWithin limits (IsBestWithin goal b limits.limit) result
 
 -- a reply to the line with the input that it reads
 abbrev pub GivesReply : {B : Type 0} → (B → List ℕ) → Line → Option (List ℕ) → Result B ReplyFault → Type 0

@@ -1,16 +1,14 @@
 -- What the program writes for a line, and the status that it ends with.
 use Rattle.std.specs.Prelude.{◌≡◌, ◌⊎◌, ℕ, List, [], ◌≢◌, ◌≤◌, nat_lt, length, Option, Some, MatchBool, MatchOption, SomeIff}
-use Rattle.board.specs.declared.fault.FenFault.{FenFault}
 use Rattle.board.specs.Board.{PlainBoard}
 use Rattle.rules.specs.declared.goal.Goal.{Goal}
 use Rattle.rules.specs.declared.goal.Goal.TheVariants as goal
 use Rattle.rules.specs.Order.{ListsLawful}
-use Rattle.rules.specs.Reading.{IsSoundFault}
 use Rattle.rules.specs.Squares.{Ply}
 use Rattle.problems.specs.declared.answer.Answer.{Answer}
 use Rattle.problems.specs.Answer.{IsAnswer, IsFewest, ForcesNothing}
-use Rattle.rounds.specs.declared.task.SolveFault.{SolveFault}
-use Rattle.rounds.specs.declared.task.SolveFault.TheVariants as solve
+use Rattle.rounds.specs.declared.fault.SolveFault.{SolveFault}
+use Rattle.rounds.specs.declared.fault.SolveFault.TheVariants as solve
 use Rattle.problems.specs.declared.key.Key.{Key}
 use Rattle.problems.specs.Keys.{ListsKeys}
 use Rattle.rounds.specs.Limits.{limits_fault}
@@ -24,7 +22,7 @@ use Rattle.wintree.specs.Wins.{Wins, height}
 use Rattle.answer_texts.specs.Answers.{answer_text, checked_text, keys_text, moves_text, none_text}
 use Rattle.replies.specs.Drawings.{drawn}
 use Rattle.devices.specs.Input.{without_line_feed}
-use Rattle.refusals.specs.Refusal.{refusal_of_fen, refusal_of_tree}
+use Rattle.refusals.specs.Refusal.{refusal_of_tree}
 use Rattle.refusals.specs.Reply.{Reply, answered, refused, line_of}
 use Rattle.command_line.specs.declared.line.Line.{Line}
 use Rattle.command_line.specs.declared.line.Limits.{Limits}
@@ -32,7 +30,7 @@ use Rattle.command_line.specs.declared.line.Action.{Action}
 use Rattle.command_line.specs.declared.line.Action.TheVariants.{Solve, Keys, Moves, Show, Tree, Check}
 use Rattle.refusals.specs.declared.refusal.Refusal.{Refusal}
 use Rattle.refusals.specs.declared.refusal.Refusal.TheVariants.{TooLong, Limit, Workers, Slots, NoMemory}
-use Rattle.endings.specs.Outcome.{IsSoundText}
+use Rattle.endings.specs.Outcome.{IsSoundText, IsReplyAt}
 
 -- ---- the reply to each command, at a position
 
@@ -47,17 +45,19 @@ refusal_of_solve solve.NoMemory = NoMemory
 abbrev pub fault_of : Limits → Option SolveFault
 fault_of limits = limits_fault limits.limit limits.workers limits.slots
 
--- the answer for a goal within the limit, or the refusal of the first value that is outside its limits
-abbrev pub ShowsAnswer : Goal → PlainBoard → Limits → Reply → Type 0
-ShowsAnswer goal b limits reply = MatchOption (fault_of limits)
-    ((answer : Answer) × IsAnswer goal b limits.limit answer × (reply ≡ answered (answer_text goal answer)))
-    (λ fault. reply ≡ refused (refusal_of_solve fault))
+-- what is shown where all these values are taken, or the refusal of the first that isn't
+abbrev pub ShowsWithin : Limits → (Reply → Type 0) → Reply → Type 0
+ShowsWithin limits Shows reply = MatchOption (fault_of limits) (Shows reply) (λ fault. reply ≡ refused (refusal_of_solve fault))
 
--- the first moves that force a goal within the limit, in order, each with its plies; or the refusal of the first value that is outside its limits
+-- the answer for a goal within the limit, or the refusal of the limits
+abbrev pub ShowsAnswer : Goal → PlainBoard → Limits → Reply → Type 0
+ShowsAnswer goal b limits reply = ShowsWithin limits
+    (λ reply. (answer : Answer) × IsAnswer goal b limits.limit answer × (reply ≡ answered (answer_text goal answer))) reply
+
+-- the first moves that force a goal within the limit, in order, each with its plies; or the refusal of the limits
 abbrev pub ShowsKeys : Goal → PlainBoard → Limits → Reply → Type 0
-ShowsKeys goal b limits reply = MatchOption (fault_of limits)
-    ((keys : List Key) × ListsKeys goal b limits.limit keys × (reply ≡ answered (keys_text limits.limit keys)))
-    (λ fault. reply ≡ refused (refusal_of_solve fault))
+ShowsKeys goal b limits reply = ShowsWithin limits
+    (λ reply. (keys : List Key) × ListsKeys goal b limits.limit keys × (reply ≡ answered (keys_text limits.limit keys))) reply
 
 -- the text of the best plan, where the goal is forced in some number of plies up to the limit, or that it is in none
 abbrev pub ShowsBest : Goal → PlainBoard → ℕ → Reply → Type 0
@@ -67,8 +67,7 @@ ShowsBest goal b limit reply =
 
 -- the same, or the refusal of the first value that is outside its limits
 abbrev pub ShowsPlanFound : Goal → PlainBoard → Limits → Reply → Type 0
-ShowsPlanFound goal b limits reply =
-    MatchOption (fault_of limits) (ShowsBest goal b limits.limit reply) (λ fault. reply ≡ refused (refusal_of_solve fault))
+ShowsPlanFound goal b limits reply = ShowsWithin limits (ShowsBest goal b limits.limit) reply
 
 -- the lawful moves, in order
 abbrev pub ShowsMoves : PlainBoard → Reply → Type 0
@@ -111,9 +110,7 @@ ShowsCommand b (Check goal) input reply = ShowsCheck goal b input reply
 
 -- the reply to a line with this input: its command's at the sound position of its text, or the refusal of its text's fault
 abbrev pub IsOutput : Line → List ℕ → Reply → Type 0
-IsOutput line input reply =
-    ((b : PlainBoard) × IsSoundText line.fen.now b × ShowsCommand b line.action input reply)
-    ⊎ ((fault : FenFault) × IsSoundFault line.fen.now fault × (reply ≡ refused (refusal_of_fen fault)))
+IsOutput line input reply = IsReplyAt line.fen.now (λ b. ShowsCommand b line.action input) reply
 
 -- what is known of the input that a command reads: all but `check` read none
 abbrev pub input_of : Action → Option (List ℕ) → Option (List ℕ)

@@ -1,15 +1,12 @@
 -- What is written for a move that is to be played.
 use Rattle.std.specs.Prelude.{◌≡◌, ◌⊎◌, List, ℕ}
-use Rattle.board.specs.declared.fault.FenFault.{FenFault}
 use Rattle.board.specs.Board.{PlainBoard}
 use Rattle.board.specs.Fen.{IsFenText}
 use Rattle.rules.specs.MoveText.{move_text}
 use Rattle.rules.specs.Moves.{IsMove, IsLawful}
-use Rattle.rules.specs.Reading.{IsSoundFault}
 use Rattle.rules.specs.Squares.{Ply}
-use Rattle.endings.specs.Outcome.{IsSoundText}
+use Rattle.endings.specs.Outcome.{IsReplyAt}
 use Rattle.refusals.specs.Reply.{Reply, answered, refused, line_of}
-use Rattle.refusals.specs.Refusal.{refusal_of_fen}
 use Rattle.refusals.specs.declared.refusal.Refusal.TheVariants.{Move}
 
 -- no lawful move has this name
@@ -24,6 +21,4 @@ ShowsAfter b name reply =
 
 -- the same at the sound position of a text, or the refusal of the text's fault
 abbrev pub IsAfterReply : List ℕ → List ℕ → Reply → Type 0
-IsAfterReply fen name reply =
-    ((b : PlainBoard) × IsSoundText fen b × ShowsAfter b name reply)
-    ⊎ ((fault : FenFault) × IsSoundFault fen fault × (reply ≡ refused (refusal_of_fen fault)))
+IsAfterReply fen name reply = IsReplyAt fen (λ b. ShowsAfter b name) reply

@@ -1,5 +1,5 @@
 -- A search at one position.
-use Rattle.std.specs.Prelude.{◌≡◌, ◌⊎◌, ℕ, List, None, Result, Ok, Err}
+use Rattle.std.specs.Prelude.{◌≡◌, ℕ, List, None, Result}
 use Rattle.progress.specs.Signs.{WatchesSearch}
 use Rattle.progress.specs.declared.watch.Course.{Course}
 use Rattle.progress.specs.declared.watch.Watch.{Watch}
@@ -9,26 +9,21 @@ use Rattle.command_line.specs.declared.line.Limits.{Limits}
 use Rattle.board.specs.Board.{PlainBoard}
 use Rattle.rules.specs.Moves.{IsLawful}
 use Rattle.rules.specs.Squares.{Ply}
-use Rattle.endings.specs.Outcome.{IsSoundText}
+use Rattle.endings.specs.Outcome.{IsSoundText, IsReplyAt}
 use Rattle.replies.specs.Output.{ShowsAnswer}
-use Rattle.board.specs.declared.fault.FenFault.{FenFault}
-use Rattle.rules.specs.Reading.{IsSoundFault}
-use Rattle.refusals.specs.Reply.{Reply, refused}
-use Rattle.refusals.specs.Refusal.{refusal_of_fen}
-use Rattle.replies.specs.Outcome.{Solves}
-use Rattle.rounds.specs.declared.task.SolveFault.{SolveFault}
+use Rattle.refusals.specs.Reply.{Reply}
+use Rattle.problems.specs.Answer.{IsAnswer}
+use Rattle.replies.specs.Outcome.{FindsWithin}
+use Rattle.rounds.specs.declared.fault.SolveFault.{SolveFault}
 use Rattle.replies.specs.declared.searching.Searched.{Searched}
 
--- the answer within the limits, and its table; or the first fault of the values, or want of memory
+-- the answer within the limits, and its table
 abbrev pub SolvesOver : Goal → PlainBoard → Limits → Result Searched SolveFault → Type 0
-SolvesOver goal b limits (Ok found) = Solves goal b limits (Ok found.answer)
-SolvesOver goal b limits (Err fault) = Solves goal b limits (Err fault)
+SolvesOver goal b limits result = FindsWithin limits (λ found. IsAnswer goal b limits.limit found.answer) result
 
 -- the reply to a solve of the position of this text
 abbrev pub ShowsPosition : Goal → Limits → List ℕ → Reply → Type 0
-ShowsPosition goal limits text reply =
-    ((b : PlainBoard) × IsSoundText text b × ShowsAnswer goal b limits reply)
-    ⊎ ((fault : FenFault) × IsSoundFault text fault × (reply ≡ refused (refusal_of_fen fault)))
+ShowsPosition goal limits text reply = IsReplyAt text (λ b. ShowsAnswer goal b limits) reply
 
 -- at the position of this text the side to move has no lawful move: it is mated already, or stalemated
 abbrev pub IsOver : List ℕ → Type 0

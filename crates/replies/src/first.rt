@@ -1,5 +1,5 @@
 //! The reply to a first move that is given: its tree, where it wins within the limit.
-ghost use Rattle.std.specs.Prelude.{◌≡◌, IfOk, MatchOption, None, min, vec_items};
+ghost use Rattle.std.specs.Prelude.{◌≡◌, MatchOption, None, min, vec_items};
 ghost use Rattle.problems.specs.Roots.{IsRoot, IsJobOf};
 ghost use Rattle.replies.specs.First.{IsFirstReply, NamesJob, ShowsFirst, ShowsJob};
 ghost use Rattle.endings.specs.Outcome.{Gives};
@@ -12,25 +12,24 @@ use crate::searching::table_within;
 use crate::solving::tree_of;
 use board::Position;
 use command_line::{Limits, NamedMove};
-use moves::{Board, Goal, read_sound};
+use moves::{Board, Goal, read_move, read_sound};
 use problems::{MOST_LIMIT, Root};
 use refusals::Refusal;
-use std::alloc::{AllocError, Global};
+use std::alloc::Global;
 
 /// The number of the lawful move of this name.
-fn named_job(alloc: Global, root: &Root, name: &[u8]) -> Result<Option<u16>, AllocError>
+fn named_job(root: &Root, name: &[u8]) -> Option<u16>
     requires { IsRoot root.now }
-    ensures { IfOk result (λ found. MatchOption found (NamesNone root.now.board name.now)
-        (λ job. IsJobOf root.now job × NamesJob root.now.moves.items name.now job)) }
+    ensures { MatchOption result (NamesNone root.now.board name.now)
+        (λ job. IsJobOf root.now job × NamesJob root.now.moves.items name.now job) }
 {
+    let named = read_move(name)?;
     for job in 0..root.jobs() {
-        let first = root.moves[usize::from(job)];
-        let written = format!(in alloc; "{first}")?;
-        if written.as_bytes() == name {
-            return Ok(Some(job));
+        if root.moves[usize::from(job)] == named {
+            return Some(job);
         }
     }
-    Ok(None)
+    None
 }
 
 /// What is printed of a root's move: its tree, or that it wins within no number of plies up to the limit.
@@ -56,7 +55,7 @@ fn first_shown(alloc: Global, root: &Root, name: &[u8], limits: Limits) -> Resul
     requires limit { root.now.limit ≡ min (min limits.limit 255) 63 }
     ensures { Gives vec_items (ShowsFirst root.now.goal root.now.board name.now limits) result }
 {
-    match named_job(alloc, root, name)? {
+    match named_job(root, name) {
         Some(job) => opened_text(alloc, root, job, limits),
         None => Err(Refusal::Move),
     }

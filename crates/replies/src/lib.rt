@@ -11,7 +11,6 @@ mod refusal;
 mod replying;
 mod searching;
 mod solving;
-mod table;
 mod tally;
 
 pub use context::{Context, context_of, last_round};
@@ -26,5 +25,4 @@ pub use replying::{
 };
 pub use searching::{Searched, searched_at, table_within};
 pub use solving::{keys, solve, tree, tree_of};
-pub use table::Table;
 pub use tally::Tally;

@@ -8,28 +8,22 @@ ghost use Rattle.endings.specs.Outcome.{Gives};
 ghost use Rattle.replies.specs.Playing.{NamesNone, ShowsAfter, IsAfterReply};
 
 use board::{Position, fen_text};
-use moves::{Move, lawful, read_sound};
+use moves::{Move, is_lawful, read_move, read_sound};
 use refusals::Refusal;
 use rules::apply;
 use std::alloc::{AllocError, Allocator};
 
 /// The lawful move of this name.
-fn named_move<A: Allocator + Copy>(
-    alloc: A,
-    position: &Position,
-    name: &[u8],
-) -> Result<Option<Move>, AllocError>
-    ensures { IfOk result (λ found. MatchOption found (NamesNone position.now name.now)
-        (λ m. IsLawful position.now m × (move_text m ≡ name.now))) }
+fn named_move(position: &Position, name: &[u8]) -> Option<Move>
+    ensures { MatchOption result (NamesNone position.now name.now)
+        (λ m. IsLawful position.now m × (move_text m ≡ name.now)) }
 {
-    let moves = lawful(position);
-    for m in moves.as_slice() {
-        let written = format!(in alloc; "{m}")?;
-        if written.as_bytes() == name {
-            return Ok(Some(*m));
-        }
+    let m = read_move(name)?;
+    if is_lawful(position, m) {
+        Some(m)
+    } else {
+        None
     }
-    Ok(None)
 }
 
 fn position_line<A: Allocator>(alloc: A, position: &Position) -> Result<Vec<u8, A>, AllocError>
@@ -42,25 +36,21 @@ fn position_line<A: Allocator>(alloc: A, position: &Position) -> Result<Vec<u8, 
     Ok(line)
 }
 
-fn after_shown<A: Allocator + Copy>(
+fn after_shown<A: Allocator>(
     alloc: A,
     position: &Position,
     name: &[u8],
 ) -> Result<Vec<u8, A>, Refusal>
     ensures { Gives vec_items (ShowsAfter position.now name.now) result }
 {
-    match named_move(alloc, position, name)? {
+    match named_move(position, name) {
         Some(m) => Ok(position_line(alloc, &apply(position, m))?),
         None => Err(Refusal::Move),
     }
 }
 
 /// The text of the position after the lawful move of this name, on a line.
-pub fn after_reply<A: Allocator + Copy>(
-    alloc: A,
-    fen: &[u8],
-    name: &[u8],
-) -> Result<Vec<u8, A>, Refusal>
+pub fn after_reply<A: Allocator>(alloc: A, fen: &[u8], name: &[u8]) -> Result<Vec<u8, A>, Refusal>
     ensures { Gives vec_items (IsAfterReply fen.now name.now) result }
 {
     let position = read_sound(fen)?;

@@ -74,10 +74,7 @@ fn answer_within<R: Threads + Wait + Eprint + Clock + Sync + AllocGlobal>(
     ensures { Solves goal position.now limits result }
 {
     let (problem, mut table) = opened(rt.alloc(), position, goal, limits)?;
-    match solve(rt, &mut table, &problem, watch) {
-        Ok(answer) => Ok(answer),
-        Err(_) => Err(SolveFault::NoMemory),
-    }
+    Ok(solve(rt, &mut table, &problem, watch)?)
 }
 
 /// The first moves that force the goal within the limits.
@@ -91,10 +88,7 @@ fn keys_within<R: Threads + Wait + Eprint + Clock + Sync + AllocGlobal>(
     ensures { FindsKeys goal position.now limits result }
 {
     let (problem, mut table) = opened(rt.alloc(), position, goal, limits)?;
-    match keys(rt, &mut table, &problem, watch) {
-        Ok(keys) => Ok(keys),
-        Err(_) => Err(SolveFault::NoMemory),
-    }
+    Ok(keys(rt, &mut table, &problem, watch)?)
 }
 
 /// The best tree within the limits, or none where nothing is forced.
@@ -108,10 +102,7 @@ fn tree_within<R: Threads + Wait + Eprint + Clock + Sync + AllocGlobal>(
     ensures { FindsTree goal position.now limits result }
 {
     let (problem, mut table) = opened(rt.alloc(), position, goal, limits)?;
-    match tree(rt, &mut table, &problem, watch) {
-        Ok(tree) => Ok(tree),
-        Err(_) => Err(SolveFault::NoMemory),
-    }
+    Ok(tree(rt, &mut table, &problem, watch)?)
 }
 
 /// What is printed of an answer that was found, whoever searched: the fewest plies to the goal and the first move.

@@ -1,5 +1,6 @@
 //! A table and a problem within limits; and the answer at one position, with a sign of life beside its search.
-ghost use Rattle.std.specs.Prelude.{◌≡◌, IfErr, IfOk, None};
+ghost use Rattle.std.specs.Prelude.{◌≡◌, ◌+◌, IfErr, IfOk, None, length};
+ghost use Rattle.slots.specs.Promise.{slots_of};
 ghost use Rattle.problems.specs.Problems.{IsProblemOf};
 ghost use Rattle.rounds.specs.Limits.{IsRefusal};
 ghost use Rattle.replies.specs.Output.{fault_of};
@@ -8,20 +9,22 @@ ghost use Rattle.replies.specs.Searching.{SolvesOver};
 use crate::context::Context;
 use crate::replying::{Search, search_of};
 use crate::solving::solve;
-use crate::table::Table;
 use board::Position;
 use command_line::Limits;
 use moves::Goal;
-use problems::{Answer, Problem};
+use problems::{Answer, Problem, is_limit};
 use rounds::{SolveFault, make_table};
+use searcher::Table;
 use std::alloc::Global;
 use std::sync::Wait;
 use std::thread::Threads;
 use std::time::Clock;
 
-/// A table within the limits.
+/// A table within the limits: so many slots, with a seat for each worker and one for the caller's own thread.
 pub fn table_within(alloc: Global, limits: Limits) -> Result<Table, SolveFault>
     ensures accepted { IfOk result (λ _. fault_of limits ≡ None) }
+    ensures slots { IfOk result (λ table. slots_of table.slots ≡ limits.slots) }
+    ensures seats { IfOk result (λ table. length table.seats.items ≡ limits.workers + 1) }
     ensures refused { IfErr result (IsRefusal limits.limit limits.workers limits.slots) }
 {
     let Search {
@@ -29,8 +32,10 @@ pub fn table_within(alloc: Global, limits: Limits) -> Result<Table, SolveFault>
         workers,
         slots,
     } = search_of(limits);
-    let (slots, seats) = make_table(alloc, limit, workers, slots)?;
-    Ok(Table { slots, seats })
+    if !is_limit(limit) {
+        return Err(SolveFault::Limit);
+    }
+    make_table(alloc, workers, slots)
 }
 
 /// The problem of a position, and a table for it, within the limits.
@@ -44,11 +49,15 @@ pub(crate) fn opened(
     ensures accepted { IfOk result (λ _. fault_of limits ≡ None) }
     ensures fault { IfErr result (IsRefusal limits.limit limits.workers limits.slots) }
 {
-    let Some(problem) = Problem::of(position, goal, search_of(limits).limit) else {
+    let Search {
+        limit,
+        workers,
+        slots,
+    } = search_of(limits);
+    let Some(problem) = Problem::of(position, goal, limit) else {
         return Err(SolveFault::Limit);
     };
-    let table = table_within(alloc, limits)?;
-    Ok((problem, table))
+    Ok((problem, make_table(alloc, workers, slots)?))
 }
 
 /// An answer, with the table by which it was found.
@@ -69,8 +78,6 @@ pub fn searched_at<R: Threads + Wait + Eprint + Clock + Sync + AllocGlobal>(
 {
     let (problem, mut table) = opened(context.rt.alloc(), position, goal, limits)?;
     let watch = context.watch_of(position, false, limits);
-    match solve(context.rt, &mut table, &problem, watch.as_ref()) {
-        Ok(answer) => Ok(Searched { answer, table }),
-        Err(_) => Err(SolveFault::NoMemory),
-    }
+    let answer = solve(context.rt, &mut table, &problem, watch.as_ref())?;
+    Ok(Searched { answer, table })
 }

@@ -1,5 +1,5 @@
 //! Solves, keys and trees by the threads of a table, with a thread beside them that shows how far they are, where there is a watch.
-ghost use Rattle.std.specs.Prelude.{◌≡◌, IfOk};
+ghost use Rattle.std.specs.Prelude.{IfOk};
 ghost use Rattle.problems.specs.Answer.{IsAnswer};
 ghost use Rattle.problems.specs.Keys.{ListsKeys};
 ghost use Rattle.problems.specs.Roots.{IsJobOf};
@@ -7,32 +7,17 @@ ghost use Rattle.trees.specs.First.{IsOpenedJob};
 ghost use Rattle.replies.specs.Outcome.{IsBestWithin};
 
 use crate::gate::Watched;
-use crate::table::Table;
 use decision::{Memory, Never, Scout};
 use problems::{Answer, Key, Problem, Root};
 use progress::{Watch, shown};
 use rounds::{Task, keys_over, solve_over};
-use searcher::{Halt, Searcher};
+use searcher::{Halt, Searcher, Table};
 use std::alloc::{AllocError, Global};
 use std::sync::Wait;
 use std::thread::Threads;
 use std::time::Clock;
-use trees::{Wanted, build_tree_over, tree_of_first};
+use trees::{build_tree_over, tree_of_first};
 use wintree::Tree;
-
-/// The problem as a task, of which the gate is told.
-fn task_of<'a>(problem: &'a Problem, gate: &'a Watched<'a>) -> Task<'a, Watched<'a>>
-    ensures position { result.position.now ≡ problem.now.position }
-    ensures goal { result.goal ≡ problem.now.goal }
-    ensures limit { result.limit ≡ problem.now.limit }
-{
-    Task {
-        position: &problem.position,
-        goal: problem.goal,
-        limit: problem.limit,
-        gate,
-    }
-}
 
 /// What the work gives, with a thread beside it that shows how far it is, where there is a watch.
 fn beside<R: Threads + Wait + Eprint + Clock + Sync, T, F: FnOnce() -> T>(
@@ -67,11 +52,12 @@ pub fn solve<R: Threads + Wait + Eprint + Clock + Sync + AllocGlobal>(
                 (IsAnswer problem.entry.now.goal problem.entry.now.position problem.entry.now.limit) }
         {
             let gate = Watched { watch };
-            let task = task_of(problem, &gate);
-            match solve_over(rt, rt.alloc(), &task, &table.slots, &mut table.seats) {
-                Ok(answer) => Ok(answer),
-                Err(_) => Err(AllocError),
-            }
+            let task = Task {
+                problem,
+                slots: &table.slots,
+                gate: &gate,
+            };
+            solve_over(rt, rt.alloc(), &task, &mut table.seats)
         },
     )
 }
@@ -93,11 +79,12 @@ pub fn keys<R: Threads + Wait + Eprint + Clock + Sync + AllocGlobal>(
                 problem.entry.now.goal problem.entry.now.position problem.entry.now.limit keys.items) }
         {
             let gate = Watched { watch };
-            let task = task_of(problem, &gate);
-            match keys_over(rt, rt.alloc(), &task, &table.slots, &mut table.seats) {
-                Ok(keys) => Ok(keys),
-                Err(_) => Err(AllocError),
-            }
+            let task = Task {
+                problem,
+                slots: &table.slots,
+                gate: &gate,
+            };
+            keys_over(rt, rt.alloc(), &task, &mut table.seats)
         },
     )
 }
@@ -112,20 +99,17 @@ fn tree_over<R: Threads + Wait + Sync + AllocGlobal>(
     ensures { IfOk result (IsBestWithin problem.now.goal problem.now.position problem.now.limit) }
 {
     let gate = Watched { watch };
-    let task = task_of(problem, &gate);
-    let plies = match solve_over(rt, rt.alloc(), &task, &table.slots, &mut table.seats) {
-        Ok(Answer::Mate { plies, .. }) => plies,
-        Ok(Answer::NoneWithin(_)) => return Ok(None),
-        Err(_) => return Err(AllocError),
+    let task = Task {
+        problem,
+        slots: &table.slots,
+        gate: &gate,
     };
-    let wanted = Wanted {
-        position: &problem.position,
-        goal: problem.goal,
-        plies,
-    };
-    match build_tree_over(rt, rt.alloc(), &wanted, &table.slots, &mut table.seats) {
-        Ok(tree) => Ok(Some(tree)),
-        Err(_) => Err(AllocError),
+    match solve_over(rt, rt.alloc(), &task, &mut table.seats)? {
+        Answer::NoneWithin(_) => Ok(None),
+        Answer::Mate { plies, .. } => match build_tree_over(rt, rt.alloc(), problem, plies, table) {
+            Ok(tree) => Ok(Some(tree)),
+            Err(_) => Err(AllocError),
+        },
     }
 }
 

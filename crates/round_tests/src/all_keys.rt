@@ -1,35 +1,30 @@
 //! Keys of positions that are worked out by hand.
-use crate::solves::{read, root};
-use board::Position;
+use crate::lent_tables::{problem, table};
+use crate::solves::read;
 use moves::{Goal, Move, Square};
-use problems::Key;
-use rounds::{SolveFault, Task, keys_over, make_table};
-use searcher::NoGate;
+use problems::{Key, Problem};
+use rounds::{Task, keys_over};
+use searcher::{NoGate, Table};
 use std::alloc::Global;
 use std::process::Abort;
 use std::sync::Wait;
 use std::test::*;
 use std::thread::Threads;
 
-// The keys within so many plies, or why there is no list.
+// The keys of the problem, or none for want of memory.
 fn keys<R: Threads + Wait + Abort + Sync>(
     rt: &R,
     alloc: Global,
-    position: &Position,
-    goal: Goal,
-    limit: u8,
+    problem: &Problem,
     workers: u8,
-) -> Result<Vec<Key>, SolveFault> {
-    let Ok((table, mut seats)) = make_table(alloc, 1, workers, 64) else {
-        panic!(rt; "no table")
-    };
+) -> Option<Vec<Key>> {
+    let Table { slots, mut seats } = table(rt, alloc, workers, 64);
     let task = Task {
-        position,
-        goal,
-        limit,
+        problem,
+        slots: &slots,
         gate: &NoGate,
     };
-    keys_over(rt, alloc, &task, &table, &mut seats)
+    keys_over(rt, alloc, &task, &mut seats).ok()
 }
 
 pub(crate) fn key(from: (u8, u8), to: (u8, u8), plies: u8) -> Key {
@@ -57,9 +52,10 @@ fn finds<R: Threads + Wait + Abort + Sync>(
     workers: u8,
     expected: &[Key],
 ) -> bool {
-    match keys(rt, alloc, &read(rt, text), goal, limit, workers) {
-        Ok(found) => found.as_slice() == expected,
-        Err(_) => false,
+    let problem = problem(rt, &read(rt, text), goal, limit);
+    match keys(rt, alloc, &problem, workers) {
+        Some(found) => found.as_slice() == expected,
+        None => false,
     }
 }
 
@@ -125,16 +121,5 @@ fn keys_of_one_ply_and_of_three(rt: HostRuntime) {
                 expected.as_slice()
             )
         );
-    }
-}
-
-#[test]
-fn keys_within_other_limits_are_refused(rt: HostRuntime) {
-    for limit in [0, 64] {
-        let refused = match keys(&rt, rt.alloc(), &root(&rt), Goal::Mate, limit, 1) {
-            Ok(_found) => false,
-            Err(fault) => fault == SolveFault::Limit,
-        };
-        assert!(rt; refused);
     }
 }

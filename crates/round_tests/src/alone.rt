@@ -1,62 +1,30 @@
 //! Solves and keys by the test's own thread alone, over a table that is lent.
-ghost use Rattle.std.specs.Prelude.{◌≤◌, All, IfSome};
-ghost use Rattle.slots.specs.Promise.{IsSeatOf};
+ghost use Rattle.std.specs.Prelude.{◌≤◌};
 
 use crate::all_keys::key;
-use crate::lent_tables::table;
+use crate::lent_tables::{problem, table};
 use crate::solves::{expected, root};
-use entry::MateLore;
 use moves::{Board, Goal, Move, Square};
 use problems::{Answer, Key};
-use rounds::{Asked, SolveFault, keys_alone};
-use searcher::solve_board_alone;
-use slots::{Seat, Slots};
+use searcher::{keys_alone, solve_board_alone};
 use std::alloc::Global;
 use std::process::Abort;
 use std::test::*;
-
-// The last seat, taken out.
-fn last_seat(slots: &Slots<MateLore>, seats: &mut Vec<Seat>) -> Option<Seat>
-    requires { All (IsSeatOf slots.now) seats.old.items }
-    ensures { IfSome result (λ seat. IsSeatOf slots.now seat) }
-{
-    seats.pop()
-}
 
 // The answer of the root within the limit.
 fn solved_alone(rt: &impl Abort, alloc: Global, goal: Goal, limit: u8) -> Answer
     requires { limit ≤ 63 }
 {
-    let (slots, mut seats) = table(rt, alloc, 1, 64);
-    let Some(mut seat) = last_seat(&slots, &mut seats) else {
-        panic!(rt; "no seat")
-    };
+    let (slots, mut seat) = table(rt, alloc, 1, 64).into_alone();
     let board = Board::of(&root(rt));
     solve_board_alone(&slots, &mut seat, &board, goal, limit)
 }
 
-// The keys of the root within the limit.
-fn found_alone(
-    rt: &impl Abort,
-    alloc: Global,
-    goal: Goal,
-    limit: u8,
-) -> Result<Vec<Key>, SolveFault> {
-    let (slots, mut seats) = table(rt, alloc, 1, 64);
-    let Some(mut seat) = last_seat(&slots, &mut seats) else {
-        panic!(rt; "no seat")
-    };
-    let asked = Asked {
-        position: &root(rt),
-        goal,
-        limit,
-    };
-    keys_alone(alloc, &asked, &slots, &mut seat)
-}
-
 // Whether these are the keys of the root within the limit.
 fn finds(rt: &impl Abort, alloc: Global, goal: Goal, limit: u8, expected: &[Key]) -> bool {
-    match found_alone(rt, alloc, goal, limit) {
+    let (slots, mut seat) = table(rt, alloc, 1, 64).into_alone();
+    let problem = problem(rt, &root(rt), goal, limit);
+    match keys_alone(alloc, &slots, &mut seat, &problem) {
         Ok(found) => found.as_slice() == expected,
         Err(_) => false,
     }
@@ -98,15 +66,4 @@ fn keys_by_one_thread(rt: HostRuntime) {
     assert!(rt; finds(&rt, rt.alloc(), Goal::Mate, 3, mates.as_slice()));
     assert!(rt; finds(&rt, rt.alloc(), Goal::Mate, 2, none.as_slice()));
     assert!(rt; finds(&rt, rt.alloc(), Goal::MateOrStale, 2, stales.as_slice()));
-}
-
-#[test]
-fn keys_by_one_thread_within_other_limits_are_refused(rt: HostRuntime) {
-    for limit in [0, 64, 255] {
-        let refused = match found_alone(&rt, rt.alloc(), Goal::Mate, limit) {
-            Ok(_found) => false,
-            Err(fault) => fault == SolveFault::Limit,
-        };
-        assert!(rt; refused);
-    }
 }

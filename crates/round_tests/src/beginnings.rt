@@ -1,10 +1,11 @@
 //! That each job is begun once, and by more than one thread.
+use crate::lent_tables::{problem, table};
 use crate::solves::{expected, read, root, solved};
 use entry::MateLore;
 use moves::Goal;
 use problems::Answer;
-use rounds::{Task, keys_over, make_table, solve};
-use searcher::Gate;
+use rounds::{Task, keys_over, solve};
+use searcher::{Gate, Table};
 use slots::{Seat, Slots};
 use std::alloc::{AllocError, Global};
 use std::process::Abort;
@@ -231,17 +232,16 @@ fn jobs_are_stolen_from_each_thread(rt: HostRuntime) {
 // The keys are searched by a thread for each seat too: each of them is held at a job.
 #[test]
 fn each_thread_holds_a_job_of_the_keys_at_once(rt: HostRuntime) {
-    let position = root(&rt);
+    let problem = problem(&rt, &root(&rt), Goal::Mate, 3);
     for workers in [1, 2, 16] {
         let gate = Hold::new(Until::Others(u64::from(workers)));
-        let (table, mut seats) = make_table(rt.alloc(), 1, workers, 64).expect(&rt, "a table");
+        let Table { slots, mut seats } = table(&rt, rt.alloc(), workers, 64);
         let task = Task {
-            position: &position,
-            goal: Goal::Mate,
-            limit: 3,
+            problem: &problem,
+            slots: &slots,
             gate: &gate,
         };
-        let keys = keys_over(&rt, rt.alloc(), &task, &table, &mut seats).expect(&rt, "keys");
+        let keys = keys_over(&rt, rt.alloc(), &task, &mut seats).expect(&rt, "keys");
         assert!(rt; keys.len() == 1 && gate.is_kept(64));
         // each job by one of the threads, and again by the caller's own
         assert!(rt; gate.begun.load(Ordering::SeqCst) == 34);

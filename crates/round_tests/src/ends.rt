@@ -1,15 +1,12 @@
 //! What a gate is told of ends, and that what can't count any more isn't searched.
-ghost use Rattle.std.specs.Prelude.{All};
-ghost use Rattle.slots.specs.Promise.{IsSeatOf};
-
 use crate::beginnings::{comes_above, count, counters};
-use crate::lent_tables::table;
+use crate::lent_tables::{own_table, problem, table};
 use crate::solves::{expected, read, root, solved};
 use entry::MateLore;
 use moves::Goal;
 use problems::Answer;
 use rounds::{Task, keys_over, solve_over};
-use searcher::{Ended, Gate};
+use searcher::{Ended, Gate, Table};
 use slots::{Seat, Slots};
 use std::alloc::{AllocError, Global};
 use std::process::Abort;
@@ -87,20 +84,17 @@ fn each_end_is_told_once(rt: HostRuntime) -> Result<(), Fail> {
 fn expect_ends_of_keys<R: Threads + Wait + Abort + Sync>(
     rt: &R,
     alloc: Global,
-    slots: &Slots<MateLore>,
-    seats: &mut Vec<Seat>,
+    table: &mut Table,
     times: u64,
-) -> Result<(), Fail>
-    requires { All (IsSeatOf slots.now) seats.old.items }
-{
+) -> Result<(), Fail> {
     let gate = Ends::new(alloc)?;
+    let problem = problem(rt, &root(rt), Goal::Mate, 3);
     let task = Task {
-        position: &root(rt),
-        goal: Goal::Mate,
-        limit: 3,
+        problem: &problem,
+        slots: &table.slots,
         gate: &gate,
     };
-    assert!(rt; keys_over(rt, alloc, &task, slots, seats).is_ok());
+    assert!(rt; keys_over(rt, alloc, &task, &mut table.seats).is_ok());
     for job in 0..17 {
         let (wins, loses) = if job == 15 { (times, 0) } else { (0, times) };
         assert!(rt; count(&gate.lost_first, job) == times);
@@ -114,15 +108,12 @@ fn expect_ends_of_keys<R: Threads + Wait + Abort + Sync>(
 // Each job by the thread that prepares it, and by the caller's own.
 #[test]
 fn each_end_of_the_keys_is_told_twice(rt: HostRuntime) -> Result<(), Fail> {
-    let (slots, mut seats) = table(&rt, rt.alloc(), 1, 64);
-    expect_ends_of_keys(&rt, rt.alloc(), &slots, &mut seats, 2)
+    expect_ends_of_keys(&rt, rt.alloc(), &mut table(&rt, rt.alloc(), 1, 64), 2)
 }
 
 #[test]
 fn each_end_of_the_keys_of_one_seat_is_told_once(rt: HostRuntime) -> Result<(), Fail> {
-    let (slots, mut seats) = table(&rt, rt.alloc(), 1, 64);
-    let _second = seats.pop();
-    expect_ends_of_keys(&rt, rt.alloc(), &slots, &mut seats, 1)
+    expect_ends_of_keys(&rt, rt.alloc(), &mut own_table(&rt, rt.alloc()), 1)
 }
 
 // How often jobs of round 3 are begun, and the greatest of them.
@@ -150,16 +141,14 @@ fn one_thread_begins_no_job_above_the_winner(rt: HostRuntime) {
         begun: AtomicU64::new(0),
         above: AtomicU64::new(0),
     };
-    let position = root(&rt);
-    let (slots, mut seats) = table(&rt, rt.alloc(), 1, 64);
-    let _second = seats.pop();
+    let problem = problem(&rt, &root(&rt), Goal::Mate, 3);
+    let Table { slots, mut seats } = own_table(&rt, rt.alloc());
     let task = Task {
-        position: &position,
-        goal: Goal::Mate,
-        limit: 3,
+        problem: &problem,
+        slots: &slots,
         gate: &gate,
     };
-    let answer = solve_over(&rt, rt.alloc(), &task, &slots, &mut seats);
+    let answer = solve_over(&rt, rt.alloc(), &task, &mut seats);
     assert!(rt; answer == Ok(expected()));
     assert!(rt; gate.begun.load(Ordering::SeqCst) == 16);
     assert!(rt; gate.above.load(Ordering::SeqCst) == 0);
@@ -221,14 +210,14 @@ fn a_job_above_the_winner_is_stopped(rt: HostRuntime) {
         decided: AtomicU64::new(0),
         gave_up: AtomicU64::new(0),
     };
-    let (slots, mut seats) = table(&rt, rt.alloc(), 1, 4096);
+    let problem = problem(&rt, &position, Goal::Mate, 7);
+    let Table { slots, mut seats } = table(&rt, rt.alloc(), 1, 4096);
     let task = Task {
-        position: &position,
-        goal: Goal::Mate,
-        limit: 7,
+        problem: &problem,
+        slots: &slots,
         gate: &gate,
     };
-    let answer = solve_over(&rt, rt.alloc(), &task, &slots, &mut seats);
+    let answer = solve_over(&rt, rt.alloc(), &task, &mut seats);
     assert!(rt; matches!(answer, Ok(Answer::Mate { plies: 7, .. })));
     assert!(rt; gate.gave_up.load(Ordering::SeqCst) == 0);
     assert!(rt; gate.begun.load(Ordering::SeqCst) == 1 && gate.won.load(Ordering::SeqCst) == 1);

@@ -3,7 +3,7 @@ use Rattle.std.proofs.Common.{◌≡◌, ◌<◌, ◌≤◌, ◌||◌, ℕ, Bool
 use Rattle.std.proofs.Math.Dec.{ltb}
 use Rattle.std.proofs.lemmas.Bool.{or_parts}
 use Rattle.std.proofs.lemmas.Bool.Decides.{nat_tests}
-use Rattle.rounds.specs.declared.task.SolveFault.TheVariants.{Limit}
+use Rattle.rounds.specs.declared.fault.SolveFault.TheVariants.{Limit}
 use Rattle.rounds.specs.Limits.{limits_fault}
 
 some_or_none : {X : Type 0} (r : Bool) (x : X) (rest : Option X) → cond r (Some x) rest ≡ None → r ≡ false

@@ -14,7 +14,7 @@ use Rattle.rounds.specs.declared.share.Part.{Part}
 use Rattle.rounds.specs.declared.share.Share.{Share}
 use Rattle.problems.specs.Jobs.{RootJobWins}
 use Rattle.jobs.specs.Deals.{Deals}
-use Rattle.rounds.specs.Seats.{AreSeats}
+use Rattle.searcher.specs.Tables.{AreSeats}
 use Rattle.rounds.specs.Shares.{IsRound, WinsHere, AreDealt, seats_back}
 use Rattle.rounds.proofs.Lists.{Each-snoc}
 

@@ -1,8 +1,8 @@
 -- to be believed
 pub mod Limits
-pub mod Seats
 pub mod Going
 -- inside
+pub mod Seats
 pub mod RootSets
 pub mod Telling
 pub mod Verdicts

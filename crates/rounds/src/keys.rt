@@ -1,22 +1,18 @@
 //! The keys of a position, searched by all threads.
-ghost use Rattle.std.specs.Prelude.{◌≡◌, ◌≤◌, All, IfErr, IfOk, None, length, vec_capacity};
+ghost use Rattle.std.specs.Prelude.{◌≡◌, All, IfOk, length, vec_capacity};
 ghost use Rattle.slots.specs.Promise.{IsSeatOf};
-ghost use Rattle.decision.specs.Calls.{Continues};
 ghost use Rattle.problems.specs.Keys.{ListsKeys};
 ghost use Rattle.problems.specs.Roots.{IsRoot};
-ghost use Rattle.rounds.specs.Limits.{task_fault, IsTaskRefusal};
-ghost use Rattle.rounds.specs.Seats.{AreSeats};
+ghost use Rattle.searcher.specs.Tables.{AreSeats, AreCallers};
 ghost use Rattle.rounds.specs.Going.{SeatGoesOn, SeatsGoOn};
 
 use crate::gated::Gated;
 use crate::shared::Solve;
-use crate::solving::problem_of;
-use crate::task::{Asked, SolveFault, Task};
-use entry::MateLore;
-use problems::{Key, Problem, Root};
+use crate::task::Task;
+use problems::{Key, Root};
 use searcher::{Decider, Gate, Halt, keys_of, plies_of};
-use slots::{Seat, Slots};
-use std::alloc::{Allocator, Global};
+use slots::Seat;
+use std::alloc::{AllocError, Global};
 use std::sync::Wait;
 use std::sync::atomic::{AtomicU64, Ordering};
 use std::thread;
@@ -93,55 +89,28 @@ fn own_keys<T: Gate>(
 }
 
 /// Each first move that forces the goal within the limit, in order, with the fewest plies that it takes:
-/// searched by a thread for each seat, over a table that is lent. After a fault both serve the next call. The
+/// searched by a thread for each seat of the task's table. After a want of memory the seats serve the next call. The
 /// gate may be told of a job twice, by the thread that prepares it and by the caller's.
 pub fn keys_over<T: Gate, R: Threads + Wait + Sync>(
     rt: &R,
     alloc: Global,
     task: &Task<'_, T>,
-    slots: &Slots<MateLore>,
     seats: &mut Vec<Seat>,
-) -> Result<Vec<Key>, SolveFault>
-    requires { All (IsSeatOf slots.now) seats.old.items }
-    ensures lists { IfOk result (λ keys. ListsKeys task.now.goal task.now.position.now task.now.limit keys.items) }
-    ensures accepted { IfOk result (λ _. task_fault task.now.limit (length seats.old.items) ≡ None) }
-    ensures refused { IfErr result (IsTaskRefusal task.now.limit (length seats.old.items)) }
-    ensures seats { AreSeats slots.now (length seats.old.items) seats.new.items }
-    ensures go_on { SeatsGoOn T.keeps slots.now seats.old.items seats.new.items }
+) -> Result<Vec<Key>, AllocError>
+    requires { AreCallers task.now.slots.now seats.old.items }
+    ensures lists { IfOk result (λ keys. ListsKeys
+        task.now.problem.now.goal task.now.problem.now.position task.now.problem.now.limit keys.items) }
+    ensures seats { AreSeats task.now.slots.now (length seats.old.items) seats.new.items }
+    ensures go_on { SeatsGoOn T.keeps task.now.slots.now seats.old.items seats.new.items }
 {
-    let problem = problem_of(task, seats.len())?;
     let search = Solve {
-        root: Root::of(&problem),
-        slots,
+        root: Root::of(task.problem),
+        slots: task.slots,
         gate: task.gate,
     };
     prepare(rt, &search, seats);
     let mut own = seats.take_last();
     let keys = own_keys(alloc, &search, &mut own);
     seats.push_reserved(own);
-    keys.map_err(|_| SolveFault::NoMemory)
-}
-
-/// Each first move that forces the goal within the limit, in order, with the fewest plies that it takes: searched by the
-/// caller's own thread, with no lock, over a table that is lent. After a fault the table and the seat serve the next call.
-pub fn keys_alone<A: Allocator, B: Allocator>(
-    alloc: B,
-    asked: &Asked<'_>,
-    slots: &Slots<MateLore, A>,
-    seat: &mut Seat,
-) -> Result<Vec<Key, B>, SolveFault>
-    requires { IsSeatOf slots.now seat.old }
-    ensures lists { IfOk result (λ keys. ListsKeys asked.now.goal asked.now.position.now asked.now.limit keys.items) }
-    ensures accepted { IfOk result (λ _. task_fault asked.now.limit 1 ≡ None) }
-    ensures refused { IfErr result (IsTaskRefusal asked.now.limit 1) }
-    ensures seat { IsSeatOf slots.now seat.new }
-    ensures continues { Continues slots.now seat.old seat.new }
-{
-    let Some(problem) = Problem::of(asked.position, asked.goal, asked.limit) else {
-        return Err(SolveFault::Limit);
-    };
-    let Ok(keys) = searcher::keys_alone(alloc, slots, seat, &problem) else {
-        return Err(SolveFault::NoMemory);
-    };
-    Ok(keys)
+    keys.map_err(|_| AllocError)
 }

@@ -1,6 +1,7 @@
 //! The root moves of a solve as jobs, which workers steal from one another, round by round.
 #![tactic(auto)]
 
+mod fault;
 mod gated;
 mod help;
 mod keys;
@@ -11,6 +12,8 @@ mod solving;
 mod task;
 mod telling;
 
-pub use keys::{keys_alone, keys_over};
-pub use solving::{MOST_WORKERS, make_table, make_table_in, solve, solve_over};
-pub use task::{Asked, SolveFault, Task, kept_seats_go_on};
+pub use fault::SolveFault;
+pub use gated::kept_seats_go_on;
+pub use keys::keys_over;
+pub use solving::{MOST_WORKERS, make_table, solve, solve_over};
+pub use task::Task;

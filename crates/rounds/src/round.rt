@@ -2,7 +2,8 @@
 ghost use Rattle.std.specs.Prelude.{◌≡◌, ◌<◌, ◌≤◌, ◌↔◌, [], All, IfOk, IsTrue, length, vec_capacity};
 ghost use Rattle.rounds.specs.Verdicts.{IsVerdictRight};
 ghost use Rattle.problems.specs.Roots.{IsRoot, IsLimit, EndsRound};
-ghost use Rattle.rounds.specs.Seats.{AreSeats, AreCallers, AreJobSeats};
+ghost use Rattle.searcher.specs.Tables.{AreSeats, AreCallers};
+ghost use Rattle.rounds.specs.Seats.{AreJobSeats};
 ghost use Rattle.rounds.specs.Shares.{IsRound, WinsHere, IsPart, IsShare, AreDealt, seats_back};
 ghost use Rattle.rounds.specs.Going.{SeatGoesOn, EachGoesOn, SeatsGoOn};
 

@@ -3,7 +3,7 @@ ghost use Rattle.std.specs.Prelude.{◌≡◌};
 
 use crate::help::help;
 use crate::shared::{JobStop, RootJobs, Round};
-use crate::task::job_ended;
+use crate::telling::job_ended;
 use decision::{Memory, Scout, decide_until};
 use jobs::{AtHand, Count, JobSeat, Owner, Thief, next_job};
 use searcher::Gate;

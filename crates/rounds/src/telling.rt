@@ -1,16 +1,28 @@
 //! What one thread decides, of which a gate is told.
-ghost use Rattle.std.specs.Prelude.{◌↔◌, IsTrue};
+ghost use Rattle.std.specs.Prelude.{◌≡◌, ◌↔◌, IsTrue, false};
+ghost use Rattle.progress.specs.declared.ended.Ended.TheVariants.{Wins, Loses};
 ghost use Rattle.slots.specs.Promise.{IsSeatOf};
 ghost use Rattle.problems.specs.Roots.{IsJobOf, IsLimit, WinsIn};
 ghost use Rattle.rounds.specs.Going.{SeatGoesOn};
 
 use crate::gated::Gated;
 use crate::shared::Solve;
-use crate::task::job_ended;
 use decision::decide_on;
 use problems::{Question, Root};
-use searcher::{Decider, Gate};
+use searcher::{Decider, Ended, Gate};
 use slots::Seat;
+
+/// That the job is decided.
+pub(crate) fn job_ended(job: u16, wins: bool) -> Ended
+    ensures wins { IsTrue wins → result ≡ Wins job }
+    ensures loses { wins ≡ false → result ≡ Loses job }
+{
+    if wins {
+        Ended::Wins(job)
+    } else {
+        Ended::Loses(job)
+    }
+}
 
 impl<T: Gate> Decider for Gated<'_, T> {
     ghost use Rattle.std.proofs.Common.{◌∙◌, refl, sym, subst};

@@ -1,7 +1,7 @@
 -- Moves: what a move does to the board, and which moves are lawful.
 use Rattle.std.specs.Prelude.{◌≡◌, ℕ, ◌+◌, ◌↔◌, Option, Some, None, IsSome, IfSome, unwrap_or, slice_set}
 use Rattle.board.specs.declared.game.Game.{Game}
-use Rattle.board.specs.declared.game.Game.TheVariants.{Gardner}
+use Rattle.board.specs.declared.game.Game.TheVariants.{LosAlamos, Gardner}
 use Rattle.board.specs.declared.game.Side.{Side}
 use Rattle.board.specs.declared.game.Side.TheVariants.{White, Black}
 use Rattle.board.specs.declared.game.Kind.{Kind}
@@ -33,6 +33,12 @@ IsPromotion g Pawn = ⊥
 -- what a pawn may become in some game
 abbrev pub IsPromoted : Kind → Type 0
 IsPromoted k = IsPromotion Gardner k
+
+-- a move that the type `Move` keeps: squares of the larger board, and a promotion to queen, rook, bishop or knight
+pub record IsPly (m : Ply) : Type 0 where
+  pub from : IsOnBoard LosAlamos m.from
+  pub to : IsOnBoard LosAlamos m.to
+  pub promotion : IfSome m.promotion IsPromoted
 
 -- a king stands there
 abbrev pub IsSomeKing : Option Man → Type 0

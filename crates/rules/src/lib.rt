@@ -4,6 +4,7 @@
 mod goal;
 mod laws;
 mod list;
+mod names;
 mod plies;
 mod rays;
 mod reach;
@@ -13,6 +14,7 @@ mod squares;
 pub use goal::Goal;
 pub use laws::forced_mate_laws;
 pub use list::{PROMOTIONS, lawful};
+pub use names::read_move;
 pub use plies::{Move, apply, is_king, is_lawful, is_promoted_well, promotes};
 pub use rays::ray;
 pub use reach::{in_check, sound};

@@ -8,7 +8,6 @@ use crate::Square;
 use crate::reach::{in_check_by, reaches};
 use crate::squares::unit_at;
 use board::{Game, Kind, PieceTable, Position, Side, Unit, pieces};
-use std::fmt;
 use std::marker::Model;
 
 /// A move: the two squares, and what a pawn becomes that comes to its last rank.
@@ -31,27 +30,6 @@ impl Model for Move {
     ghost invariant = { λ m. IfSome m.promotion IsPromoted };
 
     ghost inverse = { λ m. record { from = m.from; to = m.to; promotion = m.promotion } };
-}
-
-/// From-square, to-square and the letter of a promotion, as `c4c5q`.
-impl fmt::Display for Move {
-    ghost use Rattle.std.specs.Prelude.{Some};
-    ghost use Rattle.rules.specs.MoveText.{move_text};
-
-    ghost output = { λ m. Some (move_text m) };
-
-    fn fmt<W: fmt::Write>(&self, f: &mut fmt::Formatter<W>) -> fmt::Result {
-        let from = self.from;
-        let to = self.to;
-        let promotion = match self.promotion {
-            Some(Kind::Queen) => "q",
-            Some(Kind::Rook) => "r",
-            Some(Kind::Bishop) => "b",
-            Some(Kind::Knight) => "n",
-            Some(Kind::King | Kind::Pawn) | None => "",
-        };
-        write!(f, "{from}{to}{promotion}")
-    }
 }
 
 /// Whether this is the side's last rank.

@@ -5,7 +5,6 @@ ghost use Rattle.board.specs.Games.{squares_of};
 ghost use Rattle.rules.specs.Squares.{Place, IsOnBoard, square_number, unit_at};
 
 use board::{Game, Position, Unit};
-use std::fmt;
 use std::marker::Model;
 
 /// A square, by its file and its rank, both counted from 0.
@@ -26,20 +25,6 @@ impl Model for Square {
     ghost invariant = { λ s. (s.file < 6) × (s.rank < 6) };
 
     ghost inverse = { λ s. record { file = s.file; rank = s.rank } };
-}
-
-/// The file's letter and the rank's digit, as `a1`.
-impl fmt::Display for Square {
-    ghost use Rattle.std.specs.Prelude.{Some};
-    ghost use Rattle.rules.specs.MoveText.{square_text};
-
-    ghost output = { λ square. Some (square_text square) };
-
-    fn fmt<W: fmt::Write>(&self, f: &mut fmt::Formatter<W>) -> fmt::Result {
-        let file = (b'a' + self.file) as char;
-        let rank = (b'1' + self.rank) as char;
-        write!(f, "{file}{rank}")
-    }
 }
 
 impl Square {

@@ -1,3 +1,4 @@
 -- to be believed
 pub mod Searching
 pub mod Gates
+pub mod Tables

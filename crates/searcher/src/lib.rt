@@ -8,6 +8,7 @@ mod halt;
 mod keys;
 mod searcher;
 mod solving;
+mod table;
 
 pub use alone::{keys_alone, solve_alone, solve_board_alone};
 pub use decider::Decider;
@@ -17,3 +18,4 @@ pub use keys::{keys_of, plies_of};
 pub use progress::Ended;
 pub use searcher::Searcher;
 pub use solving::{least_win, solve_by};
+pub use table::Table;

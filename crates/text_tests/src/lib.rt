@@ -12,6 +12,8 @@ mod lines;
 #[cfg(test)]
 mod made_rows;
 #[cfg(test)]
+mod move_names;
+#[cfg(test)]
 mod names;
 #[cfg(test)]
 mod packings;

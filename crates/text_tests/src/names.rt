@@ -1,7 +1,7 @@
 //! Names of moves in algebraic notation, worked out by hand.
 
 use algebraic::{Notation, Symbols};
-use moves::{Board, Goal, Move, is_lawful_on, lawful_on, read_sound};
+use moves::{Board, Goal, is_lawful_on, read_move, read_sound};
 use std::process::Abort;
 
 const PLAIN: Notation = Notation {
@@ -19,20 +19,9 @@ const DRAWN: Notation = Notation {
     goal: Goal::Mate,
 };
 
-/// The lawful move with these squares and this promotion.
-fn move_of<R: Abort + AllocGlobal>(rt: &R, board: &Board, written: &str) -> Move {
-    for m in lawful_on(board).as_slice() {
-        let squares = m.to_string(rt.alloc()).expect(rt, "memory");
-        if squares.as_str() == written {
-            return *m;
-        }
-    }
-    panic!(rt; "no such move")
-}
-
 fn name_of<R: Abort + AllocGlobal>(rt: &R, notation: Notation, fen: &str, written: &str) -> String {
     let board = Board::of(&read_sound(fen.as_bytes()).expect(rt, "sound"));
-    let m = move_of(rt, &board, written);
+    let m = read_move(written.as_bytes()).expect(rt, "a move's name");
     if !is_lawful_on(&board, m) {
         panic!(rt; "no lawful move")
     }

@@ -9,5 +9,5 @@ mod uniqueness;
 
 pub use building::{build_tree, tree_by};
 pub use first::tree_of_first;
-pub use preparing::{Wanted, build_tree_over};
+pub use preparing::build_tree_over;
 pub use uniqueness::one_best_tree;

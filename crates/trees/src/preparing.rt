@@ -11,11 +11,11 @@ ghost use Rattle.trees.specs.Best.{IsBest};
 
 use crate::best::best_move;
 use crate::building::build_tree;
-use board::Position;
 use decision::{Memory, Never, Scout};
 use entry::MateLore;
 use moves::{Board, Goal, after, lawful_on};
-use searcher::{Decider, Searcher};
+use problems::Problem;
+use searcher::{Decider, Searcher, Table};
 use slots::{Seat, Slots};
 use std::alloc::Global;
 use std::sync::Wait;
@@ -81,39 +81,28 @@ fn prepare_replies<D: Decider>(walk: &Walk, decider: &mut D, board: &Board, n: u
     }
 }
 
-/// The tree that is wanted: that of a position whose fewest plies to the goal these are.
-#[derive(Drop)]
-pub struct Wanted<'a> {
-    pub position: &'a Position,
-    pub goal: Goal,
-    pub plies: u8,
-}
-
-/// Searches, by a thread for each seat, what the tree needs.
+/// Searches, by a thread for each seat, what the problem's tree needs.
 fn prepare_tree<R: Threads + Wait + Sync>(
     rt: &R,
-    wanted: &Wanted<'_>,
+    problem: &Problem,
+    plies: u8,
     slots: &Slots<MateLore>,
     seats: &mut Vec<Seat>,
 )
     requires seats { All (IsSeatOf slots.now) seats.old.items }
-    requires plies { wanted.now.plies ≤ 63 }
-    requires fewest { IsFewest wanted.now.goal wanted.now.position.now wanted.now.plies }
+    requires plies { plies ≤ 63 }
+    requires fewest { IsFewest problem.now.goal problem.now.position plies }
     ensures capacity { vec_capacity seats.new ≡ vec_capacity seats.old }
     ensures count { length seats.new.items ≡ length seats.old.items }
     ensures seats { All (IsSeatOf slots.now) seats.new.items }
     ensures go_on { SeatsContinue slots.now seats.old.items seats.new.items }
 {
-    let Wanted {
-        position,
-        goal,
-        plies,
-    } = *wanted;
     let threads = seats.len();
     if threads < 2 || plies < PREPARED_FROM {
         return;
     }
-    let board = Board::of(position);
+    let goal = problem.goal;
+    let board = Board::of(&problem.position);
     thread::for_each_mut(
         rt,
         seats.as_mut_slice(),
@@ -136,35 +125,29 @@ fn prepare_tree<R: Threads + Wait + Sync>(
     );
 }
 
-/// The tree that `build_tree` gives, its longer lines searched by a thread for each seat. The last seat is that of the
-/// caller's own thread. A thread that can't be started is left out. After a want of memory the table and the seats serve the next
-/// call.
+/// The tree that `build_tree` gives, of a problem whose fewest plies to the goal these are, its longer lines searched by a thread for
+/// each seat of the table. The last seat is that of the caller's own thread. A thread that can't be started is left out. After a want of
+/// memory the table serves the next call.
 pub fn build_tree_over<R: Threads + Wait + Sync>(
     rt: &R,
     alloc: Global,
-    wanted: &Wanted<'_>,
-    slots: &Slots<MateLore>,
-    seats: &mut Vec<Seat>,
+    problem: &Problem,
+    plies: u8,
+    table: &mut Table,
 ) -> Result<Tree, NoMemory>
-    requires some { 0 < length seats.old.items }
-    requires seats { All (IsSeatOf slots.now) seats.old.items }
-    requires plies { wanted.now.plies ≤ 63 }
-    requires fewest { IsFewest wanted.now.goal wanted.now.position.now wanted.now.plies }
-    ensures count { length seats.new.items ≡ length seats.old.items }
-    ensures seats { All (IsSeatOf slots.now) seats.new.items }
-    ensures go_on { SeatsContinue slots.now seats.old.items seats.new.items }
-    ensures best { IfOk result (IsBest wanted.now.goal wanted.now.position.now) }
-    ensures wins { IfOk result (Wins wanted.now.goal wanted.now.position.now) }
-    ensures height { IfOk result (λ tree. height tree ≡ wanted.now.plies) }
+    requires plies { plies ≤ 63 }
+    requires fewest { IsFewest problem.now.goal problem.now.position plies }
+    ensures same { table.new.slots ≡ table.old.slots }
+    ensures seats { length table.new.seats.items ≡ length table.old.seats.items }
+    ensures go_on { SeatsContinue table.old.slots table.old.seats.items table.new.seats.items }
+    ensures best { IfOk result (IsBest problem.now.goal problem.now.position) }
+    ensures wins { IfOk result (Wins problem.now.goal problem.now.position) }
+    ensures height { IfOk result (λ tree. height tree ≡ plies) }
 {
-    prepare_tree(rt, wanted, slots, seats);
-    let Wanted {
-        position,
-        goal,
-        plies,
-    } = *wanted;
-    let mut own = seats.take_last();
-    let tree = build_tree(alloc, slots, &mut own, position, goal, plies);
-    seats.push_reserved(own);
+    prepare_tree(rt, problem, plies, &table.slots, &mut table.seats);
+    let mut own = table.seats.take_last();
+    let Problem { position, goal, .. } = problem;
+    let tree = build_tree(alloc, &table.slots, &mut own, position, *goal, plies);
+    table.seats.push_reserved(own);
     tree
 }

@@ -1,9 +1,7 @@
 -- What `verify` writes for a certificate.
 use Rattle.std.specs.Prelude.{◌≡◌, ◌⊎◌, ℕ, List, Option, Result}
-use Rattle.board.specs.declared.fault.FenFault.{FenFault}
 use Rattle.board.specs.Board.{PlainBoard}
 use Rattle.rules.specs.declared.goal.Goal.{Goal}
-use Rattle.rules.specs.Reading.{IsSoundFault}
 use Rattle.problems.specs.declared.answer.Answer.{Answer}
 use Rattle.problems.specs.Answer.{IsAnswer}
 use Rattle.certificates.specs.Answers.{IsUpTo}
@@ -15,8 +13,7 @@ use Rattle.command_line.specs.declared.line.Subject.{Subject}
 use Rattle.devices.specs.Input.{OfInput}
 use Rattle.refusals.specs.Reply.{Reply, answered, refused}
 use Rattle.answer_texts.specs.Answers.{answer_text}
-use Rattle.endings.specs.Outcome.{IsSoundText, GivesIfRead}
-use Rattle.refusals.specs.Refusal.{refusal_of_fen}
+use Rattle.endings.specs.Outcome.{IsReplyAt, GivesIfRead}
 use Rattle.refusals.specs.declared.refusal.Refusal.{Refusal}
 use Rattle.refusals.specs.declared.refusal.Refusal.TheVariants as refusal
 use Rattle.endings.specs.declared.reply_fault.ReplyFault.{ReplyFault}
@@ -49,9 +46,7 @@ ShowsProved goal b text reply =
 
 -- the same at the sound position of the subject's text, or the refusal of the text's fault
 abbrev pub IsVerdict : Subject → List ℕ → Reply → Type 0
-IsVerdict subject input reply =
-    ((b : PlainBoard) × IsSoundText subject.fen.now b × ShowsProved subject.goal b input reply)
-    ⊎ ((fault : FenFault) × IsSoundFault subject.fen.now fault × (reply ≡ refused (refusal_of_fen fault)))
+IsVerdict subject input reply = IsReplyAt subject.fen.now (λ b. ShowsProved subject.goal b input) reply
 
 -- a reply to the certificate that is read
 abbrev pub GivesVerdict : {B : Type 0} → (B → List ℕ) → Subject → Option (List ℕ) → Result B ReplyFault → Type 0

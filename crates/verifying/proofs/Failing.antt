@@ -1,30 +1,15 @@
--- Moves that fail, one after another.
-use Rattle.std.proofs.Common.{◌≡◌, ◌⊎◌, ◌<◌, ℕ, ◌+◌, ◌-◌, List, length, get_or, take, inl, inr, refl, sym, ◌∙◌, subst, All, Contains, Bool, true, false, not, IsTrue, ◌↔◌}
-use Rattle.std.proofs.lemmas.Bool.{false≢true}
+-- The lawful moves of a list, and the one at a place.
+use Rattle.std.proofs.Common.{◌≡◌, ◌<◌, ℕ, ◌+◌, List, length, get_or, take, refl, sym, ap, ◌∙◌, subst, All, Contains, slice_get}
 use Rattle.std.proofs.lemmas.List.{take_more}
-use Rattle.std.proofs.lemmas.List.Elements.{All-push, All-get_or, All-contains}
+use Rattle.std.proofs.lemmas.List.Elements.{All-push, All-get_or, All-take}
+use Rattle.std.proofs.lemmas.Option.{get_or_from_slice_get, same_Some, slice_get_read, slice_get_within}
 use Rattle.board.specs.Board.{PlainBoard}
-use Rattle.rules.specs.declared.goal.Goal.{Goal}
 use Rattle.rules.specs.Squares.{Ply}
-use Rattle.rules.specs.Moves.{IsMove, IsLawful}
+use Rattle.rules.specs.Moves.{IsLawful}
 use Rattle.rules.specs.Order.{ListsLawful}
-use Rattle.rules.specs.Forces.{IsReached, Forces}
-use Rattle.rules.proofs.Keeps.{one_after}
-use Rattle.problems.specs.Answer.{ForcesNothing}
-use Rattle.problems.proofs.Tried.{not_reached, none_listed, all_listed}
-use Rattle.certificates.specs.declared.claim.Claim.{Claim}
-use Rattle.certificates.specs.Claims.{ClaimsSoMany, EscapesBy, FailsBy}
-use Rattle.certificates.proofs.Claimed.{forced_within}
-
--- what isn't forced within n plies isn't within fewer
-pub not_both : (r : Bool) (P : Type 0) → (IsTrue r ↔ P) → IsTrue (not r) → P → ⊥
-not_both true P h out p = false≢true out
-not_both false P h out p = false≢true (h.1 p)
-
-pub nothing_within : (goal : Goal) (b : PlainBoard) (n : ℕ) (forced : Bool) → (IsTrue forced ↔ Forces goal b.mover b n) → IsTrue (not forced) → ForcesNothing goal b n
-nothing_within goal b n forced h out k within f = not_both forced (Forces goal b.mover b n) h out (forced_within goal b.mover b k n within f)
-
--- ---- lists of moves
+use Rattle.problems.proofs.Tried.{all_listed}
+use Rattle.wintree.proofs.Listings.{one_list}
+use Rattle.verifying.specs.Certificate.{IsMoveAt}
 
 pub listed_item : (b : PlainBoard) (moves list : List Ply) (i : ℕ) (m : Ply) → ListsLawful b moves → list ≡ moves → i < length moves → m ≡ get_or list i m → IsLawful b m
 listed_item b moves list i m lists same lt is =
@@ -33,38 +18,29 @@ listed_item b moves list i m lists same lt is =
 pub lawful_item : (b : PlainBoard) (moves : List Ply) (i : ℕ) (m : Ply) → All (IsLawful b) moves → i < length moves → m ≡ get_or moves i m → IsLawful b m
 lawful_item b moves i m all lt is = subst (IsLawful b) (sym is) (All-get_or (IsLawful b) moves i m lt all)
 
+pub all_lawful : (b : PlainBoard) (moves list : List Ply) → ListsLawful b moves → list ≡ moves → All (IsLawful b) list
+all_lawful b moves list lists same = subst (All (IsLawful b)) (sym same) (all_listed b moves lists.exact)
+
+pub front_lawful : (b : PlainBoard) (moves list : List Ply) (place : ℕ) → ListsLawful b moves → list ≡ moves → All (IsLawful b) (take place list)
+front_lawful b moves list place lists same = All-take (IsLawful b) place list (all_lawful b moves list lists same)
+
 -- one item more
 pub all_more : {X : Type 0} (P : X → Type 0) (moves : List X) (i : ℕ) (m : X) → i < length moves → m ≡ get_or moves i m → All P (take i moves) → P m → All P (take (i + 1) moves)
 all_more P moves i m lt is before here = subst (All P) (sym (take_more moves i m lt)) (All-push P (take i moves) (get_or moves i m) before (subst P is here))
 
--- ---- one move
+-- ---- the move at a place
 
--- with one ply a move fails where it doesn't reach the goal
-pub fails_at_once : (goal : Goal) (b : PlainBoard) (m : Ply) (q : PlainBoard) (there : Bool) → IsMove b m q → (IsTrue there ↔ IsReached goal q) → there ≡ false → (claims : List Claim) → FailsBy goal claims b 1 m
-fails_at_once goal b m q there move h e claims x other =
-    ((λ reached. false≢true (sym e ∙ h.1 (subst (IsReached goal) (one_after b m x q other move) reached))), inl refl)
+pub listed_at : (b : PlainBoard) (moves list : List Ply) (i : ℕ) (m : Ply) → ListsLawful b moves → list ≡ moves → i < length moves → m ≡ get_or list i m → IsMoveAt b i m
+listed_at b moves list i m lists same lt is =
+    (moves, lists, slice_get_read moves (length moves) i m refl lt (is ∙ ap (λ (l : List Ply). get_or l i m) same))
 
--- what is known of the position after the move
-pub fails_after : (goal : Goal) (claims : List Claim) (b : PlainBoard) (n : ℕ) (m : Ply) (q : PlainBoard) → IsMove b m q
-    → (IsReached goal q → ⊥) × (((r : Ply) → IsLawful q r → ⊥) ⊎ EscapesBy goal claims q (n - 2)) → FailsBy goal claims b n m
-fails_after goal claims b n m q move h x other =
-    subst (λ (y : PlainBoard). (IsReached goal y → ⊥) × ((n ≡ 1) ⊎ ((r : Ply) → IsLawful y r → ⊥) ⊎ EscapesBy goal claims y (n - 2))) (one_after b m q x move other)
-    (h.0, elim h.1 [ inl stuck ↦ inr (inl stuck) | inr escapes ↦ inr (inr escapes) ])
+pub lawful_at : (b : PlainBoard) (i : ℕ) (m : Ply) → IsMoveAt b i m → IsLawful b m
+lawful_at b i m (moves, lists, at) = (lists.exact m).0 (i, slice_get_within moves i m at, get_or_from_slice_get moves i m m at)
 
--- the defender is stalemated
-pub stuck : (goal : Goal) (claims : List Claim) (b : PlainBoard) (n : ℕ) (replies : List Ply) (there : Bool) → ListsLawful b replies → length replies ≡ 0 → (IsTrue there ↔ IsReached goal b) → IsTrue (not there)
-    → (IsReached goal b → ⊥) × (((r : Ply) → IsLawful b r → ⊥) ⊎ EscapesBy goal claims b n)
-stuck goal claims b n replies there lists none h out = (not_both there (IsReached goal b) h out, inl (none_listed b replies lists.exact none))
+pub one_move_at : (b : PlainBoard) (i : ℕ) (m n : Ply) → IsMoveAt b i m → IsMoveAt b i n → m ≡ n
+one_move_at b i m n (moves, lists, at) (others, also, there) =
+    same_Some m n (sym at ∙ (ap (λ (l : List Ply). slice_get l i) (one_list b moves others lists also) ∙ there))
 
--- a reply escapes
-pub escapes : (goal : Goal) (claims : List Claim) (b : PlainBoard) (n : ℕ) (r : Ply) (p : PlainBoard) → IsMove b r p → ForcesNothing goal p n ⊎ ClaimsSoMany claims p n
-    → (IsReached goal b → ⊥) × (((r : Ply) → IsLawful b r → ⊥) ⊎ EscapesBy goal claims b n)
-escapes goal claims b n r p reply h = (not_reached goal b r (p, reply), inr (r, p, reply, h))
-
--- what fails for each move of the list fails for each lawful one
-pub each_fails : (goal : Goal) (claims : List Claim) (b : PlainBoard) (n : ℕ) (moves list : List Ply) → ListsLawful b moves → list ≡ moves → All (FailsBy goal claims b n) list → (m : Ply) → FailsBy goal claims b n m
-each_fails goal claims b n moves list lists same all m q move =
-    All-contains (FailsBy goal claims b n) moves m (subst (All (FailsBy goal claims b n)) same all) ((lists.exact m).1 (q, move)) q move
-
-pub all_lawful : (b : PlainBoard) (moves list : List Ply) → ListsLawful b moves → list ≡ moves → All (IsLawful b) list
-all_lawful b moves list lists same = subst (All (IsLawful b)) (sym same) (all_listed b moves lists.exact)
+pub place_in : (b : PlainBoard) (moves : List Ply) (i : ℕ) (m : Ply) → ListsLawful b moves → IsMoveAt b i m → i < length moves
+place_in b moves i m lists (others, also, at) =
+    slice_get_within moves i m (ap (λ (l : List Ply). slice_get l i) (one_list b moves others lists also) ∙ at)

@@ -1,8 +1,9 @@
 -- A text has one list of lines.
-use Rattle.std.proofs.Common.{◌≡◌, ◌≢◌, inl, inr, ◌<◌, ◌≤◌, ℕ, ◌+◌, ◌/◌, ◌%◌, List, [], ◌∷◌, ◌++◌, length, map, replicate, refl, sym, ap, ◌∙◌, subst, arith, append_assoc, All, Option, None, Some}
-use Rattle.std.proofs.lemmas.Bool.Decides.{nat_tests}
-use Rattle.std.proofs.lemmas.Bool.{cases_lt}
+use Rattle.std.proofs.Common.{◌≡◌, ◌≢◌, inl, inr, ◌<◌, ◌≤◌, ℕ, ◌+◌, ◌/◌, ◌%◌, List, [], ◌∷◌, ◌++◌, length, replicate, refl, sym, ap, ◌∙◌, subst, arith, append_assoc, All, Bool, true, not, ◌&&◌, nat_eq, codes, Option, None, Some}
+use Rattle.std.proofs.lemmas.Bool.Decides.{Decides-eqb, Decides-not, nat_tests}
+use Rattle.std.proofs.lemmas.Bool.{and_parts, cases_lt}
 use Rattle.std.proofs.lemmas.List.Elements.{All-nil, All-cons, All-head, All-tail, All-append, All-replicate}
+use Rattle.std.proofs.lemmas.Fmt.{decimal_digit}
 use Rattle.std.specs.Fmt.{decimal}
 use Rattle.board.specs.declared.game.Kind.{Kind}
 use Rattle.board.specs.declared.game.Kind.TheVariants.{King, Queen, Rook, Bishop, Knight, Pawn}
@@ -18,7 +19,7 @@ use Rattle.verifying.specs.declared.words.Word.TheVariants.{Seen, Claimed, Stale
 use Rattle.verifying.specs.FirstLine.{answer_text, goal_text, IsInRange}
 use Rattle.verifying.specs.Words.{letter_of, word_text, line_text}
 use Rattle.verifying.specs.Refusals.{fed}
-use Rattle.verifying.proofs.FirstTexts.{low_decimal, high_decimal, one_of as same_cons}
+use Rattle.verifying.proofs.OneAnswer.{high_decimal, same_cons}
 
 abbrev NoFeed : ℕ → Type 0
 NoFeed x = x ≢ 10
@@ -28,10 +29,21 @@ NoFeed x = x ≢ 10
 letter_no_feed : (n : ℕ) → n < 50 → letter_of n ≢ 10
 letter_no_feed n small = grind (arith, nat_tests)
 
+-- no byte of the text is a feed
+abbrev feedless : List ℕ → Bool
+feedless [] = true
+feedless (x ∷ xs) = not (nat_eq x 10) && feedless xs
+
+no_feed_in : (xs : List ℕ) → feedless xs ≡ true → HasNoFeed xs
+no_feed_in [] e = All-nil NoFeed
+no_feed_in (x ∷ xs) e =
+    let both = and_parts (not (nat_eq x 10)) (feedless xs) e in
+    All-cons NoFeed x xs ((Decides-not (nat_eq x 10) (Decides-eqb x 10)).0 both.0) (no_feed_in xs both.1)
+
 word_no_feed : (w : Word) → HasNoFeed (word_text w)
-word_no_feed Seen = All-cons NoFeed 46 [] (λ e. omega (arith, e)) (All-nil NoFeed)
-word_no_feed Claimed = All-cons NoFeed 61 [] (λ e. omega (arith, e)) (All-nil NoFeed)
-word_no_feed Stalemated = All-cons NoFeed 45 [] (λ e. omega (arith, e)) (All-nil NoFeed)
+word_no_feed Seen = no_feed_in (codes ".") refl
+word_no_feed Claimed = no_feed_in (codes "=") refl
+word_no_feed Stalemated = no_feed_in (codes "-") refl
 word_no_feed (Place n) =
     All-append NoFeed (replicate (n / 50) 90) (letter_of (n % 50) ∷ []) (All-replicate NoFeed (n / 50) 90 (λ e. omega (arith, e)))
     (All-cons NoFeed (letter_of (n % 50)) [] (letter_no_feed (n % 50) (omega arith)) (All-nil NoFeed))
@@ -43,10 +55,10 @@ line_no_feed (w ∷ words) = All-append NoFeed (word_text w) (line_text words) (
 letter_no_feed_too : (p : Option Kind) → HasNoFeed (promotion_text p)
 letter_no_feed_too None = All-nil NoFeed
 letter_no_feed_too (Some King) = All-nil NoFeed
-letter_no_feed_too (Some Queen) = All-cons NoFeed 113 [] (λ e. omega (arith, e)) (All-nil NoFeed)
-letter_no_feed_too (Some Rook) = All-cons NoFeed 114 [] (λ e. omega (arith, e)) (All-nil NoFeed)
-letter_no_feed_too (Some Bishop) = All-cons NoFeed 98 [] (λ e. omega (arith, e)) (All-nil NoFeed)
-letter_no_feed_too (Some Knight) = All-cons NoFeed 110 [] (λ e. omega (arith, e)) (All-nil NoFeed)
+letter_no_feed_too (Some Queen) = no_feed_in (codes "q") refl
+letter_no_feed_too (Some Rook) = no_feed_in (codes "r") refl
+letter_no_feed_too (Some Bishop) = no_feed_in (codes "b") refl
+letter_no_feed_too (Some Knight) = no_feed_in (codes "n") refl
 letter_no_feed_too (Some Pawn) = All-nil NoFeed
 
 move_no_feed : (m : Ply) → HasNoFeed (move_text m)
@@ -58,31 +70,19 @@ move_no_feed m =
 
 decimal_no_feed : (n : ℕ) → n ≤ 63 → HasNoFeed (decimal n)
 decimal_no_feed n few = elim (cases_lt n 10) as (λ _. HasNoFeed (decimal n)) [
-  | inl low ↦ subst HasNoFeed (sym (low_decimal n low)) (All-cons NoFeed (48 + n) [] (λ e. omega (arith, e)) (All-nil NoFeed))
+  | inl low ↦ subst HasNoFeed (sym (decimal_digit n low)) (All-cons NoFeed (48 + n) [] (λ e. omega (arith, e)) (All-nil NoFeed))
   | inr large ↦ subst HasNoFeed (sym (high_decimal n large few)) (All-cons NoFeed (48 + n / 10) ((48 + n % 10) ∷ []) (λ e. omega (arith, e)) (All-cons NoFeed (48 + n % 10) [] (λ e. omega (arith, e)) (All-nil NoFeed)))
 ]
 
-five_no_feed : (a b c d : ℕ) → a ≢ 10 → b ≢ 10 → c ≢ 10 → d ≢ 10 → HasNoFeed (a ∷ b ∷ c ∷ d ∷ 32 ∷ [])
-five_no_feed a b c d p q r s =
-    All-cons NoFeed a (b ∷ c ∷ d ∷ 32 ∷ []) p (All-cons NoFeed b (c ∷ d ∷ 32 ∷ []) q (All-cons NoFeed c (d ∷ 32 ∷ []) r (All-cons NoFeed d (32 ∷ []) s (All-cons NoFeed 32 [] (λ e. omega (arith, e)) (All-nil NoFeed)))))
-
 goal_no_feed : (goal : Goal) → HasNoFeed (goal_text goal)
-goal_no_feed goal.Mate = five_no_feed 109 97 116 101 (λ e. omega (arith, e)) (λ e. omega (arith, e)) (λ e. omega (arith, e)) (λ e. omega (arith, e))
-goal_no_feed goal.MateOrStale = five_no_feed 103 111 97 108 (λ e. omega (arith, e)) (λ e. omega (arith, e)) (λ e. omega (arith, e)) (λ e. omega (arith, e))
+goal_no_feed goal.Mate = no_feed_in (codes "mate ") refl
+goal_no_feed goal.MateOrStale = no_feed_in (codes "goal ") refl
 
 pub answer_no_feed : (goal : Goal) (answer : Answer) → IsInRange answer → HasNoFeed (answer_text goal answer)
 answer_no_feed goal (Mate n first) range =
     All-append NoFeed (goal_text goal) (decimal n ++ 32 ∷ move_text first) (goal_no_feed goal)
     (All-append NoFeed (decimal n) (32 ∷ move_text first) (decimal_no_feed n range.1) (All-cons NoFeed 32 (move_text first) (λ e. omega (arith, e)) (move_no_feed first)))
-answer_no_feed goal (NoneWithin limit) range =
-    All-append NoFeed (110 ∷ 111 ∷ 110 ∷ 101 ∷ 32 ∷ []) (119 ∷ 105 ∷ 116 ∷ 104 ∷ 105 ∷ 110 ∷ 32 ∷ decimal limit)
-    (five_no_feed 110 111 110 101 (λ e. omega (arith, e)) (λ e. omega (arith, e)) (λ e. omega (arith, e)) (λ e. omega (arith, e)))
-    (All-cons NoFeed 119 (105 ∷ 116 ∷ 104 ∷ 105 ∷ 110 ∷ 32 ∷ decimal limit) (λ e. omega (arith, e)) (All-cons NoFeed 105 (116 ∷ 104 ∷ 105 ∷ 110 ∷ 32 ∷ decimal limit) (λ e. omega (arith, e)) (All-append NoFeed (116 ∷ 104 ∷ 105 ∷ 110 ∷ 32 ∷ []) (decimal limit)
-    (five_no_feed 116 104 105 110 (λ e. omega (arith, e)) (λ e. omega (arith, e)) (λ e. omega (arith, e)) (λ e. omega (arith, e))) (decimal_no_feed limit range.1))))
-
-pub lines_no_feed : (lines : List (List Word)) → All HasNoFeed (map line_text lines)
-lines_no_feed [] = All-nil HasNoFeed
-lines_no_feed (line ∷ lines) = All-cons HasNoFeed (line_text line) (map line_text lines) (line_no_feed line) (lines_no_feed lines)
+answer_no_feed goal (NoneWithin limit) range = All-append NoFeed (codes "none within ") (decimal limit) (no_feed_in (codes "none within ") refl) (decimal_no_feed limit range.1)
 
 -- ---- where a line ends
 

@@ -21,9 +21,8 @@ use Rattle.verifying.specs.declared.fault.Fault.TheVariants.{Answer as AnswerFau
 use Rattle.verifying.specs.Refusals.{TellsOf, fault_of_input, reads_failed}
 use Rattle.verifying.specs.Certificate.{IsCertificate, IsRefusedWith}
 use Rattle.verifying.specs.Checking.{HasTakenText, TakesMore, RefusesMore, IsProvedBy}
-use Rattle.verifying.proofs.Checked.{line_long}
-use Rattle.verifying.proofs.Refused.{certificate_begins}
-use Rattle.verifying.proofs.Taken.{fault_of_text, lost}
+use Rattle.verifying.proofs.Refused.{line_long, certificate_begins, fault_of_text, lost}
+use Rattle.verifying.proofs.Sound.{certificate_certifies}
 use Rattle.devices.proofs.InputLemmas.{of_input_then as then_so}
 
 -- a text is gone from the front of the input, and the checker has taken it
@@ -51,9 +50,9 @@ ended_certified goal b first now checker rest (Ok answer) proves nothing left (t
     end_of first now text rest (IsCertificate goal b answer) gone left
     (subst (λ (l : List ℕ). IsCertificate goal b answer l) (sym (ap (λ (l : List ℕ). text ++ l) nothing ∙ append-nil text)) (proves goal b text taken).0)
 
-pub ended_answered : {A : Type 0} (goal : Goal) (b : PlainBoard) (first now : Option (List ℕ)) (checker : Checker A) (r : Result Answer Fault) → IfOk r (IsProvedBy checker) → HasReadOf goal b first now checker → IfOk r (λ answer. (limit : ℕ) → IsUpTo limit answer → IsAnswer goal b limit answer)
-ended_answered goal b first now checker (Err fault) proves read = tt
-ended_answered goal b first now checker (Ok answer) proves (text, gone, taken) = λ limit within. certified goal b limit answer (proves goal b text taken).1 within
+pub ended_answered : (goal : Goal) (b : PlainBoard) (first : Option (List ℕ)) (r : Result Answer Fault) → IfOk r (λ answer. OfInput first (IsCertificate goal b answer)) → IfOk r (λ answer. (limit : ℕ) → IsUpTo limit answer → IsAnswer goal b limit answer)
+ended_answered goal b first (Err fault) certificate = tt
+ended_answered goal b first (Ok answer) (text, is, certificate) = λ limit within. certified goal b limit answer (certificate_certifies goal b answer text certificate) within
 
 -- what is so where the reading ends: a fault of the text is told of it, and it is no certificate
 abbrev pub IsRefusal : Goal → PlainBoard → Option (List ℕ) → Result Answer Fault → Type 0
@@ -96,10 +95,6 @@ fault_is_told : (goal : Goal) (b : PlainBoard) (first : Option (List ℕ)) (faul
 fault_is_told goal b first fault refused =
     fault_of_text goal first fault (λ memory device. then_so first (IsRefusedWith goal b fault) (λ input. TellsOf goal input (Err fault)) (refused memory device) (λ input told. told.0))
 
-pub refusal_told : (goal : Goal) (b : PlainBoard) (first : Option (List ℕ)) (fault : Fault) (r : Result Answer Fault) → IsErr r × IsErrAnd r (λ f. f ≡ fault) → IsRefusal goal b first r → OfInput first (λ input. TellsOf goal input r)
-refusal_told goal b first fault (Ok answer) err refused = absurd err.1
-refusal_told goal b first fault (Err f) err refused = fault_is_told goal b first f refused
-
 pub ended_told : (goal : Goal) (b : PlainBoard) (first : Option (List ℕ)) (r : Result Answer Fault) → IfOk r (λ answer. OfInput first (IsCertificate goal b answer)) → IsRefusal goal b first r → OfInput first (λ input. TellsOf goal input r)
 ended_told goal b first (Ok answer) certificate refused = then_so first (IsCertificate goal b answer) (λ input. TellsOf goal input (Ok answer)) certificate (λ text is. certificate_begins goal b answer text is)
 ended_told goal b first (Err fault) certificate refused = fault_is_told goal b first fault refused
@@ -120,3 +115,16 @@ none_failed (Err ReadFailed) unread = absurd (unread refl)
 pub not_read : (fault : Fault) (r : Result Answer Fault) → (fault ≡ ReadFailed → ⊥) → IsErr r × IsErrAnd r (λ f. f ≡ fault) → reads_failed r ≡ 0
 not_read fault (Ok answer) unread err = absurd err.1
 not_read fault (Err f) unread err = none_failed (Err f) (λ e. unread (sym err.1 ∙ e))
+
+-- ---- an input that is known
+
+of_known : (xs : List ℕ) (P : List ℕ → Type 0) → OfInput (Some xs) P → P xs
+of_known xs P (input, is, holds) = subst P (sym is) holds
+
+pub ok_of_known : {E : Type 0} (xs : List ℕ) (P : Answer → List ℕ → Type 0) (known : Option (List ℕ)) (r : Result Answer E) → known ≡ Some xs → IfOk r (λ told. OfInput known (P told)) → IfOk r (λ told. P told xs)
+ok_of_known xs P known (Err e) is holds = tt
+ok_of_known xs P known (Ok told) is holds = of_known xs (P told) (subst (λ (o : Option (List ℕ)). OfInput o (P told)) is holds)
+
+pub err_of_known : {E : Type 0} (xs : List ℕ) (P Q : E → Type 0) (R : E → List ℕ → Type 0) (known : Option (List ℕ)) (r : Result Answer E) → known ≡ Some xs → IfErr r (λ e. P e → Q e → OfInput known (R e)) → IfErr r (λ e. P e → Q e → R e xs)
+err_of_known xs P Q R known (Ok told) is none = tt
+err_of_known xs P Q R known (Err e) is none = λ p q. of_known xs (R e) (subst (λ (o : Option (List ℕ)). OfInput o (R e)) is (none p q))

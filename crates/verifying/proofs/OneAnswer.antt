@@ -1,57 +1,114 @@
--- A first line is of one answer at most.
-use Rattle.std.proofs.Common.{◌≡◌, ◌≢◌, ◌≤◌, ℕ, ◌+◌, List, [], ◌∷◌, ◌++◌, refl, sym, ap, ◌∙◌, arith, All, Option, None, Some, IfSome, codes}
-use Rattle.std.proofs.lemmas.List.{append_cancel_left}
-use Rattle.std.proofs.lemmas.List.Elements.{All-head, All-tail, All-from_get_or}
+-- What the first line's texts are, and that each is of one answer at most.
+use Rattle.std.proofs.Common.{◌≡◌, inl, inr, ◌≤◌, ℕ, ◌+◌, ◌/◌, ◌%◌, List, [], ◌∷◌, ◌++◌, length, get_or, take, refl, sym, ap, ◌∙◌, arith, Option, None, Some, IfSome, nat_eq, if◌then◌else◌, codes}
+use Rattle.std.proofs.lemmas.Bool.{cases_lt}
+use Rattle.std.proofs.lemmas.Fmt.{decimal_digit, decimal_step, decimal_injective}
 use Rattle.std.specs.Fmt.{decimal}
-use Rattle.std.proofs.lemmas.Fmt.{decimal_injective}
-use Rattle.board.specs.declared.game.Game.{Game}
-use Rattle.board.specs.declared.game.Game.TheVariants.{LosAlamos, Gardner}
 use Rattle.board.specs.declared.game.Kind.{Kind}
 use Rattle.board.specs.declared.game.Kind.TheVariants.{King, Queen, Rook, Bishop, Knight, Pawn}
+use Rattle.rules.specs.Squares.{Place, Ply, IsOnBoard}
+use Rattle.rules.specs.Moves.{IsPromoted, IsLawful, IsPromotion}
+use Rattle.rules.specs.MoveText.{square_text, promotion_text, move_text}
+use Rattle.std.proofs.lemmas.List.{append_cancel_left}
+use Rattle.board.specs.declared.game.Game.{Game}
+use Rattle.board.specs.declared.game.Game.TheVariants.{LosAlamos, Gardner}
 use Rattle.board.specs.Board.{PlainBoard}
 use Rattle.rules.specs.declared.goal.Goal.{Goal}
-use Rattle.rules.specs.declared.goal.Goal.TheVariants as goal
-use Rattle.rules.specs.Squares.{Place, Ply, IsOnBoard}
-use Rattle.rules.specs.Moves.{IsLawful, IsPromotion, IsPromoted}
-use Rattle.rules.specs.MoveText.{promotion_text, move_text}
 use Rattle.rules.proofs.Lists.{IsNumbered-lawful}
 use Rattle.problems.specs.declared.answer.Answer.{Answer}
-use Rattle.problems.specs.declared.answer.Answer.TheVariants as answer
 use Rattle.certificates.specs.declared.claim.Claim.{Claim}
 use Rattle.verifying.specs.declared.words.Word.{Word}
 use Rattle.verifying.specs.FirstLine.{answer_text, goal_text, IsInRange, HasNamedMove, IsNamedSquare, HasName}
 use Rattle.verifying.specs.Certificate.{YesLinesMake, ProveAnswer, IsCertificate}
-use Rattle.verifying.proofs.FirstTexts.{digits_no_space, no_letter, one_letter, one_of as same_cons}
 use Rattle.rules.proofs.Room.{width_six as six}
+use Rattle.rules.specs.declared.goal.Goal.TheVariants as goal
+use Rattle.problems.specs.declared.answer.Answer.TheVariants as answer
 
-abbrev NoSpace : ℕ → Type 0
-NoSpace x = x ≢ 32
+-- two lists are one by their heads and their tails
+pub same_cons : {X : Type 0} (x y : X) (xs ys : List X) → x ∷ xs ≡ y ∷ ys → (x ≡ y) × (xs ≡ ys)
+same_cons x y xs ys e = (cc, cc)
 
-one_space : (x y a b : List ℕ) → All NoSpace x → All NoSpace y → x ++ 32 ∷ a ≡ y ++ 32 ∷ b → (x ≡ y) × (a ≡ b)
-one_space [] [] a b p q e = (refl, (same_cons 32 32 a b e).1)
-one_space [] (d ∷ y) a b p q e = absurd (All-head NoSpace d y q (sym (same_cons 32 d a _ e).0))
-one_space (c ∷ x) [] a b p q e = absurd (All-head NoSpace c x p (same_cons c 32 _ b e).0)
-one_space (c ∷ x) (d ∷ y) a b p q e =
-    let both = same_cons c d _ _ e in
-    let rest = one_space x y a b (All-tail NoSpace c x p) (All-tail NoSpace d y q) both.1 in
-    (ap (λ n. n ∷ x) both.0 ∙ ap (λ (l : List ℕ). d ∷ l) rest.0, rest.1)
+-- ---- numbers
 
-no_space : (n : ℕ) → n ≤ 63 → All NoSpace (decimal n)
-no_space n few = All-from_get_or NoSpace (decimal n) 0 (λ k lt. digits_no_space n k few lt)
+pub high_decimal : (n : ℕ) → 10 ≤ n → n ≤ 63 → decimal n ≡ (48 + n / 10) ∷ (48 + n % 10) ∷ []
+high_decimal n large few = decimal_step n large (omega arith) ∙ ap (λ (x : List ℕ). x ++ (48 + n % 10) ∷ []) (decimal_digit (n / 10) (omega arith))
 
-some_letter : (k : Kind) → IsPromoted k → (letter : ℕ) × (promotion_text (Some k) ≡ letter ∷ [])
-some_letter Queen promoted = (113, refl)
-some_letter Rook promoted = (114, refl)
-some_letter Bishop promoted = (98, refl)
-some_letter Knight promoted = (110, refl)
-some_letter King promoted = absurd promoted
-some_letter Pawn promoted = absurd promoted
+pub decimal_short : (n : ℕ) → n ≤ 63 → length (decimal n) ≤ 2
+decimal_short n few = elim (cases_lt n 10) as (λ _. length (decimal n) ≤ 2) [
+  | inl low ↦ omega (arith, ap length (decimal_digit n low))
+  | inr large ↦ omega (arith, ap length (high_decimal n large few))
+]
 
-one_promotion : (p q : Option Kind) → IfSome p IsPromoted → IfSome q IsPromoted → promotion_text p ≡ promotion_text q → p ≡ q
-one_promotion None q named also e = sym (no_letter q also (sym e))
-one_promotion (Some k) q named also e =
-    let letter = some_letter k named in
-    sym (one_letter k q letter.0 named also letter.1 (sym e ∙ letter.1))
+-- a number ends at a space
+pub one_number : (n k : ℕ) (x y : List ℕ) → n ≤ 63 → k ≤ 63 → decimal n ++ 32 ∷ x ≡ decimal k ++ 32 ∷ y → (n ≡ k) × (x ≡ y)
+one_number n k x y few also e = elim (cases_lt n 10) as (λ _. (n ≡ k) × (x ≡ y)) [
+  | inl low ↦ elim (cases_lt k 10) as (λ _. (n ≡ k) × (x ≡ y)) [
+    | inl less ↦
+        let front = same_cons (48 + n) (48 + k) (32 ∷ x) (32 ∷ y) (rewritten (decimal_digit n low) (decimal_digit k less)) in
+        (omega (arith, front.0), (same_cons 32 32 x y front.1).1)
+    | inr more ↦
+        let front = same_cons (48 + n) (48 + k / 10) (32 ∷ x) ((48 + k % 10) ∷ 32 ∷ y) (rewritten (decimal_digit n low) (high_decimal k more also)) in
+        absurd (omega (arith, (same_cons 32 (48 + k % 10) x (32 ∷ y) front.1).0))
+  ]
+  | inr large ↦ elim (cases_lt k 10) as (λ _. (n ≡ k) × (x ≡ y)) [
+    | inl less ↦
+        let front = same_cons (48 + n / 10) (48 + k) ((48 + n % 10) ∷ 32 ∷ x) (32 ∷ y) (rewritten (high_decimal n large few) (decimal_digit k less)) in
+        absurd (omega (arith, (same_cons (48 + n % 10) 32 (32 ∷ x) y front.1).0))
+    | inr more ↦
+        let front = same_cons (48 + n / 10) (48 + k / 10) ((48 + n % 10) ∷ 32 ∷ x) ((48 + k % 10) ∷ 32 ∷ y) (rewritten (high_decimal n large few) (high_decimal k more also)) in
+        let back = same_cons (48 + n % 10) (48 + k % 10) (32 ∷ x) (32 ∷ y) front.1 in
+        (omega (arith, front.0, back.0), (same_cons 32 32 x y back.1).1)
+  ]
+]
+  where
+    rewritten : {v w : List ℕ} → decimal n ≡ v → decimal k ≡ w → v ++ 32 ∷ x ≡ w ++ 32 ∷ y
+    rewritten first second = sym (ap (λ (l : List ℕ). l ++ 32 ∷ x) first) ∙ (e ∙ ap (λ (l : List ℕ). l ++ 32 ∷ y) second)
+
+-- ---- moves
+
+pub four_bytes : (name : List ℕ) → 4 ≤ length name → take 4 name ≡ get_or name 0 0 ∷ get_or name 1 0 ∷ get_or name 2 0 ∷ get_or name 3 0 ∷ []
+four_bytes [] long = absurd (omega (arith, long))
+four_bytes (a ∷ []) long = absurd (omega (arith, long))
+four_bytes (a ∷ b ∷ []) long = absurd (omega (arith, long))
+four_bytes (a ∷ b ∷ c ∷ []) long = absurd (omega (arith, long))
+four_bytes (a ∷ b ∷ c ∷ d ∷ rest) long = refl
+
+pub both_squares : (m : Ply) (name tail : List ℕ) → 4 ≤ length name → move_text m ≡ take 4 name ++ tail → (square_text m.from ≡ get_or name 0 0 ∷ get_or name 1 0 ∷ []) × (square_text m.to ≡ get_or name 2 0 ∷ get_or name 3 0 ∷ [])
+both_squares m name tail long is =
+    let whole : (97 + m.from.file) ∷ (49 + m.from.rank) ∷ (97 + m.to.file) ∷ (49 + m.to.rank) ∷ promotion_text m.promotion ≡ get_or name 0 0 ∷ get_or name 1 0 ∷ get_or name 2 0 ∷ get_or name 3 0 ∷ tail = is ∙ ap (λ (x : List ℕ). x ++ tail) (four_bytes name long) in
+    (cc, cc)
+
+pub square_heads : (s : Place) (file rank : ℕ) → square_text s ≡ file ∷ rank ∷ [] → (file ≡ 97 + s.file) × (rank ≡ 49 + s.rank)
+square_heads s file rank is =
+    let front = same_cons (97 + s.file) file ((49 + s.rank) ∷ []) (rank ∷ []) is in
+    (sym front.0, sym (same_cons (49 + s.rank) rank [] [] front.1).0)
+
+-- a letter is of one promotion
+abbrev kind_by : List ℕ → Option Kind
+kind_by [] = None
+kind_by (n ∷ rest) = if nat_eq n 113 then Some Queen else (if nat_eq n 114 then Some Rook else (if nat_eq n 98 then Some Bishop else Some Knight))
+
+kind_is : (o : Option Kind) → IfSome o IsPromoted → kind_by (promotion_text o) ≡ o
+kind_is None named = refl
+kind_is (Some Queen) named = refl
+kind_is (Some Rook) named = refl
+kind_is (Some Bishop) named = refl
+kind_is (Some Knight) named = refl
+kind_is (Some King) named = absurd named
+kind_is (Some Pawn) named = absurd named
+
+pub one_promotion : (p q : Option Kind) → IfSome p IsPromoted → IfSome q IsPromoted → promotion_text p ≡ promotion_text q → p ≡ q
+one_promotion p q named also e = sym (kind_is p named) ∙ (ap kind_by e ∙ kind_is q also)
+
+pub letter_long : (p : Option Kind) → length (promotion_text p) ≤ 1
+letter_long None = omega arith
+letter_long (Some King) = omega arith
+letter_long (Some Queen) = omega arith
+letter_long (Some Rook) = omega arith
+letter_long (Some Bishop) = omega arith
+letter_long (Some Knight) = omega arith
+letter_long (Some Pawn) = omega arith
+
+-- ---- answers
 
 one_move : (m l : Ply) → HasName m → HasName l → move_text m ≡ move_text l → m ≡ l
 one_move m l named also e =
@@ -68,10 +125,8 @@ one_move m l named also e =
 
 one_mate : (n k : ℕ) (m l : Ply) → n ≤ 63 → k ≤ 63 → HasName m → HasName l → decimal n ++ 32 ∷ move_text m ≡ decimal k ++ 32 ∷ move_text l → answer.Mate n m ≡ answer.Mate k l
 one_mate n k m l few also named named_too e =
-    let both = one_space (decimal n) (decimal k) (move_text m) (move_text l) (no_space n few) (no_space k also) e in
-    let plies : n ≡ k = decimal_injective n k (omega (arith, few)) (omega (arith, also)) both.0 in
-    let first : m ≡ l = one_move m l named named_too both.1 in
-    λ i. answer.Mate (plies i) (first i)
+    let both = one_number n k (move_text m) (move_text l) few also e in
+    ap (λ k. answer.Mate k m) both.0 ∙ ap (λ (x : Ply). answer.Mate k x) (one_move m l named named_too both.1)
 
 not_none : (goal : Goal) (n limit : ℕ) (m : Ply) → answer_text goal (answer.Mate n m) ≡ answer_text goal (answer.NoneWithin limit) → ⊥
 not_none goal.Mate n limit m e = let head = same_cons 109 110 _ _ e in omega (arith, head.0)
@@ -115,5 +170,3 @@ proved_named goal b (answer.NoneWithin limit) lines prove = tt
 
 pub certificate_named : (goal : Goal) (b : PlainBoard) (told : Answer) (text : List ℕ) → IsCertificate goal b told text → HasNamedMove told
 certificate_named goal b told text certificate = proved_named goal b told certificate.lines certificate.prove
-
--- ---- lines of no answer

@@ -1,163 +1,79 @@
--- A text that is refused is no certificate.
-use Rattle.std.proofs.Common.{suc, codes, ◌≡◌, ◌⊎◌, inl, inr, ◌<◌, ◌≤◌, ℕ, ◌+◌, ◌-◌, ◌%◌, List, [], ◌∷◌, ◌++◌, length, map, refl, sym, ap, ◌∙◌, subst, arith, append_assoc, length-append, All, Option, Some}
-use Rattle.std.proofs.lemmas.List.{append-nil}
-use Rattle.std.proofs.lemmas.List.Elements.{All-cons, All-head, All-tail}
-use Rattle.std.specs.Fmt.{decimal}
+-- What a checker has taken, what it refuses and that it is no certificate, and what it proves.
+use Rattle.std.proofs.Common.{◌≡◌, ℕ, ◌+◌, ◌<◌, List, [], ◌++◌, length, Option, None, Some, sym, ap, subst, Err, suc, codes, inl, inr, ◌≤◌, ◌∷◌, map, refl, ◌∙◌, arith, append_assoc, length-append, All, ◌↔◌, nat_lt, Bool, true, false, if◌then◌else◌}
+use Rattle.std.specs.Io.KnownBytes.{Consumes}
 use Rattle.board.specs.Board.{PlainBoard}
 use Rattle.rules.specs.declared.goal.Goal.{Goal}
-use Rattle.rules.specs.declared.goal.Goal.TheVariants as goal
-use Rattle.rules.specs.MoveText.{promotion_text, move_text}
 use Rattle.problems.specs.declared.answer.Answer.{Answer}
-use Rattle.problems.specs.declared.answer.Answer.TheVariants as answer
 use Rattle.certificates.specs.declared.claim.Claim.{Claim}
+use Rattle.devices.specs.Input.{OfInput}
 use Rattle.devices.specs.Lines.{HasNoFeed}
+use Rattle.devices.proofs.InputLemmas.{of_any as any_input}
 use Rattle.verifying.specs.declared.fault.Fault.{Fault}
-use Rattle.verifying.specs.declared.fault.Fault.TheVariants.{TooLong}
+use Rattle.verifying.specs.declared.fault.Fault.TheVariants.{Answer as AnswerFault, Claim as NumberedFault, TooLong, NoMemory, ReadFailed}
 use Rattle.verifying.specs.declared.part.Part.{Part}
-use Rattle.verifying.specs.declared.part.Part.TheVariants.{First, Win, Yes, Lesser, No}
-use Rattle.verifying.specs.declared.words.Word.{Word}
-use Rattle.verifying.specs.FirstLine.{answer_text, goal_text, HasFirstLine, IsInRange, HasNamedMove}
-use Rattle.verifying.specs.Growing.{AreApart}
-use Rattle.verifying.specs.Words.{line_text}
-use Rattle.verifying.specs.Refusals.{fed}
-use Rattle.verifying.specs.Parts.{HasShown, answer_of}
-use Rattle.verifying.specs.Certificate.{ProveAnswer, IsCertificate, IsRefusedWith, with_claim}
-use Rattle.verifying.specs.Reading.{IsReadTo, BeginsPart, TakesWords, ReadsLine, IsNoLineOf, IsUnfinished, IsToldWell, text_so_far, HasRead}
+use Rattle.verifying.specs.Reading.{HasRead, answer_of, IsEnded, ReadsLine, ReadsOn, IsLineOf, ReadsAnswer, ReadsWords, begun_claims, begun_part, part_behind}
+use Rattle.verifying.specs.Refusals.{AreLines, HasLongLine, TellsOf, IsClaimLine, fed}
 use Rattle.verifying.specs.Taking.{fault_at}
-use Rattle.verifying.proofs.Turns.{same_cons}
+use Rattle.std.proofs.lemmas.List.Elements.{All-cons, All-nil, All-weaker, All-push}
+use Rattle.std.specs.Fmt.{decimal}
+use Rattle.rules.specs.MoveText.{promotion_text, move_text}
+use Rattle.verifying.specs.declared.part.Part.TheVariants.{First, Win, Yes, Lesser, No}
+use Rattle.verifying.specs.FirstLine.{answer_text, goal_text, HasFirstLine, IsInRange, HasNamedMove}
+use Rattle.verifying.specs.Words.{line_text}
+use Rattle.verifying.specs.Certificate.{IsCertificate, IsRefusedWith}
+use Rattle.verifying.proofs.Making.{finds_none}
+use Rattle.verifying.proofs.Feeds.{answer_no_feed, line_no_feed, left_over, next_of, none_of, long_of}
+use Rattle.verifying.proofs.OneAnswer.{decimal_short, letter_long, one_answer, certificate_named, same_cons}
+use Rattle.verifying.proofs.Reading.{certificate_read, certificate_of}
+use Rattle.std.proofs.lemmas.Grind.{flat_map-append}
+use Rattle.std.proofs.lemmas.List.{append-nil}
+use Rattle.std.proofs.lemmas.Option.{same_Some}
+use Rattle.verifying.specs.declared.checker.Checker.{Checker}
+use Rattle.verifying.specs.declared.part.Mate.{Mate}
+use Rattle.verifying.specs.declared.words.Word.{Word}
+use Rattle.verifying.specs.Checking.{HasTakenText, TakesMore, RefusesMore, IsProvedBy}
+use Rattle.verifying.specs.Yielding.{FindsOnly}
+use Rattle.verifying.proofs.Grown.{none_apart, reads_apart}
+use Rattle.verifying.proofs.Sound.{certificate_certifies}
 use Rattle.verifying.proofs.Spelling.{one_line}
-use Rattle.verifying.proofs.Feeds.{answer_no_feed, lines_no_feed, left_over, next_of, none_of, long_of}
-use Rattle.verifying.proofs.FirstTexts.{digits_long, letter_long}
-use Rattle.verifying.proofs.OneAnswer.{one_answer, certificate_named}
-use Rattle.verifying.proofs.Missing.{next_taken, finished}
-use Rattle.verifying.proofs.Reading.{reads_words}
-use Rattle.verifying.proofs.Taken.{fault_told, long_told}
-use Rattle.verifying.proofs.Apart.{none_apart, one_apart, yes_apart, no_apart, lesser_apart}
+use Rattle.rules.specs.declared.goal.Goal.TheVariants as goal
+use Rattle.problems.specs.declared.answer.Answer.TheVariants as answer
 
--- ---- lists of lines
+-- ---- what a fault tells
 
-no_line : (x : List ℕ) (xs : List (List ℕ)) → [] ≡ x ∷ xs → ⊥
-no_line x xs e = cc
+-- the fault of the next line
+pub fault_told : (goal : Goal) (b : PlainBoard) (number : ℕ) (part : Part) (claims : List Claim) (text more : List ℕ) (fault : Fault) → fault ≡ fault_at (answer_of part) number → HasRead goal b number part claims text → TellsOf goal (text ++ more) (Err fault)
+fault_told goal b number part claims text more fault is read = subst (λ (f : Fault). TellsOf goal (text ++ more) (Err f)) (sym is) (by_answer (answer_of part) read.grammar)
+  where
+    by_answer : (o : Option Answer) → AreLines goal o read.lines → TellsOf goal (text ++ more) (Err (fault_at o number))
+    by_answer None are = tt
+    by_answer (Some told) are = (told, read.lines, more, are, ap (λ (l : List ℕ). l ++ more) read.spelled, ap (λ (n : ℕ). n + 1) read.count)
 
--- the lines behind those that were read
-lines_behind : (all lines : List (List Word)) (more : List (List ℕ)) → map line_text all ≡ map line_text lines ++ more → (rest : List (List Word)) × (all ≡ lines ++ rest) × (map line_text rest ≡ more)
-lines_behind all [] more e = (all, refl, e)
-lines_behind [] (line ∷ lines) more e = absurd (no_line (line_text line) (map line_text lines ++ more) e)
-lines_behind (first ∷ all) (line ∷ lines) more e =
-    let both = same_cons (line_text first) (line_text line) (map line_text all) (map line_text lines ++ more) e in
-    let later = lines_behind all lines more both.1 in
-    (later.0, ap (λ (l : List Word). l ∷ all) (one_line first line both.0) ∙ ap (λ (l : List (List Word)). line ∷ l) later.1, later.2)
+-- and of a line that is too long
+pub long_told : (goal : Goal) (b : PlainBoard) (number : ℕ) (part : Part) (claims : List Claim) (text line rest : List ℕ) → HasNoFeed line → 8192 < length line → HasRead goal b number part claims text → HasLongLine (text ++ (line ++ rest))
+long_told goal b number part claims text line rest none long read = (read.lines, line, rest, none, long, ap (λ (l : List ℕ). l ++ (line ++ rest)) read.spelled)
 
-all_behind : (P : List Word → Type 0) (all lines rest : List (List Word)) → all ≡ lines ++ rest → All P all → All P rest
-all_behind P all [] rest is holds = subst (All P) is holds
-all_behind P [] (line ∷ lines) rest is holds = absurd cc
-all_behind P (first ∷ all) (line ∷ lines) rest is holds = all_behind P all lines rest (same_cons first line all (lines ++ rest) is).1 (All-tail P first all holds)
+-- ---- of an input
 
-abbrev IsShort : List Word → Type 0
-IsShort line = length (line_text line) ≤ 8192
+-- some input has lost these bytes
+pub lost : (first now : Option (List ℕ)) (bytes : List ℕ) (P : List ℕ → Type 0) → Consumes first now bytes → ((rest : List ℕ) → P (bytes ++ rest)) → OfInput first P
+lost None now bytes P gone so = (bytes ++ [], tt, so [])
+lost (Some xs) None bytes P gone so = absurd gone
+lost (Some xs) (Some ys) bytes P gone so = (bytes ++ ys, gone, so ys)
 
--- what a certificate has behind what was read of it
-behind_read : (goal : Goal) (b : PlainBoard) (told mine : Answer) (lines : List (List Word)) (rest : List ℕ) → IsInRange told → HasNamedMove told → IsCertificate goal b mine (text_so_far goal (Some told) lines ++ rest) → (more : List (List Word)) × ProveAnswer goal b told (lines ++ more) × All IsShort more × (fed (map line_text more) ≡ rest)
-behind_read goal b told mine lines rest range named certificate =
-    let xs : List (List ℕ) = answer_text goal mine ∷ map line_text certificate.lines in
-    let ys : List (List ℕ) = answer_text goal told ∷ map line_text lines in
-    let left = left_over xs ys rest (All-cons HasNoFeed (answer_text goal mine) (map line_text certificate.lines) (answer_no_feed goal mine certificate.range) (lines_no_feed certificate.lines))
-    (All-cons HasNoFeed (answer_text goal told) (map line_text lines) (answer_no_feed goal told range) (lines_no_feed lines)) (sym certificate.spelled) in
-    let both = same_cons (answer_text goal mine) (answer_text goal told) (map line_text certificate.lines) (map line_text lines ++ left.0) left.1 in
-    let one : mine ≡ told = one_answer goal mine told certificate.range range (certificate_named goal b mine _ certificate) named both.0 in
-    let more = lines_behind certificate.lines lines left.0 both.1 in (
-      more.0,
-      subst (λ (l : List (List Word)). ProveAnswer goal b told l) more.1 (subst (λ (a : Answer). ProveAnswer goal b a certificate.lines) one certificate.prove),
-      all_behind IsShort certificate.lines lines more.0 more.1 certificate.short,
-      ap fed more.2 ∙ left.2,
-    )
+-- a fault that isn't of the text tells nothing of it
+pub fault_of_text : (goal : Goal) (first : Option (List ℕ)) (fault : Fault) → ((fault ≡ NoMemory → ⊥) → (fault ≡ ReadFailed → ⊥) → OfInput first (λ input. TellsOf goal input (Err fault))) → OfInput first (λ input. TellsOf goal input (Err fault))
+fault_of_text goal first AnswerFault told = told (λ e. cc) (λ e. cc)
+fault_of_text goal first (NumberedFault number) told = told (λ e. cc) (λ e. cc)
+fault_of_text goal first TooLong told = told (λ e. cc) (λ e. cc)
+fault_of_text goal first NoMemory told = any_input first (λ input. TellsOf goal input (Err NoMemory)) (λ input. tt)
+fault_of_text goal first ReadFailed told = any_input first (λ input. TellsOf goal input (Err ReadFailed)) (λ input. tt)
 
--- ---- a line that is refused
-
-line_is : (more : List (List Word)) (line : List ℕ) (others : List (List ℕ)) → map line_text more ≡ line ∷ others → (words : List Word) × (rest : List (List Word)) × (more ≡ words ∷ rest) × (line_text words ≡ line)
-line_is [] line others e = absurd (no_line line others e)
-line_is (words ∷ rest) line others e = (words, rest, refl, (same_cons (line_text words) line (map line_text rest) others e).0)
-
-begin : (b : PlainBoard) (told : Answer) → (next : Part) × (new : List Claim) × BeginsPart b told next new
-begin b (answer.Mate n first) = (Win (record { plies = n; first = first }), [], refl)
-begin b (answer.NoneWithin limit) = (No (answer.NoneWithin limit) 0, with_claim [] b (limit - 1 + limit % 2), (refl, refl))
-
-abbrev xs_of : Goal → Answer → List (List Word) → List (List ℕ)
-xs_of goal mine lines = answer_text goal mine ∷ map line_text lines
-
-xs_no_feed : (goal : Goal) (mine : Answer) (lines : List (List Word)) → IsInRange mine → All HasNoFeed (xs_of goal mine lines)
-xs_no_feed goal mine lines range = All-cons HasNoFeed (answer_text goal mine) (map line_text lines) (answer_no_feed goal mine range) (lines_no_feed lines)
-
-wrong_first : (goal : Goal) (b : PlainBoard) (mine : Answer) (line rest : List ℕ) (claims : List Claim) → HasNoFeed line → IsNoLineOf goal b First line claims → IsCertificate goal b mine (line ++ 10 ∷ rest) → ⊥
-wrong_first goal b mine line rest claims none wrong certificate =
-    let next = next_of (xs_of goal mine certificate.lines) line rest (xs_no_feed goal mine certificate.lines certificate.range) none (sym certificate.spelled) in
-    let is = (same_cons (answer_text goal mine) line (map line_text certificate.lines) next.0 next.1).0 in
-    let begun = begin b mine in
-    wrong begun.0 begun.1 (mine, certificate.range, certificate_named goal b mine _ certificate, sym is, begun.2)
-
-wrong_later : (goal : Goal) (b : PlainBoard) (part : Part) (told mine : Answer) (lines : List (List Word)) (line rest : List ℕ) (claims : List Claim) → answer_of part ≡ Some told → IsInRange told → HasNamedMove told → IsReadTo goal b part lines claims → HasNoFeed line → IsNoLineOf goal b part line claims → IsCertificate goal b mine (text_so_far goal (Some told) lines ++ (line ++ 10 ∷ rest)) → ⊥
-wrong_later goal b part told mine lines line rest claims is range named read none wrong certificate =
-    let behind = behind_read goal b told mine lines (line ++ 10 ∷ rest) range named certificate in
-    let next = next_of (map line_text behind.0) line rest (lines_no_feed behind.0) none behind.3 in
-    let words = line_is behind.0 line next.0 next.1 in
-    let taken = next_taken goal b part told lines words.0 words.1 claims is (subst (λ (l : List (List Word)). ProveAnswer goal b told (lines ++ l)) words.2 behind.1) read in
-    wrong taken.0 taken.1 (reads_words goal b part taken.0 line words.0 claims taken.1 (sym words.3) taken.2)
-
-well_told : (told : Option Answer) (mine : Answer) → told ≡ Some mine → IsToldWell told → IsInRange mine × HasNamedMove mine
-well_told told mine is well = subst IsToldWell is well
-
--- the answer that was told at this part
-told_at : (part : Part) → (part ≡ First) ⊎ ((told : Answer) × (answer_of part ≡ Some told))
-told_at First = inl refl
-told_at (Win mate) = inr (answer.Mate mate.plies mate.first, refl)
-told_at (Yes mate place) = inr (answer.Mate mate.plies mate.first, refl)
-told_at (Lesser mate) = inr (answer.Mate mate.plies mate.first, refl)
-told_at (No told place) = inr (told, refl)
-
-wrong_line : (goal : Goal) (b : PlainBoard) (part : Part) (mine : Answer) (lines : List (List Word)) (line rest : List ℕ) (claims : List Claim) → IsToldWell (answer_of part) → IsReadTo goal b part lines claims → HasNoFeed line → IsNoLineOf goal b part line claims → IsCertificate goal b mine (text_so_far goal (answer_of part) lines ++ (line ++ 10 ∷ rest)) → ⊥
-wrong_line goal b part mine lines line rest claims well read none wrong certificate = elim (told_at part) as (λ _. ⊥) [
-  | inl first ↦
-      wrong_first goal b mine line rest claims none (subst (λ (p : Part). IsNoLineOf goal b p line claims) first wrong)
-      (subst (λ (p : Part). IsCertificate goal b mine (text_so_far goal (answer_of p) lines ++ (line ++ 10 ∷ rest))) first certificate)
-  | inr (told, is) ↦
-      let good = well_told (answer_of part) told is well in
-      wrong_later goal b part told mine lines line rest claims is good.0 good.1 read none wrong (subst (λ (o : Option Answer). IsCertificate goal b mine (text_so_far goal o lines ++ (line ++ 10 ∷ rest))) is certificate)
-]
-
--- ---- a line that is missing
-
-missing_first : (goal : Goal) (b : PlainBoard) (mine : Answer) (rest : List ℕ) → HasNoFeed rest → IsCertificate goal b mine rest → ⊥
-missing_first goal b mine rest none certificate =
-    let gone = none_of (xs_of goal mine certificate.lines) rest none (sym certificate.spelled) in
-    no_line (answer_text goal mine) (map line_text certificate.lines) (sym gone.0)
-
-no_lines : (more : List (List Word)) → map line_text more ≡ [] → more ≡ []
-no_lines [] e = refl
-no_lines (words ∷ more) e = absurd (no_line (line_text words) (map line_text more) (sym e))
-
-missing_later : (goal : Goal) (b : PlainBoard) (part : Part) (told mine : Answer) (lines : List (List Word)) (rest : List ℕ) (claims : List Claim) → answer_of part ≡ Some told → IsInRange told → HasNamedMove told → IsReadTo goal b part lines claims → HasNoFeed rest → (rest ≡ [] → IsUnfinished part claims) → IsCertificate goal b mine (text_so_far goal (Some told) lines ++ rest) → ⊥
-missing_later goal b part told mine lines rest claims is range named read none wrong certificate =
-    let behind = behind_read goal b told mine lines rest range named certificate in
-    let gone = none_of (map line_text behind.0) rest none behind.3 in
-    let whole : lines ++ behind.0 ≡ lines = ap (λ (l : List (List Word)). lines ++ l) (no_lines behind.0 gone.0) ∙ append-nil lines in
-    finished goal b part told lines claims is (subst (λ (l : List (List Word)). ProveAnswer goal b told l) whole behind.1) read (wrong gone.1)
-
-missing_line : (goal : Goal) (b : PlainBoard) (part : Part) (mine : Answer) (lines : List (List Word)) (rest : List ℕ) (claims : List Claim) → IsToldWell (answer_of part) → IsReadTo goal b part lines claims → HasNoFeed rest → (rest ≡ [] → IsUnfinished part claims) → IsCertificate goal b mine (text_so_far goal (answer_of part) lines ++ rest) → ⊥
-missing_line goal b part mine lines rest claims well read none wrong certificate = elim (told_at part) as (λ _. ⊥) [
-  | inl first ↦ missing_first goal b mine rest none (subst (λ (p : Part). IsCertificate goal b mine (text_so_far goal (answer_of p) lines ++ rest)) first certificate)
-  | inr (told, is) ↦
-      let good = well_told (answer_of part) told is well in
-      missing_later goal b part told mine lines rest claims is good.0 good.1 read none wrong (subst (λ (o : Option Answer). IsCertificate goal b mine (text_so_far goal o lines ++ rest)) is certificate)
-]
-
--- ---- a line that is too long
+-- ---- an answer's line is short
 
 goal_long : (goal : Goal) → length (goal_text goal) ≡ 5
 goal_long goal.Mate = refl
 goal_long goal.MateOrStale = refl
-
-decimal_short : (n : ℕ) → n ≤ 63 → length (decimal n) ≤ 2
-decimal_short n few = elim (digits_long n few) as (λ _. length (decimal n) ≤ 2) [ inl one ↦ omega (arith, one) | inr two ↦ omega (arith, two) ]
 
 answer_short : (goal : Goal) (mine : Answer) → IsInRange mine → length (answer_text goal mine) ≤ 8192
 answer_short goal (answer.Mate n m) range =
@@ -170,48 +86,66 @@ answer_short goal (answer.NoneWithin limit) range =
     let whole : length (answer_text goal (answer.NoneWithin limit)) ≡ length (codes "none within ") + length (decimal limit) = length-append (codes "none within ") (decimal limit) in
     omega (arith, whole, digits)
 
-short_line : (more : List (List Word)) (x : List ℕ) (others : List (List ℕ)) → All IsShort more → map line_text more ≡ x ∷ others → length x ≤ 8192
-short_line [] x others short e = absurd (no_line x others e)
-short_line (words ∷ more) x others short e =
-    let same = (same_cons (line_text words) x (map line_text more) others e).0 in
-    let few = All-head IsShort words more short in
-    omega (arith, few, ap length same)
+module _ (goal : Goal) (b : PlainBoard) where
+  -- ---- lines that are read
 
-long_line : (goal : Goal) (b : PlainBoard) (part : Part) (mine : Answer) (lines : List (List Word)) (line rest : List ℕ) (claims : List Claim) → IsToldWell (answer_of part) → HasNoFeed line → 8192 < length line → IsCertificate goal b mine (text_so_far goal (answer_of part) lines ++ (line ++ rest)) → ⊥
-long_line goal b part mine lines line rest claims well none long certificate = elim (told_at part) as (λ _. ⊥) [
-  | inl first ↦
-      let whole = subst (λ (p : Part). IsCertificate goal b mine (text_so_far goal (answer_of p) lines ++ (line ++ rest))) first certificate in
-      let x = long_of (xs_of goal mine whole.lines) line rest none (omega (arith, long)) (sym whole.spelled) in
-      let same = (same_cons (answer_text goal mine) x.0 (map line_text whole.lines) x.1 x.2).0 in
-      let few = answer_short goal mine whole.range in
-      omega (arith, few, ap length same, x.3, long)
-  | inr (told, is) ↦
-      let good = well_told (answer_of part) told is well in
-      let behind = behind_read goal b told mine lines (line ++ rest) good.0 good.1 (subst (λ (o : Option Answer). IsCertificate goal b mine (text_so_far goal o lines ++ (line ++ rest))) is certificate) in
-      let x = long_of (map line_text behind.0) line rest none (omega (arith, long)) behind.3 in
-      let few = short_line behind.0 x.0 x.1 behind.2 x.2 in
-      omega (arith, few, x.3, long)
-]
+  read_short : (part next : Part) (line : List ℕ) (old new : List Claim) → ReadsLine goal b part line old next new → length line ≤ 8192
+  read_short part next line old new (inl (first, (told, range, named, spelled, is, made))) = omega (arith, ap length spelled, answer_short goal told range)
+  read_short part next line old new (inr (words, spelled, small, read)) = small
 
--- ---- behind what was read
+  read_no_feed : (part next : Part) (line : List ℕ) (old new : List Claim) → ReadsLine goal b part line old next new → HasNoFeed line
+  read_no_feed part next line old new (inl (first, (told, range, named, spelled, is, made))) = subst HasNoFeed (sym spelled) (answer_no_feed goal told range)
+  read_no_feed part next line old new (inr (words, spelled, small, read)) = subst HasNoFeed (sym spelled) (line_no_feed words)
 
-pub line_refused : (goal : Goal) (b : PlainBoard) (number : ℕ) (part : Part) (claims : List Claim) (text line rest : List ℕ) (fault : Fault) → fault ≡ fault_at part number → HasNoFeed line → IsNoLineOf goal b part line claims → HasRead goal b number part claims text → IsRefusedWith goal b fault (text ++ (line ++ 10 ∷ rest))
-line_refused goal b number part claims text line rest fault is none wrong read = (
-  fault_told goal b number part claims text (line ++ 10 ∷ rest) fault is read,
-  λ mine certificate. wrong_line goal b part mine read.lines line rest claims read.well read.read none wrong (subst (λ (l : List ℕ). IsCertificate goal b mine (l ++ (line ++ 10 ∷ rest))) read.spelled certificate),
-)
+  all_no_feed : (part : Part) (claims : List Claim) (lines : List (List ℕ)) (told : Answer) → ReadsOn goal b part claims lines told → All HasNoFeed lines
+  all_no_feed part claims [] told ended = All-nil HasNoFeed
+  all_no_feed part claims (line ∷ lines) told (next, new, read, rest) = All-cons HasNoFeed line lines (read_no_feed part next line claims new read) (all_no_feed next new lines told rest)
 
-pub end_refused : (goal : Goal) (b : PlainBoard) (number : ℕ) (part : Part) (claims : List Claim) (text rest : List ℕ) (fault : Fault) → fault ≡ fault_at part number → HasNoFeed rest → (rest ≡ [] → IsUnfinished part claims) → HasRead goal b number part claims text → IsRefusedWith goal b fault (text ++ rest)
-end_refused goal b number part claims text rest fault is none wrong read = (
-  fault_told goal b number part claims text rest fault is read,
-  λ mine certificate. missing_line goal b part mine read.lines rest claims read.well read.read none wrong (subst (λ (l : List ℕ). IsCertificate goal b mine (l ++ rest)) read.spelled certificate),
-)
+  grammar_no_feed : (o : Option Answer) (lines : List (List ℕ)) → AreLines goal o lines → All HasNoFeed lines
+  grammar_no_feed None lines none = subst (All HasNoFeed) (sym none) (All-nil HasNoFeed)
+  grammar_no_feed (Some told) lines (range, (claims, is, are)) =
+      subst (All HasNoFeed) (sym is) (All-cons HasNoFeed (answer_text goal told) claims (answer_no_feed goal told range)
+      (All-weaker IsClaimLine HasNoFeed (λ line words. subst HasNoFeed (sym words.1) (line_no_feed words.0)) claims are))
 
-pub long_refused : (goal : Goal) (b : PlainBoard) (number : ℕ) (part : Part) (claims : List Claim) (text line rest : List ℕ) (fault : Fault) → fault ≡ TooLong → HasNoFeed line → 8192 < length line → HasRead goal b number part claims text → IsRefusedWith goal b fault (text ++ (line ++ rest))
-long_refused goal b number part claims text line rest fault is none long read = subst (λ (f : Fault). IsRefusedWith goal b f (text ++ (line ++ rest))) (sym is) (
-  long_told goal b number part claims text line rest none long read,
-  λ mine certificate. long_line goal b part mine read.lines line rest claims read.well none long (subst (λ (l : List ℕ). IsCertificate goal b mine (l ++ (line ++ rest))) read.spelled certificate),
-)
+  -- what a certificate has behind what was read of it
+  certificate_left : (number : ℕ) (part : Part) (claims : List Claim) (text rest : List ℕ) (mine : Answer) → HasRead goal b number part claims text → IsCertificate goal b mine (text ++ rest) → (more : List (List ℕ)) × ReadsOn goal b part claims more mine × (fed more ≡ rest)
+  certificate_left number part claims text rest mine read certificate =
+      let xs : List (List ℕ) = answer_text goal mine ∷ map line_text certificate.lines in
+      let reads = certificate_read goal b mine (text ++ rest) certificate in
+      let left = left_over xs read.lines rest (all_no_feed First [] xs mine reads) (grammar_no_feed (answer_of part) read.lines read.grammar) (sym certificate.spelled ∙ ap (λ (l : List ℕ). l ++ rest) read.spelled) in
+      (left.0, (read.left left.0 mine).0 (subst (λ (l : List (List ℕ)). ReadsOn goal b First [] l mine) left.1 reads), left.2)
+
+  -- ---- behind what was read
+
+  module _ (number : ℕ) (part : Part) (claims : List Claim) (text : List ℕ) (fault : Fault) (read : HasRead goal b number part claims text) where
+    pub line_refused : (line rest : List ℕ) → fault ≡ fault_at (answer_of part) number → HasNoFeed line → ((next : Part) (new : List Claim) → ReadsLine goal b part line claims next new → ⊥) → IsRefusedWith goal b fault (text ++ (line ++ 10 ∷ rest))
+    line_refused line rest is none wrong = (
+      fault_told goal b number part claims text (line ++ 10 ∷ rest) fault is read,
+      λ mine certificate.
+          let (more, reads, left) = certificate_left number part claims text (line ++ 10 ∷ rest) mine read certificate in
+          let next = next_of more line rest (all_no_feed part claims more mine reads) none left in
+          let here = subst (λ (l : List (List ℕ)). ReadsOn goal b part claims l mine) next.1 reads in
+          wrong here.0 here.1 here.2,
+    )
+
+    pub end_refused : (rest : List ℕ) → fault ≡ fault_at (answer_of part) number → HasNoFeed rest → (rest ≡ [] → (told : Answer) → IsEnded part claims told → ⊥) → IsRefusedWith goal b fault (text ++ rest)
+    end_refused rest is none wrong = (
+      fault_told goal b number part claims text rest fault is read,
+      λ mine certificate.
+          let (more, reads, left) = certificate_left number part claims text rest mine read certificate in
+          let gone = none_of more rest none left in
+          wrong gone.1 mine (subst (λ (l : List (List ℕ)). ReadsOn goal b part claims l mine) gone.0 reads),
+    )
+
+    pub long_refused : (line rest : List ℕ) → fault ≡ TooLong → HasNoFeed line → 8192 < length line → IsRefusedWith goal b fault (text ++ (line ++ rest))
+    long_refused line rest is none long = subst (λ (f : Fault). IsRefusedWith goal b f (text ++ (line ++ rest))) (sym is) (
+      long_told goal b number part claims text line rest none long read,
+      λ mine certificate.
+          let (more, reads, left) = certificate_left number part claims text (line ++ rest) mine read certificate in
+          let (x, others, first, longer) = long_of more line rest none (omega (arith, long)) left in
+          let here = subst (λ (l : List (List ℕ)). ReadsOn goal b part claims l mine) first reads in
+          omega (arith, read_short part here.0 x claims here.1 here.2, longer, long),
+    )
 
 -- ---- the answer with which a certificate begins
 
@@ -221,28 +155,175 @@ certificate_begins goal b answer text certificate =
 
 pub begun_answer : (goal : Goal) (b : PlainBoard) (told answer : Answer) (rest : List ℕ) → IsInRange told → HasNamedMove told → IsCertificate goal b answer (answer_text goal told ++ 10 ∷ rest) → answer ≡ told
 begun_answer goal b told answer rest range named certificate =
-    let next = next_of (xs_of goal answer certificate.lines) (answer_text goal told) rest (xs_no_feed goal answer certificate.lines certificate.range) (answer_no_feed goal told range) (sym certificate.spelled) in
+    let text = answer_text goal told ++ 10 ∷ rest in
+    let xs : List (List ℕ) = answer_text goal answer ∷ map line_text certificate.lines in
+    let next = next_of xs (answer_text goal told) rest (all_no_feed goal b First [] xs answer (certificate_read goal b answer text certificate)) (answer_no_feed goal told range) (sym certificate.spelled) in
     let is = (same_cons (answer_text goal answer) (answer_text goal told) (map line_text certificate.lines) next.0 next.1).0 in
-    one_answer goal answer told certificate.range range (certificate_named goal b answer _ certificate) named is
+    one_answer goal answer told certificate.range range (certificate_named goal b answer text certificate) named is
 
--- ---- no two claims are about one position
+-- ---- what a line is found to be
 
-takes_apart : (goal : Goal) (b : PlainBoard) (part next : Part) (words : List Word) (old new : List Claim) → TakesWords goal b part words old next new → AreApart old → AreApart new
-takes_apart goal b First next words old new takes apart = absurd takes
-takes_apart goal b (Win mate) next words old new (line, is) apart = yes_apart goal (record { position = b; plies = mate.plies }) mate.first words (with_claim [] b mate.plies) new line (one_apart b mate.plies)
-takes_apart goal b (Yes mate place) next words old new ((c, at, (m, line)), is) apart = yes_apart goal c m words old new line apart
-takes_apart goal b (Lesser mate) next words old new (line, is) apart = lesser_apart goal b mate.plies mate.first words new line
-takes_apart goal b (No told place) next words old new ((c, at, line), is) apart = no_apart goal c words old new line apart
+module _ (goal : Goal) (b : PlainBoard) (line : List ℕ) where
+  found_answer : (answer : Answer) → IsInRange answer → HasNamedMove answer → line ≡ answer_text goal answer → FindsOnly (ReadsAnswer goal b line) (Some (begun_part answer)) (begun_claims b answer)
+  found_answer answer range named is next new = (
+    λ (mine, also, named_too, spelled, comes, made).
+        let one : mine ≡ answer = one_answer goal mine answer also range named_too named (sym spelled ∙ is) in
+        (ap Some (sym (comes ∙ ap begun_part one)), made ∙ ap (begun_claims b) one),
+    λ it. (answer, range, named, is, sym (same_Some (begun_part answer) next it.0), it.1),
+  )
 
-begun_apart : (goal : Goal) (b : PlainBoard) (told : Answer) (next : Part) (new : List Claim) → BeginsPart b told next new → HasShown goal b next new → AreApart new
-begun_apart goal b (answer.Mate n first) next new is stands =
-    let empty = subst (λ (p : Part). HasShown goal b p new) is stands in
-    subst AreApart (sym empty.1) none_apart
-begun_apart goal b (answer.NoneWithin limit) next new (is, made) stands = subst AreApart (sym made) (one_apart b (limit - 1 + limit % 2))
+  module _ (part : Part) (old claims : List Claim) (found : Option Part) where
+    first_found : part ≡ First → FindsOnly (ReadsAnswer goal b line) found claims → FindsOnly (ReadsLine goal b part line old) found claims
+    first_found first h next new = (to, λ it. inl (first, (h next new).1 it))
+      where
+        to : ReadsLine goal b part line old next new → (found ≡ Some next) × (new ≡ claims)
+        to (inl (also, reads)) = (h next new).0 reads
+        to (inr (words, spelled, small, (is_line, is))) = absurd (subst (λ (p : Part). IsLineOf goal b p words old new) first is_line)
 
-pub reads_apart : (goal : Goal) (b : PlainBoard) (part next : Part) (line : List ℕ) (old new : List Claim) → ReadsLine goal b part line old next new → HasShown goal b next new → AreApart old → AreApart new
-reads_apart goal b First next line old new (told, range, named, spelled, begins) stands apart = begun_apart goal b told next new begins stands
-reads_apart goal b (Win mate) next line old new (words, spelled, takes) stands apart = takes_apart goal b (Win mate) next words old new takes apart
-reads_apart goal b (Yes mate place) next line old new (words, spelled, takes) stands apart = takes_apart goal b (Yes mate place) next words old new takes apart
-reads_apart goal b (Lesser mate) next line old new (words, spelled, takes) stands apart = takes_apart goal b (Lesser mate) next words old new takes apart
-reads_apart goal b (No told place) next line old new (words, spelled, takes) stands apart = takes_apart goal b (No told place) next words old new takes apart
+    pub words_found : (words : List Word) → (part ≡ First → ⊥) → line ≡ line_text words → length line ≤ 8192 → FindsOnly (ReadsWords goal b part words old) found claims → FindsOnly (ReadsLine goal b part line old) found claims
+    words_found words other is small h next new = (to, λ it. inr (words, is, small, (h next new).1 it))
+      where
+        to : ReadsLine goal b part line old next new → (found ≡ Some next) × (new ≡ claims)
+        to (inl (first, reads)) = absurd (other first)
+        to (inr (mine, spelled, also, read)) = (h next new).0 (subst (λ (l : List Word). ReadsWords goal b part l old next new) (one_line mine words (sym spelled ∙ is)) read)
+
+  -- the answer of the first line, or that there is none
+  pub answer_found : (part : Part) (old claims : List Claim) (answer : Answer) (next : Part) → part ≡ First → IsInRange answer → HasNamedMove answer → line ≡ answer_text goal answer → next ≡ begun_part answer → claims ≡ begun_claims b answer → FindsOnly (ReadsLine goal b part line old) (Some next) claims
+  answer_found part old claims answer next first range named is comes made =
+      subst (λ (p : Part). FindsOnly (ReadsLine goal b part line old) (Some p) claims) (sym comes) (subst (λ (l : List Claim). FindsOnly (ReadsLine goal b part line old) (Some (begun_part answer)) l) (sym made)
+      (first_found part old (begun_claims b answer) (Some (begun_part answer)) first (found_answer answer range named is)))
+
+  pub no_answer_found : (part : Part) (old claims : List Claim) → part ≡ First → ((answer : Answer) → IsInRange answer → HasNamedMove answer → line ≡ answer_text goal answer → ⊥) → FindsOnly (ReadsLine goal b part line old) None claims
+  no_answer_found part old claims first none = first_found part old claims None first (finds_none (ReadsAnswer goal b line) claims (λ next new reads. none reads.0 reads.1 reads.2 reads.3))
+
+  pub no_words_found : (part : Part) (old claims : List Claim) → (part ≡ First → ⊥) → ((words : List Word) → line ≡ line_text words → ⊥) → FindsOnly (ReadsLine goal b part line old) None claims
+  no_words_found part old claims other none = finds_none (ReadsLine goal b part line old) claims untold
+    where
+      untold : (next : Part) (new : List Claim) → ReadsLine goal b part line old next new → ⊥
+      untold next new (inl (first, reads)) = other first
+      untold next new (inr (words, spelled, small, read)) = none words spelled
+
+-- ---- what was read
+
+-- nothing was read yet
+nothing_read : (goal : Goal) (b : PlainBoard) → HasRead goal b 0 First [] []
+nothing_read goal b = record {
+  lines = [];
+  spelled = refl;
+  count = refl;
+  grammar = refl;
+  apart = none_apart;
+  left = λ more told. (λ reads. reads, λ reads. reads);
+}
+
+-- a line of words leaves the answer as it is
+behind_yes_told : (mate : Mate) (place : ℕ) (less : Bool) → answer_of (if less then Yes mate place else Lesser mate) ≡ Some (answer.Mate mate.plies mate.first)
+behind_yes_told mate place true = refl
+behind_yes_told mate place false = refl
+
+still_told : (goal : Goal) (b : PlainBoard) (part : Part) (words : List Word) (old new : List Claim) (n : ℕ) → IsLineOf goal b part words old new → (told : Answer) × (answer_of part ≡ Some told) × (answer_of (part_behind part n) ≡ Some told)
+still_told goal b First words old new n line = absurd line
+still_told goal b (Win mate) words old new n line = (answer.Mate mate.plies mate.first, refl, behind_yes_told mate 1 (nat_lt 1 n))
+still_told goal b (Yes mate place) words old new n line = (answer.Mate mate.plies mate.first, refl, behind_yes_told mate (place + 1) (nat_lt (place + 1) n))
+still_told goal b (Lesser mate) words old new n line = (answer.Mate mate.plies mate.first, refl, refl)
+still_told goal b (No told place) words old new n line = (told, refl, refl)
+
+begun_told : (told : Answer) → answer_of (begun_part told) ≡ Some told
+begun_told (answer.Mate n first) = refl
+begun_told (answer.NoneWithin limit) = refl
+
+grammar_more : (goal : Goal) (b : PlainBoard) (part next : Part) (line : List ℕ) (old new : List Claim) (lines : List (List ℕ)) → ReadsLine goal b part line old next new → AreLines goal (answer_of part) lines → AreLines goal (answer_of next) (lines ++ line ∷ [])
+grammar_more goal b part next line old new lines (inl (first, (told, range, named, spelled, is, made))) are =
+    let none : lines ≡ [] = subst (λ (p : Part). AreLines goal (answer_of p) lines) first are in
+    subst (λ (o : Option Answer). AreLines goal o (lines ++ line ∷ [])) (sym (ap answer_of is ∙ begun_told told))
+    (range, ([], ap (λ (l : List (List ℕ)). l ++ line ∷ []) none ∙ ap (λ (l : List ℕ). l ∷ []) spelled, All-nil IsClaimLine))
+grammar_more goal b part next line old new lines (inr (words, spelled, small, (is_line, is))) are =
+    let (told, was, comes) = still_told goal b part words old new (length new) is_line in
+    let (range, (claims, these, each)) = subst (λ (o : Option Answer). AreLines goal o lines) was are in
+    subst (λ (o : Option Answer). AreLines goal o (lines ++ line ∷ [])) (sym (ap answer_of is ∙ comes))
+    (range, (claims ++ line ∷ [], ap (λ (l : List (List ℕ)). l ++ line ∷ []) these, All-push IsClaimLine claims line each (words, spelled)))
+
+-- a line more
+line_read : (goal : Goal) (b : PlainBoard) (number : ℕ) (part next : Part) (before claims : List Claim) (text line : List ℕ) → FindsOnly (ReadsLine goal b part line before) (Some next) claims → HasRead goal b number part before text → HasRead goal b (number + 1) next claims (text ++ (line ++ 10 ∷ []))
+line_read goal b number part next before claims text line found so_far =
+    let reads : ReadsLine goal b part line before next claims = (found next claims).1 (refl, refl) in
+    record {
+      lines = so_far.lines ++ line ∷ [];
+      spelled = ap (λ (l : List ℕ). l ++ (line ++ 10 ∷ [])) so_far.spelled ∙ sym (fed_more so_far.lines);
+      count = omega (arith, so_far.count, length-append so_far.lines (line ∷ []));
+      grammar = grammar_more goal b part next line before claims so_far.lines reads so_far.grammar;
+      apart = reads_apart goal b part next line before claims reads so_far.apart;
+      left = λ more told. subst (λ (l : List (List ℕ)). ReadsOn goal b First [] l told ↔ ReadsOn goal b next claims more told) (sym (append_assoc so_far.lines (line ∷ []) more)) (
+        λ whole. here more told ((so_far.left (line ∷ more) told).0 whole),
+        λ rest. (so_far.left (line ∷ more) told).1 (next, claims, reads, rest),
+      );
+    }
+  where
+    fed_more : (lines : List (List ℕ)) → fed (lines ++ line ∷ []) ≡ fed lines ++ (line ++ 10 ∷ [])
+    fed_more lines = flat_map-append (λ (l : List ℕ). l ++ 10 ∷ []) lines (line ∷ []) ∙ ap (λ (x : List ℕ). fed lines ++ x) (append-nil (line ++ 10 ∷ []))
+
+    here : (more : List (List ℕ)) (told : Answer) → ReadsOn goal b part before (line ∷ more) told → ReadsOn goal b next claims more told
+    here more told (other, new, read, rest) =
+        let one = (found other new).0 read in
+        subst (λ (p : Part). ReadsOn goal b p claims more told) (sym (same_Some next other one.0)) (subst (λ (l : List Claim). ReadsOn goal b other l more told) one.1 rest)
+
+-- ---- checkers
+
+-- what is so of a checker's goal and position is so of those that it is of
+both : {A : Type 0} (goal : Goal) (b : PlainBoard) (checker : Checker A) (text : List ℕ) (P : Goal → PlainBoard → Type 0) → HasTakenText goal b checker text → P checker.goal checker.board → P goal b
+both goal b checker text P taken so = subst (λ (x : PlainBoard). P goal x) taken.board_is (subst (λ (x : Goal). P x checker.board) taken.goal_is so)
+
+-- it has taken what leads to its part and claims
+taken_as : {A : Type 0} (goal : Goal) (b : PlainBoard) (checker : Checker A) (number : ℕ) (part : Part) (claims : List Claim) (text : List ℕ) → checker.goal ≡ goal → checker.board ≡ b → checker.number ≡ number → checker.part ≡ part → checker.claims ≡ claims → HasRead goal b number part claims text → HasTakenText goal b checker text
+taken_as goal b checker number part claims text goal_is board_is counts is made read = record {
+  goal_is = goal_is;
+  board_is = board_is;
+  read = subst (λ (n : ℕ). HasRead goal b n checker.part checker.claims text) (sym counts)
+      (subst (λ (p : Part). HasRead goal b number p checker.claims text) (sym is) (subst (λ (l : List Claim). HasRead goal b number part l text) (sym made) read));
+}
+
+pub none_taken : {A : Type 0} (goal : Goal) (b : PlainBoard) (checker : Checker A) → checker.goal ≡ goal → checker.board ≡ b → checker.number ≡ 0 → checker.part ≡ First → checker.claims ≡ [] → HasTakenText goal b checker []
+none_taken goal b checker goal_is board_is none first empty = taken_as goal b checker 0 First [] [] goal_is board_is none first empty (nothing_read goal b)
+
+-- the line of an answer was taken
+pub answer_taken : {A : Type 0} (goal : Goal) (b : PlainBoard) (answer : Answer) (checker : Checker A) → IsInRange answer → HasNamedMove answer → checker.goal ≡ goal → checker.board ≡ b → checker.number ≡ 1 → checker.part ≡ begun_part answer → checker.claims ≡ begun_claims b answer → HasTakenText goal b checker (answer_text goal answer ++ 10 ∷ [])
+answer_taken goal b answer checker range named goal_is board_is one is made =
+    let line = answer_text goal answer in
+    taken_as goal b checker 1 (begun_part answer) (begun_claims b answer) (line ++ 10 ∷ []) goal_is board_is one is made
+    (line_read goal b 0 First (begun_part answer) [] (begun_claims b answer) [] line (answer_found goal b line First [] (begun_claims b answer) answer (begun_part answer) refl range named refl refl refl) (nothing_read goal b))
+
+-- a line more was taken
+pub line_taken : {A : Type 0} (old new : Checker A) (line : List ℕ) → new.goal ≡ old.goal → new.board ≡ old.board → new.number ≡ old.number + 1 → FindsOnly (ReadsLine old.goal old.board old.part line old.claims) (Some new.part) new.claims → TakesMore old new (line ++ 10 ∷ [])
+line_taken old new line goal_is board_is counts found goal b text taken = record {
+  goal_is = goal_is ∙ taken.goal_is;
+  board_is = board_is ∙ taken.board_is;
+  read = subst (λ (n : ℕ). HasRead goal b n new.part new.claims (text ++ (line ++ 10 ∷ []))) (sym counts)
+      (line_read goal b old.number old.part new.part old.claims new.claims text line (both goal b old text (λ (g : Goal) (x : PlainBoard). FindsOnly (ReadsLine g x old.part line old.claims) (Some new.part) new.claims) taken found) taken.read);
+}
+
+-- a line is refused
+pub line_wrong : {A : Type 0} (checker : Checker A) (line rest : List ℕ) (claims : List Claim) (fault : Fault) → fault ≡ fault_at (answer_of checker.part) checker.number → FindsOnly (ReadsLine checker.goal checker.board checker.part line checker.claims) None claims → HasNoFeed line → RefusesMore checker (line ++ 10 ∷ rest) fault
+line_wrong checker line rest claims fault is wrong none goal b text taken =
+    let mine = both goal b checker text (λ (g : Goal) (x : PlainBoard). FindsOnly (ReadsLine g x checker.part line checker.claims) None claims) taken wrong in
+    line_refused goal b checker.number checker.part checker.claims text fault taken.read line rest is none (λ next new reads. absurd (none_is next ((mine next new).0 reads).0))
+  where
+    none_is : (next : Part) → None ≡ Some next → ⊥
+    none_is next e = cc
+
+pub line_long : {A : Type 0} (checker : Checker A) (line rest : List ℕ) (fault : Fault) → fault ≡ TooLong → 8192 < length line → HasNoFeed line → RefusesMore checker (line ++ rest) fault
+line_long checker line rest fault is long none goal b text taken = long_refused goal b checker.number checker.part checker.claims text fault taken.read line rest is none long
+
+-- the end
+pub end_wrong : {A : Type 0} (checker : Checker A) (rest : List ℕ) (fault : Fault) → fault ≡ fault_at (answer_of checker.part) checker.number → (rest ≡ [] → (told : Answer) → IsEnded checker.part checker.claims told → ⊥) → HasNoFeed rest → RefusesMore checker rest fault
+end_wrong checker rest fault is wrong none goal b text taken = end_refused goal b checker.number checker.part checker.claims text fault taken.read rest is none wrong
+
+pub end_proved : {A : Type 0} (checker : Checker A) (told : Answer) → IsEnded checker.part checker.claims told → IsProvedBy checker told
+end_proved checker told ended goal b text taken =
+    let reads = subst (λ (l : List (List ℕ)). ReadsOn goal b First [] l told) (append-nil taken.read.lines) ((taken.read.left [] told).1 ended) in
+    let whole : IsCertificate goal b told text = subst (λ (l : List ℕ). IsCertificate goal b told l) (sym taken.read.spelled) (certificate_of goal b told taken.read.lines reads) in
+    (whole, certificate_certifies goal b told text whole)
+
+-- no fault of a line is a failed read
+pub no_read : (told : Option Answer) (number : ℕ) (fault : Fault) → fault ≡ fault_at told number → fault ≡ ReadFailed → ⊥
+no_read None number fault is failed = cc
+no_read (Some told) number fault is failed = cc

@@ -1,5 +1,5 @@
 -- A line is of one list of words at most.
-use Rattle.std.proofs.Common.{◌≡◌, ◌≢◌, ◌<◌, ◌≤◌, ℕ, zero, suc, ◌+◌, ◌/◌, ◌%◌, List, [], ◌∷◌, ◌++◌, refl, sym, ap, ◌∙◌, arith, length, get_or, take, drop, replicate, append_assoc}
+use Rattle.std.proofs.Common.{◌≡◌, ◌≢◌, ◌<◌, ◌≤◌, ℕ, zero, suc, ◌+◌, ◌-◌, ◌*◌, ◌/◌, ◌%◌, nat_eq, nat_lt, if◌then◌else◌, List, [], ◌∷◌, ◌++◌, refl, sym, ap, ◌∙◌, arith, length, get_or, take, drop, replicate, append_assoc}
 use Rattle.std.proofs.lemmas.Bool.Decides.{nat_tests}
 use Rattle.std.proofs.lemmas.List.{take-append-drop, drop_more, take_all}
 use Rattle.verifying.specs.declared.words.Word.{Word}
@@ -21,17 +21,11 @@ last_byte Claimed = 61
 last_byte Stalemated = 45
 last_byte (Place n) = letter_of (n % 50)
 
-letter_apart : (n : ℕ) → n < 50 → (letter_of n ≢ 90) × (letter_of n ≢ 46) × (letter_of n ≢ 61) × (letter_of n ≢ 45)
-letter_apart n small = (grind (arith, nat_tests), grind (arith, nat_tests), grind (arith, nat_tests), grind (arith, nat_tests))
-
-one_letter : (n m : ℕ) → n < 50 → m < 50 → letter_of n ≡ letter_of m → n ≡ m
-one_letter n m small also same = grind (arith, nat_tests)
-
 no_fifty : (w : Word) → last_byte w ≢ 90
 no_fifty Seen e = omega (arith, e)
 no_fifty Claimed e = omega (arith, e)
 no_fifty Stalemated e = omega (arith, e)
-no_fifty (Place n) e = (letter_apart (n % 50) (omega arith)).0 e
+no_fifty (Place n) e = grind (arith, nat_tests)
 
 spelled : (w : Word) → word_text w ≡ replicate (fifties w) 90 ++ last_byte w ∷ []
 spelled Seen = refl
@@ -39,27 +33,18 @@ spelled Claimed = refl
 spelled Stalemated = refl
 spelled (Place n) = refl
 
--- the words by these two numbers
+-- the word by these two numbers
+abbrev word_by : ℕ → ℕ → Word
+word_by f byte = if nat_eq byte 46 then Seen else (if nat_eq byte 61 then Claimed else (if nat_eq byte 45 then Stalemated else Place (50 * f + (if nat_lt byte 91 then byte - 39 else byte - 97))))
+
+word_is : (w : Word) → word_by (fifties w) (last_byte w) ≡ w
+word_is Seen = refl
+word_is Claimed = refl
+word_is Stalemated = refl
+word_is (Place n) = grind (arith, nat_tests)
+
 one_word : (v w : Word) → fifties v ≡ fifties w → last_byte v ≡ last_byte w → v ≡ w
-one_word Seen Seen k e = refl
-one_word Seen Claimed k e = absurd (omega (arith, e))
-one_word Seen Stalemated k e = absurd (omega (arith, e))
-one_word Seen (Place n) k e = absurd ((letter_apart (n % 50) (omega arith)).1 (sym e))
-one_word Claimed Seen k e = absurd (omega (arith, e))
-one_word Claimed Claimed k e = refl
-one_word Claimed Stalemated k e = absurd (omega (arith, e))
-one_word Claimed (Place n) k e = absurd ((letter_apart (n % 50) (omega arith)).2 (sym e))
-one_word Stalemated Seen k e = absurd (omega (arith, e))
-one_word Stalemated Claimed k e = absurd (omega (arith, e))
-one_word Stalemated Stalemated k e = refl
-one_word Stalemated (Place n) k e = absurd ((letter_apart (n % 50) (omega arith)).3 (sym e))
-one_word (Place n) Seen k e = absurd ((letter_apart (n % 50) (omega arith)).1 e)
-one_word (Place n) Claimed k e = absurd ((letter_apart (n % 50) (omega arith)).2 e)
-one_word (Place n) Stalemated k e = absurd ((letter_apart (n % 50) (omega arith)).3 e)
-one_word (Place n) (Place m) k e =
-    let low : n % 50 ≡ m % 50 = one_letter (n % 50) (m % 50) (omega arith) (omega arith) e in
-    let same : n ≡ m = omega (arith, k, low) in
-    ap Place same
+one_word v w k e = sym (word_is v) ∙ (ap (λ f. word_by f (last_byte v)) k ∙ (ap (λ byte. word_by (fifties w) byte) e ∙ word_is w))
 
 -- ---- texts that begin with Zs
 

@@ -1,96 +1,100 @@
--- What was read of a certificate where a line comes next.
-use Rattle.std.specs.Prelude.{ℕ, ◌≡◌, ◌+◌, ◌-◌, ◌%◌, ◌<◌, ◌≤◌, ◌⊎◌, List, [], ◌∷◌, ◌++◌, length, map, slice_get, All, ⊤, Option, None, Some}
+-- How a certificate is read, line after line: what a line is where a part comes next, and what comes behind it.
+use Rattle.std.specs.Prelude.{ℕ, ◌≡◌, ◌↔◌, ◌+◌, ◌-◌, ◌%◌, ◌≤◌, ◌⊎◌, List, [], ◌∷◌, ◌++◌, length, slice_get, nat_lt, if◌then◌else◌, Option, None, Some}
 use Rattle.board.specs.Board.{PlainBoard}
 use Rattle.rules.specs.declared.goal.Goal.{Goal}
 use Rattle.problems.specs.declared.answer.Answer.{Answer}
 use Rattle.problems.specs.declared.answer.Answer.TheVariants as answer
 use Rattle.certificates.specs.declared.claim.Claim.{Claim}
+use Rattle.certificates.specs.Answers.{HasClaim}
 use Rattle.verifying.specs.declared.part.Mate.{Mate}
 use Rattle.verifying.specs.declared.part.Part.{Part}
 use Rattle.verifying.specs.declared.part.Part.TheVariants.{First, Win, Yes, Lesser, No}
 use Rattle.verifying.specs.declared.words.Word.{Word}
 use Rattle.verifying.specs.FirstLine.{answer_text, IsInRange, HasNamedMove}
 use Rattle.verifying.specs.Words.{line_text}
-use Rattle.verifying.specs.Refusals.{fed}
-use Rattle.verifying.specs.Growing.{AreApart}
-use Rattle.verifying.specs.Parts.{HasShown, answer_of}
-use Rattle.verifying.specs.Certificate.{with_claim, shorter_claim, IsYesLine, IsSomeYesLine, IsNoLine, IsLesserLine, YesLinesMake, NoLinesMake, NoneLinesMake}
+use Rattle.verifying.specs.Refusals.{AreLines, fed}
+use Rattle.verifying.specs.Certificate.{with_claim, shorter_claim, IsYesLine, IsSomeYesLine, IsNoLine, IsLesserLine}
 
--- the no lines so far, of an answer
-abbrev pub AreNoSoFar : Goal → PlainBoard → Answer → ℕ → List (List Word) → List Claim → Type 0
-AreNoSoFar goal b (answer.Mate n first) place lines claims = (yes : List (List Word)) × (no : List (List Word)) × (lines ≡ yes ++ no)
-    × ((won : List Claim) × YesLinesMake goal b n first yes won × (length won ≤ length yes)) × NoLinesMake goal b n first no claims × (length no ≡ place + 1)
-AreNoSoFar goal b (answer.NoneWithin limit) place lines claims = NoneLinesMake goal b limit lines claims × (length lines ≡ place)
+-- about no position two claims have different plies
+abbrev pub AreApart : List Claim → Type 0
+AreApart claims = (p : PlainBoard) (j k : ℕ) → HasClaim claims p j → HasClaim claims p k → j ≡ k
 
--- the lines behind the answer's that were read where this part comes next
-abbrev pub IsReadTo : Goal → PlainBoard → Part → List (List Word) → List Claim → Type 0
-IsReadTo goal b First lines claims = lines ≡ []
-IsReadTo goal b (Win mate) lines claims = lines ≡ []
-IsReadTo goal b (Yes mate place) lines claims = YesLinesMake goal b mate.plies mate.first lines claims × (length lines ≡ place) × (place < length claims)
-IsReadTo goal b (Lesser mate) lines claims = (won : List Claim) × YesLinesMake goal b mate.plies mate.first lines won × (length won ≤ length lines)
-IsReadTo goal b (No answer place) lines claims = AreNoSoFar goal b answer place lines claims
+-- the answer that was told
+abbrev pub answer_of : Part → Option Answer
+answer_of First = None
+answer_of (Win mate) = Some (answer.Mate mate.plies mate.first)
+answer_of (Yes mate place) = Some (answer.Mate mate.plies mate.first)
+answer_of (Lesser mate) = Some (answer.Mate mate.plies mate.first)
+answer_of (No answer place) = Some answer
+
+-- ---- what comes behind a line
+
+-- the part behind the answer's line
+abbrev pub begun_part : Answer → Part
+begun_part (answer.Mate n first) = Win (record { plies = n; first = first })
+begun_part (answer.NoneWithin limit) = No (answer.NoneWithin limit) 0
+
+-- and the claims: none yet, or the one of the limit
+abbrev pub begun_claims : PlainBoard → Answer → List Claim
+begun_claims b (answer.Mate n first) = []
+begun_claims b (answer.NoneWithin limit) = with_claim [] b (limit - 1 + limit % 2)
 
 -- behind so many yes lines there is another, or the moves in front of the answer's come
-abbrev pub IsBehindYes : Mate → ℕ → ℕ → Part → Type 0
-IsBehindYes mate place count next = ((place < count) × (next ≡ Yes mate place)) ⊎ ((count ≤ place) × (next ≡ Lesser mate))
+abbrev pub behind_yes : Mate → ℕ → ℕ → Part
+behind_yes mate place count = if nat_lt place count then Yes mate place else Lesser mate
+
+-- the part behind a line of this one, where there are so many claims
+abbrev pub part_behind : Part → ℕ → Part
+part_behind First count = First
+part_behind (Win mate) count = behind_yes mate 1 count
+part_behind (Yes mate place) count = behind_yes mate (place + 1) count
+part_behind (Lesser mate) count = No (answer.Mate mate.plies mate.first) 0
+part_behind (No answer place) count = No answer (place + 1)
+
+-- ---- what a line is
+
+-- the line is of the claim at this place
+abbrev pub IsLineAt : (Claim → List Word → List Claim → List Claim → Type 0) → ℕ → List Word → List Claim → List Claim → Type 0
+IsLineAt IsLine place words old new = (c : Claim) × (slice_get old place ≡ Some c) × IsLine c words old new
+
+-- the words are a line of this part
+abbrev pub IsLineOf : Goal → PlainBoard → Part → List Word → List Claim → List Claim → Type 0
+IsLineOf goal b First words old new = ⊥
+IsLineOf goal b (Win mate) words old new = IsYesLine goal (record { position = b; plies = mate.plies }) mate.first words (with_claim [] b mate.plies) new
+IsLineOf goal b (Yes mate place) words old new = IsLineAt (IsSomeYesLine goal) place words old new
+IsLineOf goal b (Lesser mate) words old new = IsLesserLine goal b mate.plies mate.first words (shorter_claim b mate.plies) new
+IsLineOf goal b (No answer place) words old new = IsLineAt (IsNoLine goal) place words old new
+
+-- the line is an answer's, and what comes behind it
+abbrev pub ReadsAnswer : Goal → PlainBoard → List ℕ → Part → List Claim → Type 0
+ReadsAnswer goal b line next new =
+    (answer : Answer) × IsInRange answer × HasNamedMove answer × (line ≡ answer_text goal answer) × (next ≡ begun_part answer) × (new ≡ begun_claims b answer)
 
 -- the words are a line of this part, and what comes behind it
-abbrev pub TakesWords : Goal → PlainBoard → Part → List Word → List Claim → Part → List Claim → Type 0
-TakesWords goal b First words old next new = ⊥
-TakesWords goal b (Win mate) words old next new =
-    IsYesLine goal (record { position = b; plies = mate.plies }) mate.first words (with_claim [] b mate.plies) new × IsBehindYes mate 1 (length new) next
-TakesWords goal b (Yes mate place) words old next new =
-    ((c : Claim) × (slice_get old place ≡ Some c) × IsSomeYesLine goal c words old new) × IsBehindYes mate (place + 1) (length new) next
-TakesWords goal b (Lesser mate) words old next new =
-    IsLesserLine goal b mate.plies mate.first words (shorter_claim b mate.plies) new × (next ≡ No (answer.Mate mate.plies mate.first) 0)
-TakesWords goal b (No answer place) words old next new =
-    ((c : Claim) × (slice_get old place ≡ Some c) × IsNoLine goal c words old new) × (next ≡ No answer (place + 1))
+abbrev pub ReadsWords : Goal → PlainBoard → Part → List Word → List Claim → Part → List Claim → Type 0
+ReadsWords goal b part words old next new = IsLineOf goal b part words old new × (next ≡ part_behind part (length new))
 
--- what comes behind the answer's line
-abbrev pub BeginsPart : PlainBoard → Answer → Part → List Claim → Type 0
-BeginsPart b (answer.Mate n first) next new = next ≡ Win (record { plies = n; first = first })
-BeginsPart b (answer.NoneWithin limit) next new = (next ≡ No (answer.NoneWithin limit) 0) × (new ≡ with_claim [] b (limit - 1 + limit % 2))
-
--- the line is of this part, and what comes behind it
+-- the line is the answer's, where that comes first, or one of words; and what comes behind it
 abbrev pub ReadsLine : Goal → PlainBoard → Part → List ℕ → List Claim → Part → List Claim → Type 0
-ReadsLine goal b First line old next new = (answer : Answer) × IsInRange answer × HasNamedMove answer × (line ≡ answer_text goal answer) × BeginsPart b answer next new
-ReadsLine goal b (Win mate) line old next new = (words : List Word) × (line ≡ line_text words) × TakesWords goal b (Win mate) words old next new
-ReadsLine goal b (Yes mate place) line old next new = (words : List Word) × (line ≡ line_text words) × TakesWords goal b (Yes mate place) words old next new
-ReadsLine goal b (Lesser mate) line old next new = (words : List Word) × (line ≡ line_text words) × TakesWords goal b (Lesser mate) words old next new
-ReadsLine goal b (No answer place) line old next new = (words : List Word) × (line ≡ line_text words) × TakesWords goal b (No answer place) words old next new
+ReadsLine goal b part line old next new = ((part ≡ First) × ReadsAnswer goal b line next new)
+    ⊎ ((words : List Word) × (line ≡ line_text words) × (length line ≤ 8192) × ReadsWords goal b part words old next new)
 
--- the text of the answer's line and of these behind it
-abbrev pub text_so_far : Goal → Option Answer → List (List Word) → List ℕ
-text_so_far goal None lines = []
-text_so_far goal (Some answer) lines = fed (answer_text goal answer ∷ map line_text lines)
+-- no line is left out, and the answer is this one
+abbrev pub IsEnded : Part → List Claim → Answer → Type 0
+IsEnded part claims answer = (place : ℕ) × (part ≡ No answer place) × (length claims ≤ place)
 
--- how many lines these are with the answer's
-abbrev pub count_so_far : Option Answer → List (List Word) → ℕ
-count_so_far None lines = 0
-count_so_far (Some answer) lines = length lines + 1
-
--- the answer that was told could be
-abbrev pub IsToldWell : Option Answer → Type 0
-IsToldWell None = ⊤
-IsToldWell (Some answer) = IsInRange answer × HasNamedMove answer
+-- the lines from this part on are read to their end, and the answer is this one
+abbrev pub ReadsOn : Goal → PlainBoard → Part → List Claim → List (List ℕ) → Answer → Type 0
+ReadsOn goal b part claims [] answer = IsEnded part claims answer
+ReadsOn goal b part claims (line ∷ lines) answer =
+    (next : Part) × (new : List Claim) × ReadsLine goal b part line claims next new × ReadsOn goal b next new lines answer
 
 -- so many lines were read up to where this part comes next, and this is their text
 pub record HasRead (goal : Goal) (b : PlainBoard) (number : ℕ) (part : Part) (claims : List Claim) (text : List ℕ) : Type 0 where
-  -- those behind the answer's
-  pub lines : List (List Word)
-  pub read : IsReadTo goal b part lines claims
-  pub short : All (λ line. length (line_text line) ≤ 8192) lines
-  pub spelled : text ≡ text_so_far goal (answer_of part) lines
-  pub count : number ≡ count_so_far (answer_of part) lines
-  pub well : IsToldWell (answer_of part)
-  -- and what they show
+  pub lines : List (List ℕ)
+  pub spelled : text ≡ fed lines
+  pub count : number ≡ length lines
+  pub grammar : AreLines goal (answer_of part) lines
   pub apart : AreApart claims
-  pub stands : HasShown goal b part claims
-
--- the line is none of this part
-abbrev pub IsNoLineOf : Goal → PlainBoard → Part → List ℕ → List Claim → Type 0
-IsNoLineOf goal b part line claims = (next : Part) (new : List Claim) → ReadsLine goal b part line claims next new → ⊥
-
--- a line is missing
-abbrev pub IsUnfinished : Part → List Claim → Type 0
-IsUnfinished part claims = (told : Answer) (place : ℕ) → part ≡ No told place → length claims ≤ place → ⊥
+  -- what comes behind them is read on from here as it is from the beginning
+  pub left : (more : List (List ℕ)) (answer : Answer) → ReadsOn goal b First [] (lines ++ more) answer ↔ ReadsOn goal b part claims more answer

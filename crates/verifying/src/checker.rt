@@ -1,18 +1,15 @@
 //! The checker, which takes a certificate line by line.
-ghost use Rattle.std.specs.Prelude.{◌≡◌, ◌+◌, ◌<◌, ◌≤◌, ◌++◌, ◌∷◌, ℕ, List, [], IfErr, IfNone, IfOk, IfSome, OnOk, Some, length};
+ghost use Rattle.std.specs.Prelude.{◌≡◌, ◌+◌, ◌<◌, ◌≤◌, ◌++◌, ◌∷◌, ℕ, List, [], IfErr, IfOk, MatchOption, OnOk, length};
 ghost use Rattle.certificates.specs.declared.claim.Claim.{Claim};
-ghost use Rattle.verifying.specs.Growing.{AreApart};
-ghost use Rattle.verifying.specs.declared.part.Part.{Part as ThePart};
-ghost use Rattle.board.specs.Board.{PlainBoard};
-ghost use Rattle.certificates.specs.Answers.{Certifies, IsOdd};
+ghost use Rattle.problems.specs.declared.answer.Answer.{Answer as TheAnswer};
 ghost use Rattle.devices.specs.Lines.{HasNoFeed};
-ghost use Rattle.verifying.specs.FirstLine.{answer_text, IsInRange, HasNamedMove};
-ghost use Rattle.verifying.specs.declared.part.Part.TheVariants.{First, No as TheNo};
+ghost use Rattle.verifying.specs.declared.part.Part.{Part as ThePart};
 ghost use Rattle.verifying.specs.declared.fault.Fault.TheVariants.{NoMemory, ReadFailed};
+ghost use Rattle.verifying.specs.FirstLine.{answer_text, IsInRange, HasNamedMove};
 ghost use Rattle.verifying.specs.Checking.{HasTaken, IsProvedBy, HasTakenText, RefusesMore, TakesMore};
-ghost use Rattle.verifying.specs.Parts.{IsYesUpTo, HasShown};
+ghost use Rattle.verifying.specs.Reading.{AreApart, IsEnded, ReadsLine, ReadsWords, answer_of as told_at, behind_yes as part_behind_yes, begun_claims, begun_part};
 ghost use Rattle.verifying.specs.Taking.{fault_at};
-ghost use Rattle.verifying.specs.Reading.{BeginsPart, IsBehindYes, IsNoLineOf, IsUnfinished, ReadsLine, TakesWords};
+ghost use Rattle.verifying.specs.Yielding.{FindsOnly};
 
 use crate::claims::Claims;
 use crate::fault::Fault;
@@ -38,17 +35,17 @@ pub struct Checker<A: Allocator> {
     pub(crate) words: Vec<Word, A>,
 }
 
-/// Begins the claims of an answer. Answers what its next line is.
+/// Begins the claims of an answer, in place of the claims. Answers what its next line is.
 fn begun<A: Allocator + Copy>(
     claims: &mut Claims<A>,
     board: &Board,
     answer: Answer,
 ) -> Result<Part, AllocError>
-    requires none { claims.old ≡ [] }
-    requires range { IsInRange answer }
-    ensures stands { IfOk result (λ part. (goal : Goal) → HasShown goal board.now part claims.new) }
-    ensures begins { IfOk result (λ part. BeginsPart board.now answer part claims.new) }
+    requires { IsInRange answer }
+    ensures part { IfOk result (λ part. part ≡ begun_part answer) }
+    ensures made { IfOk result (λ part. claims.new ≡ begun_claims board.now answer) }
 {
+    claims.clear();
     match answer {
         Answer::Mate { plies, first } => Ok(Part::Win(Mate { plies, first })),
         Answer::NoneWithin(limit) => {
@@ -58,16 +55,12 @@ fn begun<A: Allocator + Copy>(
     }
 }
 
-/// What comes behind the yes claim at this place.
-fn behind_yes<A: Allocator + Copy>(claims: &Claims<A>, mate: Mate, place: usize) -> Part
-    requires { place < length claims.now }
-    ensures stands { (goal : Goal) (b : PlainBoard) → IsOdd mate.plies → IsYesUpTo goal claims.now b mate (place + 1)
-        → HasShown goal b result claims.now }
-    ensures behind { IsBehindYes mate (place + 1) (length claims.now) result }
+/// What comes behind so many yes lines, where there are so many claims.
+fn behind_yes(mate: Mate, place: usize, count: usize) -> Part
+    ensures { result ≡ part_behind_yes mate place count }
 {
-    let count = claims.len();
-    if place + 1 < count {
-        Part::Yes(mate, place + 1)
+    if place < count {
+        Part::Yes(mate, place)
     } else {
         Part::Lesser(mate)
     }
@@ -81,12 +74,9 @@ fn shown<A: Allocator + Copy>(
     part: Part,
     words: &[Word],
 ) -> Result<Option<Part>, AllocError>
-    requires { HasShown goal board.now part claims.old }
-    ensures stands { IfOk result (λ next. IfSome next (λ new. HasShown goal board.now new claims.new)) }
-    ensures takes { IfOk result (λ next. IfSome next (λ new.
-        TakesWords goal board.now part words.now claims.old new claims.new)) }
-    ensures refuses { IfOk result (λ next. IfNone next (AreApart claims.old → (new : ThePart) (more : List Claim)
-        → TakesWords goal board.now part words.now claims.old new more → ⊥)) }
+    requires { AreApart claims.old }
+    ensures { IfOk result (λ found. FindsOnly (λ (next : ThePart) (new : List Claim).
+        ReadsWords goal board.now part words.now claims.old next new) found claims.new) }
 {
     match part {
         Part::First => Ok(None),
@@ -94,7 +84,7 @@ fn shown<A: Allocator + Copy>(
             if !shows_win(claims, board, goal, mate, words)? {
                 return Ok(None);
             }
-            Ok(Some(behind_yes(claims, mate, 0)))
+            Ok(Some(behind_yes(mate, 1, claims.len())))
         }
         Part::Yes(mate, place) => {
             if place >= claims.len() {
@@ -103,7 +93,7 @@ fn shown<A: Allocator + Copy>(
             if !shows_yes(claims, goal, place, words)? {
                 return Ok(None);
             }
-            Ok(Some(behind_yes(claims, mate, place)))
+            Ok(Some(behind_yes(mate, place + 1, claims.len())))
         }
         Part::Lesser(mate) => {
             if !shows_lesser(claims, board, goal, mate, words)? {
@@ -162,73 +152,33 @@ impl<A: Allocator + Copy> Checker<A> {
         })
     }
 
-    /// What comes behind the first line, if it is an answer's.
-    fn first_part(&mut self, line: &[u8]) -> Result<Option<Part>, AllocError>
-        requires { self.old.claims ≡ [] }
-        ensures about { (self.new.goal ≡ self.old.goal) × (self.new.board ≡ self.old.board) }
-        ensures counts { self.new.number ≡ self.old.number }
-        ensures stands { IfOk result (λ next. IfSome next (λ new.
-            HasShown self.new.goal self.new.board new self.new.claims)) }
-        ensures reads { IfOk result (λ next. IfSome next (λ new.
-            ReadsLine self.old.goal self.old.board First line.now self.old.claims new self.new.claims)) }
-        ensures refuses { IfOk result (λ next. IfNone next
-            (IsNoLineOf self.old.goal self.old.board First line.now self.old.claims)) }
-    {
-        let Some(answer) = answer_of(line, self.goal) else {
-            return Ok(None);
-        };
-        let part = begun(&mut self.claims, &self.board, answer)?;
-        Ok(Some(part))
-    }
-
-    /// What comes behind a line of claims, if it is one and shows what it has to.
-    fn next_part(&mut self, line: &[u8]) -> Result<Option<Part>, AllocError>
-        requires short { length line.now ≤ 8192 }
-        requires stands { HasShown self.old.goal self.old.board self.old.part self.old.claims }
-        ensures about { (self.new.goal ≡ self.old.goal) × (self.new.board ≡ self.old.board) }
-        ensures counts { self.new.number ≡ self.old.number }
-        ensures stands { IfOk result (λ next. IfSome next (λ new.
-            HasShown self.new.goal self.new.board new self.new.claims)) }
-        ensures reads { IfOk result (λ next. IfSome next (λ new.
-            ReadsLine self.old.goal self.old.board self.old.part line.now self.old.claims new self.new.claims)) }
-        ensures refuses { IfOk result (λ next. IfNone next (AreApart self.old.claims → (self.old.part ≡ First → ⊥)
-            → IsNoLineOf self.old.goal self.old.board self.old.part line.now self.old.claims)) }
-    {
-        if !read_words(line, &mut self.words)? {
-            return Ok(None);
-        }
-        shown(
-            &mut self.claims,
-            &self.board,
-            self.goal,
-            self.part,
-            self.words.as_slice(),
-        )
-    }
-
     /// What comes behind the line, if it is the one that comes next.
     fn part_behind(&mut self, line: &[u8]) -> Result<Option<Part>, AllocError>
         requires short { length line.now ≤ 8192 }
-        requires stands { HasShown self.old.goal self.old.board self.old.part self.old.claims }
+        requires apart { AreApart self.old.claims }
         ensures about { (self.new.goal ≡ self.old.goal) × (self.new.board ≡ self.old.board) }
         ensures counts { self.new.number ≡ self.old.number }
-        ensures stands { IfOk result (λ next. IfSome next (λ new.
-            HasShown self.new.goal self.new.board new self.new.claims)) }
-        ensures reads { IfOk result (λ next. IfSome next (λ new.
-            ReadsLine self.old.goal self.old.board self.old.part line.now self.old.claims new self.new.claims)) }
-        ensures refuses { IfOk result (λ next. IfNone next (AreApart self.old.claims
-            → IsNoLineOf self.old.goal self.old.board self.old.part line.now self.old.claims)) }
+        ensures reads { IfOk result (λ found. FindsOnly (λ (next : ThePart) (new : List Claim).
+            ReadsLine self.old.goal self.old.board self.old.part line.now self.old.claims next new) found self.new.claims) }
     {
-        match self.part {
-            Part::First => self.first_part(line),
-            _ => self.next_part(line),
+        if let Part::First = self.part {
+            let Some(answer) = answer_of(line, self.goal) else {
+                return Ok(None);
+            };
+            let part = begun(&mut self.claims, &self.board, answer)?;
+            return Ok(Some(part));
         }
+        if !read_words(line, &mut self.words)? {
+            return Ok(None);
+        }
+        let words = self.words.as_slice();
+        shown(&mut self.claims, &self.board, self.goal, self.part, words)
     }
 
     /// The fault of a line that isn't there, or isn't right.
     fn fault(&self) -> Fault
         requires { self.now.number < u64.MAX }
-        ensures { result ≡ fault_at self.now.part self.now.number }
+        ensures { result ≡ fault_at (told_at self.now.part) self.now.number }
     {
         match self.part {
             Part::First => Fault::Answer,
@@ -263,11 +213,8 @@ impl<A: Allocator + Copy> Checker<A> {
 
     /// The answer, where no line is left out.
     fn answer(&self) -> Option<Answer>
-        requires { HasShown self.now.goal self.now.board self.now.part self.now.claims }
-        ensures certified { IfSome result (Certifies self.now.goal self.now.board) }
-        ensures whole { IfSome result (λ answer. (place : ℕ) × (self.now.part ≡ TheNo answer place)
-            × (length self.now.claims ≤ place)) }
-        ensures unfinished { IfNone result (IsUnfinished self.now.part self.now.claims) }
+        ensures { MatchOption result ((answer : TheAnswer) → IsEnded self.now.part self.now.claims answer → ⊥)
+            (IsEnded self.now.part self.now.claims) }
     {
         match self.part {
             Part::No(answer, place) if place >= self.claims.len() => Some(answer),

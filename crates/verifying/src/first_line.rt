@@ -1,5 +1,5 @@
 //! The first line of a certificate, which is its answer.
-ghost use Rattle.std.specs.Prelude.{◌≡◌, ◌≢◌, ◌+◌, ◌<◌, ◌≤◌, ◌++◌, ◌∷◌, [], ℕ, IfSome, MatchOption, Some, length, slice_index, take};
+ghost use Rattle.std.specs.Prelude.{◌≡◌, ◌≢◌, ◌↔◌, ◌+◌, ◌<◌, ◌≤◌, ◌++◌, ◌∷◌, [], ℕ, List, IfSome, IsTrue, MatchOption, Some, length, take};
 ghost use Rattle.std.specs.Fmt.{decimal};
 ghost use Rattle.rules.specs.MoveText.{square_text, promotion_text, move_text};
 ghost use Rattle.rules.specs.Moves.{IsPromoted};
@@ -13,44 +13,27 @@ use board::Kind;
 use moves::{Goal, Move, Square};
 use problems::{Answer, MOST_LIMIT};
 
-/// The digit that the byte is.
-fn digit_of(byte: u8) -> Option<u8>
-    ensures { MatchOption result ((digit : ℕ) → digit < 10 → byte ≢ 48 + digit)
-        (λ digit. (digit < 10) × (byte ≡ 48 + digit)) }
+/// What stands behind the number in the text.
+fn behind_number(text: &[u8], number: u8) -> Option<&[u8]>
+    requires { number ≤ 63 }
+    ensures { MatchOption result ((rest : List ℕ) → text.now ≢ decimal number ++ rest)
+        (λ rest. text.now ≡ decimal number ++ rest.now) }
 {
-    if byte >= b'0' && byte <= b'9' {
-        return Some(byte - b'0');
-    }
-    None
-}
-
-/// The number from 1 to 9 that the digit writes.
-fn one_digit(units: u8) -> Option<u8>
-    ensures { MatchOption result ((n : ℕ) → 0 < n → n ≤ 63 → decimal n ≢ units ∷ [])
-        (λ number. (0 < number) × (number ≤ 63) × (decimal number ≡ units ∷ [])) }
-{
-    let number = digit_of(units)?;
-    if number == 0 {
-        return None;
-    }
-    Some(number)
-}
-
-/// The number from 10 to 63 that the digits write.
-fn two_digits(tens: u8, units: u8) -> Option<u8>
-    ensures { MatchOption result ((n : ℕ) → 0 < n → n ≤ 63 → decimal n ≢ tens ∷ units ∷ [])
-        (λ number. (0 < number) × (number ≤ 63) × (decimal number ≡ tens ∷ units ∷ [])) }
-{
-    let ten = digit_of(tens)?;
-    let unit = digit_of(units)?;
-    let number = 10 * ten + unit;
     if number < 10 {
-        return None;
+        return text.strip_prefix(&[b'0' + number]);
     }
-    if number > MOST_LIMIT {
-        return None;
+    text.strip_prefix(&[b'0' + number / 10, b'0' + number % 10])
+}
+
+/// Whether the digits write the number.
+fn is_number(digits: &[u8], number: u8) -> bool
+    requires { number ≤ 63 }
+    ensures { IsTrue result ↔ (decimal number ≡ digits.now) }
+{
+    match behind_number(digits, number) {
+        Some(rest) => rest.is_empty(),
+        None => false,
     }
-    Some(number)
 }
 
 /// The number from 1 to 63 that the digits write.
@@ -58,11 +41,10 @@ fn number_of(digits: &[u8]) -> Option<u8>
     ensures { MatchOption result ((n : ℕ) → 0 < n → n ≤ 63 → decimal n ≢ digits.now)
         (λ number. (0 < number) × (number ≤ 63) × (decimal number ≡ digits.now)) }
 {
-    if digits.len() == 1 {
-        return one_digit(digits[0]);
-    }
-    if digits.len() == 2 {
-        return two_digits(digits[0], digits[1]);
+    for number in 1..MOST_LIMIT + 1 {
+        if is_number(digits, number) {
+            return Some(number);
+        }
     }
     None
 }
@@ -136,22 +118,22 @@ fn move_of(name: &[u8]) -> Option<Move>
     None
 }
 
-/// The place of the first such byte.
-fn first_place(bytes: &[u8], wanted: u8) -> Option<usize>
-    ensures { MatchOption result
-        ((k : ℕ) → k < length bytes.now → slice_index bytes.now k ≢ wanted)
-        (λ at. (at < length bytes.now) × (slice_index bytes.now at ≡ wanted)
-        × ((k : ℕ) → k < at → slice_index bytes.now k ≢ wanted)) }
+/// The first move of a mate in these plies: they are odd, and it stands behind them and a space.
+fn mate_in(text: &[u8], plies: u8) -> Option<Move>
+    requires { plies ≤ 63 }
+    ensures { MatchOption result ((m : Ply) → IsOdd plies → HasName m → text.now ≢ decimal plies ++ 32 ∷ move_text m)
+        (λ m. IsOdd plies × HasName m × (text.now ≡ decimal plies ++ 32 ∷ move_text m)) }
 {
-    for at in 0..bytes.len() {
-        if bytes[at] == wanted {
-            return Some(at);
-        }
+    if plies % 2 == 0 {
+        return None;
     }
-    None
+    let rest = behind_number(text, plies)?;
+    let name = rest.strip_prefix(b" ")?;
+    let first = move_of(name)?;
+    Some(first)
 }
 
-/// The plies and the first move of a mate, as they stand on both sides of the first space.
+/// The plies and the first move of a mate.
 fn mate_of(text: &[u8]) -> Option<(u8, Move)>
     ensures plies { IfSome result (λ mate. IsOdd mate.0 × (mate.0 ≤ 63)) }
     ensures text { MatchOption result
@@ -159,13 +141,12 @@ fn mate_of(text: &[u8]) -> Option<(u8, Move)>
         (λ mate. text.now ≡ decimal mate.0 ++ 32 ∷ move_text mate.1) }
     ensures named { IfSome result (λ mate. HasName mate.1) }
 {
-    let space = first_place(text, b' ')?;
-    let plies = number_of(&text[..space])?;
-    if plies % 2 == 0 {
-        return None;
+    for plies in 1..MOST_LIMIT + 1 {
+        if let Some(first) = mate_in(text, plies) {
+            return Some((plies, first));
+        }
     }
-    let first = move_of(&text[space + 1..])?;
-    Some((plies, first))
+    None
 }
 
 /// What stands before the plies of a mate.

@@ -7,6 +7,7 @@ mod fault;
 mod first_line;
 mod kept;
 mod leaf;
+mod listed;
 mod no_claims;
 mod part;
 mod steps;

@@ -1,25 +1,19 @@
 //! Yes claims: that the attacker forces the goal within the claim's plies.
-ghost use Rattle.std.specs.Prelude.{◌≡◌, ◌<◌, ◌∷◌, ℕ, List, IfNone, IfOk, IfSome, IsTrue, Some, false, length, slice_get};
-ghost use Rattle.board.specs.Board.{PlainBoard};
+ghost use Rattle.std.specs.Prelude.{◌↔◌, IfOk, IsTrue, List};
 ghost use Rattle.rules.specs.Squares.{Ply};
-ghost use Rattle.rules.specs.Moves.{IsMove, IsLawful};
-ghost use Rattle.certificates.specs.Claims.{ClaimsSoFew, MetBy, WinsBy};
-ghost use Rattle.verifying.specs.Wins.{WinsByClaims};
-ghost use Rattle.verifying.specs.Growing.{AreApart, Extends};
-ghost use Rattle.verifying.specs.declared.words.Word.{Word as TheWord};
 ghost use Rattle.certificates.specs.declared.claim.Claim.{Claim};
-ghost use Rattle.verifying.specs.declared.words.Word.TheVariants.{Place as ThePlace};
-ghost use Rattle.verifying.specs.Certificate.{IsMoveAt, IsYesLine, MakesClaim, MeetReplies, Meets, ShowWin};
+ghost use Rattle.certificates.specs.Claims.{ClaimsSoFew};
+ghost use Rattle.verifying.specs.Reading.{AreApart};
+ghost use Rattle.verifying.specs.Yielding.{FindsOnly, YieldsOnly};
+ghost use Rattle.verifying.specs.Certificate.{IsYesLine, MakesClaim, MeetReplies, Meets, ShowWin};
 
 use crate::claims::Claims;
 use crate::leaf::{LEAF, is_forced_within, is_reached};
+use crate::listed::move_at;
 use crate::words::Word;
 use certificates::Claim;
-use moves::{Board, Goal, Move, after, lawful_on};
+use moves::{Board, Goal, Move, after, has_lawful_move, lawful_on};
 use std::alloc::{AllocError, Allocator};
-
-/// The greatest place whose plies, twice that and one more, a byte holds.
-const MOST_PLACE: usize = 127;
 
 /// Makes a claim about the position, which has none yet. The place tells its plies, at most those that are left.
 fn claim_anew<A: Allocator + Copy>(
@@ -28,30 +22,24 @@ fn claim_anew<A: Allocator + Copy>(
     left: u8,
     place: usize,
 ) -> Result<bool, AllocError>
-    ensures more { Extends claims.old claims.new }
-    ensures claimed { IfOk result (λ yes. IsTrue yes → ClaimsSoFew claims.new position.now left) }
-    ensures tells { IfOk result (λ yes. IsTrue yes → MakesClaim position.now left place claims.old claims.new) }
-    ensures refuses { IfOk result (λ yes. yes ≡ false
-        → (new : List Claim) → MakesClaim position.now left place claims.old new → ⊥) }
+    ensures { IfOk result (λ yes. YieldsOnly (MakesClaim position.now left place claims.old) yes claims.new) }
 {
-    if place > MOST_PLACE {
+    if place >= (left as usize + 1) / 2 {
         return Ok(false);
     }
-    if claims.find(position).is_some() {
-        return Ok(false);
+    match claims.find(position) {
+        Some(_) => Ok(false),
+        None => {
+            claims.push(position, 2 * place as u8 + 1)?;
+            Ok(true)
+        }
     }
-    let plies = 2 * place as u8 + 1;
-    if plies > left {
-        return Ok(false);
-    }
-    claims.push(position, plies)?;
-    Ok(true)
 }
 
 /// Whether a claim says that the goal is forced within the plies that are left.
 fn has_claim<A: Allocator + Copy>(claims: &Claims<A>, position: &Board, left: u8) -> bool
-    ensures few { IsTrue result → ClaimsSoFew claims.now position.now left }
-    ensures refuses { result ≡ false → AreApart claims.now → ClaimsSoFew claims.now position.now left → ⊥ }
+    requires { AreApart claims.now }
+    ensures { IsTrue result ↔ ClaimsSoFew claims.now position.now left }
 {
     match claims.find(position) {
         Some(plies) => plies <= left,
@@ -67,11 +55,8 @@ fn meets<A: Allocator + Copy>(
     left: u8,
     word: Word,
 ) -> Result<bool, AllocError>
-    ensures more { Extends claims.old claims.new }
-    ensures met { IfOk result (λ yes. IsTrue yes → MetBy goal claims.new position left) }
-    ensures tells { IfOk result (λ yes. IsTrue yes → Meets goal position left word claims.old claims.new) }
-    ensures refuses { IfOk result (λ yes. yes ≡ false → AreApart claims.old
-        → (new : List Claim) → Meets goal position left word claims.old new → ⊥) }
+    requires { AreApart claims.old }
+    ensures { IfOk result (λ yes. YieldsOnly (Meets goal position left word claims.old) yes claims.new) }
 {
     match word {
         Word::Seen => Ok(is_forced_within(&position, goal, left.min(LEAF))),
@@ -89,12 +74,8 @@ fn all_met<A: Allocator + Copy>(
     left: u8,
     words: &[Word],
 ) -> Result<bool, AllocError>
-    ensures more { Extends claims.old claims.new }
-    ensures met { IfOk result (λ yes. IsTrue yes
-        → (r : Ply) (p : PlainBoard) → IsMove board.now r p → MetBy goal claims.new p left) }
-    ensures tells { IfOk result (λ yes. IsTrue yes → MeetReplies goal board.now left words.now claims.old claims.new) }
-    ensures refuses { IfOk result (λ yes. yes ≡ false → AreApart claims.old
-        → (new : List Claim) → MeetReplies goal board.now left words.now claims.old new → ⊥) }
+    requires { AreApart claims.old }
+    ensures { IfOk result (λ yes. YieldsOnly (MeetReplies goal board.now left words.now claims.old) yes claims.new) }
 {
     let replies = lawful_on(board);
     if words.len() != replies.len() {
@@ -117,14 +98,10 @@ fn wins_after<A: Allocator + Copy>(
     plies: u8,
     words: &[Word],
 ) -> Result<bool, AllocError>
-    ensures more { Extends claims.old claims.new }
-    ensures wins { IfOk result (λ yes. IsTrue yes → WinsByClaims goal claims.new board.now plies) }
-    ensures tells { IfOk result (λ yes. IsTrue yes → ShowWin goal board.now plies words.now claims.old claims.new) }
-    ensures refuses { IfOk result (λ yes. yes ≡ false → AreApart claims.old
-        → (new : List Claim) → ShowWin goal board.now plies words.now claims.old new → ⊥) }
+    requires { AreApart claims.old }
+    ensures { IfOk result (λ yes. YieldsOnly (ShowWin goal board.now plies words.now claims.old) yes claims.new) }
 {
-    let replies = lawful_on(board);
-    if replies.is_empty() {
+    if !has_lawful_move(board) {
         return Ok(words.is_empty() && is_reached(board, goal));
     }
     if plies < 3 {
@@ -133,49 +110,31 @@ fn wins_after<A: Allocator + Copy>(
     all_met(claims, goal, board, plies - 2, words)
 }
 
-/// The lawful move whose place the first of the words tells.
-fn named_move(board: &Board, words: &[Word]) -> Option<Move>
-    ensures lawful { IfSome result (λ m. IsLawful board.now m × (0 < length words.now)) }
-    ensures tells { IfSome result (λ m. (place : ℕ) × (slice_get words.now 0 ≡ Some (ThePlace place))
-        × IsMoveAt board.now place m) }
-    ensures refuses { IfNone result ((place : ℕ) (rest : List TheWord) (m : Ply) → words.now ≡ ThePlace place ∷ rest
-        → IsMoveAt board.now place m → ⊥) }
-{
-    if words.is_empty() {
-        return None;
-    }
-    let Word::Place(place) = words[0] else {
-        return None;
-    };
-    let moves = lawful_on(board);
-    if place >= moves.len() {
-        return None;
-    }
-    Some(moves.as_slice()[place])
-}
-
-/// The attacker's move that wins within the claim's plies, as the words say.
+/// The attacker's move, whose place is the first of the words, if it wins within the claim's plies, as the others say.
 pub(crate) fn winning_move<A: Allocator + Copy>(
     claims: &mut Claims<A>,
     goal: Goal,
     claim: &Claim,
     words: &[Word],
 ) -> Result<Option<Move>, AllocError>
-    ensures more { Extends claims.old claims.new }
-    ensures wins { IfOk result (λ found. IfSome found (WinsBy goal claims.new claim.now.position claim.now.plies)) }
-    ensures tells { IfOk result (λ found. IfSome found (λ m.
-        IsYesLine goal claim.now m words.now claims.old claims.new)) }
-    ensures refuses { IfOk result (λ found. IfNone found (AreApart claims.old
-        → (m : Ply) (new : List Claim) → IsYesLine goal claim.now m words.now claims.old new → ⊥)) }
+    requires { AreApart claims.old }
+    ensures { IfOk result (λ found. FindsOnly
+        (λ (m : Ply) (new : List Claim). IsYesLine goal claim.now m words.now claims.old new) found claims.new) }
 {
-    let Some(m) = named_move(&claim.position, words) else {
+    let Some((word, others)) = words.split_first() else {
+        return Ok(None);
+    };
+    let Word::Place(place) = *word else {
+        return Ok(None);
+    };
+    let Some(m) = move_at(&claim.position, place) else {
         return Ok(None);
     };
     if claim.plies == 0 {
         return Ok(None);
     }
     let board = after(&claim.position, m);
-    if !wins_after(claims, goal, &board, claim.plies, &words[1..])? {
+    if !wins_after(claims, goal, &board, claim.plies, others)? {
         return Ok(None);
     }
     Ok(Some(m))

@@ -7,7 +7,8 @@ use Rattle.wintree.specs.declared.tree.Next.{Next}
 use Rattle.wintree.specs.declared.tree.Next.TheVariants.{Replies}
 use Rattle.wintree.specs.View.{plan_after, HasReplies, KeepsPlan}
 use Rattle.rules.specs.Squares.{Ply}
-use Rattle.wintree.specs.Plan.{Plan, depth, deepest, deepest_in, replies_of, plan_of, IsPly, IsPlan, ArePlans, ArePlansIn}
+use Rattle.rules.specs.Moves.{IsPly}
+use Rattle.wintree.specs.Plan.{Plan, depth, deepest, deepest_in, replies_of, plan_of, IsPlan, ArePlans, ArePlansIn}
 
 pub deepest-replies_of : (first : Ply × Plan) (others : List (Ply × Plan)) → deepest (replies_of first others) ≡ deepest_in (first ∷ others)
 deepest-replies_of first [] = omega arith

@@ -6,7 +6,7 @@ use Rattle.wintree.proofs.Places.{count_by-append}
 use Rattle.board.specs.declared.game.Kind.{Kind}
 use Rattle.board.specs.declared.game.Kind.TheVariants.{King, Queen, Rook, Bishop, Knight, Pawn}
 use Rattle.rules.specs.Squares.{Ply}
-use Rattle.wintree.specs.Plan.{IsPly}
+use Rattle.rules.specs.Moves.{IsPly}
 use Rattle.rules.specs.MoveText.{square_text, promotion_text, move_text}
 use Rattle.wintree.specs.Ahead.{promotion_of, next_byte, IsPlain}
 

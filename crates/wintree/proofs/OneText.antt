@@ -1,52 +1,23 @@
 -- No text belongs to two plans.
-use Rattle.std.proofs.Common.{◌≡◌, ℕ, ◌+◌, List, [], ◌∷◌, ◌++◌, refl, sym, ap, ap₂, ◌∙◌, arith, append_assoc, Option, Some, None, IfSome}
+use Rattle.std.proofs.Common.{◌≡◌, ℕ, ◌+◌, List, [], ◌∷◌, ◌++◌, refl, sym, ap, ap₂, ◌∙◌, arith, append_assoc, None}
 use Rattle.std.proofs.lemmas.List.{append_cancel_right, append-nil}
-use Rattle.board.specs.declared.game.Kind.{Kind}
-use Rattle.board.specs.declared.game.Kind.TheVariants.{King, Queen, Rook, Bishop, Knight, Pawn}
-use Rattle.rules.specs.Squares.{Place, Ply}
-use Rattle.rules.specs.Moves.{IsPromoted}
+use Rattle.rules.specs.Squares.{Ply}
+use Rattle.rules.specs.Moves.{IsPly}
 use Rattle.wintree.specs.declared.tree.End.{End}
 use Rattle.wintree.specs.declared.tree.End.TheVariants.{Mate, Stale}
-use Rattle.wintree.specs.Plan.{Plan, ends, splits, Replies, last, more, IsPly, IsPlan, ArePlans}
-use Rattle.rules.specs.MoveText.{move_text, promotion_text}
+use Rattle.wintree.specs.Plan.{Plan, ends, splits, Replies, last, more, IsPlan, ArePlans}
+use Rattle.rules.specs.MoveText.{move_text}
 use Rattle.wintree.specs.Text.{text, replies_text, end_text}
 use Rattle.wintree.specs.Ahead.{promotion_of, next_byte}
+use Rattle.rules.proofs.Naming.{one_name}
 use Rattle.wintree.proofs.MoveTexts.{same_rest}
 use Rattle.wintree.proofs.Turns.{same_head, same_tail, end_no_letter, end_no_brace}
-
-same_square : (a b : Place) → a.file ≡ b.file → a.rank ≡ b.rank → a ≡ b
-same_square a b file rank = λ i. record { file = file i; rank = rank i }
-
-same_move : (m n : Ply) → m.from ≡ n.from → m.to ≡ n.to → m.promotion ≡ n.promotion → m ≡ n
-same_move m n from to promotion = λ i. record { from = from i; to = to i; promotion = promotion i }
-
--- the letter tells the kind
-letter_back : (p : Option Kind) → IfSome p IsPromoted → promotion_of (next_byte (promotion_text p)) ≡ p
-letter_back None promotes = refl
-letter_back (Some King) promotes = absurd promotes
-letter_back (Some Queen) promotes = refl
-letter_back (Some Rook) promotes = refl
-letter_back (Some Bishop) promotes = refl
-letter_back (Some Knight) promotes = refl
-letter_back (Some Pawn) promotes = absurd promotes
-
-plus_cancel : (k a b : ℕ) → k + a ≡ k + b → a ≡ b
-plus_cancel k a b e = omega arith
 
 -- two moves and what follows them
 one_move : (m n : Ply) (x y : List ℕ) → IsPly m → IsPly n → promotion_of (next_byte x) ≡ None → promotion_of (next_byte y) ≡ None → move_text m ++ x ≡ move_text n ++ y → (m ≡ n) × (x ≡ y)
 one_move m n x y ply other no_x no_y e =
     let rest : x ≡ y = same_rest m n x y (λ _. no_x) no_y e in
-    let letters : promotion_text m.promotion ++ x ≡ promotion_text n.promotion ++ y = cc in
-    let letter : promotion_text m.promotion ≡ promotion_text n.promotion = append_cancel_right _ _ y (ap (λ z. promotion_text m.promotion ++ z) (sym rest) ∙ letters) in
-    let ff : 97 + m.from.file ≡ 97 + n.from.file = cc in
-    let fr : 49 + m.from.rank ≡ 49 + n.from.rank = cc in
-    let tf : 97 + m.to.file ≡ 97 + n.to.file = cc in
-    let tr : 49 + m.to.rank ≡ 49 + n.to.rank = cc in (
-      same_move m n (same_square m.from n.from (plus_cancel 97 _ _ ff) (plus_cancel 49 _ _ fr)) (same_square m.to n.to (plus_cancel 97 _ _ tf) (plus_cancel 49 _ _ tr))
-          (sym (letter_back m.promotion ply.promotion) ∙ ap (λ xs. promotion_of (next_byte xs)) letter ∙ letter_back n.promotion other.promotion),
-      rest,
-    )
+    (one_name m n ply other (append_cancel_right (move_text m) (move_text n) y (ap (λ z. move_text m ++ z) (sym rest) ∙ e)), rest)
 
 one_end : (e f : End) (x y : List ℕ) → end_text e ++ x ≡ end_text f ++ y → (e ≡ f) × (x ≡ y)
 one_end Mate Mate x y e = (refl, same_tail 35 35 x y e)

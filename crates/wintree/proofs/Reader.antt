@@ -4,11 +4,12 @@ use Rattle.std.proofs.lemmas.Option.{slice_get_within, slice_get-get_or}
 use Rattle.std.proofs.lemmas.List.Elements.{recursion_from_All}
 use Rattle.std.specs.List.{AllByRecursion}
 use Rattle.rules.specs.Squares.{Ply}
+use Rattle.rules.specs.Moves.{IsPly}
 use Rattle.wintree.specs.declared.tree.End.{End}
 use Rattle.wintree.specs.declared.tree.End.TheVariants.{Mate}
 use Rattle.wintree.specs.declared.fault.TreeFault.{TreeFault}
 use Rattle.wintree.specs.declared.fault.TreeFault.TheVariants.{Grammar, Deep, NoMemory}
-use Rattle.wintree.specs.Plan.{Plan, ends, depth, deepest_in, plan_of, IsPly}
+use Rattle.wintree.specs.Plan.{Plan, ends, depth, deepest_in, plan_of}
 use Rattle.rules.specs.MoveText.{move_text}
 use Rattle.wintree.specs.Text.{text, end_text}
 use Rattle.wintree.specs.Offset.{IsFaultOf}

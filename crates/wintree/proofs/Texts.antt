@@ -1,8 +1,9 @@
 -- What stands ahead, a move at a time.
 use Rattle.std.proofs.Common.{◌≡◌, ◌⊎◌, ℕ, suc, List, ◌∷◌, ◌++◌, refl, sym, ap, ◌∙◌, inl, inr, append_assoc}
 use Rattle.rules.specs.Squares.{Ply}
+use Rattle.rules.specs.Moves.{IsPly}
 use Rattle.wintree.specs.declared.tree.End.{End}
-use Rattle.wintree.specs.Plan.{Plan, ends, splits, Replies, last, more, IsPly, IsPlan, ArePlans}
+use Rattle.wintree.specs.Plan.{Plan, ends, splits, Replies, last, more, IsPlan, ArePlans}
 use Rattle.rules.specs.MoveText.{move_text}
 use Rattle.wintree.specs.Text.{text, replies_text, end_text}
 use Rattle.wintree.specs.Ahead.{AfterTree, IsTreeAhead, AreRepliesAhead}

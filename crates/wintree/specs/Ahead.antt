@@ -3,8 +3,9 @@ use Rattle.std.specs.Prelude.{◌≡◌, ◌≢◌, ◌⊎◌, ◌↔◌, ℕ, z
 use Rattle.board.specs.declared.game.Kind.{Kind}
 use Rattle.board.specs.declared.game.Kind.TheVariants.{Queen, Rook, Bishop, Knight}
 use Rattle.rules.specs.Squares.{Ply}
+use Rattle.rules.specs.Moves.{IsPly}
 use Rattle.rules.specs.MoveText.{move_text, promotion_text}
-use Rattle.wintree.specs.Plan.{Plan, Replies, depth, IsPly, IsPlan, ArePlans, ArePlansIn}
+use Rattle.wintree.specs.Plan.{Plan, Replies, depth, IsPlan, ArePlans, ArePlansIn}
 use Rattle.wintree.specs.Text.{text, replies_text}
 use Rattle.wintree.specs.Offset.{IsText}
 use Rattle.wintree.specs.declared.fault.TreeFault.{TreeFault}

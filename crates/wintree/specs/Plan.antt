@@ -1,11 +1,10 @@
 -- What a tree is to contracts.
-use Rattle.std.specs.Prelude.{◌≡◌, ℕ, suc, max, List, [], ◌∷◌, IfSome}
+use Rattle.std.specs.Prelude.{◌≡◌, ℕ, suc, max, List, [], ◌∷◌}
 use Rattle.std.proofs.Common.{ap₂}
 use Rattle.std.specs.Coded.{Coded}
 use base.Stored.{Gv, gnil, gnum, gcons}
-use Rattle.board.specs.declared.game.Game.TheVariants.{LosAlamos}
-use Rattle.rules.specs.Squares.{Ply, IsOnBoard}
-use Rattle.rules.specs.Moves.{IsPromoted}
+use Rattle.rules.specs.Squares.{Ply}
+use Rattle.rules.specs.Moves.{IsPly}
 use Rattle.rules.specs.contracts.plies.Move.{the_row as move_row}
 use Rattle.wintree.specs.declared.tree.End.{End}
 use Rattle.wintree.specs.declared.tree.End.TheVariants.{Mate}
@@ -31,12 +30,6 @@ abbrev mutual
   pub deepest : Replies → ℕ
   deepest (last r plan) = depth plan
   deepest (more r plan replies) = max (depth plan) (deepest replies)
-
--- a move that the type `Move` keeps: squares of the larger board, and a promotion to queen, rook, bishop or knight
-pub record IsPly (m : Ply) : Type 0 where
-  pub from : IsOnBoard LosAlamos m.from
-  pub to : IsOnBoard LosAlamos m.to
-  pub promotion : IfSome m.promotion IsPromoted
 
 -- each move of the plan is one that the type `Move` keeps
 abbrev mutual

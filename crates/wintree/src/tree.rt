@@ -1,7 +1,8 @@
 //! A tree of an attacker's moves, which contracts see as a plan.
 
 ghost use Rattle.std.specs.Prelude.{◌≡◌, ◌<◌, ◌≤◌, IfOk, All, vec_len};
-ghost use Rattle.wintree.specs.Plan.{ends, depth, deepest_in, plan_of, IsPly, IsPlan, ArePlansIn};
+ghost use Rattle.rules.specs.Moves.{IsPly};
+ghost use Rattle.wintree.specs.Plan.{ends, depth, deepest_in, plan_of, IsPlan, ArePlansIn};
 
 use crate::fault::NoMemory;
 use moves::Move;

@@ -1,38 +1,30 @@
 //! The questions, asked over one table, and their replies in a digest.
-ghost use Rattle.rounds.specs.Seats.{AreCallers};
-
 use crate::digest::Digest;
 use crate::question::{Kind, Question};
-use entry::MateLore;
-use search::{Answer, NoGate, Task, Wanted, build_tree_over, keys_over, solve_over};
-use slots::{Seat, Slots};
+use search::{Answer, NoGate, Problem, Table, Task, build_tree_over, keys_over, solve_over};
 use std::sync::Wait;
 use std::thread::Threads;
 use wintree::{Tree, check, read_tree, tree_text};
 
 /// What is asked of a position.
-fn task_of<'a>(question: &'a Question) -> Task<'a, NoGate> {
-    Task {
-        position: &question.position,
-        goal: question.goal,
-        limit: question.limit,
-        gate: &NoGate,
-    }
+fn problem_of(question: &Question) -> Option<Problem> {
+    Problem::of(&question.position, question.goal, question.limit)
 }
 
 /// The digest with the answer of a solve.
 fn solved<R: Threads + Wait + AllocGlobal + Sync>(
     rt: &R,
-    table: &Slots<MateLore>,
-    seats: &mut Vec<Seat>,
+    table: &mut Table,
     question: &Question,
     digest: Digest,
-) -> Option<Digest>
-    requires { AreCallers table.now seats.old.items }
-    ensures { AreCallers table.now seats.new.items }
-{
-    let task = task_of(question);
-    match solve_over(rt, rt.alloc(), &task, table, seats).ok()? {
+) -> Option<Digest> {
+    let problem = problem_of(question)?;
+    let task = Task {
+        problem: &problem,
+        slots: &table.slots,
+        gate: &NoGate,
+    };
+    match solve_over(rt, rt.alloc(), &task, &mut table.seats).ok()? {
         Answer::Mate { plies, first } => Some(digest.line(first, plies).reply(true)),
         Answer::NoneWithin(plies) => Some(digest.byte(plies).reply(false)),
     }
@@ -41,16 +33,17 @@ fn solved<R: Threads + Wait + AllocGlobal + Sync>(
 /// The digest with all keys.
 fn keyed<R: Threads + Wait + AllocGlobal + Sync>(
     rt: &R,
-    table: &Slots<MateLore>,
-    seats: &mut Vec<Seat>,
+    table: &mut Table,
     question: &Question,
     digest: Digest,
-) -> Option<Digest>
-    requires { AreCallers table.now seats.old.items }
-    ensures { AreCallers table.now seats.new.items }
-{
-    let task = task_of(question);
-    let keys = keys_over(rt, rt.alloc(), &task, table, seats).ok()?;
+) -> Option<Digest> {
+    let problem = problem_of(question)?;
+    let task = Task {
+        problem: &problem,
+        slots: &table.slots,
+        gate: &NoGate,
+    };
+    let keys = keys_over(rt, rt.alloc(), &task, &mut table.seats).ok()?;
     let mut told = digest;
     for key in keys.as_slice() {
         told = told.line(key.first, key.plies);
@@ -78,48 +71,34 @@ fn read_back<R: AllocGlobal>(
 /// The digest with the tree of the answer, if there is one.
 fn grown<R: Threads + Wait + AllocGlobal + Sync>(
     rt: &R,
-    table: &Slots<MateLore>,
-    seats: &mut Vec<Seat>,
+    table: &mut Table,
     question: &Question,
     digest: Digest,
-) -> Option<Digest>
-    requires { AreCallers table.now seats.old.items }
-    ensures { AreCallers table.now seats.new.items }
-{
-    let position = &question.position;
-    let goal = question.goal;
+) -> Option<Digest> {
+    let problem = problem_of(question)?;
     let task = Task {
-        position,
-        goal,
-        limit: question.limit,
+        problem: &problem,
+        slots: &table.slots,
         gate: &NoGate,
     };
-    let Answer::Mate { plies, .. } = solve_over(rt, rt.alloc(), &task, table, seats).ok()? else {
+    let Answer::Mate { plies, .. } = solve_over(rt, rt.alloc(), &task, &mut table.seats).ok()?
+    else {
         return Some(digest.byte(question.limit).reply(false));
     };
-    let wanted = Wanted {
-        position,
-        goal,
-        plies,
-    };
-    let tree = build_tree_over(rt, rt.alloc(), &wanted, table, seats).ok()?;
+    let tree = build_tree_over(rt, rt.alloc(), &problem, plies, table).ok()?;
     read_back(rt, question, &tree, digest)
 }
 
 /// The digest with the reply to a question of the kind, or none where memory is wanting.
 pub(crate) fn asked<R: Threads + Wait + AllocGlobal + Sync>(
     rt: &R,
-    table: &Slots<MateLore>,
-    seats: &mut Vec<Seat>,
+    table: &mut Table,
     question: &Question,
     digest: Digest,
-) -> Option<Digest>
-    requires { AreCallers table.now seats.old.items }
-    ensures { AreCallers table.now seats.new.items }
-{
+) -> Option<Digest> {
     match question.kind {
-        Kind::Keys => keyed(rt, table, seats, question, digest),
-        Kind::Trees => grown(rt, table, seats, question, digest),
-        Kind::Games | Kind::Boards | Kind::Endings => solved(rt, table, seats, question, digest),
+        Kind::Keys => keyed(rt, table, question, digest),
+        Kind::Trees => grown(rt, table, question, digest),
+        Kind::Games | Kind::Boards | Kind::Endings => solved(rt, table, question, digest),
     }
 }

@@ -2,8 +2,6 @@
 //! so many plies over one table, and writes a digest of the replies. `bench/workloads.txt` has the lines.
 #![tactic(auto)]
 
-ghost use Rattle.rounds.specs.Seats.{AreCallers};
-
 mod asking;
 mod dice;
 mod digest;
@@ -14,10 +12,8 @@ mod question;
 use asking::asked;
 use dice::Dice;
 use digest::Digest;
-use entry::MateLore;
 use question::{Kind, drawn};
-use search::make_table;
-use slots::{Seat, Slots};
+use search::{Table, make_table};
 use std::sync::Wait;
 use std::thread::Threads;
 use std::{env, io};
@@ -61,17 +57,14 @@ fn order_of(words: &[String]) -> Option<Order> {
 /// The digest of the replies, or none where memory is wanting.
 fn digest_over<R: Threads + Wait + AllocGlobal + Sync>(
     rt: &R,
-    table: &Slots<MateLore>,
-    seats: &mut Vec<Seat>,
+    table: &mut Table,
     order: Order,
-) -> Option<Digest>
-    requires { AreCallers table.now seats.old.items }
-{
+) -> Option<Digest> {
     let mut dice = Dice::new(order.seed);
     let mut digest = Digest::new();
     for _ in 0..order.throws {
         if let Some(question) = drawn(&mut dice, order.kind, order.limit) {
-            digest = asked(rt, table, seats, &question, digest)?;
+            digest = asked(rt, table, &question, digest)?;
         }
     }
     Some(digest)
@@ -79,8 +72,8 @@ fn digest_over<R: Threads + Wait + AllocGlobal + Sync>(
 
 /// The digest of the replies, by a table of its own.
 fn digest_of<R: Threads + Wait + AllocGlobal + Sync>(rt: &R, order: Order) -> Option<Digest> {
-    let (table, mut seats) = make_table(rt.alloc(), 63, 1, SLOTS).ok()?;
-    digest_over(rt, &table, &mut seats, order)
+    let mut table = make_table(rt.alloc(), 1, SLOTS).ok()?;
+    digest_over(rt, &mut table, order)
 }
 
 fn main(rt: HostRuntime) -> io::Result<()> {

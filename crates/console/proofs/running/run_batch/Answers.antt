@@ -6,7 +6,7 @@ use Rattle.console.proofs.running.run_batch.Goals as goal
 
 pub returns-in-None-clause-runs : goal.returns-in-None-clause-runs
 returns-in-None-clause-runs g c =
-    let opened = c.in-Ok.ensures in
+    let opened = c.in-Ok.ensures.1 in
     let (texts, answers, (written, (unread, unfailed))) = c.in-None.ensures.lines in
     batch_ran c.in-Ok.opened.batch c.args.batch _ _ texts opened.0.0 opened.1
     (fresh_left c.in-Ok.opened.unread (g.S.Source.remaining c.args.reader.now) opened.2 opened.3) answers
@@ -14,7 +14,7 @@ returns-in-None-clause-runs g c =
 
 pub returns-in-Some-NoMemory-clause-runs : goal.returns-in-Some-NoMemory-clause-runs
 returns-in-Some-NoMemory-clause-runs g c =
-    let opened = c.in-Ok.ensures in
+    let opened = c.in-Ok.ensures.1 in
     let (texts, answers, (written, (unread, unfailed))) = rw c.in-Some-NoMemory.field-0-is at c.in-Some-NoMemory.ensures.lines in
     let left = left_of c.in-Ok.opened.unread (g.S.Source.remaining c.args.reader.now) in
     batch_ran c.in-Ok.opened.batch c.args.batch _ left texts opened.0.0 opened.1
@@ -24,7 +24,7 @@ returns-in-Some-NoMemory-clause-runs g c =
 
 pub returns-in-Some-ReadFailed-clause-runs : goal.returns-in-Some-ReadFailed-clause-runs
 returns-in-Some-ReadFailed-clause-runs g c =
-    let opened = c.in-Ok.ensures in
+    let opened = c.in-Ok.ensures.1 in
     let (texts, answers, (written, (unread, unfailed))) = rw c.in-Some-ReadFailed.field-0-is at c.in-Some-ReadFailed.ensures.lines in
     let left = left_of c.in-Ok.opened.unread (g.S.Source.remaining c.args.reader.now) in
     batch_ran c.in-Ok.opened.batch c.args.batch _ left texts opened.0.0 opened.1
@@ -34,7 +34,7 @@ returns-in-Some-ReadFailed-clause-runs g c =
 
 pub returns-in-Ok-clause-runs : goal.returns-in-Ok-clause-runs
 returns-in-Ok-clause-runs g c =
-    let opened = c.in-Ok.ensures in
+    let opened = c.in-Ok.ensures.1 in
     let (texts, answers, (cut, (unread, failed))) = rw c.in-Some-WriteFailed.field-0-is at c.in-Some-WriteFailed.ensures.lines in
     let left = left_of c.in-Ok.opened.unread (g.S.Source.remaining c.args.reader.now) in
     batch_ran c.in-Ok.opened.batch c.args.batch _ left texts opened.0.0 opened.1

@@ -16,8 +16,8 @@ opened_text-requires-clause-limit c = λ none.
 
 pub returns-in-Some : goal.returns-in-Some
 returns-in-Some c =
-    let found = rw c.in-Some.is at c.in_ok-job.ensures in
+    let found = c.in-Some.ensures in
     named_shown c.args.name.now c.args.limits c.args.root.now c.in-Some.job c.opened_text.result found.0 found.1 c.opened_text.ensures
 
 pub returns-in-None : goal.returns-in-None
-returns-in-None c = inr (inr (rw c.in-None.is at c.in_ok-job.ensures, refl))
+returns-in-None c = inr (inr (c.in-None.ensures, refl))

@@ -4,7 +4,7 @@ use Rattle.atomic_table.specs.declared.shared.Seat.{Seat}
 use Rattle.slots.specs.declared.views.View.{View}
 use Rattle.slots.specs.Promise.{IsSeatOf}
 use Rattle.rounds.specs.Shares.{IsShare, seats_back}
-use Rattle.rounds.specs.Seats.{AreSeats}
+use Rattle.searcher.specs.Tables.{AreSeats}
 use Rattle.rounds.specs.Going.{SeatsGoOn}
 use Rattle.rounds.proofs.Shares.{back_count, back_seats}
 use Rattle.rounds.proofs.Going.{seats_none, each_more, back_goes_on}

@@ -9,49 +9,47 @@ use Rattle.problems.proofs.Winning.{nothing_at_once}
 use Rattle.rounds.proofs.Going.{seats_none, seats_more}
 use Rattle.rounds.proofs.solving.solve_over.Goals as goal
 
-pub returns-in_err-problem-clause-go_on : goal.returns-in_err-problem-clause-go_on
-returns-in_err-problem-clause-go_on g c = seats_none g.T.Gate.keeps c.args.slots.now c.args.seats.now.items c.requires
-
 pub loop-number-init : goal.loop-number-init
 loop-number-init g c = record {
   count = refl;
-  seats = search rules;
-  go_on = seats_none g.T.Gate.keeps c.args.slots.now c.args.seats.now.items c.requires;
-  nothing = nothing_at_once c.of-root.result.goal c.of-root.result.board;
+  seats = c.requires;
+  go_on = seats_none g.T.Gate.keeps c.args.task.now.slots.now c.args.seats.now.items c.requires.2;
+  nothing = nothing_at_once c.of.result.goal c.of.result.board;
 }
 
-pub returns-in-Ok-Some-clause-answer : goal.returns-in-Ok-Some-clause-answer
-returns-in-Ok-Some-clause-answer g c =
-    let r = c.of-root.result in
-    let p = c.in_ok-problem.ensures.problem in
+pub returns-in-Some-clause-answer : goal.returns-in-Some-clause-answer
+returns-in-Some-clause-answer g c =
+    let r = c.of.result in
+    let is = c.of.ensures in
     let n = 2 * c.loop-number.number + 1 in
     let first = c.index-deref-from.result in
-    subst (λ (at : Goal × PlainBoard × ℕ). IsAnswer at.0 at.1 at.2 (Mate n first)) (λ i. ((c.of-root.ensures.goal ∙ p.plays_for) i, (c.of-root.ensures.position ∙ p.position) i, p.within i))
-    (answered r.goal r.board r.moves.items c.of-root.ensures.lists c.loop-number.number n c.in_ok-problem.problem.limit c.in-Ok-Some.job first
+    subst (λ (at : Goal × PlainBoard × ℕ). IsAnswer at.0 at.1 at.2 (Mate n first)) (λ i. (is.goal i, is.position i, is.limit i))
+    (answered r.goal r.board r.moves.items is.lists c.loop-number.number n r.limit c.in-Some.job first
     refl (search rules) c.loop-number.invariant.nothing
-    (move_at r.moves.items c.deref.result.now c.from.result c.in-Ok-Some.job first c.deref.ensures.0 c.from.ensures c.index-deref-from.is)
-    (subst (EndsRound r n) c.in-Ok-Some.field-0-is c.in-Ok-Some.ensures.end))
+    (move_at r.moves.items c.deref.result.now c.from.result c.in-Some.job first c.deref.ensures.0 c.from.ensures c.index-deref-from.is)
+    (subst (EndsRound r n) c.in-Some.is c.in_ok-job.ensures.end))
 
 pub returns-clause-answer : goal.returns-clause-answer
 returns-clause-answer g c =
-    let p = c.in_ok-problem.ensures.problem in
-    subst (λ (at : Goal × PlainBoard × ℕ). IsAnswer at.0 at.1 at.2 (NoneWithin c.in_ok-problem.problem.limit)) (λ i. ((c.of-root.ensures.goal ∙ p.plays_for) i, (c.of-root.ensures.position ∙ p.position) i, p.within i))
+    let r = c.of.result in
+    let is = c.of.ensures in
+    subst (λ (at : Goal × PlainBoard × ℕ). IsAnswer at.0 at.1 at.2 (NoneWithin r.limit)) (λ i. (is.goal i, is.position i, is.limit i))
     (refl, λ n within. c.loop-number.invariant.nothing n (omega (arith, within, c.loop-number-test.false)))
 
-pub returns-in-Ok-Some-clause-go_on : goal.returns-in-Ok-Some-clause-go_on
-returns-in-Ok-Some-clause-go_on g c =
-    seats_more g.T.Gate.keeps c.args.slots.now c.args.seats.now.items c.loop-number.seats.items c.round.new.seats.items c.loop-number.invariant.go_on c.round.ensures.go_on
+pub returns-in-Some-clause-go_on : goal.returns-in-Some-clause-go_on
+returns-in-Some-clause-go_on g c =
+    seats_more g.T.Gate.keeps c.args.task.now.slots.now c.args.seats.now.items c.loop-number.seats.items c.round.new.seats.items c.loop-number.invariant.go_on c.round.ensures.go_on
 
-pub returns-in-Err-clause-go_on : goal.returns-in-Err-clause-go_on
-returns-in-Err-clause-go_on g c =
-    seats_more g.T.Gate.keeps c.args.slots.now c.args.seats.now.items c.loop-number.seats.items c.round.new.seats.items c.loop-number.invariant.go_on c.round.ensures.go_on
+pub returns-in_err-job-clause-go_on : goal.returns-in_err-job-clause-go_on
+returns-in_err-job-clause-go_on g c =
+    seats_more g.T.Gate.keeps c.args.task.now.slots.now c.args.seats.now.items c.loop-number.seats.items c.round.new.seats.items c.loop-number.invariant.go_on c.round.ensures.go_on
 
 pub loop-number-preserved : goal.loop-number-preserved
-loop-number-preserved g c = let r = c.of-root.result in record {
+loop-number-preserved g c = let r = c.of.result in record {
   count = c.round.ensures.seats.0 ∙ c.loop-number.invariant.count;
   seats = let i = c.loop-number.invariant.seats in
       (subst (λ n. 0 < n) (sym c.round.ensures.seats.0) i.0, subst (λ n. n ≤ 17) (sym c.round.ensures.seats.0) i.1, c.round.ensures.seats.1);
-  go_on = seats_more g.T.Gate.keeps c.args.slots.now c.args.seats.now.items c.loop-number.seats.items c.round.new.seats.items c.loop-number.invariant.go_on c.round.ensures.go_on;
-  nothing = more_rounds r.goal r.board r.moves.items c.of-root.ensures.lists c.loop-number.number (2 * c.loop-number.number + 1) refl c.loop-number.invariant.nothing
-      (subst (EndsRound r (2 * c.loop-number.number + 1)) c.in-Ok-None.field-0-is c.in-Ok-None.ensures.end);
+  go_on = seats_more g.T.Gate.keeps c.args.task.now.slots.now c.args.seats.now.items c.loop-number.seats.items c.round.new.seats.items c.loop-number.invariant.go_on c.round.ensures.go_on;
+  nothing = more_rounds r.goal r.board r.moves.items c.of.ensures.lists c.loop-number.number (2 * c.loop-number.number + 1) refl c.loop-number.invariant.nothing
+      (subst (EndsRound r (2 * c.loop-number.number + 1)) c.in_default.is c.in_ok-job.ensures.end);
 }

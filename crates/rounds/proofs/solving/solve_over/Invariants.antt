@@ -1,6 +1,6 @@
 use Rattle.std.proofs.Common.{◌≡◌, ◌*◌, length}
 use Rattle.problems.specs.Answer.{ForcesNothing}
-use Rattle.rounds.specs.Seats.{AreCallers}
+use Rattle.searcher.specs.Tables.{AreCallers}
 use Rattle.rounds.specs.Going.{SeatsGoOn}
 use Rattle.rounds.proofs.solving.solve_over.Given as goal
 

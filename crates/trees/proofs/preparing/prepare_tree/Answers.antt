@@ -17,7 +17,7 @@ pub for_each_mut-requires-clause-accepts : goal.for_each_mut-requires-clause-acc
 for_each_mut-requires-clause-accepts g c κs within = λ i p lt is.
     let seats = subst (All (IsSeatOf c.args.slots.now)) (sym c.as_mut_slice.ensures.value) c.requires.seats in (
       c.requires.plies,
-      subst (λ (b : PlainBoard). Forces c.args.wanted.now.goal b.mover b c.args.wanted.now.plies) (sym c.of-board.ensures) c.requires.fewest.forced,
+      subst (λ (b : PlainBoard). Forces c.args.problem.now.goal b.mover b c.args.plies) (sym c.of-board.ensures) c.requires.fewest.forced,
       subst (IsSeatOf c.args.slots.now) (sym is) (seats i p.now lt),
     )
 

@@ -1,84 +1,60 @@
-use Rattle.std.proofs.Common.{◌+◌, arith, refl, sym, subst}
-use Rattle.problems.specs.declared.answer.Answer.TheVariants as answer
+use Rattle.std.proofs.Common.{◌≡◌, ◌≤◌, ◌+◌, ◌∙◌, ℕ, List, Bool, Some, None, true, false, length, ap, arith, refl, sym, subst}
+use Rattle.std.proofs.lemmas.Option.{slice_get_within}
+use Rattle.board.specs.Board.{PlainBoard}
+use Rattle.rules.specs.declared.goal.Goal.{Goal}
+use Rattle.certificates.specs.declared.claim.Claim.{Claim}
 use Rattle.verifying.specs.declared.part.Part.{Part}
-use Rattle.verifying.specs.declared.part.Part.TheVariants.{No}
-use Rattle.verifying.specs.Parts.{HasShown}
-use Rattle.verifying.proofs.Standing.{yes_more, no_first, no_more}
-use Rattle.verifying.specs.Reading.{TakesWords}
-use Rattle.verifying.proofs.Refusing.{past_end}
+use Rattle.verifying.specs.declared.words.Word.{Word}
+use Rattle.verifying.specs.Certificate.{IsNoLine, IsSomeYesLine}
+use Rattle.verifying.specs.Reading.{IsLineAt, IsLineOf, ReadsWords, behind_yes, part_behind}
+use Rattle.verifying.specs.Yielding.{FindsOnly, YieldsOnly}
+use Rattle.verifying.proofs.Making.{finds_behind, nothing_behind, yields_none}
 use Rattle.verifying.proofs.checker.shown.Goals as goal
 
-pub returns-else-not-branch-2-clause-stands : goal.returns-else-not-branch-2-clause-stands
-returns-else-not-branch-2-clause-stands g c =
-    let old = c.args.claims.now in
-    let new = c.shows_yes.new.claims in
-    let mate = c.in-Yes.mate in
-    let before = subst (λ (part : Part). HasShown c.args.goal c.args.board.now part old) c.in-Yes.is c.requires in
-    c.behind_yes-in-Yes.ensures.stands c.args.goal c.args.board.now before.0
-    (yes_more c.args.goal old new c.args.board.now mate c.in-Yes.place c.shows_yes.ensures.more (omega (arith, c.if-place-len.false, c.len.ensures)) (c.in_ok-shows_yes-in-Yes.ensures.won c.if-not-branch-2.false) before.1)
+module _ (goal : Goal) (b : PlainBoard) (part this : Part) (words : List Word) (old new : List Claim) (is : part ≡ this) where
+  -- the words show a line of this part
+  found_behind : (shows : Bool) (next : Part) → shows ≡ true → YieldsOnly (IsLineOf goal b this words old) shows new → next ≡ part_behind this (length new) → FindsOnly (λ (next : Part) (more : List Claim). ReadsWords goal b part words old next more) (Some next) new
+  found_behind shows next so h comes =
+      subst (λ (p : Part). FindsOnly (λ (next : Part) (more : List Claim). ReadsWords goal b p words old next more) (Some next) new) (sym is)
+      (finds_behind (IsLineOf goal b this words old) (λ (more : List Claim). part_behind this (length more)) next new (subst (λ t. YieldsOnly (IsLineOf goal b this words old) t new) so h) comes)
 
-pub returns-else-not-branch-3-clause-stands : goal.returns-else-not-branch-3-clause-stands
-returns-else-not-branch-3-clause-stands g c =
-    let before = subst (λ (part : Part). HasShown c.args.goal c.args.board.now part c.args.claims.now) c.in-Lesser.is c.requires in
-    no_first c.args.goal c.shows_lesser.new.claims c.args.board.now c.in-Lesser.mate before.0 before.1 (c.in_ok-shows_lesser-in-Lesser.ensures.fewer c.if-not-branch-3.false)
+  none_behind : (shows : Bool) → shows ≡ false → YieldsOnly (IsLineOf goal b this words old) shows new → FindsOnly (λ (next : Part) (more : List Claim). ReadsWords goal b part words old next more) None new
+  none_behind shows out h =
+      subst (λ (p : Part). FindsOnly (λ (next : Part) (more : List Claim). ReadsWords goal b p words old next more) None new) (sym is)
+      (nothing_behind (IsLineOf goal b this words old) (λ (more : List Claim). part_behind this (length more)) new (subst (λ t. YieldsOnly (IsLineOf goal b this words old) t new) out h))
 
-pub returns-else-not-branch-4-clause-stands : goal.returns-else-not-branch-4-clause-stands
-returns-else-not-branch-4-clause-stands g c =
-    let before = subst (λ (part : Part). HasShown c.args.goal c.args.board.now part c.args.claims.now) c.in-No.is c.requires in
-    no_more c.args.goal c.args.claims.now c.shows_no.new.claims c.args.board.now c.in-No.answer c.in-No.place c.shows_no.ensures.more (omega (arith, c.if-place-len-2.false, c.len-in-No.ensures)) (c.in_ok-shows_no-in-No.ensures.holds c.if-not-branch-4.false) before
+-- no claim is at the place
+past_end : (IsLine : Claim → List Word → List Claim → List Claim → Type 0) (place : ℕ) (words : List Word) (old : List Claim) → length old ≤ place → YieldsOnly (IsLineAt IsLine place words old) false old
+past_end IsLine place words old past = yields_none (IsLineAt IsLine place words old) old (λ other line. let within = slice_get_within old place line.0 line.1 in omega (arith, within, past))
 
-pub returns-else-not-branch-clause-takes : goal.returns-else-not-branch-clause-takes
-returns-else-not-branch-clause-takes g c =
-    subst (λ (part : Part). TakesWords c.args.goal c.args.board.now part c.args.words.now c.args.claims.now c.behind_yes.result c.shows_win.new.claims) (sym c.in-Win.is)
-    (c.in_ok-shows_win-in-Win.ensures.tells c.if-not-branch.false, c.behind_yes.ensures.behind)
+pub returns-else-not-branch : goal.returns-else-not-branch
+returns-else-not-branch g c = found_behind c.args.goal c.args.board.now c.args.part _ c.args.words.now c.args.claims.now c.shows_win.new.claims c.in-Win.is _ c.behind_yes.result c.if-not-branch.false c.in_ok-shows_win-in-Win.ensures
+    (c.behind_yes.ensures ∙ ap (λ (n : ℕ). behind_yes c.in-Win.mate 1 n) c.len.ensures)
 
-pub returns-else-not-branch-2-clause-takes : goal.returns-else-not-branch-2-clause-takes
-returns-else-not-branch-2-clause-takes g c =
-    subst (λ (part : Part). TakesWords c.args.goal c.args.board.now part c.args.words.now c.args.claims.now c.behind_yes-in-Yes.result c.shows_yes.new.claims) (sym c.in-Yes.is)
-    (c.in_ok-shows_yes-in-Yes.ensures.tells c.if-not-branch-2.false, c.behind_yes-in-Yes.ensures.behind)
+pub returns-then-not-branch : goal.returns-then-not-branch
+returns-then-not-branch g c = none_behind c.args.goal c.args.board.now c.args.part _ c.args.words.now c.args.claims.now c.shows_win.new.claims c.in-Win.is _ c.if-not-branch.true c.in_ok-shows_win-in-Win.ensures
 
-pub returns-else-not-branch-3-clause-takes : goal.returns-else-not-branch-3-clause-takes
-returns-else-not-branch-3-clause-takes g c =
-    let mate = c.in-Lesser.mate in
-    let before = subst (λ (part : Part). HasShown c.args.goal c.args.board.now part c.args.claims.now) c.in-Lesser.is c.requires in
-    let wins = before.1.2 in
-    subst (λ (part : Part). TakesWords c.args.goal c.args.board.now part c.args.words.now c.args.claims.now (No (answer.Mate mate.plies mate.first) 0) c.shows_lesser.new.claims) (sym c.in-Lesser.is)
-    (c.in_ok-shows_lesser-in-Lesser.ensures.tells c.if-not-branch-3.false (wins.1, wins.2), refl)
+pub returns-then-place-len : goal.returns-then-place-len
+returns-then-place-len g c = none_behind c.args.goal c.args.board.now c.args.part _ c.args.words.now c.args.claims.now c.args.claims.now c.in-Yes.is false refl (past_end (IsSomeYesLine c.args.goal) c.in-Yes.place c.args.words.now c.args.claims.now (omega (arith, c.if-place-len.true, c.len-in-Yes.ensures)))
 
-pub returns-else-not-branch-4-clause-takes : goal.returns-else-not-branch-4-clause-takes
-returns-else-not-branch-4-clause-takes g c =
-    subst (λ (part : Part). TakesWords c.args.goal c.args.board.now part c.args.words.now c.args.claims.now (No c.in-No.answer (c.in-No.place + 1)) c.shows_no.new.claims) (sym c.in-No.is)
-    (c.in_ok-shows_no-in-No.ensures.tells c.if-not-branch-4.false, refl)
+pub returns-then-not-branch-2 : goal.returns-then-not-branch-2
+returns-then-not-branch-2 g c = none_behind c.args.goal c.args.board.now c.args.part _ c.args.words.now c.args.claims.now c.shows_yes.new.claims c.in-Yes.is _ c.if-not-branch-2.true c.in_ok-shows_yes-in-Yes.ensures
 
-pub returns-in-First-clause-refuses : goal.returns-in-First-clause-refuses
-returns-in-First-clause-refuses g c = λ apart next new takes. subst (λ (part : Part). TakesWords c.args.goal c.args.board.now part c.args.words.now c.args.claims.now next new) c.in-First.is takes
+pub returns-else-not-branch-2 : goal.returns-else-not-branch-2
+returns-else-not-branch-2 g c = found_behind c.args.goal c.args.board.now c.args.part _ c.args.words.now c.args.claims.now c.shows_yes.new.claims c.in-Yes.is _ _ c.if-not-branch-2.false c.in_ok-shows_yes-in-Yes.ensures
+    (c.behind_yes-in-Yes.ensures ∙ ap (λ (n : ℕ). behind_yes c.in-Yes.mate (c.in-Yes.place + 1) n) c.len-in-Yes-2.ensures)
 
-pub returns-then-not-branch-clause-refuses : goal.returns-then-not-branch-clause-refuses
-returns-then-not-branch-clause-refuses g c = λ apart next new takes.
-    let line = subst (λ (part : Part). TakesWords c.args.goal c.args.board.now part c.args.words.now c.args.claims.now next new) c.in-Win.is takes in
-    c.in_ok-shows_win-in-Win.ensures.refuses c.if-not-branch.true new line.0
+pub returns-then-not-branch-3 : goal.returns-then-not-branch-3
+returns-then-not-branch-3 g c = none_behind c.args.goal c.args.board.now c.args.part _ c.args.words.now c.args.claims.now c.shows_lesser.new.claims c.in-Lesser.is _ c.if-not-branch-3.true c.in_ok-shows_lesser-in-Lesser.ensures
 
-pub returns-then-place-len-clause-refuses : goal.returns-then-place-len-clause-refuses
-returns-then-place-len-clause-refuses g c = λ apart next new takes.
-    let line = subst (λ (part : Part). TakesWords c.args.goal c.args.board.now part c.args.words.now c.args.claims.now next new) c.in-Yes.is takes in
-    past_end c.args.claims.now c.in-Yes.place line.0.0 line.0.1 (omega (arith, c.if-place-len.true, c.len.ensures))
+pub returns-else-not-branch-3 : goal.returns-else-not-branch-3
+returns-else-not-branch-3 g c = found_behind c.args.goal c.args.board.now c.args.part _ c.args.words.now c.args.claims.now c.shows_lesser.new.claims c.in-Lesser.is _ _ c.if-not-branch-3.false c.in_ok-shows_lesser-in-Lesser.ensures refl
 
-pub returns-then-not-branch-2-clause-refuses : goal.returns-then-not-branch-2-clause-refuses
-returns-then-not-branch-2-clause-refuses g c = λ apart next new takes.
-    let line = subst (λ (part : Part). TakesWords c.args.goal c.args.board.now part c.args.words.now c.args.claims.now next new) c.in-Yes.is takes in
-    c.in_ok-shows_yes-in-Yes.ensures.refuses c.if-not-branch-2.true apart line.0.0 new line.0.1 line.0.2
+pub returns-then-place-len-2 : goal.returns-then-place-len-2
+returns-then-place-len-2 g c = none_behind c.args.goal c.args.board.now c.args.part _ c.args.words.now c.args.claims.now c.args.claims.now c.in-No.is false refl (past_end (IsNoLine c.args.goal) c.in-No.place c.args.words.now c.args.claims.now (omega (arith, c.if-place-len-2.true, c.len-in-No.ensures)))
 
-pub returns-then-not-branch-3-clause-refuses : goal.returns-then-not-branch-3-clause-refuses
-returns-then-not-branch-3-clause-refuses g c = λ apart next new takes.
-    let line = subst (λ (part : Part). TakesWords c.args.goal c.args.board.now part c.args.words.now c.args.claims.now next new) c.in-Lesser.is takes in
-    c.in_ok-shows_lesser-in-Lesser.ensures.refuses c.if-not-branch-3.true new line.0
+pub returns-then-not-branch-4 : goal.returns-then-not-branch-4
+returns-then-not-branch-4 g c = none_behind c.args.goal c.args.board.now c.args.part _ c.args.words.now c.args.claims.now c.shows_no.new.claims c.in-No.is _ c.if-not-branch-4.true c.in_ok-shows_no-in-No.ensures
 
-pub returns-then-place-len-2-clause-refuses : goal.returns-then-place-len-2-clause-refuses
-returns-then-place-len-2-clause-refuses g c = λ apart next new takes.
-    let line = subst (λ (part : Part). TakesWords c.args.goal c.args.board.now part c.args.words.now c.args.claims.now next new) c.in-No.is takes in
-    past_end c.args.claims.now c.in-No.place line.0.0 line.0.1 (omega (arith, c.if-place-len-2.true, c.len-in-No.ensures))
-
-pub returns-then-not-branch-4-clause-refuses : goal.returns-then-not-branch-4-clause-refuses
-returns-then-not-branch-4-clause-refuses g c = λ apart next new takes.
-    let line = subst (λ (part : Part). TakesWords c.args.goal c.args.board.now part c.args.words.now c.args.claims.now next new) c.in-No.is takes in
-    c.in_ok-shows_no-in-No.ensures.refuses c.if-not-branch-4.true apart line.0.0 new line.0.1 line.0.2
+pub returns-else-not-branch-4 : goal.returns-else-not-branch-4
+returns-else-not-branch-4 g c = found_behind c.args.goal c.args.board.now c.args.part _ c.args.words.now c.args.claims.now c.shows_no.new.claims c.in-No.is _ _ c.if-not-branch-4.false c.in_ok-shows_no-in-No.ensures refl

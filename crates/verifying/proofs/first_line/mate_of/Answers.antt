@@ -1,37 +1,17 @@
-use Rattle.std.proofs.Common.{arith, ◌+◌, ◌/◌, ◌∙◌, sym}
-use Rattle.std.proofs.lemmas.Fmt.{decimal_injective}
+use Rattle.std.proofs.Common.{◌≢◌, ◌++◌, ◌∷◌, arith}
+use borrow.Author.Count.{below_more}
+use Rattle.std.specs.Fmt.{decimal}
 use Rattle.rules.specs.MoveText.{move_text}
-use Rattle.verifying.proofs.FirstTexts.{space_at, some_space, number_there, name_there, rest_bytes}
+use Rattle.rules.specs.Squares.{Ply}
+use Rattle.certificates.specs.Answers.{IsOdd}
+use Rattle.verifying.specs.FirstLine.{HasName}
 use Rattle.verifying.proofs.first_line.mate_of.Goals as goal
 
-pub returns-clause-plies : goal.returns-clause-plies
-returns-clause-plies c = ((c.in_ok-plies.plies / 2, omega (arith, c.if-plies-eq0.false)), c.in_ok-plies.ensures.1)
+pub loop-plies-init : goal.loop-plies-init
+loop-plies-init c = λ n less m odd named is. omega (arith, less, odd.1)
 
-pub returns-in_err-space-clause-text : goal.returns-in_err-space-clause-text
-returns-in_err-space-clause-text c = rw c.from_residual.ensures (λ n m odd few named is. some_space c.args.text.now (move_text m) n is c.in_err-space.ensures)
+pub loop-plies-preserved : goal.loop-plies-preserved
+loop-plies-preserved c = below_more (λ n. (m : Ply) → IsOdd n → HasName m → c.args.text.now ≢ decimal n ++ 32 ∷ move_text m) c.loop-plies.plies c.loop-plies.invariant c.in_default.ensures
 
-pub returns-in_err-plies-clause-text : goal.returns-in_err-plies-clause-text
-returns-in_err-plies-clause-text c = rw c.from_residual-in_err-plies.ensures (λ n m odd few named is.
-    let text = c.args.text.now in
-    let space = c.in_ok-space.space in
-    let there = c.in_ok-space.ensures in
-    let at = space_at text (move_text m) n space few is there.0 there.1 there.2 in
-    c.in_err-plies.ensures n (omega (arith, odd.1)) few (number_there text (move_text m) n space is at))
-
-pub returns-then-plies-eq0-clause-text : goal.returns-then-plies-eq0-clause-text
-returns-then-plies-eq0-clause-text c = λ n m odd few named is.
-    let text = c.args.text.now in
-    let space = c.in_ok-space.space in
-    let there = c.in_ok-space.ensures in
-    let at = space_at text (move_text m) n space few is there.0 there.1 there.2 in
-    let read = c.in_ok-plies.ensures in
-    let same = decimal_injective n c.in_ok-plies.plies (omega (arith, few)) (omega (arith, read.1)) (number_there text (move_text m) n space is at ∙ sym read.2) in
-    omega (arith, same, odd.1, c.if-plies-eq0.true)
-
-pub returns-in_err-first-clause-text : goal.returns-in_err-first-clause-text
-returns-in_err-first-clause-text c = rw c.from_residual-in_err-first.ensures (λ n m odd few named is.
-    let text = c.args.text.now in
-    let space = c.in_ok-space.space in
-    let there = c.in_ok-space.ensures in
-    let at = space_at text (move_text m) n space few is there.0 there.1 there.2 in
-    c.in_err-first.ensures m named (name_there text (move_text m) n space is at ∙ sym (rest_bytes text (space + 1))))
+pub returns-clause-text : goal.returns-clause-text
+returns-clause-text c = λ n m odd few. c.loop-plies.invariant n (omega (arith, few, c.loop-plies-test.false)) m odd

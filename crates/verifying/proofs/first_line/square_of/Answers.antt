@@ -1,4 +1,4 @@
-use Rattle.verifying.proofs.FirstTexts.{square_heads}
+use Rattle.verifying.proofs.OneAnswer.{square_heads}
 use Rattle.verifying.proofs.first_line.square_of.Goals as goal
 
 pub returns-in_err-file : goal.returns-in_err-file

@@ -1,7 +1,9 @@
-use Rattle.std.proofs.Common.{take, All}
-use Rattle.verifying.proofs.Leaves.{Loses}
+use Rattle.std.proofs.Common.{All, false, take}
+use Rattle.board.specs.Games.{other_side}
+use Rattle.problems.specs.Questions.{question}
+use Rattle.problems.specs.Tried.{IsPassed}
 use Rattle.verifying.proofs.leaf.loses_in_two.Given as goal
 
 -- each move so far loses
 abbrev pub invariant-loop-m : goal.invariant-loop-m
-invariant-loop-m l = All (Loses l.goal l.board 1) (take l.m-index l.m-items)
+invariant-loop-m l = All (IsPassed (question l.board (other_side l.board.mover) l.goal) 1 false) (take l.m-index l.m-items)

@@ -1,14 +1,13 @@
-use Rattle.std.proofs.Common.{◌≡◌, length, take, All}
-use Rattle.certificates.specs.Claims.{FailsBy}
-use Rattle.verifying.specs.Growing.{Extends}
-use Rattle.verifying.specs.Certificate.{TellInTurn, FailsBecause}
+use Rattle.std.proofs.Common.{◌≡◌, length}
+use Rattle.verifying.specs.Reading.{AreApart}
+use Rattle.verifying.specs.Certificate.{FailsBecause}
+use Rattle.verifying.proofs.Making.{IsLeft}
 use Rattle.verifying.proofs.no_claims.all_fail.Given as goal
 
--- each move so far fails over the claims as they are now
+-- what is left to tell are the moves from here on
 abbrev pub invariant-loop-i : goal.invariant-loop-i
 invariant-loop-i g l = record {
   same_length : length l.words ≡ length l.moves;
-  more : Extends l.fn.claims l.claims;
-  told : TellInTurn (FailsBecause l.goal l.claim.position l.claim.plies) (take l.i l.moves) (take l.i l.words) l.fn.claims l.claims;
-  failed : All (FailsBy l.goal l.claims l.claim.position l.claim.plies) (take l.i l.moves);
+  apart : AreApart l.claims;
+  left : IsLeft (FailsBecause l.goal l.claim.position l.claim.plies) l.moves l.words l.fn.claims l.i l.claims;
 }

@@ -1,8 +1,7 @@
-use Rattle.std.proofs.Common.{List, take, All}
-use Rattle.certificates.specs.declared.claim.Claim.{Claim}
-use Rattle.certificates.specs.Claims.{FailsBy}
+use Rattle.std.proofs.Common.{take, All}
+use Rattle.verifying.specs.Certificate.{ReachesNothing}
 use Rattle.verifying.proofs.no_claims.none_reaches.Given as goal
 
--- each move so far fails
+-- none of the moves so far reaches the goal
 abbrev pub invariant-loop-m : goal.invariant-loop-m
-invariant-loop-m l = (claims : List Claim) → All (FailsBy l.goal claims l.board 1) (take l.m-index l.moves)
+invariant-loop-m l = All (ReachesNothing l.goal l.board) (take l.m-index l.moves)

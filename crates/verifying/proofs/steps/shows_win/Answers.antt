@@ -1,44 +1,32 @@
-use Rattle.std.proofs.Common.{List, Option, IfSome, IfNone, refl, sym, ◌∙◌, subst}
-use Rattle.std.proofs.lemmas.Bool.{false≢true}
-use Rattle.verifying.specs.Growing.{AreApart}
+use Rattle.std.proofs.Common.{◌≡◌, ◌∙◌, ℕ, List, [], Option, None, Some, ap, slice_get, subst, sym}
+use Rattle.std.proofs.lemmas.Option.{same_Some}
+use Rattle.board.specs.Board.{PlainBoard}
+use Rattle.rules.specs.declared.goal.Goal.{Goal}
 use Rattle.rules.specs.Squares.{Ply}
-use Rattle.certificates.specs.Claims.{WinsBy}
-use Rattle.verifying.proofs.Mates.{first_wins, first_won}
 use Rattle.certificates.specs.declared.claim.Claim.{Claim}
-use Rattle.verifying.specs.Certificate.{IsYesLine}
-use Rattle.verifying.proofs.Telling.{first_told}
-use Rattle.verifying.proofs.Refusing.{first_untold, one_named}
+use Rattle.verifying.specs.declared.words.Word.{Word}
+use Rattle.verifying.specs.Certificate.{IsYesLine, with_claim}
+use Rattle.verifying.specs.Yielding.{FindsOnly}
+use Rattle.verifying.proofs.Making.{not_found, this_found}
 use Rattle.verifying.proofs.steps.shows_win.Goals as goal
 
-pub returns-in-Some-clause-wins : goal.returns-in-Some-clause-wins
-returns-in-Some-clause-wins g c = λ yes.
-    let new = c.winning_move.new.claims in
-    let read = c.claim-claim.result in
-    let wins = subst (λ (found : Option Ply). IfSome found (WinsBy c.args.goal new read.position read.plies)) c.in-Some.is c.in_ok-m.ensures.wins in
-    first_wins c.args.goal c.args.claims.now c.push.new.self new c.args.board.now c.args.mate.plies read c.in-Some.m c.args.mate.first c.requires c.in_ok-push.ensures.ok c.claim-claim.ensures wins (c.is_same.ensures.0 yes)
+-- the claim that is read is the one that was made
+of_first : (goal : Goal) (b : PlainBoard) (n : ℕ) (words : List Word) (none start new : List Claim) (read : Claim) (found made : Option Ply) → none ≡ [] → start ≡ with_claim none b n → slice_get start 0 ≡ Some read → made ≡ found → FindsOnly (λ (m : Ply) (other : List Claim). IsYesLine goal read m words start other) made new
+    → FindsOnly (λ (m : Ply) (other : List Claim). IsYesLine goal (record { position = b; plies = n }) m words (with_claim [] b n) other) found new
+of_first goal b n words none start new read found made empty is at one h =
+    let begun : start ≡ with_claim [] b n = is ∙ ap (λ (l : List Claim). with_claim l b n) empty in
+    let same : read ≡ record { position = b; plies = n } = same_Some read _ (sym at ∙ ap (λ (l : List Claim). slice_get l 0) begun) in
+    subst (λ (c : Claim). FindsOnly (λ (m : Ply) (other : List Claim). IsYesLine goal c m words (with_claim [] b n) other) found new) same
+    (subst (λ (l : List Claim). FindsOnly (λ (m : Ply) (other : List Claim). IsYesLine goal read m words l other) found new) begun
+    (subst (λ (o : Option Ply). FindsOnly (λ (m : Ply) (other : List Claim). IsYesLine goal read m words start other) o new) one h))
 
-pub returns-in-Some-clause-won : goal.returns-in-Some-clause-won
-returns-in-Some-clause-won g c = λ yes.
-    let new = c.winning_move.new.claims in
-    let read = c.claim-claim.result in
-    let wins = subst (λ (found : Option Ply). IfSome found (WinsBy c.args.goal new read.position read.plies)) c.in-Some.is c.in_ok-m.ensures.wins in
-    first_won c.args.goal c.args.claims.now c.push.new.self new c.args.board.now c.args.mate.plies read c.in-Some.m c.args.mate.first c.requires c.in_ok-push.ensures.ok c.claim-claim.ensures wins c.winning_move.ensures.more
+pub returns-in-Some : goal.returns-in-Some
+returns-in-Some g c =
+    this_found (λ (m : Ply) (other : List Claim). IsYesLine c.args.goal (record { position = c.args.board.now; plies = c.args.mate.plies }) m c.args.words.now (with_claim [] c.args.board.now c.args.mate.plies) other) c.in-Some.m c.args.mate.first c.is_same.result c.winning_move.new.claims
+    (of_first c.args.goal c.args.board.now c.args.mate.plies c.args.words.now c.clear.new.self c.push.new.self c.winning_move.new.claims c.claim-claim.result (Some c.in-Some.m) _ c.clear.ensures c.in_ok-push.ensures.ok c.claim-claim.ensures c.in-Some.is c.in_ok-m.ensures)
+    c.is_same.ensures
 
-pub returns-in-Some-clause-tells : goal.returns-in-Some-clause-tells
-returns-in-Some-clause-tells g c = λ yes.
-    let read = c.claim-claim.result in
-    let told = subst (λ (found : Option Ply). IfSome found (λ m. IsYesLine c.args.goal read m c.args.words.now c.push.new.self c.winning_move.new.claims)) c.in-Some.is c.in_ok-m.ensures.tells in
-    first_told c.args.goal c.args.claims.now c.push.new.self c.winning_move.new.claims c.args.board.now c.args.mate.plies read c.in-Some.m c.args.mate.first c.args.words.now c.requires c.in_ok-push.ensures.ok c.claim-claim.ensures (c.is_same.ensures.0 yes) told
-
-pub returns-in-Some-clause-refuses : goal.returns-in-Some-clause-refuses
-returns-in-Some-clause-refuses g c = λ out new line.
-    let read = c.claim-claim.result in
-    let told = subst (λ (found : Option Ply). IfSome found (λ m. IsYesLine c.args.goal read m c.args.words.now c.push.new.self c.winning_move.new.claims)) c.in-Some.is c.in_ok-m.ensures.tells in
-    let mine = first_told c.args.goal c.args.claims.now c.push.new.self c.winning_move.new.claims c.args.board.now c.args.mate.plies read c.in-Some.m c.in-Some.m c.args.words.now c.requires c.in_ok-push.ensures.ok c.claim-claim.ensures refl told in
-    false≢true (sym out ∙ c.is_same.ensures.1 (one_named c.args.goal (record { position = c.args.board.now; plies = c.args.mate.plies }) c.in-Some.m c.args.mate.first c.args.words.now _ _ _ _ mine line))
-
-pub returns-in-None-clause-refuses : goal.returns-in-None-clause-refuses
-returns-in-None-clause-refuses g c = λ out.
-    let read = c.claim-claim.result in
-    let refuses = subst (λ (found : Option Ply). IfNone found (AreApart c.push.new.self → (m : Ply) (new : List Claim) → IsYesLine c.args.goal read m c.args.words.now c.push.new.self new → ⊥)) c.in-None.is c.in_ok-m.ensures.refuses in
-    first_untold c.args.goal c.args.claims.now c.push.new.self c.args.board.now c.args.mate.plies read c.args.mate.first c.args.words.now c.requires c.in_ok-push.ensures.ok c.claim-claim.ensures refuses
+pub returns-in-None : goal.returns-in-None
+returns-in-None g c =
+    not_found (λ (m : Ply) (other : List Claim). IsYesLine c.args.goal (record { position = c.args.board.now; plies = c.args.mate.plies }) m c.args.words.now (with_claim [] c.args.board.now c.args.mate.plies) other) c.args.mate.first c.winning_move.new.claims
+    (of_first c.args.goal c.args.board.now c.args.mate.plies c.args.words.now c.clear.new.self c.push.new.self c.winning_move.new.claims c.claim-claim.result None _ c.clear.ensures c.in_ok-push.ensures.ok c.claim-claim.ensures c.in-None.is c.in_ok-m.ensures)

@@ -1,7 +1,7 @@
 use Rattle.std.proofs.Common.{◌≡◌, Some, ap}
 use Rattle.verifying.specs.declared.fault.Fault.TheVariants.{NoMemory, ReadFailed}
 use Rattle.verifying.specs.Certificate.{IsCertificate, IsRefusedWith}
-use Rattle.verifying.proofs.Reading.{ok_of_known, err_of_known}
+use Rattle.verifying.proofs.Inputs.{ok_of_known, err_of_known}
 use Rattle.verifying.proofs.whole.verify.Goals as goal
 
 pub returns-clause-certificate : goal.returns-clause-certificate

@@ -1,7 +1,8 @@
 use Rattle.std.proofs.Common.{Bool, List, ◌∷◌, ◌++◌, [], ℕ, true, false, refl, sym, subst, arith}
+use Rattle.std.proofs.lemmas.Result.{IfOk-from_err}
 use Rattle.devices.specs.Lines.{left_of}
 use Rattle.devices.specs.Within.{ReadsText}
-use Rattle.verifying.proofs.Inputs.{any_told, ended_answered, ended_certified, ended_refused, ended_told, line_refused, more_gone, none_failed, none_gone, not_read, refusal_told, unread_refused}
+use Rattle.verifying.proofs.Inputs.{any_told, ended_answered, ended_certified, ended_refused, ended_told, line_refused, more_gone, none_failed, none_gone, not_read, unread_refused}
 use Rattle.verifying.proofs.whole.verify_input.Goals as goal
 
 pub loop-init : goal.loop-init
@@ -31,16 +32,15 @@ loop-preserved g c =
 
 -- ---- the end
 
-pub returns-then-not-branch-clause-answer : goal.returns-then-not-branch-clause-answer
-returns-then-not-branch-clause-answer g c =
-    ended_answered c.args.goal c.args.board.now (g.S.Source.remaining c.args.reader.now) (left_of c.loop.unread (g.S.Source.remaining c.loop.reader)) c.loop.checker c.ended.result c.ended.ensures.proves c.loop.invariant.read
-
 pub returns-then-not-branch-clause-certificate : goal.returns-then-not-branch-clause-certificate
 returns-then-not-branch-clause-certificate g c =
     let now = left_of c.loop.unread (g.S.Source.remaining c.loop.reader) in
     let after = left_of c.next_line_within.new.self (g.S.Source.remaining c.next_line_within.new.reader) in
     let next = subst (λ (l : List ℕ). ReadsText now after l false) (sym c.as_slice.ensures.value) (subst (λ (fed : Bool). ReadsText now after c.next_line_within.new.line.items fed) c.if-not-branch.true c.in_ok-next_line_within.ensures.reads) in
     ended_certified c.args.goal c.args.board.now (g.S.Source.remaining c.args.reader.now) now c.loop.checker c.as_slice.result.now c.ended.result c.ended.ensures.proves c.ended.ensures.whole next.1 c.loop.invariant.read
+
+pub returns-then-not-branch-clause-answer : goal.returns-then-not-branch-clause-answer
+returns-then-not-branch-clause-answer g c = ended_answered c.args.goal c.args.board.now (g.S.Source.remaining c.args.reader.now) c.ended.result (returns-then-not-branch-clause-certificate g c)
 
 pub returns-then-not-branch-clause-refused : goal.returns-then-not-branch-clause-refused
 returns-then-not-branch-clause-refused g c =
@@ -64,7 +64,7 @@ returns-in_err-take-clause-refused g c =
 
 pub returns-in_err-take-clause-text : goal.returns-in_err-take-clause-text
 returns-in_err-take-clause-text g c =
-    refusal_told c.args.goal c.args.board.now (g.S.Source.remaining c.args.reader.now) c.in_err-take.field-0.0 c.from_residual-in_err-take.result c.from_residual-in_err-take.ensures (returns-in_err-take-clause-refused g c)
+    ended_told c.args.goal c.args.board.now (g.S.Source.remaining c.args.reader.now) c.from_residual-in_err-take.result (IfOk-from_err c.from_residual-in_err-take.result _ c.from_residual-in_err-take.ensures.0) (returns-in_err-take-clause-refused g c)
 
 pub returns-in_err-next_line_within-clause-refused : goal.returns-in_err-next_line_within-clause-refused
 returns-in_err-next_line_within-clause-refused g c =
@@ -73,7 +73,7 @@ returns-in_err-next_line_within-clause-refused g c =
 
 pub returns-in_err-next_line_within-clause-text : goal.returns-in_err-next_line_within-clause-text
 returns-in_err-next_line_within-clause-text g c =
-    refusal_told c.args.goal c.args.board.now (g.S.Source.remaining c.args.reader.now) _ c.from_residual.result c.from_residual.ensures (returns-in_err-next_line_within-clause-refused g c)
+    ended_told c.args.goal c.args.board.now (g.S.Source.remaining c.args.reader.now) c.from_residual.result (IfOk-from_err c.from_residual.result _ c.from_residual.ensures.0) (returns-in_err-next_line_within-clause-refused g c)
 
 -- ---- lines without end
 

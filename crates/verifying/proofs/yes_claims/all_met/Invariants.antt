@@ -1,14 +1,13 @@
-use Rattle.std.proofs.Common.{◌≡◌, length, take, All}
-use Rattle.verifying.specs.Growing.{Extends}
-use Rattle.verifying.specs.Wins.{IsReplyMet}
-use Rattle.verifying.specs.Certificate.{TellInTurn, MeetsReply}
+use Rattle.std.proofs.Common.{◌≡◌, length}
+use Rattle.verifying.specs.Reading.{AreApart}
+use Rattle.verifying.specs.Certificate.{MeetsReply}
+use Rattle.verifying.proofs.Making.{IsLeft}
 use Rattle.verifying.proofs.yes_claims.all_met.Given as goal
 
--- each reply so far is met over the claims as they are now
+-- what is left to tell are the replies from here on
 abbrev pub invariant-loop-i : goal.invariant-loop-i
 invariant-loop-i g l = record {
   same_length : length l.words ≡ length l.replies.items;
-  more : Extends l.fn.claims l.claims;
-  told : TellInTurn (MeetsReply l.goal l.board l.left) (take l.i l.replies.items) (take l.i l.words) l.fn.claims l.claims;
-  met : All (IsReplyMet l.goal l.claims l.board l.left) (take l.i l.replies.items);
+  apart : AreApart l.claims;
+  left : IsLeft (MeetsReply l.goal l.board l.left) l.replies.items l.words l.fn.claims l.i l.claims;
 }

@@ -1,23 +1,16 @@
-use Rattle.std.proofs.Common.{arith, sym, ◌∙◌, ◌+◌, ◌*◌}
-use Rattle.verifying.proofs.Growing.{extends_same, claimed_few}
-use Rattle.verifying.proofs.Telling.{none_found}
-use Rattle.verifying.proofs.Refusing.{some_found}
+use Rattle.std.proofs.Common.{◌∙◌, arith, refl, sym}
+use Rattle.verifying.specs.Certificate.{MakesClaim}
+use Rattle.verifying.proofs.Making.{yields_none, yields_one}
 use Rattle.verifying.proofs.yes_claims.claim_anew.Goals as goal
 
-pub returns-in_err-push-clause-more : goal.returns-in_err-push-clause-more
-returns-in_err-push-clause-more g c = extends_same c.args.claims.now c.push.new.self c.in_err-push.ensures.err
+pub returns-then-place-left : goal.returns-then-place-left
+returns-then-place-left g c = yields_none (MakesClaim c.args.position.now c.args.left c.args.place c.args.claims.now) c.args.claims.now (λ other makes. omega (arith, makes.1))
 
-pub returns-clause-claimed : goal.returns-clause-claimed
-returns-clause-claimed g c = λ _. claimed_few c.args.claims.now c.push.new.self c.args.position.now (2 * c.args.place + 1) c.args.left (omega arith) c.in_ok-push.ensures.ok
+pub returns-in-Some : goal.returns-in-Some
+returns-in-Some g c = yields_none (MakesClaim c.args.position.now c.args.left c.args.place c.args.claims.now) c.args.claims.now (λ other makes. makes.0 _ c.in-Some.ensures refl)
 
-pub returns-clause-tells : goal.returns-clause-tells
-returns-clause-tells g c = λ _. (none_found c.find.result _ _ (sym c.is_some.ensures ∙ c.if-is_some.false) c.find.ensures, omega arith, c.in_ok-push.ensures.ok)
-
-pub returns-then-place-gt-MOST_PLACE-clause-refuses : goal.returns-then-place-gt-MOST_PLACE-clause-refuses
-returns-then-place-gt-MOST_PLACE-clause-refuses g c = λ out new makes. omega (arith, makes.1, c.if-place-gt-MOST_PLACE.true, c.ranges.left)
-
-pub returns-then-is_some-clause-refuses : goal.returns-then-is_some-clause-refuses
-returns-then-is_some-clause-refuses g c = λ out new. some_found c.args.claims.now c.args.position.now c.find.result c.args.left c.args.place new (sym c.is_some.ensures ∙ c.if-is_some.true) c.find.ensures
-
-pub returns-then-plies-left-clause-refuses : goal.returns-then-plies-left-clause-refuses
-returns-then-plies-left-clause-refuses g c = λ out new makes. omega (arith, makes.1, c.if-plies-left.true)
+pub returns-in_ok-push-in-None : goal.returns-in_ok-push-in-None
+returns-in_ok-push-in-None g c = yields_one (MakesClaim c.args.position.now c.args.left c.args.place c.args.claims.now) c.push.new.self (λ other. (
+  λ makes. makes.2 ∙ sym c.in_ok-push-in-None.ensures.ok,
+  λ is. (c.in-None.ensures, omega arith, is ∙ c.in_ok-push-in-None.ensures.ok),
+))

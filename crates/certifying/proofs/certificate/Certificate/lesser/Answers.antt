@@ -1,4 +1,4 @@
-use Rattle.verifying.proofs.Mates.{front_lawful}
+use Rattle.verifying.proofs.Failing.{front_lawful}
 use Rattle.certifying.proofs.certificate.Certificate.lesser.Goals as goal
 
 pub no_words-requires-clause-lawful : goal.no_words-requires-clause-lawful

@@ -1,6 +1,7 @@
 use Rattle.std.proofs.Common.{arith, ap, length}
 use Rattle.std.proofs.lemmas.Grind.{common_steps}
-use Rattle.verifying.proofs.Checked.{end_proved, end_wrong, no_read}
+use Rattle.verifying.specs.Reading.{answer_of}
+use Rattle.verifying.proofs.Refused.{end_proved, end_wrong, no_read}
 use Rattle.verifying.proofs.checker.Checker.ended.Goals as goal
 
 pub returns-then-not-is_empty-clause-refuses : goal.returns-then-not-is_empty-clause-refuses
@@ -9,13 +10,13 @@ returns-then-not-is_empty-clause-refuses g c = λ memory none.
 
 pub returns-in-None-clause-refuses : goal.returns-in-None-clause-refuses
 returns-in-None-clause-refuses g c = λ memory none.
-    end_wrong c.args.self.now c.args.rest.now c.fault-in-None.result c.fault-in-None.ensures (λ empty. c.in-None.ensures.unfinished) none
+    end_wrong c.args.self.now c.args.rest.now c.fault-in-None.result c.fault-in-None.ensures (λ empty. c.in-None.ensures) none
 
 pub returns-then-not-is_empty-clause-unread : goal.returns-then-not-is_empty-clause-unread
-returns-then-not-is_empty-clause-unread g c = no_read c.args.self.now.part c.args.self.now.number c.fault.result c.fault.ensures
+returns-then-not-is_empty-clause-unread g c = no_read (answer_of c.args.self.now.part) c.args.self.now.number c.fault.result c.fault.ensures
 
 pub returns-in-None-clause-unread : goal.returns-in-None-clause-unread
-returns-in-None-clause-unread g c = no_read c.args.self.now.part c.args.self.now.number c.fault-in-None.result c.fault-in-None.ensures
+returns-in-None-clause-unread g c = no_read (answer_of c.args.self.now.part) c.args.self.now.number c.fault-in-None.result c.fault-in-None.ensures
 
 pub returns-in-Some-clause-proves : goal.returns-in-Some-clause-proves
-returns-in-Some-clause-proves g c = end_proved c.args.self.now c.in-Some.answer c.in-Some.ensures.whole.0 c.in-Some.ensures.whole.1 c.in-Some.ensures.whole.2 c.in-Some.ensures.certified
+returns-in-Some-clause-proves g c = end_proved c.args.self.now c.in-Some.answer c.in-Some.ensures

@@ -1,6 +1,7 @@
 use Rattle.std.proofs.Common.{ℕ, ◌+◌, ◌∷◌, refl, ap, arith}
 use Rattle.verifying.specs.declared.fault.Fault.TheVariants.{TooLong}
-use Rattle.verifying.proofs.Checked.{line_long, line_taken, line_wrong, no_read}
+use Rattle.verifying.specs.Reading.{answer_of}
+use Rattle.verifying.proofs.Refused.{line_long, line_taken, line_wrong, no_read}
 use Rattle.verifying.proofs.checker.Checker.take.Goals as goal
 
 pub returns-then-line-gt-MOST_LINE-clause-refuses : goal.returns-then-line-gt-MOST_LINE-clause-refuses
@@ -8,12 +9,11 @@ returns-then-line-gt-MOST_LINE-clause-refuses g c = λ memory none rest. line_lo
 
 pub returns-in_default-clause-refuses : goal.returns-in_default-clause-refuses
 returns-in_default-clause-refuses g c = λ memory none rest.
-    line_wrong c.args.self.now c.args.line.now rest c.fault-fault.result c.fault-fault.ensures (rw c.in_default.is at c.in_ok-part.ensures.refuses) none
+    line_wrong c.args.self.now c.args.line.now rest c.part_behind.new.self.claims c.fault-fault.result c.fault-fault.ensures (rw c.in_default.is at c.in_ok-part.ensures.reads) none
 
 pub returns-in_default-clause-unread : goal.returns-in_default-clause-unread
-returns-in_default-clause-unread g c = no_read c.args.self.now.part c.args.self.now.number c.fault-fault.result c.fault-fault.ensures
+returns-in_default-clause-unread g c = no_read (answer_of c.args.self.now.part) c.args.self.now.number c.fault-fault.result c.fault-fault.ensures
 
 pub returns-clause-takes : goal.returns-clause-takes
 returns-clause-takes g c =
-    line_taken c.args.self.now _ c.args.line.now (omega arith) c.part_behind.ensures.about.0 c.part_behind.ensures.about.1 (ap (λ (n : ℕ). n + 1) c.part_behind.ensures.counts)
-    (rw c.in-Some.is at c.in_ok-part.ensures.reads) (rw c.in-Some.is at c.in_ok-part.ensures.stands)
+    line_taken c.args.self.now _ c.args.line.now c.part_behind.ensures.about.0 c.part_behind.ensures.about.1 (ap (λ (n : ℕ). n + 1) c.part_behind.ensures.counts) (rw c.in-Some.is at c.in_ok-part.ensures.reads)

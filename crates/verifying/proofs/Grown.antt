@@ -1,0 +1,184 @@
+-- What a line makes of the claims: they grow, no two of them are about one position, if no two were, and what held still holds.
+use Rattle.std.proofs.Common.{◌≡◌, ◌≤◌, ℕ, ◌-◌, ◌∷◌, refl, inl, inr, List, [], ◌++◌, sym, ◌∙◌, ap, subst, append_assoc, arith, Contains, ◌+◌, ◌*◌, ◌%◌, Bool, true, false, nat_lt, if◌then◌else◌}
+use Rattle.std.proofs.lemmas.List.{append-nil}
+use Rattle.std.proofs.lemmas.List.Elements.{Contains-append_left, Contains-push, Contains-push_cases}
+use Rattle.board.specs.Board.{PlainBoard}
+use Rattle.rules.specs.declared.goal.Goal.{Goal}
+use Rattle.rules.specs.Squares.{Ply}
+use Rattle.certificates.specs.declared.claim.Claim.{Claim}
+use Rattle.certificates.specs.Claims.{ClaimsSoMany, ClaimsSoFew, EscapesBy, FailsBy, HoldsOver, MetBy, WinsBy, IsWon}
+use Rattle.problems.specs.declared.answer.Answer.{Answer}
+use Rattle.verifying.specs.declared.part.Part.{Part}
+use Rattle.verifying.specs.declared.part.Part.TheVariants.{First, Win, Yes, Lesser, No}
+use Rattle.verifying.specs.declared.words.Word.{Word}
+use Rattle.verifying.specs.declared.words.Word.TheVariants.{Seen, Claimed, Stalemated, Place}
+use Rattle.verifying.specs.Reading.{AreApart, IsLineOf, ReadsLine, begun_claims}
+use Rattle.verifying.specs.Certificate.{NoneAbout, TellInTurn, Meets, MeetsReply, ShowWin, IsYesLine, IsNoLine, IsLesserLine, Resists, TellsFailure, FailsBecause, ShowFailures, with_claim, shorter_claim}
+use Rattle.problems.specs.declared.answer.Answer.TheVariants as answer
+
+-- the new list has the old one's claims, and perhaps more behind them
+abbrev pub Extends : List Claim → List Claim → Type 0
+Extends old new = (more : List Claim) × (new ≡ old ++ more)
+
+pub extends_twice : (xs ys zs : List Claim) → Extends xs ys → Extends ys zs → Extends xs zs
+extends_twice xs ys zs (more, is) (others, next) = (more ++ others, next ∙ ap (λ (l : List Claim). l ++ others) is ∙ append_assoc xs more others)
+
+pub extends_same : (old new : List Claim) → new ≡ old → Extends old new
+extends_same old new same = ([], same ∙ sym (append-nil old))
+
+-- the claim that was added
+pub claimed_many : (old new : List Claim) (p : PlainBoard) (n : ℕ) → new ≡ old ++ record { position = p; plies = n } ∷ [] → ClaimsSoMany new p n
+claimed_many old new p n is =
+    let added : Claim = record { position = p; plies = n } in
+    (added, subst (λ (l : List Claim). Contains l added) (sym is) (Contains-push old added), refl, omega arith)
+
+pub claimed_few : (old new : List Claim) (p : PlainBoard) (n left : ℕ) → n ≤ left → new ≡ old ++ record { position = p; plies = n } ∷ [] → ClaimsSoFew new p left
+claimed_few old new p n left few is =
+    let added : Claim = record { position = p; plies = n } in
+    (added, subst (λ (l : List Claim). Contains l added) (sym is) (Contains-push old added), refl, few)
+
+module _ (old new : List Claim) (grown : Extends old new) where
+  pub still_there : (c : Claim) → Contains old c → Contains new c
+  still_there c among = subst (λ (l : List Claim). Contains l c) (sym grown.1) (Contains-append_left old grown.0 c among)
+
+  pub still_many : (p : PlainBoard) (n : ℕ) → ClaimsSoMany old p n → ClaimsSoMany new p n
+  still_many p n (c, among, about, many) = (c, still_there c among, about, many)
+
+  pub still_few : (p : PlainBoard) (n : ℕ) → ClaimsSoFew old p n → ClaimsSoFew new p n
+  still_few p n (c, among, about, few) = (c, still_there c among, about, few)
+
+  still_escapes : (goal : Goal) (q : PlainBoard) (n : ℕ) → EscapesBy goal old q n → EscapesBy goal new q n
+  still_escapes goal q n (r, p, reply, inl nothing) = (r, p, reply, inl nothing)
+  still_escapes goal q n (r, p, reply, inr claimed) = (r, p, reply, inr (still_many p n claimed))
+
+  pub still_fails : (goal : Goal) (b : PlainBoard) (n : ℕ) (m : Ply) → FailsBy goal old b n m → FailsBy goal new b n m
+  still_fails goal b n m fails q move = let f = fails q move in (
+    f.0,
+    elim f.1 [
+      | inl one ↦ inl one
+      | inr (inl stuck) ↦ inr (inl stuck)
+      | inr (inr escape) ↦ inr (inr (still_escapes goal q (n - 2) escape))
+    ],
+  )
+
+  pub still_holds : (goal : Goal) (c : Claim) → HoldsOver goal old c → HoldsOver goal new c
+  still_holds goal c holds m = still_fails goal c.position c.plies m (holds m)
+
+  pub still_met : (goal : Goal) (p : PlainBoard) (n : ℕ) → MetBy goal old p n → MetBy goal new p n
+  still_met goal p n (inl forced) = inl forced
+  still_met goal p n (inr claimed) = inr (still_few p n claimed)
+
+  pub still_wins : (goal : Goal) (b : PlainBoard) (n : ℕ) (m : Ply) → WinsBy goal old b n m → WinsBy goal new b n m
+  still_wins goal b n m (some, q, move, inl there) = (some, q, move, inl there)
+  still_wins goal b n m (some, q, move, inr (reply, met)) = (some, q, move, inr (reply, λ r p next. still_met goal p (n - 2) (met r p next)))
+
+  pub still_won : (goal : Goal) (c : Claim) → IsWon goal old c → IsWon goal new c
+  still_won goal c (m, wins) = (m, still_wins goal c.position c.plies m wins)
+
+-- ---- what a line makes
+
+pub none_apart : AreApart []
+none_apart p j k (i, lt, here) also = absurd (omega (arith, lt))
+
+more_apart : (claims : List Claim) (p : PlainBoard) (n : ℕ) → AreApart claims → NoneAbout claims p → AreApart (with_claim claims p n)
+more_apart claims p n apart none b j k one other =
+    let added : Claim = record { position = p; plies = n } in
+    elim (Contains-push_cases claims added (record { position = b; plies = j }) one) as (λ _. j ≡ k) [
+      | inl among ↦ elim (Contains-push_cases claims added (record { position = b; plies = k }) other) as (λ _. j ≡ k) [
+        | inl among_too ↦ apart b j k among among_too
+        | inr new ↦ absurd (none (record { position = b; plies = j }) among (sym (ap (λ (x : Claim). x.position) new)))
+      ]
+      | inr new ↦ elim (Contains-push_cases claims added (record { position = b; plies = k }) other) as (λ _. j ≡ k) [
+        | inl among ↦ absurd (none (record { position = b; plies = k }) among (sym (ap (λ (x : Claim). x.position) new)))
+        | inr new_too ↦ sym (ap (λ (x : Claim). x.plies) new) ∙ ap (λ (x : Claim). x.plies) new_too
+      ]
+    ]
+
+pub one_apart : (p : PlainBoard) (n : ℕ) → AreApart (with_claim [] p n)
+one_apart p n = more_apart [] p n none_apart (λ c among about. absurd (omega (arith, among.1)))
+
+pub shorter_apart : (b : PlainBoard) (n : ℕ) → AreApart (shorter_claim b n)
+shorter_apart b n = either (nat_lt 2 n)
+  where
+    either : (more : Bool) → AreApart (if more then with_claim [] b (n - 2) else [])
+    either true = one_apart b (n - 2)
+    either false = none_apart
+
+abbrev pub Grows : List Claim → List Claim → Type 0
+Grows old new = Extends old new × (AreApart old → AreApart new)
+
+same_grows : (old new : List Claim) → new ≡ old → Grows old new
+same_grows old new is = (extends_same old new is, subst AreApart (sym is))
+
+more_grows : (old new : List Claim) (p : PlainBoard) (n : ℕ) → NoneAbout old p → new ≡ with_claim old p n → Grows old new
+more_grows old new p n none is = ((record { position = p; plies = n } ∷ [], is), λ apart. subst AreApart (sym is) (more_apart old p n apart none))
+
+-- ---- yes claims
+
+meeting_grows : (goal : Goal) (p : PlainBoard) (n : ℕ) (word : Word) (old new : List Claim) → Meets goal p n word old new → Grows old new
+meeting_grows goal p n Seen old new (f, is) = same_grows old new is
+meeting_grows goal p n Claimed old new (f, is) = same_grows old new is
+meeting_grows goal p n (Place k) old new (none, few, is) = more_grows old new p (2 * k + 1) none is
+meeting_grows goal p n Stalemated old new f = absurd f
+
+pub reply_grows : (goal : Goal) (q : PlainBoard) (n : ℕ) (r : Ply) (word : Word) (old new : List Claim) → MeetsReply goal q n r word old new → Grows old new
+reply_grows goal q n r word old new (p, move, meets) = meeting_grows goal p n word old new meets
+
+pub told_grows : (Tells : Ply → Word → List Claim → List Claim → Type 0) → ((m : Ply) (word : Word) (old new : List Claim) → Tells m word old new → Grows old new) → (moves : List Ply) (words : List Word) (old new : List Claim) → TellInTurn Tells moves words old new → Grows old new
+told_grows Tells grows [] [] old new told = same_grows old new told
+told_grows Tells grows [] (word ∷ words) old new told = absurd told
+told_grows Tells grows (m ∷ moves) [] old new told = absurd told
+told_grows Tells grows (m ∷ moves) (word ∷ words) old new (next, first, rest) =
+    let here = grows m word old next first in
+    let later = told_grows Tells grows moves words next new rest in
+    (extends_twice old next new here.0 later.0, λ apart. later.1 (here.1 apart))
+
+win_grows : (goal : Goal) (q : PlainBoard) (n : ℕ) (words : List Word) (old new : List Claim) → ShowWin goal q n words old new → Grows old new
+win_grows goal q n words old new (inl (stuck, there, none, is)) = same_grows old new is
+win_grows goal q n words old new (inr (some, enough, (replies, lists, told))) = told_grows (MeetsReply goal q (n - 2)) (reply_grows goal q (n - 2)) replies words old new told
+
+pub yes_grows : (goal : Goal) (c : Claim) (m : Ply) (line : List Word) (old new : List Claim) → IsYesLine goal c m line old new → Grows old new
+yes_grows goal c m line old new (place, words, is, at, some, q, move, win) = win_grows goal q c.plies words old new win
+
+-- ---- no claims
+
+resisting_grows : (goal : Goal) (p : PlainBoard) (n : ℕ) (old new : List Claim) → Resists goal p n old new → Grows old new
+resisting_grows goal p n old new (inl (small, nothing, is)) = same_grows old new is
+resisting_grows goal p n old new (inr (large, inl (some, is))) = same_grows old new is
+resisting_grows goal p n old new (inr (large, inr (none, is))) = more_grows old new p n none is
+
+failing_grows : (goal : Goal) (q : PlainBoard) (n : ℕ) (word : Word) (old new : List Claim) → TellsFailure goal q n word old new → Grows old new
+failing_grows goal q n Seen old new f = absurd f
+failing_grows goal q n Claimed old new f = absurd f
+failing_grows goal q n Stalemated old new (stuck, out, is) = same_grows old new is
+failing_grows goal q n (Place k) old new (r, p, at, move, resists) = resisting_grows goal p n old new resists
+
+pub reason_grows : (goal : Goal) (b : PlainBoard) (n : ℕ) (m : Ply) (word : Word) (old new : List Claim) → FailsBecause goal b n m word old new → Grows old new
+reason_grows goal b n m word old new (q, move, fails) = failing_grows goal q (n - 2) word old new fails
+
+failures_grow : (goal : Goal) (b : PlainBoard) (n : ℕ) (moves : List Ply) (words : List Word) (old new : List Claim) → ShowFailures goal b n moves words old new → Grows old new
+failures_grow goal b n moves words old new (inl (one, none, nothing, is)) = same_grows old new is
+failures_grow goal b n moves words old new (inr (two, told)) = told_grows (FailsBecause goal b n) (reason_grows goal b n) moves words old new told
+
+pub no_grows : (goal : Goal) (c : Claim) (line : List Word) (old new : List Claim) → IsNoLine goal c line old new → Grows old new
+no_grows goal c line old new (moves, lists, show) = failures_grow goal c.position c.plies moves line old new show
+
+pub lesser_grows : (goal : Goal) (b : PlainBoard) (n : ℕ) (first : Ply) (line : List Word) (old new : List Claim) → IsLesserLine goal b n first line old new → Grows old new
+lesser_grows goal b n first line old new (lesser, others, lists, show) = failures_grow goal b n lesser line old new show
+
+-- ---- lines
+
+line_apart : (goal : Goal) (b : PlainBoard) (part : Part) (words : List Word) (old new : List Claim) → IsLineOf goal b part words old new → AreApart old → AreApart new
+line_apart goal b First words old new line apart = absurd line
+line_apart goal b (Win mate) words old new line apart = (yes_grows goal (record { position = b; plies = mate.plies }) mate.first words (with_claim [] b mate.plies) new line).1 (one_apart b mate.plies)
+line_apart goal b (Yes mate place) words old new (c, at, (m, line)) apart = (yes_grows goal c m words old new line).1 apart
+line_apart goal b (Lesser mate) words old new line apart = (lesser_grows goal b mate.plies mate.first words (shorter_claim b mate.plies) new line).1 (shorter_apart b mate.plies)
+line_apart goal b (No told place) words old new (c, at, line) apart = (no_grows goal c words old new line).1 apart
+
+begun_apart : (b : PlainBoard) (answer : Answer) → AreApart (begun_claims b answer)
+begun_apart b (answer.Mate n first) = none_apart
+begun_apart b (answer.NoneWithin limit) = one_apart b (limit - 1 + limit % 2)
+
+pub reads_apart : (goal : Goal) (b : PlainBoard) (part next : Part) (line : List ℕ) (old new : List Claim) → ReadsLine goal b part line old next new → AreApart old → AreApart new
+reads_apart goal b part next line old new (inl (first, (told, range, named, spelled, is, made))) apart = subst AreApart (sym made) (begun_apart b told)
+reads_apart goal b part next line old new (inr (words, spelled, short, (line_is, is))) apart = line_apart goal b part words old new line_is apart

@@ -1,0 +1,348 @@
+-- What a test, a search and the words of a line yield, by what is known of them.
+use Rattle.std.proofs.Common.{◌≡◌, ◌↔◌, List, Bool, true, false, IsTrue, None, Some, refl, sym, ap, ◌∙◌, subst, ◌<◌, ◌≤◌, ℕ, suc, ◌+◌, [], ◌∷◌, length, get_or, drop, arith, Option, is_some, ◌≢◌, inl, inr, ◌-◌, ◌++◌, ◌⊎◌, take, All, not, nat_lt, if◌then◌else◌, length-append}
+use Rattle.std.proofs.lemmas.Bool.{false≢true, cases_lt, cases_eq}
+use Rattle.std.proofs.lemmas.Option.{none-some, same_Some}
+use Rattle.certificates.specs.declared.claim.Claim.{Claim}
+use Rattle.verifying.specs.Yielding.{YieldsOnly, FindsOnly}
+use Rattle.std.proofs.lemmas.List.{drop_all, drop_more, take-append-le, take-append-drop}
+use Rattle.rules.specs.Squares.{Ply}
+use Rattle.verifying.specs.declared.words.Word.{Word}
+use Rattle.verifying.specs.Certificate.{TellInTurn, NoneAbout, IsMoveAt, Meets, MeetsReply, MeetReplies, ShowWin, IsYesLine, Resists, TellsFailure, FailsBecause, ReachesNothing, ShowFailures, IsLesserLine, with_claim}
+use Rattle.std.proofs.lemmas.Bool.Decides.{Decides-not, nat_tests}
+use Rattle.std.proofs.Math.Seq.{get_or-append_seam, take-length}
+use Rattle.board.specs.Board.{PlainBoard}
+use Rattle.rules.specs.declared.goal.Goal.{Goal}
+use Rattle.rules.specs.Moves.{IsMove, IsLawful}
+use Rattle.rules.specs.Order.{IsPlyBefore, ListsLawful}
+use Rattle.rules.specs.Forces.{IsReached, Forces}
+use Rattle.rules.proofs.Keeps.{one_after}
+use Rattle.wintree.proofs.Listings.{one_list, lower_once}
+use Rattle.certificates.specs.Claims.{ClaimsSoFew}
+use Rattle.certificates.specs.Answers.{HasClaim}
+use Rattle.certificates.proofs.Claimed.{forced_within}
+use Rattle.verifying.specs.declared.words.Word.TheVariants.{Seen, Claimed, Stalemated, Place}
+use Rattle.verifying.specs.Reading.{AreApart}
+use Rattle.verifying.proofs.OneAnswer.{same_cons}
+use Rattle.verifying.proofs.Failing.{one_move_at}
+
+-- ---- a test
+
+pub yields_none : (Makes : List Claim → Type 0) (claims : List Claim) → ((other : List Claim) → Makes other → ⊥) → YieldsOnly Makes false claims
+yields_none Makes claims none other = (λ made. absurd (none other made), λ it. absurd (false≢true it.0))
+
+pub yields_one : (Makes : List Claim → Type 0) (claims : List Claim) → ((other : List Claim) → Makes other ↔ (other ≡ claims)) → YieldsOnly Makes true claims
+yields_one Makes claims one other = (λ made. (refl, (one other).0 made), λ it. (one other).1 it.1)
+
+-- the old claims, if a fact holds
+pub yields_if : (P : Type 0) (answer : Bool) (old : List Claim) → (IsTrue answer ↔ P) → YieldsOnly (λ other. P × (other ≡ old)) answer old
+yields_if P answer old h other = (λ made. (h.1 made.0, made.1), λ it. (h.0 it.0, it.1))
+
+-- what comes to the same
+pub yields_like : (Makes Like : List Claim → Type 0) (answer : Bool) (claims : List Claim) → ((other : List Claim) → Like other ↔ Makes other) → YieldsOnly Makes answer claims → YieldsOnly Like answer claims
+yields_like Makes Like answer claims same h other = (λ like. (h other).0 ((same other).0 like), λ it. (same other).1 ((h other).1 it))
+
+-- by one thing, which is the only one of its kind
+pub yields_by : {X : Type 0} (Is : X → Type 0) (Makes : X → List Claim → Type 0) (x : X) (answer : Bool) (claims : List Claim) → Is x → ((y : X) → Is y → y ≡ x) → YieldsOnly (Makes x) answer claims → YieldsOnly (λ other. (y : X) × Is y × Makes y other) answer claims
+yields_by Is Makes x answer claims is one h other =
+    (λ made. (h other).0 (subst (λ y. Makes y other) (one made.0 made.1) made.2), λ it. (x, is, (h other).1 it))
+
+-- ---- a search
+
+pub finds_none : {X : Type 0} (Makes : X → List Claim → Type 0) (claims : List Claim) → ((x : X) (other : List Claim) → Makes x other → ⊥) → FindsOnly Makes None claims
+finds_none Makes claims none x other = (λ made. absurd (none x other made), λ it. absurd (none-some x it.0))
+
+-- what comes behind the claims that are made
+pub finds_behind : {X : Type 0} (Makes : List Claim → Type 0) (behind : List Claim → X) (x : X) (claims : List Claim) → YieldsOnly Makes true claims → x ≡ behind claims → FindsOnly (λ y other. Makes other × (y ≡ behind other)) (Some x) claims
+finds_behind Makes behind x claims h is y other = (
+  λ made. let same = ((h other).0 made.0).1 in (ap Some (is ∙ (ap behind (sym same) ∙ sym made.1)), same),
+  λ it. ((h other).1 (refl, it.1), sym (same_Some x y it.0) ∙ (is ∙ ap behind (sym it.1))),
+)
+
+pub nothing_behind : {X : Type 0} (Makes : List Claim → Type 0) (behind : List Claim → X) (claims : List Claim) → YieldsOnly Makes false claims → FindsOnly (λ y other. Makes other × (y ≡ behind other)) None claims
+nothing_behind Makes behind claims h = finds_none (λ y other. Makes other × (y ≡ behind other)) claims (λ y other made. false≢true ((h other).0 made.0).0)
+
+-- ---- whether something is found
+
+pub any_found : {X : Type 0} (Makes : X → List Claim → Type 0) (found : Option X) (claims : List Claim) → FindsOnly Makes found claims → YieldsOnly (λ other. (x : X) × Makes x other) (is_some found) claims
+any_found Makes (Some x) claims h = λ other. (λ made. (refl, ((h made.0 other).0 made.1).1), λ it. (x, (h x other).1 (refl, it.1)))
+any_found {X} Makes None claims h = yields_none (λ other. (x : X) × Makes x other) claims (λ other made. none-some made.0 ((h made.0 other).0 made.1).0)
+
+-- whether it is this
+pub this_found : {X : Type 0} (Makes : X → List Claim → Type 0) (x y : X) (same : Bool) (claims : List Claim) → FindsOnly Makes (Some x) claims → (IsTrue same ↔ (x ≡ y)) → YieldsOnly (Makes y) same claims
+this_found Makes x y same claims h is other = (
+  λ made. let it = (h y other).0 made in (is.1 (same_Some x y it.0), it.1),
+  λ it. (h y other).1 (ap Some (is.0 it.0), it.1),
+)
+
+pub not_found : {X : Type 0} (Makes : X → List Claim → Type 0) (y : X) (claims : List Claim) → FindsOnly Makes None claims → YieldsOnly (Makes y) false claims
+not_found Makes y claims h = yields_none (Makes y) claims (λ other made. none-some y ((h y other).0 made).0)
+
+-- ---- words that tell of moves in turn
+
+-- what all words tell is what those from this place on tell, over these claims
+abbrev pub IsLeft : (Ply → Word → List Claim → List Claim → Type 0) → List Ply → List Word → List Claim → ℕ → List Claim → Type 0
+IsLeft Tells moves words old i claims = (other : List Claim) → TellInTurn Tells moves words old other ↔ TellInTurn Tells (drop i moves) (drop i words) claims other
+
+module _ (Tells : Ply → Word → List Claim → List Claim → Type 0) (moves : List Ply) (words : List Word) (old : List Claim) where
+  pub all_left : IsLeft Tells moves words old 0 old
+  all_left other = (λ told. told, λ told. told)
+
+  -- the next word
+  module _ (i : ℕ) (m : Ply) (word d : Word) (claims : List Claim) (within : i < length moves) (same : length words ≡ length moves) (is : m ≡ get_or moves i m) (was : word ≡ get_or words i d) (left : IsLeft Tells moves words old i claims) where
+    opened : (other : List Claim) → TellInTurn Tells moves words old other ↔ TellInTurn Tells (m ∷ drop (i + 1) moves) (word ∷ drop (i + 1) words) claims other
+    opened other =
+        let ms : drop i moves ≡ m ∷ drop (i + 1) moves = drop_more moves i m within ∙ ap (λ (x : Ply). x ∷ drop (i + 1) moves) (sym is) in
+        let ws : drop i words ≡ word ∷ drop (i + 1) words = drop_more words i d (omega arith) ∙ ap (λ (x : Word). x ∷ drop (i + 1) words) (sym was) in
+        subst (λ (l : List Ply). TellInTurn Tells moves words old other ↔ TellInTurn Tells l (word ∷ drop (i + 1) words) claims other) ms
+        (subst (λ (l : List Word). TellInTurn Tells moves words old other ↔ TellInTurn Tells (drop i moves) l claims other) ws (left other))
+
+    pub one_less : (next : List Claim) (answer : Bool) → answer ≡ true → YieldsOnly (Tells m word claims) answer next → IsLeft Tells moves words old (i + 1) next
+    one_less next answer so here other = (
+      λ told. let at = (opened other).0 told in subst (λ (c : List Claim). TellInTurn Tells (drop (i + 1) moves) (drop (i + 1) words) c other) ((here at.0).0 at.1).1 at.2,
+      λ rest. (opened other).1 (next, (here next).1 (so, refl), rest),
+    )
+
+    pub one_untold : (next : List Claim) (answer : Bool) → answer ≡ false → YieldsOnly (Tells m word claims) answer next → YieldsOnly (TellInTurn Tells moves words old) false next
+    one_untold next answer out here = yields_none (TellInTurn Tells moves words old) next (λ other told. let at = (opened other).0 told in false≢true (sym out ∙ ((here at.0).0 at.1).0))
+
+  -- the end
+  pub none_left : (i : ℕ) (claims : List Claim) → length moves ≤ i → length words ≡ length moves → IsLeft Tells moves words old i claims → YieldsOnly (TellInTurn Tells moves words old) true claims
+  none_left i claims whole same left = yields_one (TellInTurn Tells moves words old) claims (λ other.
+      subst (λ (l : List Ply). TellInTurn Tells moves words old other ↔ TellInTurn Tells l [] claims other) (drop_all i moves whole)
+      (subst (λ (l : List Word). TellInTurn Tells moves words old other ↔ TellInTurn Tells (drop i moves) l claims other) (drop_all i words (omega arith)) (left other)))
+
+-- one word a move
+told_each : (Tells : Ply → Word → List Claim → List Claim → Type 0) (moves : List Ply) (words : List Word) (old new : List Claim) → TellInTurn Tells moves words old new → length words ≡ length moves
+told_each Tells [] [] old new told = refl
+told_each Tells [] (v ∷ words) old new told = absurd told
+told_each Tells (l ∷ moves) [] old new told = absurd told
+told_each Tells (l ∷ moves) (v ∷ words) old new (next, first, rest) = ap suc (told_each Tells moves words next new rest)
+
+pub not_each : (Tells : Ply → Word → List Claim → List Claim → Type 0) (moves : List Ply) (words : List Word) (old : List Claim) → (length words ≡ length moves → ⊥) → YieldsOnly (TellInTurn Tells moves words old) false old
+not_each Tells moves words old differ = yields_none (TellInTurn Tells moves words old) old (λ other told. differ (told_each Tells moves words old other told))
+
+-- ---- no claims
+
+module _ (goal : Goal) (p : PlainBoard) (n : ℕ) (old : List Claim) where
+  pub looked_through : (forced : Bool) → n ≤ 3 → (IsTrue forced ↔ Forces goal p.mover p n) → YieldsOnly (Resists goal p n old) (not forced) old
+  looked_through forced small h other = (to, λ it. inl (small, (λ k within f. (Decides-not forced h).0 it.0 (forced_within goal p.mover p k n within f)), it.1))
+    where
+      to : Resists goal p n old other → IsTrue (not forced) × (other ≡ old)
+      to (inl (also, nothing, is)) = ((Decides-not forced h).1 (nothing n (omega arith)), is)
+      to (inr (large, rest)) = absurd (omega (arith, small, large))
+
+  -- no other claim is about the position
+  pub claimed_so_many : (k : ℕ) (many : Bool) → 3 < n → (IsTrue many ↔ (n ≤ k)) → HasClaim old p k → AreApart old → YieldsOnly (Resists goal p n old) many old
+  claimed_so_many k many large h claimed apart other = (to, λ it. inr (large, inl ((record { position = p; plies = k }, claimed, refl, h.0 it.0), it.1)))
+    where
+      to : Resists goal p n old other → IsTrue many × (other ≡ old)
+      to (inl (small, nothing, is)) = absurd (omega (arith, small, large))
+      to (inr (also, inl ((c, among, about, so_many), is))) =
+          let same : c.plies ≡ k = apart p c.plies k (subst (λ (b : PlainBoard). HasClaim old b c.plies) about among) claimed in
+          (h.1 (omega (arith, same, so_many)), is)
+      to (inr (also, inr (none, is))) = absurd (none (record { position = p; plies = k }) claimed refl)
+
+  pub claimed_anew : (new : List Claim) → 3 < n → NoneAbout old p → new ≡ with_claim old p n → YieldsOnly (Resists goal p n old) true new
+  claimed_anew new large none made = yields_one (Resists goal p n old) new (λ other. (to other, λ is. inr (large, inr (none, is ∙ made))))
+    where
+      to : (other : List Claim) → Resists goal p n old other → other ≡ new
+      to other (inl (small, nothing, is)) = absurd (omega (arith, small, large))
+      to other (inr (also, inl ((c, among, about, many), is))) = absurd (none c among about)
+      to other (inr (also, inr (none_too, is))) = is ∙ sym made
+
+module _ (goal : Goal) (q : PlainBoard) (n : ℕ) (old : List Claim) where
+  module _ (some : Bool) (h : IsTrue some ↔ ((r : Ply) × IsLawful q r)) where
+    pub no_reply : some ≡ false → (r : Ply) → IsLawful q r → ⊥
+    no_reply none r lawful = false≢true (sym none ∙ h.1 (r, lawful))
+
+    pub stalemated : (there : Bool) → some ≡ false → (IsTrue there ↔ IsReached goal q) → YieldsOnly (TellsFailure goal q n Stalemated old) (not there) old
+    stalemated there none reached other =
+        (λ tells. ((Decides-not there reached).1 tells.1, tells.2), λ it. (no_reply none, (Decides-not there reached).0 it.0, it.1))
+
+    pub not_stalemated : some ≡ true → YieldsOnly (TellsFailure goal q n Stalemated old) (not some) old
+    not_stalemated is = subst (λ t. YieldsOnly (TellsFailure goal q n Stalemated old) (not t) old) (sym is) (yields_none (TellsFailure goal q n Stalemated old) old (λ other tells. let r = h.0 is in tells.0 r.0 r.1))
+
+  pub no_reply_there : (k : ℕ) → ((r : Ply) → IsMoveAt q k r → ⊥) → YieldsOnly (TellsFailure goal q n (Place k) old) false old
+  no_reply_there k none = yields_none (TellsFailure goal q n (Place k) old) old (λ other tells. none tells.0 tells.2)
+
+  pub escapes : (k : ℕ) (r : Ply) (p : PlainBoard) (answer : Bool) (new : List Claim) → IsMoveAt q k r → IsMove q r p → YieldsOnly (Resists goal p n old) answer new → YieldsOnly (TellsFailure goal q n (Place k) old) answer new
+  escapes k r p answer new at move h other = (to, λ it. (r, p, at, move, (h other).1 it))
+    where
+      to : TellsFailure goal q n (Place k) old other → IsTrue answer × (other ≡ new)
+      to (s, x, at_too, move_too, resists) =
+          let one : s ≡ r = one_move_at q k s r at_too at in
+          let same : x ≡ p = one_after q r x p (subst (λ (m : Ply). IsMove q m x) one move_too) move in
+          (h other).0 (subst (λ (b : PlainBoard). Resists goal b n old other) same resists)
+
+  pub no_sign : (word : Word) → (word ≡ Stalemated → ⊥) → ((k : ℕ) → word ≡ Place k → ⊥) → YieldsOnly (TellsFailure goal q n word old) false old
+  no_sign word other also = yields_none (TellsFailure goal q n word old) old (λ new. none word other also new)
+    where
+      none : (word : Word) → (word ≡ Stalemated → ⊥) → ((k : ℕ) → word ≡ Place k → ⊥) → (new : List Claim) → TellsFailure goal q n word old new → ⊥
+      none Seen other also new tells = tells
+      none Claimed other also new tells = tells
+      none Stalemated other also new tells = other refl
+      none (Place k) other also new tells = also k refl
+
+module _ (goal : Goal) (b : PlainBoard) (n : ℕ) (moves : List Ply) (words : List Word) (old : List Claim) where
+  -- of one ply nothing is told
+  pub one_ply : (nothing : Bool) → n ≡ 1 → words ≡ [] → (IsTrue nothing ↔ All (ReachesNothing goal b) moves) → YieldsOnly (ShowFailures goal b n moves words old) nothing old
+  one_ply nothing one empty h other = (to, λ it. inl (one, empty, h.0 it.0, it.1))
+    where
+      to : ShowFailures goal b n moves words old other → IsTrue nothing × (other ≡ old)
+      to (inl (also, none, all, is)) = (h.1 all, is)
+      to (inr (two, told)) = absurd (omega (arith, one, two))
+
+  pub no_ply : n < 2 → (n ≡ 1 → words ≡ [] → ⊥) → YieldsOnly (ShowFailures goal b n moves words old) false old
+  no_ply few none = yields_none (ShowFailures goal b n moves words old) old untold
+    where
+      untold : (other : List Claim) → ShowFailures goal b n moves words old other → ⊥
+      untold other (inl (one, empty, all, is)) = none one empty
+      untold other (inr (two, told)) = omega (arith, few, two)
+
+  pub more_plies : (answer : Bool) (new : List Claim) → n ≢ 1 → 2 ≤ n → YieldsOnly (TellInTurn (FailsBecause goal b n) moves words old) answer new → YieldsOnly (ShowFailures goal b n moves words old) answer new
+  more_plies answer new other two h = yields_like (TellInTurn (FailsBecause goal b n) moves words old) (ShowFailures goal b n moves words old) answer new (λ claims. (to claims, λ told. inr (two, told))) h
+    where
+      to : (claims : List Claim) → ShowFailures goal b n moves words old claims → TellInTurn (FailsBecause goal b n) moves words old claims
+      to claims (inl (one, empty, all, is)) = absurd (other one)
+      to claims (inr (also, told)) = told
+
+pub because : (goal : Goal) (b : PlainBoard) (n : ℕ) (m : Ply) (word : Word) (q : PlainBoard) (answer : Bool) (old new : List Claim) → IsMove b m q → YieldsOnly (TellsFailure goal q (n - 2) word old) answer new → YieldsOnly (FailsBecause goal b n m word old) answer new
+because goal b n m word q answer old new move h =
+    yields_by (IsMove b m) (λ x other. TellsFailure goal x (n - 2) word old other) q answer new move (λ x also. one_after b m x q also move) h
+
+-- ---- yes claims
+
+-- the only claim about the position
+pub one_claim : (claims : List Claim) (p : PlainBoard) (n k : ℕ) (few : Bool) → (IsTrue few ↔ (k ≤ n)) → HasClaim claims p k → AreApart claims → IsTrue few ↔ ClaimsSoFew claims p n
+one_claim claims p n k few h claimed apart = (λ answer. (record { position = p; plies = k }, claimed, refl, h.0 answer), to)
+  where
+    to : ClaimsSoFew claims p n → IsTrue few
+    to (c, among, about, so_few) =
+        let same : c.plies ≡ k = apart p c.plies k (subst (λ (b : PlainBoard). HasClaim claims b c.plies) about among) claimed in
+        h.1 (omega (arith, same, so_few))
+
+pub no_claim : (claims : List Claim) (p : PlainBoard) (n : ℕ) → NoneAbout claims p → IsTrue false ↔ ClaimsSoFew claims p n
+no_claim claims p n none = (λ answer. absurd (false≢true answer), λ few. absurd (none few.0 few.1 few.2))
+
+pub met_by : (goal : Goal) (q : PlainBoard) (n : ℕ) (r : Ply) (word : Word) (p : PlainBoard) (answer : Bool) (old new : List Claim) → IsMove q r p → YieldsOnly (Meets goal p n word old) answer new → YieldsOnly (MeetsReply goal q n r word old) answer new
+met_by goal q n r word p answer old new move h =
+    yields_by (IsMove q r) (λ x other. Meets goal x n word old other) p answer new move (λ x also. one_after q r x p also move) h
+
+pub each_met : (goal : Goal) (q : PlainBoard) (n : ℕ) (replies : List Ply) (words : List Word) (answer : Bool) (old new : List Claim) → ListsLawful q replies → YieldsOnly (TellInTurn (MeetsReply goal q n) replies words old) answer new → YieldsOnly (MeetReplies goal q n words old) answer new
+each_met goal q n replies words answer old new lists h =
+    yields_by (ListsLawful q) (λ l other. TellInTurn (MeetsReply goal q n) l words old other) replies answer new lists (λ l also. one_list q l replies also lists) h
+
+module _ (goal : Goal) (q : PlainBoard) (n : ℕ) (words : List Word) (old : List Claim) (some : Bool) (h : IsTrue some ↔ ((r : Ply) × IsLawful q r)) where
+  pub at_the_end : (there : Bool) → some ≡ false → words ≡ [] → (IsTrue there ↔ IsReached goal q) → YieldsOnly (ShowWin goal q n words old) there old
+  at_the_end there none empty reached other = (to, λ it. inl (no_reply goal q n old some h none, reached.0 it.0, empty, it.1))
+    where
+      to : ShowWin goal q n words old other → IsTrue there × (other ≡ old)
+      to (inl (stuck, is_there, no_words, is)) = (reached.1 is_there, is)
+      to (inr (reply, enough, meet)) = absurd (no_reply goal q n old some h none reply.0 reply.1)
+
+  pub behind_the_end : some ≡ false → (words ≡ [] → ⊥) → YieldsOnly (ShowWin goal q n words old) false old
+  behind_the_end none more = yields_none (ShowWin goal q n words old) old untold
+    where
+      untold : (other : List Claim) → ShowWin goal q n words old other → ⊥
+      untold other (inl (stuck, is_there, no_words, is)) = more no_words
+      untold other (inr (reply, enough, meet)) = no_reply goal q n old some h none reply.0 reply.1
+
+  pub few_plies : some ≡ true → n < 3 → YieldsOnly (ShowWin goal q n words old) false old
+  few_plies answer few = yields_none (ShowWin goal q n words old) old untold
+    where
+      untold : (other : List Claim) → ShowWin goal q n words old other → ⊥
+      untold other (inl (stuck, is_there, no_words, is)) = let r = h.0 answer in stuck r.0 r.1
+      untold other (inr (reply, enough, meet)) = omega (arith, few, enough)
+
+  pub replies_met : (answer : Bool) (new : List Claim) → some ≡ true → 3 ≤ n → YieldsOnly (MeetReplies goal q (n - 2) words old) answer new → YieldsOnly (ShowWin goal q n words old) answer new
+  replies_met answer new is_some enough met = yields_like (MeetReplies goal q (n - 2) words old) (ShowWin goal q n words old) answer new (λ other. (to other, λ meet. inr (h.0 is_some, enough, meet))) met
+    where
+      to : (other : List Claim) → ShowWin goal q n words old other → MeetReplies goal q (n - 2) words old other
+      to other (inl (stuck, is_there, no_words, is)) = absurd (let r = h.0 is_some in stuck r.0 r.1)
+      to other (inr (reply, also, meet)) = meet
+
+same_place : (j k : ℕ) → Place j ≡ Place k → j ≡ k
+same_place j k e = cc
+
+-- no move stands at the place
+pub not_there : (goal : Goal) (c : Claim) (line words : List Word) (old : List Claim) (place : ℕ) → line ≡ Place place ∷ words → ((m : Ply) → IsMoveAt c.position place m → ⊥) → FindsOnly (λ n other. IsYesLine goal c n line old other) None old
+not_there goal c line words old place is none = finds_none (λ n other. IsYesLine goal c n line old other) old (λ n other told. untold n told.0 told.1 told.2 told.3)
+  where
+    untold : (n : Ply) (k : ℕ) (rest : List Word) → line ≡ Place k ∷ rest → IsMoveAt c.position k n → ⊥
+    untold n k rest is_too at = let same = same_cons (Place place) (Place k) words rest (sym is ∙ is_too) in none n (subst (λ (j : ℕ). IsMoveAt c.position j n) (sym (same_place place k same.0)) at)
+
+-- a yes line names one move
+module _ (goal : Goal) (c : Claim) (line words : List Word) (old : List Claim) (place : ℕ) (m : Ply) (q : PlainBoard) (is : line ≡ Place place ∷ words) (at : IsMoveAt c.position place m) (move : IsMove c.position m q) where
+  one_named : (n : Ply) (other : List Claim) → IsYesLine goal c n line old other → (n ≡ m) × ShowWin goal q c.plies words old other
+  one_named n other (k, rest, is_too, at_too, some, x, move_too, win) =
+      let same = same_cons (Place place) (Place k) words rest (sym is ∙ is_too) in
+      let here : place ≡ k = same_place place k same.0 in
+      let one : n ≡ m = one_move_at c.position place n m (subst (λ (j : ℕ). IsMoveAt c.position j n) (sym here) at_too) at in
+      let there : x ≡ q = one_after c.position m x q (subst (λ (l : Ply). IsMove c.position l x) one move_too) move in
+      (one, subst (λ (b : PlainBoard). ShowWin goal b c.plies words old other) there (subst (λ (l : List Word). ShowWin goal x c.plies l old other) (sym same.1) win))
+
+  pub wins_with : (answer : Bool) (new : List Claim) → 0 < c.plies → answer ≡ true → YieldsOnly (ShowWin goal q c.plies words old) answer new → FindsOnly (λ n other. IsYesLine goal c n line old other) (Some m) new
+  wins_with answer new some so h n other = (
+    λ line_is. let one = one_named n other line_is in (ap Some (sym one.0), ((h other).0 one.1).1),
+    λ it. subst (λ (l : Ply). IsYesLine goal c l line old other) (same_Some m n it.0) (place, words, is, at, some, q, move, (h other).1 (so, it.1)),
+  )
+
+  pub wins_not : (answer : Bool) (new : List Claim) → answer ≡ false → YieldsOnly (ShowWin goal q c.plies words old) answer new → FindsOnly (λ n other. IsYesLine goal c n line old other) None new
+  wins_not answer new out h = finds_none (λ n other. IsYesLine goal c n line old other) new (λ n other line_is. false≢true (sym out ∙ ((h other).0 (one_named n other line_is).1).0))
+
+-- ---- the moves in front of one
+
+module _ (b : PlainBoard) (list : List Ply) (lists : ListsLawful b list) (first : Ply) where
+  -- a list in order has a move once
+  one_place : (i j : ℕ) → i < j → j < length list → get_or list i first ≡ first → get_or list j first ≡ first → ⊥
+  one_place i j before within here there =
+      no_self _ _ _ (subst (λ (x : Ply). IsPlyBefore b.game x first) here (subst (λ (x : Ply). IsPlyBefore b.game (get_or list i first) x) there (lists.ordered i j first before within)))
+    where
+      no_self : (f t p : ℕ) → (f < f) ⊎ ((f ≡ f) × (t < t)) ⊎ ((f ≡ f) × (t ≡ t) × (p < p)) → ⊥
+      no_self f t p lower = lower_once f f t t p p lower lower
+
+  one_front : (lesser others : List Ply) (place : ℕ) → ListsLawful b (lesser ++ first ∷ others) → place < length list → get_or list place first ≡ first → lesser ≡ take place list
+  one_front lesser others place also within there =
+      let whole : lesser ++ first ∷ others ≡ list = one_list b (lesser ++ first ∷ others) list also lists in
+      let seam : get_or list (length lesser) first ≡ first = ap (λ (l : List Ply). get_or l (length lesser) first) (sym whole) ∙ get_or-append_seam lesser first others first in
+      let inside : length lesser < length list = omega (arith, ap length whole, length-append lesser (first ∷ others)) in
+      let at : place ≡ length lesser = elim (cases_lt (length lesser) place) as (λ _. place ≡ length lesser) [
+        | inl before ↦ absurd (one_place (length lesser) place before within seam there)
+        | inr not_before ↦ elim (cases_eq place (length lesser)) as (λ _. place ≡ length lesser) [
+          | inl equal ↦ equal
+          | inr differs ↦ absurd (one_place place (length lesser) (omega (arith, not_before, differs)) inside there seam)
+        ]
+      ] in
+      sym (ap (λ n. take n list) at ∙ (ap (λ (l : List Ply). take (length lesser) l) (sym whole) ∙ (take-append-le (length lesser) lesser (first ∷ others) (omega arith) ∙ take-length lesser)))
+
+  pub lesser_fail : (goal : Goal) (n place : ℕ) (words : List Word) (answer : Bool) (old new : List Claim) → place < length list → get_or list place first ≡ first → YieldsOnly (ShowFailures goal b n (take place list) words old) answer new → YieldsOnly (IsLesserLine goal b n first words old) answer new
+  lesser_fail goal n place words answer old new within there = yields_like (ShowFailures goal b n (take place list) words old) (IsLesserLine goal b n first words old) answer new (λ other. (to other, λ show. (take place list, drop (place + 1) list, subst (ListsLawful b) cut lists, show)))
+    where
+      cut : list ≡ take place list ++ first ∷ drop (place + 1) list
+      cut = sym (take-append-drop place list) ∙ ap (λ (l : List Ply). take place list ++ l) (drop_more list place first within ∙ ap (λ (x : Ply). x ∷ drop (place + 1) list) there)
+
+      to : (other : List Claim) → IsLesserLine goal b n first words old other → ShowFailures goal b n (take place list) words old other
+      to other (lesser, others, also, show) = subst (λ (l : List Ply). ShowFailures goal b n l words old other) (one_front lesser others place also within there) show
+
+  -- the move isn't in the list
+  pub none_lesser : (goal : Goal) (n : ℕ) (words : List Word) (old new : List Claim) → ((k : ℕ) → k < length list → get_or list k first ≡ first → ⊥) → YieldsOnly (IsLesserLine goal b n first words old) false new
+  none_lesser goal n words old new none = yields_none (IsLesserLine goal b n first words old) new (λ other line.
+      let whole : line.0 ++ first ∷ line.1 ≡ list = one_list b (line.0 ++ first ∷ line.1) list line.2 lists in
+      none (length line.0) (omega (arith, ap length whole, length-append line.0 (first ∷ line.1)))
+      (ap (λ (l : List Ply). get_or l (length line.0) first) (sym whole) ∙ get_or-append_seam line.0 first line.1 first))
+
+-- ---- the claim that no mate is shorter
+
+pub if_less : {X : Type 0} (a b : ℕ) (x y : X) → a < b → (if nat_lt a b then x else y) ≡ x
+if_less a b x y less = when (nat_lt a b) (grind (arith, nat_tests))
+  where
+    when : (t : Bool) → t ≡ true → (if t then x else y) ≡ x
+    when true is = refl
+    when false is = absurd (false≢true is)
+
+pub if_not_less : {X : Type 0} (a b : ℕ) (x y : X) → b ≤ a → (if nat_lt a b then x else y) ≡ y
+if_not_less a b x y more = when (nat_lt a b) (grind (arith, nat_tests))
+  where
+    when : (t : Bool) → t ≡ false → (if t then x else y) ≡ y
+    when true is = absurd (false≢true (sym is))
+    when false is = refl

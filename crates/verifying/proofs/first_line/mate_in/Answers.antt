@@ -1,0 +1,34 @@
+use Rattle.std.proofs.Common.{◌≡◌, ◌≢◌, ◌++◌, ◌∷◌, ◌∙◌, ◌/◌, [], List, ℕ, ap, arith, sym}
+use Rattle.std.proofs.lemmas.Bool.Decides.{Decides-eqb}
+use Rattle.std.proofs.lemmas.List.{append_cancel_left}
+use Rattle.std.proofs.lemmas.Option.{MatchOption-at_none, MatchOption-at_some}
+use Rattle.std.proofs.lemmas.Slice.Eq.{strip_prefix_is}
+use Rattle.std.specs.Fmt.{decimal}
+use Rattle.rules.specs.MoveText.{move_text}
+use Rattle.verifying.proofs.OneAnswer.{same_cons}
+use Rattle.verifying.proofs.first_line.mate_in.Goals as goal
+
+pub returns-then-plies-eq0 : goal.returns-then-plies-eq0
+returns-then-plies-eq0 c = λ m odd named is. omega (arith, odd.1, c.if-plies-eq0.true)
+
+pub returns-in_err-name : goal.returns-in_err-name
+returns-in_err-name c = rw c.from_residual-in_err-name.ensures (λ m odd named is.
+    let rest = c.in_ok-rest.rest.now in
+    MatchOption-at_none ((more : List ℕ) → rest ≢ 32 ∷ more) (λ x. rest ≡ 32 ∷ x.now) c.in_err-name.was (strip_prefix_is Decides-eqb rest (32 ∷ []) c.strip_prefix.result c.strip_prefix.ensures.cases)
+    (move_text m) (append_cancel_left (decimal c.args.plies) rest (32 ∷ move_text m) (sym c.in_ok-rest.ensures ∙ is)))
+
+pub returns-in_err-first : goal.returns-in_err-first
+returns-in_err-first c = rw c.from_residual-in_err-first.ensures (λ m odd named is.
+    let rest = c.in_ok-rest.rest.now in
+    let spaced : rest ≡ 32 ∷ c.in_ok-name.name.now = MatchOption-at_some ((more : List ℕ) → rest ≢ 32 ∷ more) (λ x. rest ≡ 32 ∷ x.now) c.in_ok-name.name c.in_ok-name.was (strip_prefix_is Decides-eqb rest (32 ∷ []) c.strip_prefix.result c.strip_prefix.ensures.cases) in
+    let mine = append_cancel_left (decimal c.args.plies) rest (32 ∷ move_text m) (sym c.in_ok-rest.ensures ∙ is) in
+    c.in_err-first.ensures m named (sym (same_cons 32 32 c.in_ok-name.name.now (move_text m) (sym spaced ∙ mine)).1))
+
+pub returns : goal.returns
+returns c =
+    let rest = c.in_ok-rest.rest.now in
+    let spaced : rest ≡ 32 ∷ c.in_ok-name.name.now = MatchOption-at_some ((more : List ℕ) → rest ≢ 32 ∷ more) (λ x. rest ≡ 32 ∷ x.now) c.in_ok-name.name c.in_ok-name.was (strip_prefix_is Decides-eqb rest (32 ∷ []) c.strip_prefix.result c.strip_prefix.ensures.cases) in (
+      (c.args.plies / 2, omega (arith, c.if-plies-eq0.false)),
+      c.in_ok-first.ensures.1,
+      c.in_ok-rest.ensures ∙ ap (λ (l : List ℕ). decimal c.args.plies ++ l) (spaced ∙ ap (λ (l : List ℕ). 32 ∷ l) (sym c.in_ok-first.ensures.0)),
+    )

@@ -1,0 +1,11 @@
+use Rattle.std.proofs.Common.{◌≢◌, ◌<◌, ◌++◌, ◌∷◌, ℕ}
+use Rattle.std.specs.Fmt.{decimal}
+use Rattle.rules.specs.MoveText.{move_text}
+use Rattle.rules.specs.Squares.{Ply}
+use Rattle.certificates.specs.Answers.{IsOdd}
+use Rattle.verifying.specs.FirstLine.{HasName}
+use Rattle.verifying.proofs.first_line.mate_of.Given as goal
+
+-- the text is of no mate in fewer plies
+abbrev pub invariant-loop-plies : goal.invariant-loop-plies
+invariant-loop-plies l = (n : ℕ) → n < l.plies → (m : Ply) → IsOdd n → HasName m → l.text ≢ decimal n ++ 32 ∷ move_text m
