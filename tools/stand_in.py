@@ -16,9 +16,9 @@ NOTHING = Hold("")
 # The first task of each round is killed once it has begun.
 KILLED = Hold('if [ "$1" = solve ] && [ -n "$PARALLEL_SEQ" ] && mkdir "$room/killed$2" 2> /dev/null; then kill -9 $$; fi')
 KILLED_PART = Hold('if [ "$1" = batch ] && [ -n "$PARALLEL_SEQ" ] && mkdir "$room/killed" 2> /dev/null; then kill -9 $$; fi')
-# The first task of the second round waits.
-IS_SECOND_ROUND = '[ "$2" = --limit=3 ] && [ -n "$PARALLEL_SEQ" ] && mkdir "$room/held" 2> /dev/null'
-WAITS = Hold(f'if {IS_SECOND_ROUND}; then echo $$ > "$room/holder"; sleep 300; fi')
+# The tasks of the second round wait, all of them: one that answered might end the one that waits, and so the run. `pass_on` ends that.
+IS_SECOND_ROUND = '[ "$2" = --limit=3 ] && [ -n "$PARALLEL_SEQ" ] && [ ! -e "$room/passes" ]'
+WAITS = Hold(f'if {IS_SECOND_ROUND}; then mkdir "$room/held" 2> /dev/null && echo $$ > "$room/holder"; sleep 300; fi')
 # The task on one position waits.
 WAITS_AT = Hold('if [ "$1$2" = solve--limit=1 ] && [ "$6" = "AT" ]; then echo $$ > "$room/holder"; sleep 300; fi')
 # All tasks of one machine wait.
@@ -43,3 +43,8 @@ def make(program, room, hold, port="", at=""):
             file.write("\n".join([*lines, 'exec "$program" "$@"', ""]))
         os.chmod(os.path.join(room, name), 0o755)
     return os.path.join(room, checking.FIRST)
+
+
+def pass_on(program):
+    """From now on no task waits."""
+    os.mkdir(os.path.join(os.path.dirname(program), "passes"))
