@@ -13,7 +13,7 @@ use Rattle.wintree.proofs.Forced.{forced_for_mover}
 use Rattle.trees.specs.Best.{IsBestMove, IsBest}
 use Rattle.trees.proofs.Forcing.{fewest_most}
 use Rattle.trees.proofs.Fewest.{best_plan}
-use Rattle.answer_laws.specs.Plans.{first_move}
+use Rattle.answer_laws.specs.Plans.{opening_move}
 use Rattle.answer_laws.proofs.OneAnswer.{one_fewest}
 use Rattle.trees.proofs.Unique.{one_least}
 
@@ -47,15 +47,15 @@ wins_have_text goal b plan w = (plan_of_moves goal b plan w, refl)
 
 -- ---- the best plan
 
-best_move : (goal : Goal) (b : PlainBoard) (plan : Plan) → IsBest goal b plan → IsBestMove goal b (first_move plan)
+best_move : (goal : Goal) (b : PlainBoard) (plan : Plan) → IsBest goal b plan → IsBestMove goal b (opening_move plan)
 best_move goal b (ends m end) best = best.0
 best_move goal b (splits m replies) best = best.0
 
-pub best_begins : (goal : Goal) (b : PlainBoard) (limit plies : ℕ) (first : Ply) (plan : Plan) → IsAnswer goal b limit (Mate plies first) → IsBest goal b plan → first_move plan ≡ first
+pub best_begins : (goal : Goal) (b : PlainBoard) (limit plies : ℕ) (first : Ply) (plan : Plan) → IsAnswer goal b limit (Mate plies first) → IsBest goal b plan → opening_move plan ≡ first
 best_begins goal b limit plies first plan answer best =
     let move = best_move goal b plan best in
     let same = one_fewest goal b move.0 plies move.1 answer.1 in
-    one_least goal b plies (first_move plan) first (subst (λ n. IsLeastWin goal b n (first_move plan)) same move.2) answer.2
+    one_least goal b plies (opening_move plan) first (subst (λ n. IsLeastWin goal b n (opening_move plan)) same move.2) answer.2
 
 pub best_is_read : (goal : Goal) (b : PlainBoard) (plan : Plan) (n : ℕ) → IsBest goal b plan → IsFewest goal b n → n ≤ 63 → TreeText (text plan) plan × (depth plan ≤ 32)
 best_is_read goal b plan n best fewest within =

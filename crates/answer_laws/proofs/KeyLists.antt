@@ -15,7 +15,7 @@ use Rattle.problems.specs.declared.key.Key.{Key}
 use Rattle.problems.specs.Keys.{Takes, ListsKeys}
 use Rattle.wintree.proofs.Listings.{among_first, among_more}
 use Rattle.trees.proofs.Forcing.{fewest_most, some_ply}
-use Rattle.answer_laws.specs.Answers.{sooner, soonest, answer_of, IsNoBetter}
+use Rattle.answer_laws.specs.Answers.{sooner, soonest, answer_by_soonest, IsNoBetter}
 use Rattle.answer_laws.proofs.Listings.{before_later, tail_ordered}
 use Rattle.board.proofs.RankText.{on_true as on_own}
 
@@ -118,7 +118,7 @@ module _ (goal : Goal) (b : PlainBoard) (limit : ℕ) (keys : List Key) (lists :
   abbrev Before : Key → Key → Type 0
   Before k l = IsPlyBefore b.game k.first l.first
 
-  answer_by : (o : Option Key) → FitsList Before keys o → IsAnswer goal b limit (answer_of limit o)
+  answer_by : (o : Option Key) → FitsList Before keys o → IsAnswer goal b limit (answer_by_soonest limit o)
   answer_by None none = (refl, λ n within f. none_sooner n within (λ key among le. omega (arith, among.1, ap length none)) f)
   answer_by (Some key) is = (
     known.0,
@@ -142,7 +142,7 @@ module _ (goal : Goal) (b : PlainBoard) (limit : ℕ) (keys : List Key) (lists :
             | inr same ↦ elim same.1 [ inl e ↦ inl (ap (λ (k : Key). k.first) e) | inr before ↦ inr before ]
           ]
 
-  pub answer_of_keys : IsAnswer goal b limit (answer_of limit (soonest keys))
+  pub answer_of_keys : IsAnswer goal b limit (answer_by_soonest limit (soonest keys))
   answer_of_keys = answer_by (soonest keys) (soonest_is Before keys lists.ordered)
 
   -- ---- the answer's first move

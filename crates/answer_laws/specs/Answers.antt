@@ -29,13 +29,13 @@ soonest [] = None
 soonest (key ∷ keys) = Some (sooner key (soonest keys))
 
 -- the answer that has this first move and these plies, or that nothing is forced
-abbrev pub answer_of : ℕ → Option Key → Answer
-answer_of limit None = NoneWithin limit
-answer_of limit (Some key) = Mate key.plies key.first
+abbrev pub answer_by_soonest : ℕ → Option Key → Answer
+answer_by_soonest limit None = NoneWithin limit
+answer_by_soonest limit (Some key) = Mate key.plies key.first
 
 -- the answer is the first of the keys that take the fewest plies, or where there is no key, that nothing is forced
 abbrev pub AnswerOfKeys : Type 0
-AnswerOfKeys = (goal : Goal) (b : PlainBoard) (limit : ℕ) (keys : List Key) → ListsKeys goal b limit keys → IsAnswer goal b limit (answer_of limit (soonest keys))
+AnswerOfKeys = (goal : Goal) (b : PlainBoard) (limit : ℕ) (keys : List Key) → ListsKeys goal b limit keys → IsAnswer goal b limit (answer_by_soonest limit (soonest keys))
 
 -- the key takes more plies than these; or as many, and it begins with this move or with a later one
 abbrev pub IsNoBetter : PlainBoard → ℕ → Ply → Key → Type 0

@@ -36,13 +36,13 @@ abbrev pub BestWins : Type 0
 BestWins = (goal : Goal) (b : PlainBoard) (plan : Plan) (n : ℕ) → IsBest goal b plan → IsFewest goal b n → Wins goal b plan × (height plan ≡ n)
 
 -- the attacker's first move
-abbrev pub first_move : Plan → Ply
-first_move (ends m end) = m
-first_move (splits m replies) = m
+abbrev pub opening_move : Plan → Ply
+opening_move (ends m end) = m
+opening_move (splits m replies) = m
 
 -- the best plan begins with the answer's move
 abbrev pub BestBegins : Type 0
-BestBegins = (goal : Goal) (b : PlainBoard) (limit plies : ℕ) (first : Ply) (plan : Plan) → IsAnswer goal b limit (Mate plies first) → IsBest goal b plan → first_move plan ≡ first
+BestBegins = (goal : Goal) (b : PlainBoard) (limit plies : ℕ) (first : Ply) (plan : Plan) → IsAnswer goal b limit (Mate plies first) → IsBest goal b plan → opening_move plan ≡ first
 
 -- where the fewest plies are at most 63, the best plan's text is that of a tree which is read: at most 32 of the attacker's moves are nested
 abbrev pub BestIsRead : Type 0

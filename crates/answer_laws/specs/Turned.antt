@@ -12,13 +12,13 @@ use Rattle.laws.specs.Turnings.{Turning, turned_move, IsTurned, files_mirror, si
 use Rattle.laws.specs.Laws.{WhereTurned, StaysTurned}
 
 -- how many plies an answer names, if it names any
-abbrev pub plies_of : Answer → Option ℕ
-plies_of (Mate plies first) = Some plies
-plies_of (NoneWithin limit) = None
+abbrev pub plies_told : Answer → Option ℕ
+plies_told (Mate plies first) = Some plies
+plies_told (NoneWithin limit) = None
 
 -- the answers of two boards name as many plies, or both none
 abbrev pub SamePlies : PlainBoard → PlainBoard → Type 0
-SamePlies b c = (goal : Goal) (limit : ℕ) (x y : Answer) → IsAnswer goal b limit x → IsAnswer goal c limit y → plies_of x ≡ plies_of y
+SamePlies b c = (goal : Goal) (limit : ℕ) (x y : Answer) → IsAnswer goal b limit x → IsAnswer goal c limit y → plies_told x ≡ plies_told y
 
 -- what a key becomes: its move is turned, and its plies stay
 abbrev pub turned_key : Game → Turning → Key → Key

@@ -1,19 +1,7 @@
 -- The fault of a piece string.
 use Rattle.std.proofs.Common.{◌≡◌, ◌≢◌, ℕ, ◌<◌, Bool, true, false, refl, sym, ap, subst, ◌∙◌, arith, lit<, List, [], ◌∷◌, ◌++◌, All, Any, append-nil}
-use Rattle.std.proofs.lemmas.List.Elements.{All-append, All-cons, All-nil, All-contains}
-use Rattle.board.specs.declared.betza.BetzaFault.{BetzaFault}
-use Rattle.board.specs.declared.betza.BetzaFault.TheVariants.{Empty, Letter, Modifier, Repeated}
-use Rattle.board.specs.declared.step.Mode.{Mode}
-use Rattle.board.specs.declared.step.Mode.TheVariants.{Move, Capture, Both}
-use Rattle.board.specs.declared.terms.Atom.{Atom}
-use Rattle.board.specs.declared.terms.Atom.TheVariants.{Wazir, Ferz, Knight}
-use Rattle.board.specs.declared.terms.Term.{Term}
-use Rattle.board.specs.Denotation.{AreDistinct}
-use Rattle.board.specs.Notation.{mode_text, forward_text, doubled_text, atom_text, IsLetter, IsWord, IsRead, IsReading}
-use Rattle.board.specs.Notation.IsShorthand.{rook, bishop, queen, king}
-use Rattle.board.specs.Notation.IsWord.{term, short}
-use Rattle.board.specs.Notation.IsRead.{last, more}
-use Rattle.board.specs.BetzaFaults.{betza_fault_number, BetzaFaultHolds, IsBetzaFault}
+use Rattle.board.proofs.Common.{All-append, All-cons, All-nil, All-contains, BetzaFault, Empty, Letter, Modifier, Repeated, Mode, Move, Capture, Both, Atom, Wazir, Ferz, Term, AreDistinct, mode_text, forward_text, doubled_text, atom_text, IsLetter, IsWord, IsRead, IsReading, rook, bishop, queen, king, term, short, last, more, betza_fault_number, BetzaFaultHolds, IsBetzaFault}
+use Rattle.board.specs.declared.terms.Atom.TheVariants.{Knight}
 use Rattle.board.proofs.WordByWord.{AreWords, AreWords-read, IsRead-words, IsReadTo, no_words, not_empty, not_words}
 use Rattle.board.proofs.WordByWord.AreWords.{none, next}
 

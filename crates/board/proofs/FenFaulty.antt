@@ -1,22 +1,8 @@
 -- The first fault of a text, test by test.
 use Rattle.std.proofs.Common.{◌≡◌, ◌≢◌, ℕ, ◌+◌, ◌<◌, ◌≤◌, ◌⊎◌, inl, inr, ◌↔◌, suc, refl, sym, ap, subst, ◌∙◌, arith, List, [], ◌∷◌, ◌++◌, length, get_or, take, drop, Bool, true, false, ◌||◌, eqb, cond, All, Any, Contains, MatchBool}
-use Rattle.std.specs.List.{count_by, position_or_len}
-use Rattle.std.proofs.lemmas.Bool.{eq-eqb, ne_eqb, or_parts, cases_Bool, false≢true}
-use Rattle.std.proofs.lemmas.List.Elements.{All-contains, All-head, All-tail}
-use Rattle.std.proofs.lemmas.List.Sums.{sum_by-cons, position_or_len_is, split_at_first}
-use Rattle.board.specs.declared.game.Game.{Game}
-use Rattle.board.specs.declared.game.Game.TheVariants.{LosAlamos, Gardner}
-use Rattle.board.specs.declared.game.Side.{Side}
-use Rattle.board.specs.declared.game.Side.TheVariants.{White, Black}
-use Rattle.board.specs.declared.game.Kind.TheVariants.{King}
-use Rattle.board.specs.declared.game.Unit.{Unit as Man}
+use Rattle.board.proofs.Common.{count_by, position_or_len, eq-eqb, ne_eqb, or_parts, cases_Bool, false≢true, All-contains, All-head, All-tail, sum_by-cons, position_or_len_is, split_at_first, Game, LosAlamos, Gardner, Side, White, Black, King, Man, most_units, IsPlayed, PlainBoard, IsPosition, letter_of, side_letter, IsFenText, board_part, side_part, rows, first_of, last_of, is_digit, IsShape, IsBoardByte, HasAdjacentRuns, is_case_of, has_pawn, fen_fault_number, FenFaultHolds, IsFenFault, separator, digit, letter}
 use Rattle.board.specs.declared.fault.FenFault.{FenFault}
 use Rattle.board.specs.declared.fault.FenFault.TheVariants.{Fields, Shape, Letter, Run, Side as SideText, Kings, Units, PawnRank, OtherInCheck}
-use Rattle.board.specs.Games.{most_units, IsPlayed}
-use Rattle.board.specs.Board.{PlainBoard, IsPosition}
-use Rattle.board.specs.Fen.{letter_of, side_letter, IsFenText}
-use Rattle.board.specs.FenFaults.{board_part, side_part, rows, first_of, last_of, is_digit, IsShape, IsBoardByte, HasAdjacentRuns, is_case_of, has_pawn, fen_fault_number, FenFaultHolds, IsFenFault}
-use Rattle.board.specs.FenFaults.IsBoardByte.{separator, digit, letter}
 use Rattle.board.proofs.RankText.{letter_above, one_unit}
 use Rattle.board.proofs.FenLaw.{heads, law}
 use Rattle.board.proofs.RowBytes.{letter_no_digit, weight}

@@ -1,26 +1,7 @@
 -- A text with no fault is a position's.
 use Rattle.std.proofs.Common.{◌≡◌, ◌≢◌, ℕ, ◌+◌, ◌-◌, ◌*◌, ◌<◌, ◌≤◌, inl, inr, zero, suc, refl, sym, ap, subst, ◌∙◌, arith, List, [], ◌∷◌, ◌++◌, length, get_or, map, replicate, Option, Some, None, Bool, true, false, ◌||◌, cond, eqb, IsTrue, All, Contains, append_assoc, length-append}
-use Rattle.std.specs.Option.{IfSome}
-use Rattle.std.specs.List.{onto_first, join_with_byte, count_by}
-use Rattle.std.proofs.Math.ListN.{length-replicate}
-use Rattle.std.proofs.lemmas.Bool.{eq-eqb, ne_eqb, or_parts, cases_lt, false≢true}
-use Rattle.std.proofs.lemmas.List.{get_or_append_left, get_or-append_right}
+use Rattle.board.proofs.Common.{IfSome, onto_first, join_with_byte, count_by, length-replicate, eq-eqb, ne_eqb, or_parts, cases_lt, false≢true, get_or_append_left, get_or-append_right, All-nil, All-cons, All-head, All-tail, All-append, All-replicate, All-get_or, Game, LosAlamos, Gardner, Side, White, Black, Kind, King, Pawn, Man, width_of, squares_of, most_units, IsPlayed, PlainBoard, board_of, is_king_of, is_of_side, MayStandOn, IsPosition, letter_of, side_letter, StartsNoRun, IsRankText, IsTextFrom, IsFenText, end, unit, run, first, above, rows, first_of, last_of, is_digit, row_width, IsShape, IsBoardByte, HasAdjacentRuns, is_case_of, has_pawn, separator, digit, letter}
 use Rattle.std.proofs.lemmas.List.Splits.{slice_split-cons_yes, slice_split-cons_no, length-slice_split, join_with_byte-slice_split}
-use Rattle.std.proofs.lemmas.List.Elements.{All-nil, All-cons, All-head, All-tail, All-append, All-replicate, All-get_or}
-use Rattle.board.specs.declared.game.Game.{Game}
-use Rattle.board.specs.declared.game.Game.TheVariants.{LosAlamos, Gardner}
-use Rattle.board.specs.declared.game.Side.{Side}
-use Rattle.board.specs.declared.game.Side.TheVariants.{White, Black}
-use Rattle.board.specs.declared.game.Kind.{Kind}
-use Rattle.board.specs.declared.game.Kind.TheVariants.{King, Pawn}
-use Rattle.board.specs.declared.game.Unit.{Unit as Man}
-use Rattle.board.specs.Games.{width_of, squares_of, most_units, IsPlayed}
-use Rattle.board.specs.Board.{PlainBoard, board_of, is_king_of, is_of_side, MayStandOn, IsPosition}
-use Rattle.board.specs.Fen.{letter_of, side_letter, StartsNoRun, IsRankText, IsTextFrom, IsFenText}
-use Rattle.board.specs.Fen.IsRankText.{end, unit, run}
-use Rattle.board.specs.Fen.IsTextFrom.{first, above}
-use Rattle.board.specs.FenFaults.{rows, first_of, last_of, is_digit, row_width, IsShape, IsBoardByte, HasAdjacentRuns, is_case_of, has_pawn}
-use Rattle.board.specs.FenFaults.IsBoardByte.{separator, digit, letter}
 use Rattle.board.proofs.RankText.{letter_above}
 use Rattle.board.proofs.RowBytes.{IsPlayedAt, IsNoPawn, width_more, is_digit-from, digit_bounds, letter_no_digit, Agrees, count_more, count_append, weight, count_empty, row_count, kings_agree, sides_agree}
 

@@ -1,13 +1,6 @@
 -- A board has one text.
 use Rattle.std.proofs.Common.{◌≡◌, ℕ, ◌+◌, ◌*◌, ◌<◌, zero, suc, refl, sym, ap, subst, ◌∙◌, arith, List, [], ◌∷◌, ◌++◌, length, take, drop, replicate, Option, Some, None, length-append}
-use Rattle.std.proofs.lemmas.List.{take_at, drop_at}
-use Rattle.board.specs.declared.game.Side.{Side}
-use Rattle.board.specs.declared.game.Unit.{Unit as Man}
-use Rattle.board.specs.Games.{width_of}
-use Rattle.board.specs.Board.{PlainBoard}
-use Rattle.board.specs.Fen.{letter_of, side_letter, StartsNoRun, IsRankText, IsTextFrom, IsFenText}
-use Rattle.board.specs.Fen.IsRankText.{end, unit, run}
-use Rattle.board.specs.Fen.IsTextFrom.{first, above}
+use Rattle.board.proofs.Common.{take_at, drop_at, Side, Man, width_of, PlainBoard, letter_of, side_letter, StartsNoRun, IsRankText, IsTextFrom, IsFenText, end, unit, run, first, above}
 
 -- how a rank's text and its units begin
 data Begins : List ℕ → List (Option Man) → Type 0 where

@@ -1,18 +1,7 @@
 -- How the text of a board falls into ranks.
 use Rattle.std.proofs.Common.{◌≡◌, ℕ, ◌+◌, ◌-◌, ◌<◌, ◌≤◌, zero, suc, refl, sym, ap, subst, ◌∙◌, arith, List, [], ◌∷◌, ◌++◌, length, get_or, take, drop, Option, Some, None, length-drop, replicate, Bool, true, false}
-use Rattle.board.specs.declared.game.Side.{Side}
-use Rattle.board.specs.declared.game.Side.TheVariants.{White, Black}
-use Rattle.board.specs.declared.game.Unit.{Unit as Man}
-use Rattle.std.specs.Option.{IfNone, IfSome, MatchOption}
-use Rattle.board.specs.declared.game.Game.{Game}
-use Rattle.board.specs.declared.game.Game.TheVariants.{LosAlamos, Gardner}
-use Rattle.board.specs.Games.{width_of}
-use Rattle.board.specs.Board.{PlainBoard, board_of, IsPosition}
-use Rattle.board.specs.Fen.{side_letter, IsRankText, IsTextFrom, IsFenText}
-use Rattle.board.specs.Fen.IsRankText.{end, unit, run}
-use Rattle.board.specs.Fen.IsTextFrom.{first, above}
+use Rattle.board.proofs.Common.{Side, White, Black, Man, IfNone, IfSome, MatchOption, Game, LosAlamos, Gardner, width_of, PlainBoard, board_of, IsPosition, side_letter, IsRankText, IsTextFrom, IsFenText, end, unit, run, first, above, take_all}
 use Rattle.board.proofs.RankText.{letter_above, ReadsRank, on_true, on_false, IsRankText-nil, IsRankText-letter, IsRankText-digit}
-use Rattle.std.proofs.lemmas.List.{take_all}
 
 -- all bytes are above the separators
 Above : List ℕ → Type 0

@@ -1,12 +1,6 @@
 -- The text of a position, as it is written.
 use Rattle.std.proofs.Common.{◌≡◌, ℕ, ◌-◌, ◌*◌, ◌<◌, ◌≤◌, zero, suc, refl, sym, ap, subst, ◌∙◌, arith, List, [], ◌∷◌, ◌++◌, length, get_or, take, drop, replicate, Option, Some, None, append_assoc}
-use Rattle.std.specs.Option.{IfSome}
-use Rattle.std.proofs.lemmas.List.{take_all}
-use Rattle.board.specs.declared.game.Unit.{Unit as Man}
-use Rattle.board.specs.declared.game.Side.{Side}
-use Rattle.board.specs.Games.{width_of, squares_of}
-use Rattle.board.specs.Fen.{IsTextFrom, IsFenText}
-use Rattle.board.specs.Board.{PlainBoard, unit_on, MayStandOn, IsPosition}
+use Rattle.board.proofs.Common.{IfSome, take_all, Man, Side, width_of, squares_of, IsTextFrom, IsFenText, PlainBoard, unit_on, MayStandOn, IsPosition}
 
 pub split_units : (xs : List (Option Man)) (d : Option Man) → 1 ≤ length xs → xs ≡ get_or xs 0 d ∷ take (length xs - 1) (drop 1 xs)
 split_units [] d h = absurd (omega arith)

@@ -4,19 +4,10 @@ use Rattle.std.specs.Int.RustNames.{unsigned_abs}
 use Rattle.std.proofs.lemmas.Int.{ints}
 use Rattle.std.specs.Int.Signed.{lt_z}
 use Rattle.std.specs.Ordering.{int_eq}
-use Rattle.std.specs.List.{list_all}
-use Rattle.std.proofs.lemmas.Bool.{and_parts}
-use Rattle.std.proofs.lemmas.Bool.Decides.{Decides-int_eq}
-use Rattle.std.proofs.lemmas.List.Sums.{AllPass-from_list_all}
-use Rattle.std.proofs.lemmas.List.Elements.{All-from_get_or, All-push, All-weaker, All-contains, All-get_or, Contains-append_left, Contains-push, Contains-push_cases}
-use Rattle.std.proofs.lemmas.List.Quantifiers.{all_pairs_push}
+use Rattle.board.proofs.Common.{list_all, and_parts, Decides-int_eq, AllPass-from_list_all, All-from_get_or, All-push, All-weaker, All-contains, All-get_or, Contains-append_left, Contains-push, Contains-push_cases, all_pairs_push, Atom, Wazir, Ferz, Term, LEAPS, IsAtomLeap, IsTermLeap, Denotes, AreDistinct, IsStepBefore, ListsSteps}
 use Rattle.std.proofs.lemmas.Grind.{common_steps, elements}
 use Rattle.board.specs.declared.step.Step.{Step}
-use Rattle.board.specs.declared.terms.Atom.{Atom}
-use Rattle.board.specs.declared.terms.Atom.TheVariants.{Wazir, Ferz, Knight}
-use Rattle.board.specs.declared.terms.Term.{Term}
-use Rattle.board.specs.declared.terms.TheConstants.{LEAPS}
-use Rattle.board.specs.Denotation.{IsAtomLeap, IsTermLeap, Denotes, AreDistinct, IsStepBefore, ListsSteps}
+use Rattle.board.specs.declared.terms.Atom.TheVariants.{Knight}
 
 -- what holds at both signs of both numbers holds at all numbers of that size
 by_signs : (P : ℤ → ℤ → Type 0) (m n : ℕ) → P (pos m) (pos n) → P (pos m) (neg_ℤ (pos n)) → P (neg_ℤ (pos m)) (pos n) → P (neg_ℤ (pos m)) (neg_ℤ (pos n)) → (x y : ℤ) → unsigned_abs x ≡ m → unsigned_abs y ≡ n → P x y

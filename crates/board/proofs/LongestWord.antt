@@ -1,11 +1,7 @@
 -- The longest word that a text begins with.
 use Rattle.std.proofs.Common.{◌≡◌, ◌≢◌, ℕ, ◌≤◌, Bool, true, false, IsTrue, refl, sym, ap, subst, ◌∙◌, arith, List, [], ◌∷◌, ◌++◌, length, append_assoc}
-use Rattle.board.specs.declared.step.Mode.{Mode}
-use Rattle.board.specs.declared.terms.Atom.{Atom}
+use Rattle.board.proofs.Common.{Mode, Atom, Term, mode_text, forward_text, atom_text, doubled_text, term_text, IsWritten, IsShorthand, IsWord, IsLongestTerm, IsLongestWord, StartsNot, term, short}
 use Rattle.board.specs.declared.terms.Atom.TheVariants.{Knight}
-use Rattle.board.specs.declared.terms.Term.{Term}
-use Rattle.board.specs.Notation.{mode_text, forward_text, atom_text, doubled_text, term_text, IsWritten, IsShorthand, IsWord, IsLongestTerm, IsLongestWord, StartsNot}
-use Rattle.board.specs.Notation.IsWord.{term, short}
 use Rattle.board.proofs.TwoWords.{SameButRider, atom_letter, atom_text-letter, letters_of, length-term, but_rider, short_or_term, short_letter}
 
 no_longer : (t u : Term) (r s : List ℕ) → SameButRider t u r s → letters_of u.rider ≤ letters_of t.rider → length (term_text u) ≤ length (term_text t)

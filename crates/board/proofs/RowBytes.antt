@@ -1,21 +1,6 @@
 -- What the bytes of a row say of the units of its rank: widths and counts.
 use Rattle.std.proofs.Common.{◌≡◌, ℕ, ◌+◌, ◌-◌, ◌<◌, ◌≤◌, zero, suc, refl, ap, ◌∙◌, arith, List, [], ◌∷◌, ◌++◌, replicate, Option, Some, None, Bool, true, false, cond, eqb}
-use Rattle.std.specs.Option.{IfSome}
-use Rattle.std.specs.List.{count_by}
-use Rattle.std.proofs.lemmas.Bool.{ne_eqb}
-use Rattle.std.proofs.lemmas.Bool.Decides.{nat_tests}
-use Rattle.std.proofs.lemmas.List.Sums.{sum_by-cons, sum_by-append}
-use Rattle.board.specs.declared.game.Game.{Game}
-use Rattle.board.specs.declared.game.Side.{Side}
-use Rattle.board.specs.declared.game.Side.TheVariants.{White, Black}
-use Rattle.board.specs.declared.game.Kind.{Kind}
-use Rattle.board.specs.declared.game.Kind.TheVariants.{King, Queen, Rook, Bishop, Knight, Pawn}
-use Rattle.board.specs.declared.game.Unit.{Unit as Man}
-use Rattle.board.specs.Games.{IsPlayed}
-use Rattle.board.specs.Board.{is_king_of, is_of_side}
-use Rattle.board.specs.Fen.{letter_of, IsRankText}
-use Rattle.board.specs.Fen.IsRankText.{end, unit, run}
-use Rattle.board.specs.FenFaults.{is_digit, row_width, is_case_of}
+use Rattle.board.proofs.Common.{IfSome, count_by, ne_eqb, nat_tests, sum_by-cons, sum_by-append, Game, Side, White, Black, Kind, King, Queen, Rook, Bishop, Knight, Pawn, Man, IsPlayed, is_king_of, is_of_side, letter_of, IsRankText, end, unit, run, is_digit, row_width, is_case_of}
 
 -- what stands there is played
 abbrev pub IsPlayedAt : Game → Option Man → Type 0

@@ -1,16 +1,7 @@
 -- The readings of the kinds' strings.
 use Rattle.std.proofs.Common.{◌≢◌, refl, arith, true, false, [], ◌∷◌, zero, suc}
-use Rattle.board.specs.declared.game.Kind.{Kind}
-use Rattle.board.specs.declared.game.Kind.TheVariants.{King, Queen, Rook, Bishop, Knight, Pawn}
-use Rattle.board.specs.declared.step.Mode.TheVariants.{Move, Capture}
-use Rattle.board.specs.declared.terms.Atom.TheVariants.{Wazir, Ferz}
+use Rattle.board.proofs.Common.{Kind, King, Queen, Rook, Bishop, Knight, Pawn, Move, Capture, Wazir, Ferz, Term, single, AreDistinct, terms_of, IsRead, IsReading, piece_text, term, short, rook, bishop, queen, king, last, more}
 use Rattle.board.specs.declared.terms.Atom.TheVariants as atom
-use Rattle.board.specs.declared.terms.Term.{Term}
-use Rattle.board.specs.Denotation.{single, AreDistinct, terms_of}
-use Rattle.board.specs.Notation.{IsRead, IsReading, piece_text}
-use Rattle.board.specs.Notation.IsWord.{term, short}
-use Rattle.board.specs.Notation.IsShorthand.{rook, bishop, queen, king}
-use Rattle.board.specs.Notation.IsRead.{last, more}
 
 kind_read : (k : Kind) → IsRead (piece_text k) (terms_of k)
 kind_read King = last (short king)

@@ -1,14 +1,7 @@
 -- What words a text begins with: one, or a term and the same term with its atom doubled.
 use Rattle.std.proofs.Common.{◌≡◌, ◌≢◌, ℕ, ◌+◌, suc, cond, eqb, Bool, true, false, refl, sym, ap, subst, ◌∙◌, arith, List, [], ◌∷◌, ◌++◌, length, get_or, drop, append_assoc, length-append}
-use Rattle.board.specs.declared.step.Mode.{Mode}
-use Rattle.board.specs.declared.step.Mode.TheVariants.{Move, Capture, Both}
-use Rattle.board.specs.declared.terms.Atom.{Atom}
-use Rattle.board.specs.declared.terms.Atom.TheVariants.{Wazir, Ferz, Knight}
-use Rattle.board.specs.declared.terms.Term.{Term}
-use Rattle.board.specs.Denotation.{single, doubled}
-use Rattle.board.specs.Notation.{mode_text, forward_text, atom_text, doubled_text, term_text, IsShorthand, IsWord, StartsNot, StartsNoMode}
-use Rattle.board.specs.Notation.IsShorthand.{rook, bishop, queen, king}
-use Rattle.board.specs.Notation.IsWord.{term, short}
+use Rattle.board.proofs.Common.{Mode, Move, Capture, Both, Atom, Wazir, Ferz, Term, single, doubled, mode_text, forward_text, atom_text, doubled_text, term_text, IsShorthand, IsWord, StartsNot, StartsNoMode, rook, bishop, queen, king, term, short}
+use Rattle.board.specs.declared.terms.Atom.TheVariants.{Knight}
 
 -- ---- bytes
 

@@ -1,13 +1,6 @@
 -- Reading a string word by word, each word as long as can be: nothing else can be its accepted reading.
 use Rattle.std.proofs.Common.{◌≡◌, ◌≢◌, ℕ, ◌+◌, ◌<◌, true, false, refl, sym, ap, subst, ◌∙◌, arith, List, [], ◌∷◌, ◌++◌, length, append_assoc, length-append}
-use Rattle.std.proofs.lemmas.Bool.{false≢true}
-use Rattle.std.proofs.lemmas.List.{append-nil, get_or-append-add, get_or_append_left}
-use Rattle.board.specs.declared.terms.Atom.{Atom}
-use Rattle.board.specs.declared.terms.Term.{Term}
-use Rattle.board.specs.Denotation.{single, AreDistinct}
-use Rattle.board.specs.Notation.{atom_text, IsWord, IsRead, IsLongestWord, HasOneReading}
-use Rattle.board.specs.Notation.IsWord.{term, short}
-use Rattle.board.specs.Notation.IsRead.{last, more}
+use Rattle.board.proofs.Common.{false≢true, append-nil, get_or-append-add, get_or_append_left, Atom, Term, single, AreDistinct, atom_text, IsWord, IsRead, IsLongestWord, HasOneReading, term, short, last, more}
 use Rattle.board.proofs.TwoWords.{two_words, atom_letter, atom_text-letter, length-term, letters_of, short_letter}
 use Rattle.board.proofs.TwoWords.AreTwo.{same, first_half, second_half}
 

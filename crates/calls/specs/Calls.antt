@@ -26,8 +26,8 @@ abbrev pub limits_of : Terms → Limits
 limits_of terms = record { limit = terms.limit; workers = 1; slots = terms.slots }
 
 -- the terms with these values
-abbrev pub terms_of : Bool → ℕ → ℕ → Terms
-terms_of stale limit slots = record { stale = stale; limit = limit; slots = slots }
+abbrev pub search_terms : Bool → ℕ → ℕ → Terms
+search_terms stale limit slots = record { stale = stale; limit = limit; slots = slots }
 
 -- the reply to a call at the position of a text: the program's to its line, or what is told of the text, of a move or of a certificate
 abbrev pub IsReply : Bor (List ℕ) → Call → Reply → Type 0

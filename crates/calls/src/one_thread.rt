@@ -3,21 +3,19 @@ ghost use Rattle.std.specs.Prelude.{◌≡◌, [], IfErr, IfOk, None, Ok, Err, v
 ghost use Rattle.slots.specs.Promise.{IsSeatOf};
 ghost use Rattle.command_line.specs.declared.line.Action.TheVariants.{Solve, Keys, Moves, Tree as TreeAction, Check};
 ghost use Rattle.endings.specs.Outcome.{Gives};
-ghost use Rattle.replies.specs.Outcome.{FindsKeys, FindsTree, Solves};
-ghost use Rattle.rounds.specs.Limits.{IsRefusal};
+ghost use Rattle.replies.specs.Outcome.{FindsWithin, IsBestWithin};
 ghost use Rattle.problems.specs.Problems.{IsProblemOf};
-ghost use Rattle.replies.specs.Output.{fault_of, IsOutput, ShowsMoves, ShowsCheck};
+ghost use Rattle.replies.specs.Output.{IsOutput, ShowsAnswer, ShowsCheck, ShowsKeys, ShowsMoves, ShowsPlanFound};
 
-use answer_texts::moves_text;
+use answer_texts::{answer_text, keys_text, moves_text};
 use board::Position;
 use command_line::Limits;
 use devices::without_line_feed;
 use entry::MateLore;
 use moves::{Goal, lawful, read_sound};
-use problems::{Answer, Key, Problem};
+use problems::{Answer, Problem};
 use refusals::Refusal;
-use replies::{MOST_INPUT, Search, answer_line, key_lines, plan_line, search_of, verdict_text};
-use rounds::{SolveFault, make_table};
+use replies::{MOST_INPUT, opened, plan_text, verdict_text};
 use searcher::{keys_alone, solve_alone};
 use slots::{Seat, Slots};
 use std::alloc::Allocator;
@@ -30,86 +28,75 @@ fn lent_alone<A: Allocator + Copy>(
     position: &Position,
     goal: Goal,
     limits: Limits,
-) -> Result<(Problem, Slots<MateLore, A>, Seat), SolveFault>
-    ensures problem { IfOk result (λ lent. IsProblemOf position.now goal limits.limit lent.0) }
-    ensures accepted { IfOk result (λ _. fault_of limits ≡ None) }
-    ensures seat { IfOk result (λ lent. IsSeatOf lent.1 lent.2) }
-    ensures fault { IfErr result (IsRefusal limits.limit limits.workers limits.slots) }
+) -> Result<(Problem, Slots<MateLore, A>, Seat), Refusal>
+    ensures { FindsWithin limits
+        (λ lent. IsProblemOf position.now goal limits.limit lent.0 × IsSeatOf lent.1 lent.2) result }
 {
-    let Search {
-        limit,
-        workers,
-        slots,
-    } = search_of(limits);
-    let Some(problem) = Problem::of(position, goal, limit) else {
-        return Err(SolveFault::Limit);
-    };
-    let (slots, seat) = make_table(alloc, workers, slots)?.into_alone();
+    let (problem, table) = opened(alloc, position, goal, limits)?;
+    let (slots, seat) = table.into_alone();
     Ok((problem, slots, seat))
 }
 
-/// The answer within the limits, with the table that it was found over and a seat there.
-fn searched_alone<A: Allocator + Copy>(
+/// What is printed of the answer within the limits.
+fn answer_shown<A: Allocator + Copy>(
     alloc: A,
     position: &Position,
     goal: Goal,
     limits: Limits,
-) -> Result<(Answer, Slots<MateLore, A>, Seat), SolveFault>
-    ensures answer { IfOk result (λ found. Solves goal position.now limits (Ok found.0)) }
-    ensures seat { IfOk result (λ found. IsSeatOf found.1 found.2) }
-    ensures fault { IfErr result (λ fault. Solves goal position.now limits (Err fault)) }
+) -> Result<Vec<u8, A>, Refusal>
+    ensures { Gives vec_items (ShowsAnswer goal position.now limits) result }
 {
     let (problem, table, mut seat) = lent_alone(alloc, position, goal, limits)?;
     let answer = solve_alone(&table, &mut seat, &problem);
-    Ok((answer, table, seat))
+    Ok(answer_text(alloc, goal, answer)?.into_bytes())
 }
 
-/// The first moves that force the goal within the limits.
-fn keys_found_alone<A: Allocator + Copy>(
+/// What is printed of the first moves that force the goal within the limits.
+fn keys_shown<A: Allocator + Copy>(
     alloc: A,
     position: &Position,
     goal: Goal,
     limits: Limits,
-) -> Result<Vec<Key, A>, SolveFault>
-    ensures { FindsKeys goal position.now limits result }
+) -> Result<Vec<u8, A>, Refusal>
+    ensures { Gives vec_items (ShowsKeys goal position.now limits) result }
 {
     let (problem, table, mut seat) = lent_alone(alloc, position, goal, limits)?;
     let Ok(keys) = keys_alone(alloc, &table, &mut seat, &problem) else {
-        return Err(SolveFault::NoMemory);
+        return Err(Refusal::NoMemory);
     };
-    Ok(keys)
+    Ok(keys_text(alloc, limits.limit, keys.as_slice())?.into_bytes())
 }
 
-/// The best tree within the limits, or none where nothing is forced.
-fn tree_found_alone<A: Allocator + Copy>(
+/// The best tree of a problem, or none where nothing is forced within its limit.
+fn best_alone<A: Allocator + Copy>(
     alloc: A,
     position: &Position,
     goal: Goal,
     limits: Limits,
-) -> Result<Option<Tree<A>>, SolveFault>
-    ensures { FindsTree goal position.now limits result }
+) -> Result<Option<Tree<A>>, Refusal>
+    ensures { FindsWithin limits (IsBestWithin goal position.now limits.limit) result }
 {
-    let (answer, table, mut seat) = searched_alone(alloc, position, goal, limits)?;
-    let Answer::Mate { plies, .. } = answer else {
+    let (problem, table, mut seat) = lent_alone(alloc, position, goal, limits)?;
+    let Answer::Mate { plies, .. } = solve_alone(&table, &mut seat, &problem) else {
         return Ok(None);
     };
     match build_tree(alloc, &table, &mut seat, position, goal, plies) {
         Ok(tree) => Ok(Some(tree)),
-        Err(_) => Err(SolveFault::NoMemory),
+        Err(_) => Err(Refusal::NoMemory),
     }
 }
 
-/// The answer within the limits.
-fn answer_found_alone<A: Allocator + Copy>(
+/// What is printed of the best tree within the limits.
+fn tree_shown<A: Allocator + Copy>(
     alloc: A,
     position: &Position,
     goal: Goal,
     limits: Limits,
-) -> Result<Answer, SolveFault>
-    ensures { Solves goal position.now limits result }
+) -> Result<Vec<u8, A>, Refusal>
+    ensures { Gives vec_items (ShowsPlanFound goal position.now limits) result }
 {
-    let (answer, _table, _seat) = searched_alone(alloc, position, goal, limits)?;
-    Ok(answer)
+    let best = best_alone(alloc, position, goal, limits)?;
+    plan_text(alloc, limits.limit, best)
 }
 
 fn moves_shown<A: Allocator>(alloc: A, position: &Position) -> Result<Vec<u8, A>, Refusal>
@@ -164,11 +151,7 @@ pub(crate) fn solve_reply<A: Allocator + Copy>(
     ensures { Gives vec_items (IsOutput (record { fen = fen.entry; action = Solve goal limits }) []) result }
 {
     let position = read_sound(fen)?;
-    answer_line(
-        alloc,
-        goal,
-        answer_found_alone(alloc, &position, goal, limits),
-    )
+    answer_shown(alloc, &position, goal, limits)
 }
 
 /// The reply of `keys`, searched by the caller's own thread alone.
@@ -181,8 +164,7 @@ pub(crate) fn keys_reply<A: Allocator + Copy>(
     ensures { Gives vec_items (IsOutput (record { fen = fen.entry; action = Keys goal limits }) []) result }
 {
     let position = read_sound(fen)?;
-    let found = keys_found_alone(alloc, &position, goal, limits);
-    key_lines(alloc, limits.limit, found)
+    keys_shown(alloc, &position, goal, limits)
 }
 
 /// The reply of `tree`, searched by the caller's own thread alone.
@@ -195,6 +177,5 @@ pub(crate) fn tree_reply<A: Allocator + Copy>(
     ensures { Gives vec_items (IsOutput (record { fen = fen.entry; action = TreeAction goal limits }) []) result }
 {
     let position = read_sound(fen)?;
-    let found = tree_found_alone(alloc, &position, goal, limits);
-    plan_line(alloc, limits.limit, found)
+    tree_shown(alloc, &position, goal, limits)
 }

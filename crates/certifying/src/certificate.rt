@@ -2,7 +2,7 @@
 ghost use Rattle.std.specs.Prelude.{◌≡◌, ◌<◌, ◌≤◌, ◌++◌, ◌∷◌, [], IfOk, IfSome, List, OnOk};
 ghost use Rattle.rules.specs.Moves.{IsLawful};
 ghost use Rattle.slots.specs.Promise.{IsSeatOf};
-ghost use Rattle.verifying.specs.Words.{line_text};
+ghost use Rattle.verifying.specs.Words.{words_line};
 ghost use Rattle.certifying.specs.Lines.{claim_line};
 ghost use Rattle.certifying.specs.Making.{IsOfAnswer, first_move, first_plies};
 ghost use Rattle.verifying.specs.declared.words.Word.{Word as TheWord};
@@ -187,7 +187,7 @@ impl Certificate {
 
     /// The next line, without its feed, or none where the certificate ends.
     pub(crate) fn next_text(&mut self) -> Result<Option<Vec<u8>>, AllocError>
-        ensures { IfOk result (λ line. IfSome line (λ text. (words : List TheWord) × (text.items ≡ line_text words))) }
+        ensures { IfOk result (λ line. IfSome line (λ text. (words : List TheWord) × (text.items ≡ words_line words))) }
     {
         let Some(words) = self.next_words()? else {
             return Ok(None);

@@ -1,6 +1,6 @@
 //! The text of a line.
 ghost use Rattle.std.specs.Prelude.{◌≡◌, ◌<◌, ◌++◌, ◌∷◌, [], IfOk, OnOk};
-ghost use Rattle.verifying.specs.Words.{letter_of, line_text, word_text};
+ghost use Rattle.verifying.specs.Words.{place_letter, words_line, word_text};
 ghost use Rattle.verifying.specs.declared.words.Word.TheVariants.{Place as place};
 
 use std::alloc::{AllocError, Global};
@@ -9,7 +9,7 @@ use verifying::Word;
 /// The letter of a place below 50.
 fn letter_of(number: u8) -> u8
     requires { number < 50 }
-    ensures { result ≡ letter_of number }
+    ensures { result ≡ place_letter number }
 {
     if number < 26 {
         b'a' + number
@@ -44,7 +44,7 @@ fn put_word(text: &mut Vec<u8>, word: Word) -> Result<(), AllocError>
 
 /// The line of the words, without its feed.
 pub(crate) fn text_of(alloc: Global, words: &[Word]) -> Result<Vec<u8>, AllocError>
-    ensures { IfOk result (λ text. text.items ≡ line_text words.now) }
+    ensures { IfOk result (λ text. text.items ≡ words_line words.now) }
 {
     let mut text = Vec::new(alloc);
     for word in words {

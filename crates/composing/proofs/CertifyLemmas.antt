@@ -25,7 +25,7 @@ use Rattle.verifying.specs.declared.fault.Fault.TheVariants as certificate
 use Rattle.verifying.specs.declared.words.Word.{Word}
 use Rattle.verifying.specs.Certificate.{IsCertificate}
 use Rattle.verifying.specs.Checking.{HasTakenText, HasTaken, IsProvedBy, TakesMore, RefusesMore}
-use Rattle.verifying.specs.FirstLine.{IsInRange, HasNamedMove, answer_text as first_line}
+use Rattle.verifying.specs.FirstLine.{IsInRange, HasNamedMove, first_line}
 use Rattle.verifying.proofs.OneAnswer.{lawful_named}
 use Rattle.verifying.proofs.Refused.{begun_answer}
 use Rattle.certifying.specs.Lines.{claim_line, claim_lines}

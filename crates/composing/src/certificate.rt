@@ -12,7 +12,7 @@ use devices::{Failed, Sink, write_all};
 use moves::{Board, Goal, read_sound};
 use problems::Question;
 use refusals::Refusal;
-use replies::{Context, Searched, refusal_of, searched_at};
+use replies::{Context, searched_at};
 use std::sync::Wait;
 use std::thread::Threads;
 use std::time::Clock;
@@ -65,11 +65,9 @@ fn begin_at<R: Threads + Wait + Eprint + Clock + Sync + AllocGlobal>(
     ensures { BeginsAt goal position.now limits result }
 {
     let alloc = context.rt.alloc();
-    let Searched { answer, table } = match searched_at(context, position, goal, limits) {
-        Ok(found) => found,
-        Err(fault) => return Err(refusal_of(fault)),
-    };
-    let (slots, seat) = table.into_alone();
+    let found = searched_at(context, position, goal, limits)?;
+    let answer = found.answer;
+    let (slots, seat) = found.table.into_alone();
     let line = answer_text(alloc, goal, answer)?.into_bytes();
     let root = Question {
         position: Board::of(position),

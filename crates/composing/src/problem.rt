@@ -13,7 +13,7 @@ use decision::{Memory, Never, Scout};
 use moves::{Board, Goal, read_sound};
 use problems::{Answer, Root};
 use refusals::Refusal;
-use replies::{Context, none_line, refusal_of, searched_at};
+use replies::{Context, none_line, searched_at};
 use searcher::{Decider, Halt, Searcher, Table};
 use solution_text::{solution_text, whole_solution};
 use solutions::{Extras, solution_of};
@@ -99,10 +99,7 @@ fn solution_at<R: Threads + Wait + Eprint + Clock + Sync + AllocGlobal>(
     ensures { Gives vec_items (ShowsSolution goal position.now options limits) result }
 {
     let alloc = context.rt.alloc();
-    let found = match searched_at(context, position, goal, limits) {
-        Ok(found) => found,
-        Err(fault) => return Err(refusal_of(fault)),
-    };
+    let found = searched_at(context, position, goal, limits)?;
     match found.answer {
         Answer::Mate { plies, .. } => {
             let root = Root::on(Board::of(position), goal, plies);

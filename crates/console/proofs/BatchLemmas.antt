@@ -19,16 +19,17 @@ use Rattle.devices.specs.Input.{OfInput, failed_reads, without_line_feed}
 use Rattle.devices.specs.declared.transfer.InputFault.{InputFault}
 use Rattle.devices.specs.declared.transfer.InputFault.TheVariants as input
 use Rattle.endings.specs.Outcome.{IsSoundText}
-use Rattle.replies.specs.Output.{fault_of, refusal_of_solve}
+use Rattle.replies.specs.Output.{fault_of, refusal_of_solve, IsRefusedWithin}
+use Rattle.replies.proofs.ReplyLemmas.{refused_by}
 use Rattle.refusals.specs.Refusal.{refusal_of_fen}
 use Rattle.refusals.specs.declared.refusal.Refusal.{Refusal}
+use Rattle.refusals.specs.declared.refusal.Refusal.TheVariants as refusal
 use Rattle.answer_texts.specs.Said.{said_in}
 use Rattle.console.specs.Batch.{AnswersLines, EndsBatch, HasReplyText, IsAskedReply, IsLineReply, RunsBatch, answered_lines, joined, left_out, lines_of, onto}
 use Rattle.console.specs.BatchRun.{Fails, GivesAsked, GivesFound, GivesNext, IsFirstOf, IsAskedRefusal, PassesOver, Step, TakesAnswered, TakesLines, TakesStep, stop_of}
 use Rattle.devices.specs.Lines.{HasNoFeed, IsFed, IsLastOf, IsReadAs, TakesLine, left_of}
 use Rattle.endings.specs.Run.{Ending, Finishes, Refuses, Run, no_memory}
 use Rattle.rounds.specs.declared.fault.SolveFault.{SolveFault}
-use Rattle.rounds.specs.declared.fault.SolveFault.TheVariants as solve
 use Rattle.console.specs.declared.batch.BatchStop.{BatchStop}
 use Rattle.console.specs.declared.batch.BatchStop.TheVariants.{ReadFailed, WriteFailed, NoMemory}
 use Rattle.devices.specs.declared.lines.Taken.{Taken}
@@ -399,12 +400,15 @@ batch_ran opened batch run left texts searched same_batch same answers ends =
     )
 
 -- the limits are refused, or memory is wanting before anything is read
-pub batch_refused : (batch : Batch) (run : Run) (fault : SolveFault) → run.failed_reads ≡ 0
-    → (fault_of batch.limits ≡ Some fault) ⊎ ((fault_of batch.limits ≡ None) × (fault ≡ solve.NoMemory)) → Refuses run.ending (refusal_of_solve fault) → RunsBatch batch run
-batch_refused batch run fault unread (inl is) refuses = rw is (unread, refuses)
-batch_refused batch run fault unread (inr (none, memory)) refuses =
-    let wrote : Finishes run.ending no_memory 3 = elim (subst (λ f. Refuses run.ending (refusal_of_solve f)) memory refuses) [ inl a ↦ a | inr b ↦ b ] in
-    rw none ([], of_any run.input _ (λ input. ([], answered_lines batch input, refl, tt, λ e. elim wrote [ inl w ↦ absurd (omega (arith, w.2, e)) | inr w ↦ absurd (omega (arith, w.2, e)) ])), inr (inr (unread, wrote)))
+pub batch_refused : (batch : Batch) (run : Run) (why : Refusal) → run.failed_reads ≡ 0 → IsRefusedWithin batch.limits why → Refuses run.ending why
+    → RunsBatch batch run
+batch_refused batch run why unread is refuses = elim (refused_by batch.limits why is) [
+  | inl (none, memory) ↦ wanting none (elim (subst (Refuses run.ending) memory refuses) [ inl a ↦ a | inr b ↦ b ])
+  | inr (fault, at, same) ↦ rw at (unread, subst (Refuses run.ending) same refuses)
+]
+  where
+    wanting : fault_of batch.limits ≡ None → Finishes run.ending no_memory 3 → RunsBatch batch run
+    wanting none wrote = rw none ([], of_any run.input _ (λ input. ([], answered_lines batch input, refl, tt, λ e. elim wrote [ inl w ↦ absurd (omega (arith, w.2, e)) | inr w ↦ absurd (omega (arith, w.2, e)) ])), inr (inr (unread, wrote)))
 
 -- want of memory isn't the end of the input
 pub gave_up : (ending : Ending) (text : List ℕ) → Finishes ending text 3 → ending.status ≡ 0 → ⊥

@@ -39,13 +39,13 @@ IsSearched batch = fault_of batch.limits ≡ None
 abbrev pub IsBatchRun : BatchRun → Type 0
 IsBatchRun run = IsSearched run.batch × IsUnread run.unread
 
--- a batch in which nothing was read, or the first fault of the limits, or want of memory
-abbrev pub OpensBatchRun : Batch → Result BatchRun SolveFault → Type 0
+-- a batch in which nothing was read, or the refusal of the limits, or want of memory
+abbrev pub OpensBatchRun : Batch → Result BatchRun Refusal → Type 0
 OpensBatchRun batch result = FindsWithin batch.limits
     (λ run. IsBatchRun run × (run.batch ≡ batch) × (run.unread.from ≡ 0) × (run.unread.to ≡ 0)) result
 
 -- what is asked of a position within the limits
-abbrev pub Finds : Bool → Goal → PlainBoard → Limits → Result Found SolveFault → Type 0
+abbrev pub Finds : Bool → Goal → PlainBoard → Limits → Result Found Refusal → Type 0
 Finds keys goal b limits result = FindsWithin limits (IsFoundAt keys goal b limits.limit) result
 
 -- the limits within which a line is searched

@@ -4,7 +4,7 @@ use Rattle.command_line.specs.declared.line.Order.{Order}
 use Rattle.command_line.specs.declared.line.Order.TheVariants.{One, Batch, Verify, Certify, After, TreeAfter, Solution}
 use Rattle.command_line.specs.declared.line.Line.{Line}
 use Rattle.command_line.specs.declared.line.Action.{Action}
-use Rattle.command_line.specs.declared.line.Action.TheVariants.{Solve, Keys, Tree}
+use Rattle.command_line.specs.declared.line.Action.TheVariants.{Solve, Keys, Moves, Tree}
 use Rattle.endings.specs.Run.{Run}
 use Rattle.endings.specs.Words.{DoesNothing}
 use Rattle.replies.specs.Output.{MayRead, fault_of}
@@ -29,19 +29,21 @@ MayReadOf (One line) = MayRead line
 MayReadOf (Batch goal limits options) = fault_of limits ≡ None
 MayReadOf _ = ⊥
 
--- the action is a search at a position
-abbrev pub IsSearch : Action → Type 0
-IsSearch (Solve goal limits) = ⊤
-IsSearch (Keys goal limits) = ⊤
-IsSearch (Tree goal limits) = ⊤
-IsSearch _ = ⊥
+-- the action asks what the side to move can play: each search does, and the list of its moves
+abbrev pub AsksOfMoves : Action → Type 0
+AsksOfMoves (Solve goal limits) = ⊤
+AsksOfMoves (Keys goal limits) = ⊤
+AsksOfMoves (Tree goal limits) = ⊤
+AsksOfMoves Moves = ⊤
+AsksOfMoves _ = ⊥
 
--- the line searches where it is over
-abbrev pub SearchesOver : Line → Type 0
-SearchesOver line = IsSearch line.action × IsOver line.fen.now
+-- the line asks it where the game is over
+abbrev pub AsksWhereOver : Line → Type 0
+AsksWhereOver line = AsksOfMoves line.action × IsOver line.fen.now
 
--- standard error may be told more than why a run has no answer: by a batch, of each line that is refused or over, and by a search where it is over
+-- standard error may be told more than why a run has no answer: by a batch, of each line that is refused or over, and by a line that asks for moves
+-- where the game is over
 abbrev pub TellsMore : Order → Type 0
-TellsMore (One line) = SearchesOver line
+TellsMore (One line) = AsksWhereOver line
 TellsMore (Batch goal limits options) = ⊤
 TellsMore _ = ⊥

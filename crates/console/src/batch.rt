@@ -19,8 +19,7 @@ use moves::read_sound;
 use problems::Problem;
 use progress::Watch;
 use refusals::{Asking, Refusal, Refused, advise, refused_text, write_sentence};
-use replies::{Context, refusal_of, search_of, table_within, tell_if_over};
-use rounds::SolveFault;
+use replies::{Context, search_of, table_within, tell_if_over};
 use searcher::Table;
 use std::alloc::{AllocError, Global};
 use std::io::Write;
@@ -75,7 +74,7 @@ impl From<AllocError> for BatchStop {
 }
 
 /// A batch that is about to run, with a table for these limits, or the first of them that is refused.
-pub fn open_batch(alloc: Global, batch: Batch) -> Result<BatchRun, SolveFault>
+pub fn open_batch(alloc: Global, batch: Batch) -> Result<BatchRun, Refusal>
     ensures { OpensBatchRun batch result }
 {
     let table = table_within(alloc, batch.limits)?;
@@ -111,7 +110,7 @@ fn find_at<R: Threads + Wait + Eprint + Clock + Sync + AllocGlobal>(
     batch: &Batch,
     limit: u32,
     position: &Position,
-) -> Result<Found, SolveFault>
+) -> Result<Found, Refusal>
     requires { IsSearched batch.now }
     ensures { Finds batch.now.options.keys batch.now.goal position.now (with_plies batch.now.limits limit) result }
 {
@@ -126,7 +125,7 @@ fn find_at<R: Threads + Wait + Eprint + Clock + Sync + AllocGlobal>(
         slots: limits.slots,
     };
     let Some(problem) = Problem::of(position, goal, search_of(limits).limit) else {
-        return Err(SolveFault::Limit);
+        return Err(Refusal::Limit);
     };
     let watch = context.watch_of(position, options.keys, limits);
     Ok(find(context.rt, table, options.keys, &problem, watch.as_ref())?)
@@ -144,10 +143,8 @@ fn position_text<R: Threads + Wait + Eprint + Clock + Sync + AllocGlobal>(
     ensures { GivesFound batch.now asked.now position.now result }
 {
     let limit = limit_of(batch.limits.limit, asked.moves);
-    match find_at(context, table, batch, limit, position) {
-        Ok(found) => Ok(found_text(context.rt.alloc(), batch, asked, &found)?),
-        Err(fault) => Err(refusal_of(fault)),
-    }
+    let found = find_at(context, table, batch, limit, position)?;
+    Ok(found_text(context.rt.alloc(), batch, asked, &found)?)
 }
 
 /// What is written for what a line asks, or why it is refused.

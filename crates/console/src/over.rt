@@ -1,35 +1,34 @@
-//! What is told of a line that is a search.
+//! What is told of a line for a side that can play nothing, and what a refusal's advice is for.
 ghost use Rattle.std.specs.Prelude.{◌≡◌, ◌⊎◌, ◌↔◌, IsTrue};
-ghost use Rattle.console.specs.Order.{IsSearch, SearchesOver};
+ghost use Rattle.console.specs.Order.{AsksOfMoves, AsksWhereOver};
 
 use command_line::{Action, Line};
 use refusals::Asking;
 use replies::tell_if_over;
 use std::io::Write;
 
-fn searches(action: Action) -> bool
-    ensures { IsTrue result ↔ IsSearch action }
+fn asks_of_moves(action: Action) -> bool
+    ensures { IsTrue result ↔ AsksOfMoves action }
 {
     matches!(
         action,
-        Action::Solve(..) | Action::Keys(..) | Action::Tree(..)
+        Action::Solve(..) | Action::Keys(..) | Action::Tree(..) | Action::Moves
     )
 }
 
 /// Whether what is asked is a search.
 pub fn asking_of(action: Action) -> Asking<'static> {
-    if searches(action) {
-        Asking::Search
-    } else {
-        Asking::Plain
+    match action {
+        Action::Solve(..) | Action::Keys(..) | Action::Tree(..) => Asking::Search,
+        _ => Asking::Plain,
     }
 }
 
-/// Tells where a line searches, and it is over.
+/// Tells where a line asks for moves, and the side to move has none.
 pub fn tell_if_line_is_over<E: Write>(errors: &mut E, line: &Line<'_>)
-    ensures { SearchesOver line.now ⊎ (errors.new ≡ errors.old) }
+    ensures { AsksWhereOver line.now ⊎ (errors.new ≡ errors.old) }
 {
-    if searches(line.action) {
+    if asks_of_moves(line.action) {
         tell_if_over(errors, line.fen, None);
     }
 }

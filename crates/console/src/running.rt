@@ -6,7 +6,7 @@ ghost use Rattle.endings.specs.Outcome.{reads_failed};
 ghost use Rattle.endings.specs.Run.{ending_of, run_of, EndsReply, MayTell, Refuses};
 ghost use Rattle.endings.specs.Words.{MeansSome, MeansSomeIn, RunsProgram, RunsWords};
 ghost use Rattle.console.specs.Batch.{RunsBatch};
-ghost use Rattle.console.specs.Order.{MayReadOf, RunsOrder, SearchesOver, TellsMore};
+ghost use Rattle.console.specs.Order.{AsksWhereOver, MayReadOf, RunsOrder, TellsMore};
 ghost use Rattle.console.specs.Playing.{WritesAfter};
 ghost use Rattle.console.specs.Run.{RunsLine};
 
@@ -22,7 +22,7 @@ use endings::{
     search_refused,
 };
 use refusals::{Asking, Refusal, Refused, advise, advise_move};
-use replies::{Context, Tally, after_reply, context_of, first_reply, refusal_of, reply_to};
+use replies::{Context, Tally, after_reply, context_of, first_reply, reply_to};
 use std::convert::AsStr;
 use std::io::{self, Write, sink};
 use std::sync::Wait;
@@ -61,7 +61,7 @@ fn run_line_on<
     ensures unread { MayRead line.now ⊎ (reader.new ≡ reader.old) }
     ensures runs { RunsLine line.now (run_of S.remaining S.failures reader.old reader.new
         (ending_of K.contents K.failures writer.old writer.new result)) }
-    ensures silent { MayTell result ⊎ SearchesOver line.now ⊎ (errors.new ≡ errors.old) }
+    ensures silent { MayTell result ⊎ AsksWhereOver line.now ⊎ (errors.new ≡ errors.old) }
 {
     let watch = watch_of(context, line);
     match reply_to(context.rt, watch.as_ref(), line, reader) {
@@ -102,8 +102,8 @@ pub fn run_batch<
             Some(BatchStop::ReadFailed) => fail_to_read(errors),
             Some(BatchStop::WriteFailed) => fail_to_write(errors),
         },
-        Err(fault) => {
-            let refused = search_refused(b"", refusal_of(fault));
+        Err(refusal) => {
+            let refused = search_refused(b"", refusal);
             refuse_and_tell(context.rt, writer, errors, &refused)
         }
     }

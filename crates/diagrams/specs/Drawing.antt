@@ -12,7 +12,7 @@ use Rattle.board.specs.Board.{PlainBoard}
 use Rattle.board.specs.Fen.{letter_of}
 use Rattle.board.specs.Games.{width_of}
 use Rattle.rules.specs.Squares.{unit_at}
-use Rattle.diagrams.specs.Places.{column_of, row_of, place_in}
+use Rattle.diagrams.specs.Places.{column_of, row_of, place_drawn}
 use Rattle.diagrams.specs.declared.look.Look.{Look}
 use Rattle.diagrams.specs.declared.look.Look.TheVariants.{Letters, Symbols}
 
@@ -42,7 +42,7 @@ sign_on look (Some u) = unit_drawn look u
 
 -- the square in a row and a column, with a blank before it
 abbrev pub square_drawn : Look → Side → PlainBoard → ℕ → ℕ → List ℕ
-square_drawn look below b row column = 32 ∷ sign_on look (unit_at b (place_in b.game below row column))
+square_drawn look below b row column = 32 ∷ sign_on look (unit_at b (place_drawn b.game below row column))
 
 -- a row on a line of its own: its rank's number, and its squares
 abbrev pub row_drawn : Look → Side → PlainBoard → ℕ → List ℕ

@@ -9,7 +9,7 @@ use Rattle.board.specs.Board.{PlainBoard}
 use Rattle.board.specs.Games.{width_of}
 use Rattle.rules.specs.Squares.{Place, Ply, IsOnBoard, unit_at}
 use Rattle.diagrams.specs.Drawing.{mover_drawn}
-use Rattle.diagrams.specs.Places.{column_of, row_of, place_in}
+use Rattle.diagrams.specs.Places.{column_of, row_of, place_drawn}
 use Rattle.diagrams.specs.Shapes.{outline, detail, file_sign, rank_sign}
 use Rattle.diagrams.specs.declared.diagram.Diagram.{Diagram}
 
@@ -27,17 +27,17 @@ abbrev pub width : View → ℕ
 width v = width_of v.board.game
 
 -- how far a column is from the left, and a row from above: each is 100 wide, behind an edge of 44 and below one of 4
-abbrev pub left_of : ℕ → ℕ
-left_of column = 44 + 100 * column
+abbrev pub left_edge : ℕ → ℕ
+left_edge column = 44 + 100 * column
 
-abbrev pub top_of : ℕ → ℕ
-top_of row = 4 + 100 * row
+abbrev pub top_edge : ℕ → ℕ
+top_edge row = 4 + 100 * row
 
 -- a1 is dark, and so is each second square from there
 abbrev pub ground : Place → ℕ → ℕ → List ℕ
 ground s row column =
     if (s.file + s.rank) % 2 == 0
-    then codes "<path d=\"M" ++ (decimal (left_of column) ++ (codes " " ++ (decimal (top_of row) ++ codes "h100v100h-100z\" fill=\"#c9cfbf\"/>\n")))
+    then codes "<path d=\"M" ++ (decimal (left_edge column) ++ (codes " " ++ (decimal (top_edge row) ++ codes "h100v100h-100z\" fill=\"#c9cfbf\"/>\n")))
     else []
 
 -- the colours of a side's units
@@ -64,7 +64,7 @@ unit_shape outlined drawn_inside colour =
 -- a unit on a square
 abbrev pub unit_picture : Man → ℕ → ℕ → List ℕ
 unit_picture u row column =
-    group (left_of column) (top_of row) (colours u.side) ++ unit_shape (outline u.kind) (detail u.kind) (inner_colour u.side)
+    group (left_edge column) (top_edge row) (colours u.side) ++ unit_shape (outline u.kind) (detail u.kind) (inner_colour u.side)
 
 -- the picture of what is there, if something is
 abbrev pub picture_of : {A : Type 0} → (A → List ℕ) → Option A → List ℕ
@@ -74,7 +74,7 @@ picture_of drawn (Some x) = drawn x
 -- the square in a row and a column
 abbrev pub square_picture : View → ℕ → ℕ → List ℕ
 square_picture v row column =
-    let s = place_in v.board.game v.below row column in
+    let s = place_drawn v.board.game v.below row column in
     ground s row column ++ picture_of (λ u. unit_picture u row column) (unit_at v.board s)
 
 -- a row of squares

@@ -17,5 +17,5 @@ row_of g White rank = width_of g - (rank + 1)
 row_of g Black rank = rank
 
 -- the square that is seen in a row and a column
-abbrev pub place_in : Game → Side → ℕ → ℕ → Place
-place_in g below row column = record { file = column_of g below column; rank = row_of g below row }
+abbrev pub place_drawn : Game → Side → ℕ → ℕ → Place
+place_drawn g below row column = record { file = column_of g below column; rank = row_of g below row }

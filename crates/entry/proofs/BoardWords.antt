@@ -1,22 +1,9 @@
 -- The words of a board, as those of an entry.
 use Rattle.std.proofs.Common.{◌≡◌, ◌≢◌, ℕ, zero, suc, ◌+◌, ◌*◌, ◌/◌, ◌%◌, ◌^◌, ◌<◌, ◌≤◌, refl, sym, ap, subst, ◌∙◌, arith, List, [], ◌∷◌, length, get_or, take, drop, None, length-drop, inl, inr}
-use Rattle.std.proofs.Math.Nat.{mul_left_comm}
+use Rattle.entry.proofs.Common.{mul_left_comm, cases_lt, get_or-drop, Game, LosAlamos, Gardner, Side, width_of, squares_of, PlainBoard, Goal, digit, man_of, code_on, flags_of, game_of, game_of_flags, mover_of_flags, units_in, unpacked, IsUnused, IsBoard, units_in-at, Bounds, IsBounds, code_of, squares_word, rank_pair, side_bit, game_bit, goal_bit, upto_byte, entry_of, first_word, second_word, third_word, Packing}
 use Rattle.std.proofs.lemmas.Nat.{pow-add, shr-shr}
-use Rattle.std.proofs.lemmas.Bool.{cases_lt}
-use Rattle.std.proofs.lemmas.List.{get_or-drop}
 use Rattle.std.proofs.lemmas.List.FromFn.{length-map-range_with_len}
-use Rattle.board.specs.declared.game.Game.{Game}
-use Rattle.board.specs.declared.game.Game.TheVariants.{LosAlamos, Gardner}
-use Rattle.board.specs.declared.game.Side.{Side}
-use Rattle.board.specs.Games.{width_of, squares_of}
-use Rattle.board.specs.Board.{PlainBoard}
-use Rattle.rules.specs.declared.goal.Goal.{Goal}
-use Rattle.moves.specs.Words.{digit, man_of, code_on, flags_of, game_of, game_of_flags, mover_of_flags, units_in, unpacked, IsUnused}
-use Rattle.moves.specs.Words.{IsPacked as IsBoard}
 use Rattle.moves.proofs.Digits.{digit_shifted}
-use Rattle.moves.proofs.Packing.{units_in-at}
-use Rattle.entry.specs.Bounds.{Bounds, IsBounds}
-use Rattle.entry.specs.Packing.{code_of, squares_word, rank_pair, side_bit, game_bit, goal_bit, upto_byte, entry_of, first_word, second_word, third_word, Packing}
 use Rattle.entry.proofs.Digits.{squares_small}
 use Rattle.entry.proofs.Ranks.{Places, pair, whole_position}
 use Rattle.entry.proofs.Words.{side_bit_le, game_bit_le, goal_bit_le}

@@ -1,26 +1,6 @@
 -- The test of packings and of the preference, and what they decide.
 use Rattle.std.proofs.Common.{◌≡◌, ℕ, zero, suc, ◌+◌, ◌-◌, ◌*◌, ◌/◌, ◌%◌, ◌^◌, ◌<◌, ◌≤◌, refl, sym, ap, subst, ◌∙◌, arith, Bool, true, false, ◌&&◌, nat_lt, nat_le, inl, inr, ◌==◌, if◌then◌else◌, List, [], ◌∷◌, ◌++◌, length, get_or, replicate, Option, Some, None}
-use Rattle.std.specs.Bool.{Decides}
-use Rattle.std.specs.Option.{IfSome}
-use Rattle.std.proofs.lemmas.Bool.{false≢true, cases_lt}
-use Rattle.std.proofs.lemmas.Bool.Decides.{Decides-and, Decides-eqb, Decides-below_and, nat_tests}
-use Rattle.std.proofs.lemmas.Slice.Eq.{bytes_eq-Decides}
-use Rattle.board.specs.declared.game.Game.{Game}
-use Rattle.board.specs.declared.game.Game.TheVariants.{LosAlamos, Gardner}
-use Rattle.board.specs.declared.game.Side.{Side}
-use Rattle.board.specs.declared.game.Side.TheVariants.{White, Black}
-use Rattle.board.specs.declared.game.Kind.{Kind}
-use Rattle.board.specs.declared.game.Kind.TheVariants.{King, Queen, Rook, Bishop, Knight, Pawn}
-use Rattle.board.specs.declared.game.Unit.{Unit as Man}
-use Rattle.board.specs.Games.{width_of, squares_of, IsPlayed}
-use Rattle.board.specs.Board.{PlainBoard, unit_on, MayStandOn, IsInnerRank, IsArmy, IsPosition}
-use Rattle.rules.specs.declared.goal.Goal.{Goal}
-use Rattle.rules.specs.declared.goal.Goal.TheVariants.{Mate, MateOrStale}
-use Rattle.moves.specs.Words.{man_of}
-use Rattle.entry.specs.Bounds.{Bounds, IsBounds}
-use Rattle.entry.specs.declared.entries.Entry.{Entry}
-use Rattle.entry.specs.Packing.{man_code, code_of, squares_word, side_bit, game_bit, goal_bit, upto_byte, first_word, second_word, third_word, Packing}
-use Rattle.entry.specs.Preference.{squares_in, side_at, game_at, goal_at, end_at, units_of, low_of, top_of, game_in, entry_in, is_played, is_pawn, is_inner, may_stand, stand_below, is_army, is_position, is_end, is_interval, is_packing_of, is_packing}
+use Rattle.entry.proofs.Common.{Decides, IfSome, false≢true, cases_lt, Decides-and, Decides-eqb, Decides-below_and, nat_tests, bytes_eq-Decides, Game, LosAlamos, Gardner, Side, White, Black, Kind, King, Queen, Rook, Bishop, Knight, Pawn, Man, width_of, squares_of, IsPlayed, PlainBoard, unit_on, MayStandOn, IsInnerRank, IsArmy, IsPosition, Goal, Mate, MateOrStale, man_of, Bounds, IsBounds, Entry, man_code, code_of, squares_word, side_bit, game_bit, goal_bit, upto_byte, first_word, second_word, third_word, Packing, squares_in, side_at, game_at, goal_at, end_at, units_of, low_of, top_of, game_in, entry_in, is_played, is_pawn, is_inner, may_stand, stand_below, is_army, is_position, is_end, is_interval, is_packing_of, is_packing}
 use Rattle.entry.proofs.Digits.{code_le}
 use Rattle.entry.proofs.Ranks.{Places, pair, whole_position}
 use Rattle.entry.proofs.Words.{side_bit_le, game_bit_le, goal_bit_le, fields_of}

@@ -1,3 +1,4 @@
+pub mod Common
 pub mod BoardWords
 pub mod Digits
 pub mod Ranks

@@ -1,17 +1,6 @@
 -- Which of two packings is preferred.
 use Rattle.std.proofs.Common.{◌≡◌, ℕ, Some, ◌<◌, ◌↔◌, Bool, true, false, ◌&&◌, if◌then◌else◌, nat_lt, List, IsTrue, inl, inr, refl, sym, ◌∙◌, subst}
-use Rattle.std.specs.Bool.{Decides}
-use Rattle.std.specs.Str.{bytes_eq}
-use Rattle.std.proofs.lemmas.Bool.{false≢true}
-use Rattle.std.proofs.lemmas.Option.{same_Some}
-use Rattle.std.proofs.lemmas.Bool.Decides.{Decides-and}
-use Rattle.std.proofs.lemmas.Slice.Eq.{bytes_eq-Decides}
-use Rattle.entry.specs.declared.entries.Entry.{Entry}
-use Rattle.entry.specs.Keys.{key_words}
-use Rattle.entry.specs.Bounds.{Bounds}
-use Rattle.entry.specs.Packing.{upto_byte, Packing}
-use Rattle.entry.specs.Prefers.{weight, SaysAll, ArePreferred}
-use Rattle.entry.specs.Preference.{entry_in, is_packing, says_all, mate_prefers}
+use Rattle.entry.proofs.Common.{Decides, bytes_eq, false≢true, same_Some, Decides-and, bytes_eq-Decides, Entry, key_words, Bounds, upto_byte, Packing, weight, SaysAll, ArePreferred, entry_in, is_packing, says_all, mate_prefers}
 use Rattle.entry.proofs.Questions.{one_entry, same_question, same_key}
 use Rattle.entry.proofs.Decided.{le_decides, lt_decides, of_decides, packing_decides}
 

@@ -1,14 +1,7 @@
 -- A position's squares, two ranks at a time.
 use Rattle.std.proofs.Common.{◌≡◌, ℕ, ◌+◌, ◌-◌, ◌*◌, ◌≤◌, zero, suc, refl, sym, ap, ◌∙◌, arith, List, [], ◌∷◌, ◌++◌, length, get_or, take, drop, replicate, Option, Some, None, length-drop}
-use Rattle.std.specs.Option.{IfSome}
+use Rattle.entry.proofs.Common.{IfSome, take-append-drop, length-take-le, Game, LosAlamos, Gardner, Man, width_of, squares_of, PlainBoard, unit_on, MayStandOn, IsPosition, squares_word, rank_pair}
 use Rattle.std.proofs.Math.Seq.{take-add}
-use Rattle.std.proofs.lemmas.List.{take-append-drop, length-take-le}
-use Rattle.board.specs.declared.game.Game.{Game}
-use Rattle.board.specs.declared.game.Game.TheVariants.{LosAlamos, Gardner}
-use Rattle.board.specs.declared.game.Unit.{Unit as Man}
-use Rattle.board.specs.Games.{width_of, squares_of}
-use Rattle.board.specs.Board.{PlainBoard, unit_on, MayStandOn, IsPosition}
-use Rattle.entry.specs.Packing.{squares_word, rank_pair}
 use Rattle.entry.proofs.Digits.{one_squares}
 
 -- ---- three parts and a rest

@@ -1,18 +1,6 @@
 -- The units that stand in an entry's words are its position's.
 use Rattle.std.proofs.Common.{◌≡◌, ℕ, zero, suc, ◌+◌, ◌*◌, ◌/◌, ◌%◌, ◌^◌, ◌<◌, sym, ap, ◌∙◌, arith, List, [], ◌∷◌, length, get_or, drop, None}
-use Rattle.std.proofs.Math.Nat.{pow-succ', mul_assoc}
-use Rattle.std.proofs.lemmas.List.{get_or-take, get_or-drop}
-use Rattle.board.specs.declared.game.Game.{Game}
-use Rattle.board.specs.declared.game.Game.TheVariants.{LosAlamos, Gardner}
-use Rattle.board.specs.Games.{width_of, squares_of}
-use Rattle.board.specs.Board.{PlainBoard, IsPosition}
-use Rattle.moves.specs.Words.{digit, man_of, code_on, Spells}
-use Rattle.moves.proofs.Packing.{one_spelled}
-use Rattle.entry.specs.Bounds.{Bounds}
-use Rattle.entry.specs.declared.entries.Entry.{Entry}
-use Rattle.entry.specs.declared.marks.Marks.{Marks}
-use Rattle.entry.specs.Marks.{marks_number}
-use Rattle.entry.specs.Packing.{code_of, squares_word, entry_of, Packing}
+use Rattle.entry.proofs.Common.{pow-succ', mul_assoc, get_or-take, get_or-drop, Game, LosAlamos, Gardner, width_of, squares_of, PlainBoard, IsPosition, digit, man_of, code_on, Spells, one_spelled, Bounds, Entry, Marks, marks_number, code_of, squares_word, entry_of, Packing}
 use Rattle.entry.proofs.Digits.{code_le}
 use Rattle.entry.proofs.Ranks.{Places, pair, IsWhole, whole_position}
 use Rattle.entry.proofs.Words.{marks_of, one_marks, fields_of}

@@ -1,17 +1,6 @@
 -- The fields of an entry's words.
 use Rattle.std.proofs.Common.{◌≡◌, ℕ, ◌+◌, ◌*◌, ◌/◌, ◌%◌, ◌^◌, ◌<◌, ◌≤◌, refl, ap, arith, List, get_or, Option, Some, None}
-use Rattle.std.specs.Option.{IfSome}
-use Rattle.board.specs.declared.game.Game.{Game}
-use Rattle.board.specs.declared.game.Game.TheVariants.{LosAlamos, Gardner}
-use Rattle.board.specs.declared.game.Side.{Side}
-use Rattle.board.specs.declared.game.Side.TheVariants.{White, Black}
-use Rattle.rules.specs.declared.goal.Goal.{Goal}
-use Rattle.rules.specs.declared.goal.Goal.TheVariants.{Mate, MateOrStale}
-use Rattle.entry.specs.Bounds.{Bounds, IsBounds}
-use Rattle.entry.specs.declared.entries.Entry.{Entry}
-use Rattle.entry.specs.declared.marks.Marks.{Marks}
-use Rattle.entry.specs.Packing.{side_bit, game_bit, goal_bit, upto_byte, squares_word, rank_pair, first_word, Packing}
-use Rattle.entry.specs.Marks.{marks_number}
+use Rattle.entry.proofs.Common.{IfSome, Game, LosAlamos, Gardner, Side, White, Black, Goal, Mate, MateOrStale, Bounds, IsBounds, Entry, Marks, side_bit, game_bit, goal_bit, upto_byte, squares_word, rank_pair, first_word, Packing, marks_number}
 use Rattle.entry.proofs.Digits.{squares_small}
 use Rattle.entry.proofs.Ranks.{IsPacked, whole_position}
 use Rattle.rules.proofs.Room.{width_six as width_le}

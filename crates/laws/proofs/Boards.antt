@@ -1,17 +1,7 @@
 -- Each board has one turned board.
 use Rattle.std.proofs.Common.{◌≡◌, ℕ, ◌/◌, ◌%◌, ◌<◌, ◌≤◌, ◌⊎◌, inl, inr, zero, suc, refl, sym, ap, subst, ◌∙◌, arith, false, cond, List, [], ◌∷◌, length, get_or, Option, None}
-use Rattle.std.proofs.Math.Dec.{ltb}
-use Rattle.std.proofs.lemmas.Bool.{lt-ltb}
-use Rattle.std.proofs.lemmas.Bool.Decides.{nat_tests}
+use Rattle.laws.proofs.Common.{ltb, lt-ltb, nat_tests, Game, LosAlamos, Gardner, Man, width_of, squares_of, PlainBoard, board_of, unit_on, Place, IsOnBoard, square_number, unit_at, same_number, number_within, Turning, turned_place, turned_side, turned_units, IsTurned}
 use Rattle.std.proofs.lemmas.List.{same_lists, get_or_default, get_or_past}
-use Rattle.board.specs.declared.game.Game.{Game}
-use Rattle.board.specs.declared.game.Game.TheVariants.{LosAlamos, Gardner}
-use Rattle.board.specs.declared.game.Unit.{Unit as Man}
-use Rattle.board.specs.Games.{width_of, squares_of}
-use Rattle.board.specs.Board.{PlainBoard, board_of, unit_on}
-use Rattle.rules.specs.Squares.{Place, IsOnBoard, square_number, unit_at}
-use Rattle.rules.proofs.Listed.{same_number, number_within}
-use Rattle.laws.specs.Turnings.{Turning, turned_place, turned_side, turned_units, IsTurned}
 use Rattle.laws.proofs.Squares.{back_of, turned_on_board, turned_back, turned_there}
 use Rattle.laws.proofs.Turned.{within_36}
 

@@ -1,16 +1,8 @@
 -- What is forced on a turned board.
 use Rattle.std.proofs.Common.{◌≡◌, ℕ, inl, inr, zero, suc, refl, sym, ap, subst, ◌∙◌, Bool, true, false, MatchBool}
-use Rattle.board.specs.declared.game.Side.{Side}
-use Rattle.board.specs.Games.{other_side, is_same_side}
-use Rattle.board.specs.Board.{PlainBoard}
+use Rattle.laws.proofs.Common.{Side, other_side, is_same_side, PlainBoard, Place, Ply, IsOnBoard, IsInCheck, IsSound, IsMove, IsLawful, IsMated, IsStalemated, IsReached, Forces, Turning, turned_place, turned_side, turned_move, IsTurned, MayTurn, to_on_board}
 use Rattle.rules.specs.declared.goal.Goal.{Goal}
 use Rattle.rules.specs.declared.goal.Goal.TheVariants.{Mate, MateOrStale}
-use Rattle.rules.specs.Squares.{Place, Ply, IsOnBoard}
-use Rattle.rules.specs.Reach.{IsInCheck, IsSound}
-use Rattle.rules.specs.Moves.{IsMove, IsLawful, IsMated, IsStalemated}
-use Rattle.rules.specs.Forces.{IsReached, Forces}
-use Rattle.laws.specs.Turnings.{Turning, turned_place, turned_side, turned_move, IsTurned, MayTurn}
-use Rattle.rules.proofs.Keeps.{to_on_board}
 use Rattle.laws.proofs.Squares.{back_of, back_of-twice, turned_there, exchanged-other, back_side, same_turn}
 use Rattle.laws.proofs.Turned.{IsTurned-back, MayTurn-back}
 use Rattle.laws.proofs.Play.{IsInCheck-turned, IsInCheck-back, MayTurn-move, IsMove-turned}

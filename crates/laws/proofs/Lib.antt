@@ -1,3 +1,4 @@
+pub mod Common
 pub mod Squares
 pub mod Steps
 pub mod Turned

@@ -1,25 +1,10 @@
 -- Play on a turned board is the play on the board, turned.
 use Rattle.std.proofs.Common.{◌≡◌, ℕ, ◌<◌, ◌≤◌, ◌↔◌, inl, inr, refl, sym, ap, subst, ◌∙◌, arith, Bool, true, false, Option, Some, None, length}
-use Rattle.std.specs.Option.{IfSome, IsSome, unwrap_or}
+use Rattle.laws.proofs.Common.{IfSome, IsSome, unwrap_or, length-set, Game, Side, White, Black, Kind, King, Pawn, Man, Step, width_of, squares_of, other_side, IsPlayed, PlainBoard, Place, Ply, IsOnBoard, unit_at, Allows, Leads, Reaches, AttacksFrom, IsInCheck, IsLastRank, Promotes, IsPromotion, IsSomeKing, after, IsPseudoLegal, IsMove, to_on_board, Turning, mirrored, place_over, turned_place, exchanged, turned_side, turned_unit, turned_units, turned_move, IsTurned, KeepsAhead, HasNoPawn, MayTurn}
 use Rattle.std.proofs.lemmas.Option.{same_Some}
-use Rattle.std.proofs.Math.ListN.{length-set}
-use Rattle.board.specs.declared.game.Game.{Game}
-use Rattle.board.specs.declared.game.Side.{Side}
-use Rattle.board.specs.declared.game.Side.TheVariants.{White, Black}
-use Rattle.board.specs.declared.game.Kind.{Kind}
-use Rattle.board.specs.declared.game.Kind.TheVariants.{King, Pawn}
-use Rattle.board.specs.declared.game.Unit.{Unit as Man}
 use Rattle.board.specs.declared.step.Mode.{Mode}
 use Rattle.board.specs.declared.step.Mode.TheVariants.{Move, Capture, Both}
-use Rattle.board.specs.declared.step.Step.{Step}
-use Rattle.board.specs.Games.{width_of, squares_of, other_side, IsPlayed}
-use Rattle.board.specs.Board.{PlainBoard}
-use Rattle.rules.specs.Squares.{Place, Ply, IsOnBoard, unit_at}
-use Rattle.rules.specs.Reach.{Allows, Leads, Reaches, AttacksFrom, IsInCheck}
 use Rattle.rules.specs.Reach.Leads.{once, again}
-use Rattle.rules.specs.Moves.{IsLastRank, Promotes, IsPromotion, IsSomeKing, after, IsPseudoLegal, IsMove}
-use Rattle.rules.proofs.Keeps.{to_on_board}
-use Rattle.laws.specs.Turnings.{Turning, mirrored, place_over, turned_place, exchanged, turned_side, turned_unit, turned_units, turned_move, IsTurned, KeepsAhead, HasNoPawn, MayTurn}
 use Rattle.laws.proofs.Squares.{back_of, exchanged-other, back_side}
 use Rattle.laws.proofs.Steps.{turned_step, turned-step, turned-denoted}
 use Rattle.laws.proofs.Turned.{image_on_board, image_apart, IsTurned-back, MayTurn-back, pawn_keeps, stands_to, stands_from, stands_else, stands_past, stands_after}

@@ -1,22 +1,8 @@
 -- A turned position is a position.
 use Rattle.std.proofs.Common.{get_or-set_other, ◌≡◌, ℕ, ◌+◌, ◌*◌, ◌<◌, ◌≤◌, inl, inr, suc, refl, sym, ap, subst, ◌∙◌, arith, Bool, true, false, cond, ◌&&◌, List, [], ◌∷◌, length, get_or, Option, Some, None}
-use Rattle.std.specs.Option.{IfSome}
+use Rattle.laws.proofs.Common.{IfSome, ltb, set, length-set, lt-ltb, nat_tests, Game, LosAlamos, Gardner, Side, Pawn, Man, width_of, squares_of, PlainBoard, unit_on, is_of_side, is_king, is_king_of, IsInnerRank, MayStandOn, IsArmy, IsPosition, Place, IsOnBoard, square_number, unit_at, same_number, number_within, Turning, mirrored, place_over, turned_place, turned_side, turned_units, IsTurned, KeepsAhead, MayTurn}
 use Rattle.std.specs.List.{sum_by, count_by}
-use Rattle.std.proofs.Math.Dec.{ltb}
-use Rattle.std.proofs.Math.ListN.{set, length-set}
-use Rattle.std.proofs.lemmas.Bool.{lt-ltb}
-use Rattle.std.proofs.lemmas.Bool.Decides.{nat_tests}
 use Rattle.std.proofs.lemmas.List.Sums.{sum_by-set, sum_by-cons}
-use Rattle.board.specs.declared.game.Game.{Game}
-use Rattle.board.specs.declared.game.Game.TheVariants.{LosAlamos, Gardner}
-use Rattle.board.specs.declared.game.Side.{Side}
-use Rattle.board.specs.declared.game.Kind.TheVariants.{Pawn}
-use Rattle.board.specs.declared.game.Unit.{Unit as Man}
-use Rattle.board.specs.Games.{width_of, squares_of}
-use Rattle.board.specs.Board.{PlainBoard, unit_on, is_of_side, is_king, is_king_of, IsInnerRank, MayStandOn, IsArmy, IsPosition}
-use Rattle.rules.specs.Squares.{Place, IsOnBoard, square_number, unit_at}
-use Rattle.rules.proofs.Listed.{same_number, number_within}
-use Rattle.laws.specs.Turnings.{Turning, mirrored, place_over, turned_place, turned_side, turned_units, IsTurned, KeepsAhead, MayTurn}
 use Rattle.laws.proofs.Squares.{mirrored-within, back_of, turned_on_board, turned_back, turned_there, exchanged-twice, back_side, same_turn}
 use Rattle.laws.proofs.Turned.{within_36, IsTurned-back, pawn_keeps}
 use Rattle.laws.proofs.Boards.{place_at, place_at-on_board, number-place_at, on_or_past}

@@ -1,12 +1,6 @@
 -- Where squares come when a board is turned about, and how they come back.
 use Rattle.std.proofs.Common.{◌≡◌, ℕ, ◌<◌, Bool, true, false, refl, ap, subst, ◌∙◌, arith}
-use Rattle.board.specs.declared.game.Game.{Game}
-use Rattle.board.specs.declared.game.Side.{Side}
-use Rattle.board.specs.declared.game.Side.TheVariants.{White, Black}
-use Rattle.board.specs.Games.{width_of, other_side, is_same_side}
-use Rattle.rules.specs.Squares.{Place, IsOnBoard}
-use Rattle.rules.proofs.Rides.{same_place}
-use Rattle.laws.specs.Turnings.{Turning, mirrored, place_over, turned_place, exchanged, turned_side}
+use Rattle.laws.proofs.Common.{Game, Side, White, Black, width_of, other_side, is_same_side, Place, IsOnBoard, same_place, Turning, mirrored, place_over, turned_place, exchanged, turned_side}
 
 -- ---- squares
 

@@ -2,23 +2,12 @@
 use Rattle.std.proofs.Common.{◌≡◌, ℕ, ◌<◌, ◌⊎◌, ℤ, pos, ◌+ℤ◌, neg_ℤ, ◌<ℤ◌, Bool, true, false, zero, suc, refl, sym, ap, subst, ◌∙◌, arith, inl, inr, length, get_or}
 use Rattle.std.specs.Int.RustNames.{unsigned_abs}
 use Rattle.std.proofs.lemmas.Int.{ints}
-use Rattle.std.proofs.lemmas.Bool.{false≢true}
-use Rattle.board.specs.declared.game.Game.{Game}
-use Rattle.board.specs.declared.game.Side.{Side}
-use Rattle.board.specs.declared.game.Side.TheVariants.{White, Black}
-use Rattle.board.specs.declared.game.Kind.{Kind}
-use Rattle.board.specs.declared.game.Kind.TheVariants.{King, Queen, Rook, Bishop, Knight, Pawn}
-use Rattle.board.specs.declared.step.Step.{Step}
+use Rattle.laws.proofs.Common.{false≢true, Game, Side, White, Black, Kind, King, Queen, Rook, Bishop, Knight, Pawn, Step, width_of, Place, IsOnBoard, ahead_of, IsShift, IsStep, size-ahead, Turning, mirrored, place_over, turned_place, exchanged, turned_side, KeepsAhead}
 use Rattle.board.specs.declared.terms.Atom.{Atom}
 use Rattle.board.specs.declared.terms.Atom.TheVariants.{Wazir, Ferz}
 use Rattle.board.specs.declared.terms.Atom.TheVariants as atom
 use Rattle.board.specs.declared.terms.Term.{Term}
-use Rattle.board.specs.Games.{width_of}
 use Rattle.board.specs.Denotation.{IsLeap, IsAtomLeap, IsTermStep, Denotes, terms_of}
-use Rattle.rules.specs.Squares.{Place, IsOnBoard}
-use Rattle.rules.specs.Reach.{ahead_of, IsShift, IsStep}
-use Rattle.rules.proofs.Rides.{size-ahead}
-use Rattle.laws.specs.Turnings.{Turning, mirrored, place_over, turned_place, exchanged, turned_side, KeepsAhead}
 
 -- ---- how far a step goes
 

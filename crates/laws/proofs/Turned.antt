@@ -1,17 +1,6 @@
 -- A turned board turned back, and what stands on it.
 use Rattle.std.proofs.Common.{get_or-set_other, get_or-set_same, ◌≡◌, ℕ, ◌<◌, ◌≤◌, ◌⊎◌, inl, inr, refl, sym, ap, subst, ◌∙◌, arith, Bool, true, false, length, Option, Some, None}
-use Rattle.std.proofs.Math.ListN.{set, length-set}
-use Rattle.board.specs.declared.game.Game.{Game}
-use Rattle.board.specs.declared.game.Game.TheVariants.{LosAlamos, Gardner}
-use Rattle.board.specs.declared.game.Kind.TheVariants.{Pawn}
-use Rattle.board.specs.declared.game.Unit.{Unit as Man}
-use Rattle.board.specs.Games.{squares_of}
-use Rattle.board.specs.Board.{PlainBoard, unit_on}
-use Rattle.rules.specs.Squares.{Place, Ply, IsOnBoard, square_number, unit_at}
-use Rattle.rules.specs.Moves.{placed, after}
-use Rattle.rules.proofs.Rides.{same_place}
-use Rattle.rules.proofs.Listed.{same_number, number_within}
-use Rattle.laws.specs.Turnings.{Turning, turned_place, turned_units, IsTurned, KeepsAhead, MayTurn}
+use Rattle.laws.proofs.Common.{set, length-set, Game, LosAlamos, Gardner, Pawn, Man, squares_of, PlainBoard, unit_on, Place, Ply, IsOnBoard, square_number, unit_at, placed, after, same_place, same_number, number_within, Turning, turned_place, turned_units, IsTurned, KeepsAhead, MayTurn}
 use Rattle.laws.specs.Laws.{WhereTurned, StaysTurned}
 use Rattle.laws.proofs.Squares.{back_over, back_of, turned_on_board, turned_back, turned_there, back_side}
 

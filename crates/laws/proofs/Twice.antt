@@ -1,13 +1,6 @@
 -- Two turnings, one after the other, are one turning.
 use Rattle.std.proofs.Common.{◌≡◌, ℕ, ◌<◌, ◌≤◌, refl, sym, ap, ap₂, subst, ◌∙◌, arith, Bool, true, false, not, Option, Some, None}
-use Rattle.board.specs.declared.game.Game.{Game}
-use Rattle.board.specs.declared.game.Side.{Side}
-use Rattle.board.specs.declared.game.Side.TheVariants.{White, Black}
-use Rattle.board.specs.declared.game.Unit.{Unit as Man}
-use Rattle.board.specs.Games.{width_of, squares_of}
-use Rattle.board.specs.Board.{PlainBoard, unit_on}
-use Rattle.rules.specs.Squares.{Place, IsOnBoard, unit_at}
-use Rattle.laws.specs.Turnings.{Turning, mirrored, place_over, turned_place, exchanged, turned_side, turned_units, IsTurned}
+use Rattle.laws.proofs.Common.{Game, Side, White, Black, Man, width_of, squares_of, PlainBoard, unit_on, Place, IsOnBoard, unit_at, Turning, mirrored, place_over, turned_place, exchanged, turned_side, turned_units, IsTurned}
 use Rattle.laws.proofs.Turned.{image_on_board}
 
 -- one of the two, and not both

@@ -9,12 +9,12 @@ abbrev pub IsMemorySize : ℕ → Type 0
 IsMemorySize n = (n % 16 ≡ 0) × (n < 2 ^ 63)
 
 -- n bytes, as units of 16 that are aligned to 16
-abbrev pub units_of : ℕ → Ty
-units_of n = ty_array (ty_int w128) (n / 16)
+abbrev pub blocks_type : ℕ → Ty
+blocks_type n = ty_array (ty_int w128) (n / 16)
 
 -- room for them at p
 abbrev pub bytes_at : Ptr → ℕ → Fml
-bytes_at p n = room_for (units_of n) p
+bytes_at p n = room_for (blocks_type n) p
 
 -- the right to give the block for a τ at p, which is all n bytes, back
 abbrev pub block_token : ℕ → Ty → Ptr → Fml

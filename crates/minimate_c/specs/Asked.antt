@@ -24,20 +24,20 @@ use Rattle.minimate_c.specs.declared.found.First.{First}
 use Rattle.minimate_c.specs.declared.found.Found.{Found}
 
 -- the letter of what a pawn becomes, or 0
-abbrev pub letter_of : Option Kind → ℕ
-letter_of (Some Queen) = 113
-letter_of (Some Rook) = 114
-letter_of (Some Bishop) = 98
-letter_of (Some Knight) = 110
-letter_of _ = 0
+abbrev pub promotion_letter : Option Kind → ℕ
+promotion_letter (Some Queen) = 113
+promotion_letter (Some Rook) = 114
+promotion_letter (Some Bishop) = 98
+promotion_letter (Some Knight) = 110
+promotion_letter _ = 0
 
 -- a move in plain numbers
-abbrev pub first_of : Ply → First
-first_of m = record { from_file = m.from.file; from_rank = m.from.rank; to_file = m.to.file; to_rank = m.to.rank; promotion = letter_of m.promotion }
+abbrev pub first_told : Ply → First
+first_told m = record { from_file = m.from.file; from_rank = m.from.rank; to_file = m.to.file; to_rank = m.to.rank; promotion = promotion_letter m.promotion }
 
 -- the plies and the first move in plain numbers
 abbrev pub found_of : ℕ → Ply → Found
-found_of plies first = record { plies = plies; first = first_of first }
+found_of plies first = record { plies = plies; first = first_told first }
 
 -- the number and what was found tell of the answer; what was found before stays where nothing is forced
 abbrev pub TellsAnswer : Answer → Found → ℕ → Found → Type 0

@@ -8,7 +8,7 @@ ghost use Rattle.problems.specs.Problems.{IsProblemOf};
 ghost use Rattle.std.specs.Arc.{arc_value};
 ghost use Rattle.solver.specs.Stopping.{IsStopped, Hears};
 ghost use Rattle.calls.specs.Calls.{goal_of};
-ghost use Rattle.minimate_c.specs.Asked.{letter_of, first_of, TellsAnswer, Replies, IsOpenSolver};
+ghost use Rattle.minimate_c.specs.Asked.{promotion_letter, first_told, TellsAnswer, Replies, IsOpenSolver};
 ghost use Rattle.minimate_c.specs.Putting.{IsProblemAsked, IsUnasked};
 ghost use Rattle.minimate_c.specs.Stopping.{AsksFor};
 
@@ -73,7 +73,7 @@ pub(crate) fn asked_problem(asked: &Asked<'_>) -> Result<Problem, u32>
 }
 
 fn letter_of(promotion: Option<Kind>) -> u8
-    ensures { result ≡ letter_of promotion }
+    ensures { result ≡ promotion_letter promotion }
 {
     match promotion {
         Some(Kind::Queen) => b'q',
@@ -85,7 +85,7 @@ fn letter_of(promotion: Option<Kind>) -> u8
 }
 
 fn first_of(m: Move) -> First
-    ensures { result ≡ first_of m }
+    ensures { result ≡ first_told m }
 {
     First {
         from_file: m.from.file,

@@ -2,7 +2,7 @@
 #![tactic(auto)]
 
 ghost use Rattle.std.specs.Prelude.{◌≡◌};
-ghost use Rattle.calls.specs.Calls.{Answers, terms_of};
+ghost use Rattle.calls.specs.Calls.{Answers, search_terms};
 ghost use Rattle.calls.specs.declared.asked.Call.TheVariants.{After, Check, Fault, Keys, Moves, Solve, Tree, Verify};
 
 mod asking;
@@ -87,7 +87,7 @@ pub extern "C" fn minimate_solve(
     slots: u32,
     room: &mut [u8],
 ) -> usize
-    ensures { Answers fen.entry (Solve (terms_of stale limit slots)) room.old room.new result }
+    ensures { Answers fen.entry (Solve (search_terms stale limit slots)) room.old room.new result }
 {
     let terms = Terms {
         stale,
@@ -107,7 +107,7 @@ pub extern "C" fn minimate_keys(
     slots: u32,
     room: &mut [u8],
 ) -> usize
-    ensures { Answers fen.entry (Keys (terms_of stale limit slots)) room.old room.new result }
+    ensures { Answers fen.entry (Keys (search_terms stale limit slots)) room.old room.new result }
 {
     let terms = Terms {
         stale,
@@ -127,7 +127,7 @@ pub extern "C" fn minimate_tree(
     slots: u32,
     room: &mut [u8],
 ) -> usize
-    ensures { Answers fen.entry (Tree (terms_of stale limit slots)) room.old room.new result }
+    ensures { Answers fen.entry (Tree (search_terms stale limit slots)) room.old room.new result }
 {
     let terms = Terms {
         stale,

@@ -18,9 +18,9 @@ abbrev pub look_of : Drawing → Look
 look_of drawing = if drawing.unicode then Symbols else Letters
 
 -- the board as the side below sees it
-abbrev pub view_of : Drawing → PlainBoard → View
-view_of drawing b = record { board = b; below = below_of drawing }
+abbrev pub drawing_view : Drawing → PlainBoard → View
+drawing_view drawing b = record { board = b; below = below_of drawing }
 
 -- a picture with no arrow, or text
 abbrev pub drawn : Drawing → PlainBoard → List ℕ
-drawn drawing b = if drawing.svg then picture (view_of drawing b) None else board_drawn (look_of drawing) (below_of drawing) b
+drawn drawing b = if drawing.svg then picture (drawing_view drawing b) None else board_drawn (look_of drawing) (below_of drawing) b

@@ -45,6 +45,10 @@ refusal_of_solve solve.NoMemory = NoMemory
 abbrev pub fault_of : Limits → Option SolveFault
 fault_of limits = limits_fault limits.limit limits.workers limits.slots
 
+-- the refusal of the first of these values that isn't taken; where all are, want of memory
+abbrev pub IsRefusedWithin : Limits → Refusal → Type 0
+IsRefusedWithin limits refusal = MatchOption (fault_of limits) (refusal ≡ NoMemory) (λ fault. refusal ≡ refusal_of_solve fault)
+
 -- what is shown where all these values are taken, or the refusal of the first that isn't
 abbrev pub ShowsWithin : Limits → (Reply → Type 0) → Reply → Type 0
 ShowsWithin limits Shows reply = MatchOption (fault_of limits) (Shows reply) (λ fault. reply ≡ refused (refusal_of_solve fault))

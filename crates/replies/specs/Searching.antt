@@ -1,5 +1,8 @@
 -- A search at one position.
-use Rattle.std.specs.Prelude.{◌≡◌, ℕ, List, None, Result}
+use Rattle.std.specs.Prelude.{◌≡◌, ◌+◌, ℕ, List, None, Result, length}
+use Rattle.slots.specs.Promise.{slots_of}
+use Rattle.searcher.specs.declared.table.Table.{Table}
+use Rattle.std.specs.declared.alloc.Global.{Global}
 use Rattle.progress.specs.Signs.{WatchesSearch}
 use Rattle.progress.specs.declared.watch.Course.{Course}
 use Rattle.progress.specs.declared.watch.Watch.{Watch}
@@ -14,11 +17,15 @@ use Rattle.replies.specs.Output.{ShowsAnswer}
 use Rattle.refusals.specs.Reply.{Reply}
 use Rattle.problems.specs.Answer.{IsAnswer}
 use Rattle.replies.specs.Outcome.{FindsWithin}
-use Rattle.rounds.specs.declared.fault.SolveFault.{SolveFault}
+use Rattle.refusals.specs.declared.refusal.Refusal.{Refusal}
 use Rattle.replies.specs.declared.searching.Searched.{Searched}
 
+-- the table has so many slots, with a seat for each worker and one for the caller's own thread
+abbrev pub IsTableOf : Limits → Table Global → Type 0
+IsTableOf limits table = (slots_of table.slots ≡ limits.slots) × (length table.seats.items ≡ limits.workers + 1)
+
 -- the answer within the limits, and its table
-abbrev pub SolvesOver : Goal → PlainBoard → Limits → Result Searched SolveFault → Type 0
+abbrev pub SolvesOver : Goal → PlainBoard → Limits → Result Searched Refusal → Type 0
 SolvesOver goal b limits result = FindsWithin limits (λ found. IsAnswer goal b limits.limit found.answer) result
 
 -- the reply to a solve of the position of this text

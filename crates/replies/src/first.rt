@@ -6,7 +6,6 @@ ghost use Rattle.endings.specs.Outcome.{Gives};
 ghost use Rattle.replies.specs.Output.{fault_of};
 ghost use Rattle.replies.specs.Playing.{NamesNone};
 
-use crate::refusal::refusal_of;
 use crate::replying::{none_line, search_of, tree_line};
 use crate::searching::table_within;
 use crate::solving::tree_of;
@@ -38,10 +37,7 @@ fn opened_text(alloc: Global, root: &Root, job: u16, limits: Limits) -> Result<V
     requires limit { fault_of limits ≡ None → root.now.limit ≡ limits.limit }
     ensures { Gives vec_items (ShowsJob root.now job limits) result }
 {
-    let table = match table_within(alloc, limits) {
-        Ok(table) => table,
-        Err(fault) => return Err(refusal_of(fault)),
-    };
+    let table = table_within(alloc, limits)?;
     match tree_of(alloc, table, root, job) {
         Ok(Some(tree)) => Ok(tree_line(alloc, &tree)?),
         Ok(None) => none_line(alloc, root.limit),

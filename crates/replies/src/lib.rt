@@ -18,11 +18,9 @@ pub use first::first_reply;
 pub use gate::{Watched, watched_keeps_on};
 pub use over::tell_if_over;
 pub use played::after_reply;
-pub use refusal::refusal_of;
 pub use replying::{
-    MOST_INPUT, Search, answer_line, key_lines, none_line, plan_line, reply_to, search_of,
-    tree_line, verdict_text,
+    MOST_INPUT, Search, none_line, plan_text, reply_to, search_of, tree_line, verdict_text,
 };
-pub use searching::{Searched, searched_at, table_within};
+pub use searching::{Searched, opened, searched_at, table_within};
 pub use solving::{keys, solve, tree, tree_of};
 pub use tally::Tally;

@@ -6,7 +6,7 @@ use refusals::Refusal;
 use rounds::SolveFault;
 
 /// The refusal of each fault of a solve.
-pub fn refusal_of(fault: SolveFault) -> Refusal
+pub(crate) fn refusal_of(fault: SolveFault) -> Refusal
     ensures { result ≡ refusal_of_solve fault }
 {
     match fault {

@@ -1,19 +1,17 @@
 //! The reply to a line: the text of its answer, or why there is none.
-ghost use Rattle.std.specs.Prelude.{◌≡◌, ◌⊎◌, ◌+◌, ◌<◌, ◌≤◌, IfErr, IfOk, None, min, vec_items};
+ghost use Rattle.std.specs.Prelude.{◌≡◌, ◌⊎◌, ◌+◌, ◌<◌, ◌≤◌, [], IfOk, min, vec_items};
 ghost use Rattle.board.specs.Board.{PlainBoard};
 ghost use Rattle.rules.specs.declared.goal.Goal.{Goal};
-ghost use Rattle.command_line.specs.declared.line.Limits.{Limits};
 ghost use Rattle.wintree.specs.Plan.{depth};
 ghost use Rattle.wintree.specs.Text.{text as tree_words};
 ghost use Rattle.devices.specs.Input.{OfInput};
-ghost use Rattle.replies.specs.Outcome.{Solves, FindsKeys, FindsTree, GivesReply};
+ghost use Rattle.replies.specs.Outcome.{GivesReply, IsBestWithin};
 ghost use Rattle.endings.specs.Outcome.{Gives, GivesIfRead, reads_failed};
 ghost use Rattle.answer_texts.specs.Answers.{none_text};
-ghost use Rattle.replies.specs.Output.{ShowsAnswer, ShowsKeys, ShowsPlanFound, ShowsTree, ShowsCheck, MayRead, fault_of};
+ghost use Rattle.replies.specs.Output.{ShowsBest, ShowsCheck, ShowsCommand, ShowsTree, MayRead};
 ghost use Rattle.refusals.specs.Reply.{answered, line_of};
 
 use crate::drawn::drawn;
-use crate::refusal::refusal_of;
 use crate::searching::opened;
 use crate::solving::{keys, solve, tree};
 use answer_texts::{answer_text, checked_text, keys_text, moves_text, none_text};
@@ -22,11 +20,9 @@ use command_line::{Action, Limits, Line};
 use devices::{Source, read_all, without_line_feed};
 use endings::ReplyFault;
 use moves::{Goal, lawful, read_sound};
-use problems::{Answer, Key};
 use progress::Watch;
 use refusals::Refusal;
-use rounds::SolveFault;
-use std::alloc::{AllocError, Allocator, Global};
+use std::alloc::{Allocator, Global};
 use std::sync::Wait;
 use std::thread::Threads;
 use std::time::Clock;
@@ -63,91 +59,18 @@ pub fn search_of(limits: Limits) -> Search
     }
 }
 
-/// The answer within the limits.
-fn answer_within<R: Threads + Wait + Eprint + Clock + Sync + AllocGlobal>(
-    rt: &R,
-    watch: Option<&Watch>,
-    position: &Position,
-    goal: Goal,
-    limits: Limits,
-) -> Result<Answer, SolveFault>
-    ensures { Solves goal position.now limits result }
-{
-    let (problem, mut table) = opened(rt.alloc(), position, goal, limits)?;
-    Ok(solve(rt, &mut table, &problem, watch)?)
-}
-
-/// The first moves that force the goal within the limits.
-fn keys_within<R: Threads + Wait + Eprint + Clock + Sync + AllocGlobal>(
-    rt: &R,
-    watch: Option<&Watch>,
-    position: &Position,
-    goal: Goal,
-    limits: Limits,
-) -> Result<Vec<Key>, SolveFault>
-    ensures { FindsKeys goal position.now limits result }
-{
-    let (problem, mut table) = opened(rt.alloc(), position, goal, limits)?;
-    Ok(keys(rt, &mut table, &problem, watch)?)
-}
-
-/// The best tree within the limits, or none where nothing is forced.
-fn tree_within<R: Threads + Wait + Eprint + Clock + Sync + AllocGlobal>(
-    rt: &R,
-    watch: Option<&Watch>,
-    position: &Position,
-    goal: Goal,
-    limits: Limits,
-) -> Result<Option<Tree>, SolveFault>
-    ensures { FindsTree goal position.now limits result }
-{
-    let (problem, mut table) = opened(rt.alloc(), position, goal, limits)?;
-    Ok(tree(rt, &mut table, &problem, watch)?)
-}
-
-/// What is printed of an answer that was found, whoever searched: the fewest plies to the goal and the first move.
-pub fn answer_line<A: Allocator>(
-    alloc: A,
-    goal: Goal,
-    found: Result<Answer, SolveFault>,
-) -> Result<Vec<u8, A>, Refusal>
-    ensures { (b : PlainBoard) (limits : Limits) → Solves goal b limits found
-        → Gives vec_items (ShowsAnswer goal b limits) result }
-{
-    match found {
-        Ok(answer) => Ok(answer_text(alloc, goal, answer)?.into_bytes()),
-        Err(fault) => Err(refusal_of(fault)),
-    }
-}
-
-/// What is printed of keys that were found within this limit, whoever searched: each with the plies that it takes.
-pub fn key_lines<A: Allocator, B: Allocator>(
+/// A best tree that was found within the limit, whoever searched, on one line; or that there is none.
+pub fn plan_text<A: Allocator, B: Allocator>(
     alloc: A,
     limit: u32,
-    found: Result<Vec<Key, B>, SolveFault>,
+    best: Option<Tree<B>>,
 ) -> Result<Vec<u8, A>, Refusal>
-    ensures { (goal : Goal) (b : PlainBoard) (limits : Limits) → limits.limit ≡ limit
-        → FindsKeys goal b limits found → Gives vec_items (ShowsKeys goal b limits) result }
+    ensures { (goal : Goal) (b : PlainBoard) → IsBestWithin goal b limit best
+        → Gives vec_items (ShowsBest goal b limit) result }
 {
-    match found {
-        Ok(keys) => Ok(keys_text(alloc, limit, keys.as_slice())?.into_bytes()),
-        Err(fault) => Err(refusal_of(fault)),
-    }
-}
-
-/// What is printed of a tree that was found within this limit, whoever searched: the tree on one line, or that there is none.
-pub fn plan_line<A: Allocator, B: Allocator>(
-    alloc: A,
-    limit: u32,
-    found: Result<Option<Tree<B>>, SolveFault>,
-) -> Result<Vec<u8, A>, Refusal>
-    ensures { (goal : Goal) (b : PlainBoard) (limits : Limits) → limits.limit ≡ limit
-        → FindsTree goal b limits found → Gives vec_items (ShowsPlanFound goal b limits) result }
-{
-    match found {
-        Ok(Some(tree)) => Ok(tree_line(alloc, &tree)?),
-        Ok(None) => Ok(none_text(alloc, limit)?.into_bytes()),
-        Err(fault) => Err(refusal_of(fault)),
+    match best {
+        Some(tree) => Ok(tree_line(alloc, &tree)?),
+        None => Ok(none_text(alloc, limit)?.into_bytes()),
     }
 }
 
@@ -209,6 +132,41 @@ fn check_text<S: Source>(
     Ok(verdict_text(alloc, position, goal, text)?)
 }
 
+/// What a command shows at a position, where nothing is read: a tree that would be checked is empty then.
+fn shown<R: Threads + Wait + Eprint + Clock + Sync + AllocGlobal>(
+    rt: &R,
+    watch: Option<&Watch>,
+    position: &Position,
+    action: Action,
+) -> Result<Vec<u8>, Refusal>
+    ensures { Gives vec_items (ShowsCommand position.now action []) result }
+{
+    let alloc = rt.alloc();
+    match action {
+        Action::Solve(goal, limits) => {
+            let (problem, mut table) = opened(alloc, position, goal, limits)?;
+            let answer = solve(rt, &mut table, &problem, watch)?;
+            Ok(answer_text(alloc, goal, answer)?.into_bytes())
+        }
+        Action::Keys(goal, limits) => {
+            let (problem, mut table) = opened(alloc, position, goal, limits)?;
+            let found = keys(rt, &mut table, &problem, watch)?;
+            Ok(keys_text(alloc, limits.limit, found.as_slice())?.into_bytes())
+        }
+        Action::Tree(goal, limits) => {
+            let (problem, mut table) = opened(alloc, position, goal, limits)?;
+            let best = tree(rt, &mut table, &problem, watch)?;
+            plan_text(alloc, limits.limit, best)
+        }
+        Action::Moves => {
+            let moves = lawful(position);
+            Ok(moves_text(alloc, moves.as_slice())?.into_bytes())
+        }
+        Action::Show(drawing) => Ok(drawn(alloc, position, drawing)?.into_bytes()),
+        Action::Check(goal) => verdict_text(alloc, position, goal, b""),
+    }
+}
+
 /// The text that answers a line. Only `check` asks the reader for anything, and only where the position is sound.
 pub fn reply_to<R: Threads + Wait + Eprint + Clock + Sync + AllocGlobal, S: Source>(
     rt: &R,
@@ -221,26 +179,9 @@ pub fn reply_to<R: Threads + Wait + Eprint + Clock + Sync + AllocGlobal, S: Sour
     ensures asked { MayRead line.now ⊎ (reader.new ≡ reader.old) }
     ensures counts { S.failures reader.new ≡ S.failures reader.old + reads_failed result }
 {
-    let alloc = rt.alloc();
     let position = read_sound(line.fen)?;
     match line.action {
-        Action::Solve(goal, limits) => {
-            let found = answer_within(rt, watch, &position, goal, limits);
-            Ok(answer_line(alloc, goal, found)?)
-        },
-        Action::Keys(goal, limits) => {
-            let found = keys_within(rt, watch, &position, goal, limits);
-            Ok(key_lines(alloc, limits.limit, found)?)
-        },
-        Action::Moves => {
-            let moves = lawful(&position);
-            Ok(moves_text(alloc, moves.as_slice())?.into_bytes())
-        }
-        Action::Show(drawing) => Ok(drawn(alloc, &position, drawing)?.into_bytes()),
-        Action::Tree(goal, limits) => {
-            let found = tree_within(rt, watch, &position, goal, limits);
-            Ok(plan_line(alloc, limits.limit, found)?)
-        },
-        Action::Check(goal) => check_text(alloc, &position, goal, reader),
+        Action::Check(goal) => check_text(rt.alloc(), &position, goal, reader),
+        action => Ok(shown(rt, watch, &position, action)?),
     }
 }

@@ -1,13 +1,7 @@
 -- Laws of forced mate.
 use Rattle.std.proofs.Common.{◌≡◌, ℕ, ◌*◌, arith, inl, inr, zero, suc, refl, sym, subst, Bool, true, false, MatchBool}
-use Rattle.board.specs.declared.game.Side.{Side}
-use Rattle.board.specs.declared.game.Side.TheVariants.{White, Black}
-use Rattle.board.specs.Games.{is_same_side, other_side}
-use Rattle.board.specs.Board.{PlainBoard}
-use Rattle.rules.specs.Squares.{Ply}
+use Rattle.rules.proofs.Common.{Side, White, Black, is_same_side, other_side, PlainBoard, Ply, IsMove, IsReached, Forces}
 use Rattle.rules.specs.declared.goal.Goal.{Goal}
-use Rattle.rules.specs.Moves.{IsMove}
-use Rattle.rules.specs.Forces.{IsReached, Forces}
 use Rattle.rules.proofs.Keeps.{mover-after}
 use Rattle.board.proofs.RankText.{on_true as on_own, on_false as on_other}
 

@@ -1,32 +1,11 @@
 -- A pseudo-legal move leads from a position to a position.
 use Rattle.std.proofs.Common.{get_or-set_other, ◌≡◌, ℕ, ◌+◌, ◌*◌, ◌<◌, ◌≤◌, inl, inr, zero, suc, refl, sym, ap, subst, ◌∙◌, arith, Bool, true, false, not, cond, ◌↔◌, ◌&&◌, List, [], ◌∷◌, length, get_or, Option, Some, None, ℤ, pos, ◌<ℤ◌, ◌+ℤ◌, IsTrue}
-use Rattle.std.specs.Option.{IfSome, IfNone, IsSome, unwrap_or}
-use Rattle.std.specs.List.{count_by}
-use Rattle.std.specs.Int.RustNames.{unsigned_abs}
+use Rattle.rules.proofs.Common.{IfSome, IfNone, IsSome, unwrap_or, count_by, unsigned_abs, ints, sum_by-set, same_Some, false≢true, Game, LosAlamos, Gardner, Side, White, Black, Kind, King, Queen, Rook, Bishop, Knight, Pawn, Man, Step, width_of, squares_of, other_side, is_same_side, IsPlayed, terms_of, Denotes, IsAtomLeap, PlainBoard, unit_on, is_king, is_king_of, is_of_side, IsInnerRank, MayStandOn, IsPosition, Place, Ply, IsOnBoard, square_number, unit_at, Allows, IsStep, Leads, ahead_of, Reaches, IsInCheck, once, again, IsLastRank, IsPromotion, IsSomeKing, placed, after, IsPseudoLegal, IsMove, IsLawful}
 use Rattle.std.proofs.Math.ListN.{set, length-set}
-use Rattle.std.proofs.lemmas.Int.{ints}
-use Rattle.std.proofs.lemmas.List.Sums.{sum_by-set}
-use Rattle.std.proofs.lemmas.Option.{same_Some}
-use Rattle.std.proofs.lemmas.Bool.{false≢true}
-use Rattle.board.specs.declared.game.Game.{Game}
-use Rattle.board.specs.declared.game.Game.TheVariants.{LosAlamos, Gardner}
-use Rattle.board.specs.declared.game.Side.{Side}
-use Rattle.board.specs.declared.game.Side.TheVariants.{White, Black}
-use Rattle.board.specs.declared.game.Kind.{Kind}
-use Rattle.board.specs.declared.game.Kind.TheVariants.{King, Queen, Rook, Bishop, Knight, Pawn}
-use Rattle.board.specs.declared.game.Unit.{Unit as Man}
 use Rattle.board.specs.declared.step.Mode.{Mode}
 use Rattle.board.specs.declared.step.Mode.TheVariants.{Move, Capture, Both}
-use Rattle.board.specs.declared.step.Step.{Step}
-use Rattle.board.specs.Games.{width_of, squares_of, other_side, is_same_side, IsPlayed}
-use Rattle.board.specs.Denotation.{terms_of, Denotes, IsAtomLeap}
 use Rattle.board.specs.declared.terms.Term.{Term}
 use Rattle.board.specs.declared.terms.Atom.TheVariants.{Wazir, Ferz}
-use Rattle.board.specs.Board.{PlainBoard, unit_on, is_king, is_king_of, is_of_side, IsInnerRank, MayStandOn, IsPosition}
-use Rattle.rules.specs.Squares.{Place, Ply, IsOnBoard, square_number, unit_at}
-use Rattle.rules.specs.Reach.{Allows, IsStep, Leads, ahead_of, Reaches, IsInCheck}
-use Rattle.rules.specs.Reach.Leads.{once, again}
-use Rattle.rules.specs.Moves.{IsLastRank, IsPromotion, IsSomeKing, placed, after, IsPseudoLegal, IsMove, IsLawful}
 use Rattle.rules.proofs.Listed.{number_within}
 
 -- ---- what a unit that moves finds

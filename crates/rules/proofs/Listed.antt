@@ -1,19 +1,7 @@
 -- Loops over the steps of a list, and over the squares of a board.
 use Rattle.std.proofs.Common.{◌≡◌, ℕ, ◌+◌, ◌*◌, ◌<◌, ◌⊎◌, inl, inr, refl, subst, arith, List, length, get_or, All, Option}
-use Rattle.std.specs.Int.RustNames.{unsigned_abs}
-use Rattle.std.proofs.lemmas.List.Elements.{Contains-get_or, All-contains}
-use Rattle.board.specs.declared.game.Game.{Game}
-use Rattle.board.specs.declared.game.Game.TheVariants.{LosAlamos, Gardner}
-use Rattle.board.specs.declared.game.Unit.{Unit as Man}
-use Rattle.board.specs.declared.step.Step.{Step}
-use Rattle.board.specs.Games.{width_of, squares_of, IsPlayed}
-use Rattle.board.specs.Denotation.{terms_of, ListsSteps}
-use Rattle.board.specs.Board.{PlainBoard}
+use Rattle.rules.proofs.Common.{unsigned_abs, Contains-get_or, All-contains, Game, LosAlamos, Gardner, Man, Step, width_of, squares_of, IsPlayed, terms_of, ListsSteps, PlainBoard, Place, Ply, IsOnBoard, square_number, ReachesBy, Reaches, IsLawful, ListsLawful}
 use Rattle.board.proofs.Leaps.{goes_somewhere}
-use Rattle.rules.specs.Squares.{Place, Ply, IsOnBoard, square_number}
-use Rattle.rules.specs.Reach.{ReachesBy, Reaches}
-use Rattle.rules.specs.Moves.{IsLawful}
-use Rattle.rules.specs.Order.{ListsLawful}
 use Rattle.rules.proofs.Rides.{same_place}
 
 -- ---- the steps of a unit

@@ -1,25 +1,7 @@
 -- Lists of lawful moves, as they grow.
 use Rattle.std.proofs.Common.{◌≡◌, ℕ, ◌+◌, ◌*◌, ◌<◌, ◌≤◌, ◌⊎◌, inl, inr, zero, suc, refl, sym, ap, subst, ◌∙◌, arith, List, [], ◌∷◌, ◌++◌, get_or, Option, Some, None, Contains, lit<, true, false}
-use Rattle.std.specs.Option.{IfSome, IsSome}
-use Rattle.std.proofs.lemmas.List.Elements.{All-nil, All-push, All-weaker, All-get_or, All-contains, Contains-append_left, Contains-push}
+use Rattle.rules.proofs.Common.{IfSome, IsSome, All-nil, All-push, All-weaker, All-get_or, All-contains, Contains-append_left, Contains-push, Game, LosAlamos, Gardner, Kind, King, Queen, Rook, Bishop, Knight, Pawn, Side, White, Black, squares_of, is_same_side, PlainBoard, unit_on, is_of_side, Reaches, false≢true, Place, Ply, IsOnBoard, square_number, unit_at, PROMOTIONS, Man, same_Some, Promotes, IsPromotion, IsLawful, promotion_number, ListsLawful, ply_number, ListsBelow}
 use Rattle.std.proofs.lemmas.List.Quantifiers.{all_pairs_push}
-use Rattle.board.specs.declared.game.Game.{Game}
-use Rattle.board.specs.declared.game.Game.TheVariants.{LosAlamos, Gardner}
-use Rattle.board.specs.declared.game.Kind.{Kind}
-use Rattle.board.specs.declared.game.Kind.TheVariants.{King, Queen, Rook, Bishop, Knight, Pawn}
-use Rattle.board.specs.declared.game.Side.{Side}
-use Rattle.board.specs.declared.game.Side.TheVariants.{White, Black}
-use Rattle.board.specs.Games.{squares_of, is_same_side}
-use Rattle.board.specs.Board.{PlainBoard, unit_on, is_of_side}
-use Rattle.rules.specs.Reach.{Reaches}
-use Rattle.std.proofs.lemmas.Bool.{false≢true}
-use Rattle.rules.specs.Squares.{Place, Ply, IsOnBoard, square_number, unit_at}
-use Rattle.rules.specs.declared.list.TheConstants.{PROMOTIONS}
-use Rattle.board.specs.declared.game.Unit.{Unit as Man}
-use Rattle.std.proofs.lemmas.Option.{same_Some}
-use Rattle.rules.specs.Moves.{Promotes, IsPromotion, IsLawful}
-use Rattle.rules.specs.Order.{promotion_number, ListsLawful}
-use Rattle.rules.specs.Listing.{ply_number, ListsBelow}
 use Rattle.rules.proofs.Listed.{same_number, number_within}
 use Rattle.rules.proofs.Keeps.{to_on_board}
 

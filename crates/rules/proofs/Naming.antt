@@ -1,12 +1,6 @@
 -- The names of moves.
 use Rattle.std.proofs.Common.{◌≡◌, ℕ, ◌+◌, List, [], ◌∷◌, refl, sym, ap, ◌∙◌, arith, cond, eqb, Option, Some, None, IfSome}
-use Rattle.board.specs.declared.game.Game.{Game}
-use Rattle.board.specs.declared.game.Game.TheVariants.{LosAlamos, Gardner}
-use Rattle.board.specs.declared.game.Kind.{Kind}
-use Rattle.board.specs.declared.game.Kind.TheVariants.{King, Queen, Rook, Bishop, Knight, Pawn}
-use Rattle.board.specs.Board.{PlainBoard}
-use Rattle.rules.specs.Squares.{Place, Ply, IsOnBoard}
-use Rattle.rules.specs.Moves.{IsPromotion, IsPromoted, IsPly, IsLawful}
+use Rattle.rules.proofs.Common.{Game, LosAlamos, Gardner, Kind, King, Queen, Rook, Bishop, Knight, Pawn, PlainBoard, Place, Ply, IsOnBoard, IsPromotion, IsPromoted, IsPly, IsLawful}
 use Rattle.rules.specs.MoveText.{promotion_text, move_text}
 use Rattle.rules.proofs.Rides.{same_place}
 use Rattle.rules.proofs.Keeps.{to_on_board}

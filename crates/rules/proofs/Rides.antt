@@ -1,18 +1,7 @@
 -- A step's repetition: where it can lead, and that it comes to the edge.
 use Rattle.std.proofs.lemmas.Bool.Decides.{nat_tests}
 use Rattle.std.proofs.Common.{Option, Some, is_some, Bool, false, ◌&&◌, eqb, ap, ◌≡◌, ℕ, ◌+◌, ◌-◌, ◌<◌, ℤ, pos, negsuc, ◌+ℤ◌, ◌⊎◌, inl, inr, true, refl, sym, subst, arith, zero, suc, None}
-use Rattle.std.specs.Int.RustNames.{unsigned_abs}
-use Rattle.std.proofs.lemmas.Int.{ints}
-use Rattle.board.specs.declared.game.Game.{Game}
-use Rattle.board.specs.declared.game.Game.TheVariants.{LosAlamos, Gardner}
-use Rattle.board.specs.declared.game.Side.{Side}
-use Rattle.board.specs.declared.game.Side.TheVariants.{White, Black}
-use Rattle.board.specs.declared.step.Step.{Step}
-use Rattle.board.specs.Games.{width_of}
-use Rattle.board.specs.Board.{PlainBoard}
-use Rattle.rules.specs.Squares.{Place, IsOnBoard, unit_at}
-use Rattle.rules.specs.Reach.{ahead_of, IsStep, Leads}
-use Rattle.rules.specs.Reach.Leads.{once, again}
+use Rattle.rules.proofs.Common.{unsigned_abs, ints, Game, LosAlamos, Gardner, Side, White, Black, Step, width_of, PlainBoard, Place, IsOnBoard, unit_at, ahead_of, IsStep, Leads, once, again}
 
 pub same_place : (s t : Place) → s.file ≡ t.file → s.rank ≡ t.rank → s ≡ t
 same_place s t a b = λ i. record { file = a i; rank = b i }

@@ -1,16 +1,6 @@
 -- How many moves there can be: at most 36 of each of at most 12 units.
 use Rattle.std.proofs.Common.{◌≡◌, ℕ, ◌+◌, ◌-◌, ◌*◌, ◌<◌, ◌≤◌, min, refl, subst, arith, Option}
-use Rattle.board.specs.declared.game.Game.{Game}
-use Rattle.board.specs.declared.game.Game.TheVariants.{LosAlamos, Gardner}
-use Rattle.board.specs.declared.game.Side.{Side}
-use Rattle.board.specs.declared.game.Side.TheVariants.{White, Black}
-use Rattle.board.specs.declared.game.Kind.{Kind}
-use Rattle.board.specs.declared.game.Kind.TheVariants.{King, Queen, Rook, Bishop, Knight, Pawn}
-use Rattle.board.specs.declared.game.Unit.{Unit as Man}
-use Rattle.board.specs.Games.{width_of, squares_of}
-use Rattle.board.specs.Board.{PlainBoard}
-use Rattle.rules.specs.Squares.{Place, IsOnBoard, square_number}
-use Rattle.rules.specs.Reach.{Reaches}
+use Rattle.rules.proofs.Common.{Game, LosAlamos, Gardner, Side, White, Black, Kind, King, Queen, Rook, Bishop, Knight, Pawn, Man, width_of, squares_of, PlainBoard, Place, IsOnBoard, square_number, Reaches}
 use Rattle.rules.proofs.Keeps.{IsRankAhead, pawn_ahead}
 
 -- the rank that a pawn comes to

@@ -1,16 +1,8 @@
 -- Second pass, the claim and the written words: one seat at most writes, what it has written stands, and at rest the words are what the history leaves.
 use Rattle.std.proofs.Common.{◌≡◌, ◌≢◌, ℕ, ◌%◌, ◌<◌, List, [], ◌∷◌, ◌++◌, length, take, set, Some, sym, ap, ◌∙◌, subst, inl, length-append}
-use Rattle.std.proofs.lemmas.List.{take_more_set}
+use Rattle.slots.proofs.Common.{take_more_set, Call, Offered, Stored, Half, Idle, Reading, Writing, Way, Machine, MayReply, standing, StoresMeet, Yields, words_of, Glance, Claims, ClaimHolds}
 use mathlib.Core.Option as option
 use lib.ListN.{get_elem?}
-use Rattle.slots.specs.declared.calls.Call.{Call}
-use Rattle.slots.specs.declared.calls.Act.TheVariants.{Offered}
-use Rattle.slots.specs.declared.calls.Store.TheVariants.{Stored}
-use Rattle.slots.specs.declared.views.Half.{Half}
-use Rattle.slots.specs.declared.views.Half.TheVariants.{Idle, Reading, Writing}
-use Rattle.slots.specs.Machine.{Way, Machine, MayReply, standing, StoresMeet}
-use Rattle.slots.specs.Steps.{Yields}
-use Rattle.slots.specs.Rule.{words_of, Glance, Claims, ClaimHolds}
 use Rattle.slots.proofs.Seats.{each_moved}
 
 -- one word more is written

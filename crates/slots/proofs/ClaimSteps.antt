@@ -1,24 +1,12 @@
 -- The steps of the second pass at the table: the claim is taken, words are written under it, and the store ends.
 use Rattle.std.proofs.Common.{◌≡◌, ◌≢◌, ℕ, ◌+◌, ◌*◌, ◌%◌, ◌<◌, ◌≤◌, eqb, if◌then◌else◌, Bool, true, false, List, [], ◌∷◌, ◌++◌, length, set, map, refl, sym, ap, ◌∙◌, subst, inr, arith, length-set, eq-eqb, ne_eqb}
-use Rattle.std.proofs.lemmas.List.{take_all}
+use Rattle.slots.proofs.Common.{take_all, State, Me, keeps, stepped, Allows, at_map, Call, Act, Offered, Note, Half, Idle, Reading, Writing, View, Way, fresh, run, standing, part, call, way_at, note, glance, gate_at, words_at, TableHolds, words_of, Lists, halfway, ended, Ends, EndsBusy, claimed, written, published, IsBusy, Yields}
 use mathlib.Core.Option as option
 use mathlib.Core.Logic.{dite}
 use native.Mathlib.Decide.{ℕ_discrete}
 use lib.ListN.{get_elem?}
-use Rattle.atomic_table.specs.Table.{State, Me, keeps, stepped, Allows}
-use Rattle.atomic_table.proofs.Lists.{at_map}
-use Rattle.slots.specs.declared.calls.Call.{Call}
-use Rattle.slots.specs.declared.calls.Act.{Act}
-use Rattle.slots.specs.declared.calls.Act.TheVariants.{Offered}
 use Rattle.slots.specs.declared.calls.Store as store
-use Rattle.slots.specs.declared.views.Note.{Note}
-use Rattle.slots.specs.declared.views.Half.{Half}
-use Rattle.slots.specs.declared.views.Half.TheVariants.{Idle, Reading, Writing}
-use Rattle.slots.specs.declared.views.View.{View}
-use Rattle.slots.specs.Machine.{Way, fresh, run, standing, part, call}
-use Rattle.slots.specs.Rule.{way_at, note, glance, gate_at, words_at, TableHolds, words_of}
 use prog.Atomic.{either}
-use Rattle.slots.specs.Steps.{Lists, halfway, ended, Ends, EndsBusy, claimed, written, published, IsBusy, Yields}
 use Rattle.slots.proofs.Histories.{part-own, standing-meets}
 use Rattle.slots.proofs.ClaimPass.{yields_may}
 use Rattle.slots.proofs.SlotKeeps.{HalfDone, claim_kept, put_kept, end_kept}

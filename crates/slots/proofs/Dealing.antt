@@ -1,23 +1,12 @@
 -- The table at the start, a seat that is dealt, and a seat that is told of another's calls.
 use Rattle.std.proofs.Common.{◌≡◌, ◌≢◌, ◌⊎◌, ℕ, zero, suc, ◌+◌, ◌*◌, ◌<◌, if◌then◌else◌, nat_lt, Bool, true, false, true≢false, List, [], ◌∷◌, ◌++◌, length, set, get_or, map, replicate, Some, refl, sym, ap, ◌∙◌, subst, ⊎_elim, inl, inr, arith, le_refl, length-set, length-append, ltb-true}
-use Rattle.std.proofs.lemmas.List.{length-replicate}
+use Rattle.slots.proofs.Common.{length-replicate, Me, opening, Splits, Joins, at_set, at_map, set_again, Call, Note, Idle, View, Way, standing, calls_by, part, way_at, words_of, Glance, Fits, Had, Passed, Claims, StillRead, EachSeat, SlotHolds, note, blank, glance, gate_at, words_at, TableHolds, StartsWith, dealer, after_dealing, dealt, nobody, after_telling, TableId, Seat, IsSeatOf, IsNew, AllNew}
 use mathlib.Core.Option as option
 use mathlib.Core.List.{map-append}
 use lib.ListN.{get_elem?}
 use lib.Seq.{map-set}
-use Rattle.atomic_table.specs.Table.{Me, opening, Splits, Joins}
-use Rattle.atomic_table.proofs.Lists.{at_set, at_map, set_again}
-use Rattle.slots.specs.declared.calls.Call.{Call}
-use Rattle.slots.specs.declared.views.Note.{Note}
-use Rattle.slots.specs.declared.views.Half.TheVariants.{Idle}
-use Rattle.slots.specs.declared.views.View.{View}
-use Rattle.slots.specs.Machine.{Way, standing, calls_by, part}
-use Rattle.slots.specs.Rule.{way_at, words_of, Glance, Fits, Had, Passed, Claims, StillRead, EachSeat, SlotHolds, note, blank, glance, gate_at, words_at, TableHolds, StartsWith, dealer, after_dealing, dealt, nobody, after_telling}
 use Rattle.std.specs.Prelude.{slice_get, All}
 use Rattle.std.proofs.lemmas.Option.{slice_get-get_or}
-use Rattle.atomic_table.specs.Seated.{TableId}
-use Rattle.atomic_table.specs.declared.shared.Seat.{Seat}
-use Rattle.slots.specs.Promise.{IsSeatOf, IsNew, AllNew}
 use Rattle.slots.proofs.TableStep.{idle_slot}
 use Rattle.slots.proofs.Histories.{calls-front}
 use Rattle.slots.proofs.Order.{both_begin}

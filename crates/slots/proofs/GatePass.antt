@@ -1,11 +1,6 @@
 -- First pass, the gate alone: it never falls, half of it counts the stores, and what a seat says of its numbers stays so.
 use Rattle.std.proofs.Common.{◌≡◌, ℕ, ◌-◌, ◌/◌, ◌%◌, ◌^◌, ◌<◌, ◌≤◌, true, List, set, arith}
-use Rattle.slots.specs.declared.calls.Call.{Call}
-use Rattle.slots.specs.declared.views.Note.{Note}
-use Rattle.slots.specs.declared.views.Half.{Half}
-use Rattle.slots.specs.declared.views.Half.TheVariants.{Idle, Reading, Writing}
-use Rattle.slots.specs.Machine.{stores}
-use Rattle.slots.specs.Rule.{Glance, Had, Passed, GateHolds}
+use Rattle.slots.proofs.Common.{Call, Note, Half, Idle, Reading, Writing, stores, Glance, Had, Passed, GateHolds}
 use Rattle.slots.proofs.Seats.{each_moved}
 
 pub higher : (gate gate' : ℕ) → gate ≤ gate' → (note : Note) → Had gate note → Had gate' note

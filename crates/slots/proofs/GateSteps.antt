@@ -2,16 +2,9 @@
 use Rattle.std.proofs.Common.{◌≡◌, ◌≢◌, ℕ, ◌-◌, ◌*◌, ◌%◌, ◌^◌, ◌<◌, ◌≤◌, true, List, [], length, refl, sym, subst, inl, arith, le_refl, lt_of_not-le}
 use mathlib.Core.Logic.{dite}
 use native.Mathlib.Decide.{ℕ_discrete}
-use Rattle.atomic_table.specs.Table.{State, Me, keeps, Allows}
-use Rattle.slots.specs.declared.calls.Act.{Act}
-use Rattle.slots.specs.declared.calls.Act.TheVariants.{Asked, Offered}
+use Rattle.slots.proofs.Common.{State, Me, keeps, Allows, Act, Asked, Offered, Idle, Reading, View, Way, Machine, fresh, machine_after, MayReply, run, stores, part, StoresMeet, way_at, note, gate_at, TableHolds, halfway, ended, begun, offered, IsBusy, IsWorn}
 use Rattle.slots.specs.declared.calls.Store as store
-use Rattle.slots.specs.declared.views.Half.TheVariants.{Idle, Reading}
-use Rattle.slots.specs.declared.views.View.{View}
-use Rattle.slots.specs.Machine.{Way, Machine, fresh, machine_after, MayReply, run, stores, part, StoresMeet}
-use Rattle.slots.specs.Rule.{way_at, note, gate_at, TableHolds}
 use native.Mathlib.Decide.{dec_le}
-use Rattle.slots.specs.Steps.{halfway, ended, begun, offered, IsBusy, IsWorn}
 use Rattle.slots.proofs.GatePass.{full_gate}
 use Rattle.slots.proofs.TableStep.{seen_below, goes_on, stops, stops_busy, cause_at}
 

@@ -2,14 +2,7 @@
 use Rattle.std.proofs.Common.{◌≡◌, ◌⊎◌, ℕ, zero, suc, ◌+◌, ◌*◌, List, [], ◌∷◌, ◌++◌, get_or, refl, sym, ap, ◌∙◌, subst, ⊎_elim, inl, inr}
 use mathlib.Core.Option as option
 use lib.ListN.{get_elem?}
-use Rattle.atomic_table.specs.Table.{Final, Seen}
-use Rattle.atomic_table.specs.Seated.{TableId}
-use Rattle.atomic_table.specs.declared.shared.Seat.{Seat}
-use Rattle.slots.specs.declared.calls.Call.{Call}
-use Rattle.slots.specs.declared.views.View.{View}
-use Rattle.slots.specs.Machine.{Way}
-use Rattle.slots.specs.Rule.{StartsWith, TableHolds}
-use Rattle.slots.specs.Promise.{slots_of, InOneOrder, GivenUp}
+use Rattle.slots.proofs.Common.{Final, Seen, TableId, Seat, Call, View, Way, StartsWith, TableHolds, slots_of, InOneOrder, GivenUp}
 
 -- of two beginnings of one list, one begins the other
 pub both_begin : (xs ys more more' : List Call) → xs ++ more ≡ ys ++ more' → StartsWith xs ys ⊎ StartsWith ys xs

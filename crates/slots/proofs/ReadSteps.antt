@@ -1,19 +1,10 @@
 -- The steps of the third pass at the table: words are read, and the gate is read to end.
 use Rattle.std.proofs.Common.{◌≡◌, ◌≢◌, ℕ, ◌+◌, ◌*◌, ◌%◌, ◌<◌, ◌≤◌, true, false, true≢false, List, [], ◌∷◌, ◌++◌, length, take, get_or, Option, Some, None, refl, sym, ap, ◌∙◌, subst, inl, inr, arith}
-use Rattle.std.proofs.lemmas.List.{take_all}
+use Rattle.slots.proofs.Common.{take_all, State, Me, keeps, Allows, Act, Asked, Offered, Half, Reading, View, Way, Machine, fresh, machine_after, MayReply, run, standing, part, StoresMeet, way_at, note, gate_at, words_at, TableHolds, words_of, halfway, ended, Ends, EndsBusy, HitFits, read, looked, IsBusy, IsProbeReply, IsWhole, zeros}
 use mathlib.Core.Logic.{dite}
 use native.Mathlib.Decide.{ℕ_discrete}
-use Rattle.atomic_table.specs.Table.{State, Me, keeps, Allows}
-use Rattle.slots.specs.declared.calls.Act.{Act}
-use Rattle.slots.specs.declared.calls.Act.TheVariants.{Asked, Offered}
 use Rattle.slots.specs.declared.calls.Probe as probe
 use Rattle.slots.specs.declared.calls.Store as store
-use Rattle.slots.specs.declared.views.Half.{Half}
-use Rattle.slots.specs.declared.views.Half.TheVariants.{Reading}
-use Rattle.slots.specs.declared.views.View.{View}
-use Rattle.slots.specs.Machine.{Way, Machine, fresh, machine_after, MayReply, run, standing, part, StoresMeet}
-use Rattle.slots.specs.Rule.{way_at, note, gate_at, words_at, TableHolds, words_of}
-use Rattle.slots.specs.Steps.{halfway, ended, Ends, EndsBusy, HitFits, read, looked, IsBusy, IsProbeReply, IsWhole, zeros}
 use Rattle.slots.proofs.Histories.{standing-meets}
 use Rattle.slots.proofs.ReadsPass.{got_more}
 use Rattle.slots.proofs.SlotKeeps.{HalfDone}

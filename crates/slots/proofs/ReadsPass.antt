@@ -1,11 +1,6 @@
 -- Third pass, half-done reads: words change only as the gate rises, so words that were read under one gate are whole.
 use Rattle.std.proofs.Common.{◌≡◌, ℕ, ◌+◌, ◌%◌, ◌<◌, ◌≤◌, List, [], ◌∷◌, ◌++◌, length, take, set, get_or, sym, ap, ◌∙◌, subst, arith, length-append}
-use Rattle.std.proofs.lemmas.List.{take_more}
-use Rattle.slots.specs.declared.calls.Call.{Call}
-use Rattle.slots.specs.declared.views.Half.{Half}
-use Rattle.slots.specs.declared.views.Half.TheVariants.{Idle, Reading, Writing}
-use Rattle.slots.specs.Machine.{Way, IsLegal}
-use Rattle.slots.specs.Rule.{Glance, Passed, StillRead, GateHolds, ReadsHold}
+use Rattle.slots.proofs.Common.{take_more, Call, Half, Idle, Reading, Writing, Way, IsLegal, Glance, Passed, StillRead, GateHolds, ReadsHold}
 use Rattle.slots.proofs.Seats.{each_moved}
 
 -- one word more is read

@@ -2,8 +2,7 @@
 use Rattle.std.proofs.Common.{◌≡◌, ◌≢◌, ◌⊎◌, ℕ, zero, suc, ◌<◌, List, [], ◌∷◌, ◌++◌, length, set, refl, sym, ap, subst, ⊎_elim, inl, inr, arith}
 use mathlib.Core.Option as option
 use lib.ListN.{get_elem?}
-use Rattle.atomic_table.proofs.Lists.{at_set}
-use Rattle.slots.specs.Rule.{Glance, EachSeat}
+use Rattle.slots.proofs.Common.{at_set, Glance, EachSeat}
 
 pub inside : {A : Type 0} (l : List A) (i : ℕ) (a : A) → get_elem? l i ≡ option.some a → i < length l
 inside [] i a e = absurd (option.some-ne-none a (sym e))

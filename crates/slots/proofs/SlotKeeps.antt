@@ -1,17 +1,8 @@
 -- Each kind of step keeps the rule of its slot: all three passes.
 use Rattle.std.proofs.Common.{◌≡◌, ◌≢◌, ℕ, ◌+◌, ◌/◌, ◌%◌, ◌<◌, ◌≤◌, true, false, true≢false, List, [], ◌∷◌, ◌++◌, length, set, refl, sym, ap, ◌∙◌, subst, ⊎_elim, arith, le_refl}
-use Rattle.std.proofs.lemmas.List.{take_all}
+use Rattle.slots.proofs.Common.{take_all, at_snoc, Call, Offered, Stored, Half, Idle, Writing, Way, Machine, fresh, machine_after, MayReply, run, IsLegal, stores, standing, StoresMeet, Yields, words_of, Glance, Had, Passed, Claims, StillRead, SlotHolds}
 use mathlib.Core.Option as option
 use lib.ListN.{get_elem?}
-use Rattle.atomic_table.proofs.Lists.{at_snoc}
-use Rattle.slots.specs.declared.calls.Call.{Call}
-use Rattle.slots.specs.declared.calls.Act.TheVariants.{Offered}
-use Rattle.slots.specs.declared.calls.Store.TheVariants.{Stored}
-use Rattle.slots.specs.declared.views.Half.{Half}
-use Rattle.slots.specs.declared.views.Half.TheVariants.{Idle, Writing}
-use Rattle.slots.specs.Machine.{Way, Machine, fresh, machine_after, MayReply, run, IsLegal, stores, standing, StoresMeet}
-use Rattle.slots.specs.Steps.{Yields}
-use Rattle.slots.specs.Rule.{words_of, Glance, Had, Passed, Claims, StillRead, SlotHolds}
 use Rattle.slots.proofs.Histories.{run-snoc, follows-snoc, standing-meets}
 use Rattle.slots.proofs.GatePass.{higher, gate_keeps}
 use Rattle.slots.proofs.ClaimPass.{put_more, yields_may, claim_keeps}

@@ -5,21 +5,10 @@ use mathlib.Core.Logic.{dite}
 use native.Mathlib.Decide.{ℕ_discrete}
 use lib.ListN.{get_elem?}
 use lib.Seq.{set-get_or, map-set}
-use Rattle.atomic_table.specs.Table.{State, keeps, stepped}
-use Rattle.atomic_table.proofs.Lists.{at_set, at_map, set_again}
-use Rattle.slots.specs.declared.calls.Call.{Call}
-use Rattle.slots.specs.declared.calls.Act.{Act}
-use Rattle.slots.specs.declared.calls.Act.TheVariants.{Asked, Offered}
+use Rattle.slots.proofs.Common.{State, keeps, stepped, at_set, at_map, set_again, Call, Act, Asked, Offered, Note, Half, Idle, Reading, Writing, View, Way, Machine, fresh, machine_after, MayReply, run, IsLegal, stores, standing, calls_by, part, call, StoresMeet, way_at, Glance, Fits, Had, SlotHolds, note, blank, glance, gate_at, words_at, TableHolds, words_of, Lists, halfway, ended, Adds, EndsBusy, IsBusy}
 use Rattle.slots.specs.declared.calls.Probe as probe
 use Rattle.slots.specs.declared.calls.Store as store
-use Rattle.slots.specs.declared.views.Note.{Note}
-use Rattle.slots.specs.declared.views.Half.{Half}
-use Rattle.slots.specs.declared.views.Half.TheVariants.{Idle, Reading, Writing}
-use Rattle.slots.specs.declared.views.View.{View}
-use Rattle.slots.specs.Machine.{Way, Machine, fresh, machine_after, MayReply, run, IsLegal, stores, standing, calls_by, part, call, StoresMeet}
-use Rattle.slots.specs.Rule.{way_at, Glance, Fits, Had, SlotHolds, note, blank, glance, gate_at, words_at, TableHolds, words_of}
 use native.Mathlib.Decide.{dec_le}
-use Rattle.slots.specs.Steps.{Lists, halfway, ended, Adds, EndsBusy, IsBusy}
 use Rattle.slots.proofs.Histories.{run-snoc, follows-snoc, stores-front, calls-other, calls-own, part-own, part-other, part-append}
 use Rattle.slots.proofs.Seats.{inside}
 use Rattle.slots.proofs.SlotKeeps.{HalfDone, half_kept, call_kept}

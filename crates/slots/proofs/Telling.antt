@@ -2,15 +2,7 @@
 use Rattle.std.proofs.Common.{◌≡◌, ◌⊎◌, ℕ, ◌*◌, ◌/◌, ◌%◌, ◌<◌, ◌≤◌, true, List, length, get_or, map, refl, sym, ap, ◌∙◌, subst, arith}
 use mathlib.Core.Option as option
 use lib.ListN.{get_elem?}
-use Rattle.atomic_table.specs.Table.{State, Me, keeps, stepped, Allows}
-use Rattle.atomic_table.specs.Seated.{TableId}
-use Rattle.atomic_table.specs.declared.shared.Seat.{Seat}
-use Rattle.atomic_table.proofs.Lists.{at_map, set_again}
-use Rattle.slots.specs.declared.views.View.{View}
-use Rattle.slots.specs.Machine.{Way, fresh, IsLegal, stores, calls_by, part}
-use Rattle.slots.specs.Rule.{way_at, Glance, SlotHolds, glance, gate_at, words_at, TableHolds}
-use Rattle.slots.specs.Steps.{Recalls, counted, confirmed}
-use Rattle.slots.specs.Promise.{slots_of, known, seen, IsSeatOf, GateHad, HasCause}
+use Rattle.slots.proofs.Common.{State, Me, keeps, stepped, Allows, TableId, Seat, at_map, set_again, View, Way, fresh, IsLegal, stores, calls_by, part, way_at, Glance, SlotHolds, glance, gate_at, words_at, TableHolds, Recalls, counted, confirmed, slots_of, known, seen, IsSeatOf, GateHad, HasCause}
 use Rattle.slots.proofs.Histories.{part-append, follows-front}
 use Rattle.slots.proofs.TableStep.{stays, lifts_read, fits_at, legal_at, cause_at}
 

@@ -1,17 +1,6 @@
 -- A best line, move by move.
 use Rattle.std.proofs.Common.{All, ◌≡◌, ℕ, zero, suc, ◌-◌, ◌<◌, ◌≤◌, List, [], ◌∷◌, length, take, drop, get_or, sym, ◌∙◌, ap, subst, arith}
-use Rattle.std.proofs.lemmas.List.{take_all}
-use Rattle.std.proofs.lemmas.List.Elements.{Contains-get_or}
-use Rattle.board.specs.Board.{PlainBoard}
-use Rattle.rules.specs.declared.goal.Goal.{Goal}
-use Rattle.rules.specs.Squares.{Ply}
-use Rattle.rules.specs.Moves.{IsMove, IsLawful}
-use Rattle.rules.proofs.Keeps.{one_after}
-use Rattle.rules.proofs.Forcing.{same_side-self}
-use Rattle.problems.specs.Answer.{IsFewest}
-use Rattle.solutions.specs.declared.variation.Variation.{Variation}
-use Rattle.solutions.specs.Lines.{ListsContinuations, IsBestLine}
-use Rattle.solutions.specs.Solutions.{TellsVariation, IsVariation}
+use Rattle.solution_text.proofs.Common.{take_all, Contains-get_or, PlainBoard, Goal, Ply, IsMove, IsLawful, one_after, same_side-self, IsFewest, Variation, ListsContinuations, IsBestLine, TellsVariation, IsVariation}
 use Rattle.board.proofs.RankText.{on_true as on_own}
 
 -- a list of one, and a list of two or more, by what stands in it

@@ -1,24 +1,10 @@
 -- The keys with the play behind each, and the set play.
 use Rattle.std.proofs.Common.{true, false, ◌==◌, codes, Some, ◌≡◌, ℕ, ◌+◌, ◌-◌, ◌<◌, ◌≤◌, List, [], ◌∷◌, ◌++◌, length, take, get_or, refl, sym, ◌∙◌, ap, subst}
-use Rattle.std.specs.Fmt.{decimal}
+use Rattle.solution_text.proofs.Common.{decimal, map-append, length-map, take_all, All-push, All-nil, PlainBoard, Ply, Notation, name_text, IsFewest, ListsContinuations, passed, Play, Sequels, done, more, IsPlayedKey, IsWholeSetPlay, headline, AreSequelsText, IsPlayedText, IsWholeSolution, TellsReplies, TellsKey, TellsKeys, TellsSetPlay, TellsTries, take_more}
 use Rattle.std.proofs.Math.Dec.{eqb-suc-zero}
 use Rattle.std.proofs.lemmas.Bool.{false≢true}
-use Rattle.std.proofs.lemmas.List.{map-append, length-map, take_all}
-use Rattle.std.proofs.lemmas.List.Elements.{All-push, All-nil}
-use Rattle.board.specs.Board.{PlainBoard}
-use Rattle.rules.specs.Squares.{Ply}
 use Rattle.rules.specs.Reach.{IsSound}
-use Rattle.algebraic.specs.declared.naming.Notation.{Notation}
-use Rattle.algebraic.specs.Text.{name_text}
-use Rattle.problems.specs.Answer.{IsFewest}
 use Rattle.solutions.specs.declared.extras.Extras.{Extras}
-use Rattle.solutions.specs.Lines.{ListsContinuations}
-use Rattle.solutions.specs.Solutions.{passed}
-use Rattle.solutions.specs.Whole.{Play, Sequels, done, more, IsPlayedKey, IsWholeSetPlay}
-use Rattle.solution_text.specs.Text.{headline}
-use Rattle.solution_text.specs.WholeText.{AreSequelsText, IsPlayedText, IsWholeSolution}
-use Rattle.solution_text.specs.Telling.{TellsReplies, TellsKey, TellsKeys, TellsSetPlay, TellsTries}
-use Rattle.solutions.proofs.Lists.{take_more}
 use Rattle.solution_text.proofs.Texts.{AreTexts-push}
 
 module _ (notation : Notation) (b : PlainBoard) (n : ℕ) (xs : List Ply) where

@@ -1,12 +1,7 @@
 -- Texts one behind the other.
 use Rattle.std.proofs.Common.{false, ◌==◌, codes, ◌≡◌, ℕ, ◌+◌, ◌<◌, List, [], ◌∷◌, ◌++◌, length, take, get_or, append_assoc, add-one, refl, sym, ◌∙◌, ap, subst}
 use Rattle.std.proofs.Math.Seq.{take-suc}
-use Rattle.std.proofs.lemmas.List.{append-nil}
-use Rattle.board.specs.Board.{PlainBoard}
-use Rattle.algebraic.specs.declared.naming.Notation.{Notation}
-use Rattle.solutions.specs.declared.variation.Variation.{Variation}
-use Rattle.solutions.specs.Solutions.{passed}
-use Rattle.solution_text.specs.Text.{AreTexts, IsVariationText, IsSetPlayText}
+use Rattle.solution_text.proofs.Common.{append-nil, PlainBoard, Notation, Variation, passed, AreTexts, IsVariationText, IsSetPlayText}
 
 -- one more text behind the others
 pub AreTexts-push : {X : Type 0} (P : X → List ℕ → Type 0) (xs : List X) (x : X) (text one : List ℕ) → AreTexts P xs text → P x one → AreTexts P (xs ++ x ∷ []) (text ++ one)

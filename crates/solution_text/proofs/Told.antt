@@ -1,22 +1,9 @@
 -- Replies with their sequels, one after another, and the threats before them.
 use Rattle.std.proofs.Common.{Vec, ◌≡◌, ℕ, ◌+◌, ◌<◌, ◌≤◌, List, [], ◌∷◌, ◌++◌, zero, suc, length, take, drop, get_or, append_assoc, refl, sym, ◌∙◌, ap, subst, arith}
-use Rattle.board.specs.Board.{PlainBoard}
-use Rattle.rules.specs.declared.goal.Goal.{Goal}
-use Rattle.rules.specs.Squares.{Ply}
-use Rattle.rules.specs.Moves.{IsLawful}
-use Rattle.rules.specs.Order.{ListsLawful}
-use Rattle.problems.specs.Answer.{IsFewest}
+use Rattle.solution_text.proofs.Common.{PlainBoard, Goal, Ply, IsLawful, ListsLawful, IsFewest, Notation, ListsMoves, ListsContinuations, IsMet, passed, AreThreats, Sequel, sequel, Threat, over, check, zugzwang, short, long, Sequels, done, more, replies_in, IsThreat, AreSequels, AreThreatsText, AreSequelsText, AreThreatened, IsThreatText, IsLongText, TellsLong, TellsReply, TellsReplies, PicksMoves, pick_one, pick_skip, pick_all}
 use Rattle.problems.proofs.Winning.{none_forced, nothing_at_once}
-use Rattle.algebraic.specs.declared.naming.Notation.{Notation}
 use Rattle.solutions.specs.declared.threats.Threats.{Threats}
 use Rattle.solutions.specs.declared.threats.Threats.TheVariants.{End, Check, Zugzwang, Moves}
-use Rattle.solutions.specs.Lines.{ListsMoves, ListsContinuations, IsMet}
-use Rattle.solutions.specs.Solutions.{passed, AreThreats}
-use Rattle.solutions.specs.Whole.{Sequel, sequel, Threat, over, check, zugzwang, short, long, Sequels, done, more, replies_in, IsThreat, AreSequels}
-use Rattle.solution_text.specs.Text.{AreThreatsText}
-use Rattle.solution_text.specs.WholeText.{AreSequelsText, AreThreatened, IsThreatText, IsLongText}
-use Rattle.solution_text.specs.Telling.{TellsLong, TellsReply, TellsReplies}
-use Rattle.solutions.proofs.Lists.{PicksMoves, pick_one, pick_skip, pick_all}
 
 -- ---- one reply more
 

@@ -105,9 +105,9 @@ IsTextOf P (Some x) text = P x text
 -- ---- the whole
 
 -- what is said of a goal: `mate`, or `goal` where stalemate is as good
-abbrev pub goal_word : Goal → List ℕ
-goal_word Mate = codes "mate"
-goal_word MateOrStale = codes "goal"
+abbrev pub headline_word : Goal → List ℕ
+headline_word Mate = codes "mate"
+headline_word MateOrStale = codes "goal"
 
 -- that keys beside the author's solve the problem too, and how many
 abbrev pub cooked_text : ℕ → List ℕ
@@ -117,7 +117,7 @@ cooked_text _ = []
 
 -- in how many moves of the attacker, as `mate in 3`
 abbrev pub headline : Goal → ℕ → ℕ → List ℕ
-headline goal plies keys = goal_word goal ++ (codes " in " ++ (decimal ((plies + 1) / 2) ++ (cooked_text keys ++ codes "\n")))
+headline goal plies keys = headline_word goal ++ (codes " in " ++ (decimal ((plies + 1) / 2) ++ (cooked_text keys ++ codes "\n")))
 
 -- the headline, the set play and the tries where they were asked for, and the keys
 abbrev pub IsSolutionText : {A : Type 0} → Notation → PlainBoard → Solution A → List ℕ → Type 0

@@ -2,7 +2,7 @@
 ghost use Rattle.std.specs.Prelude.{◌≡◌, ℕ, All, IfOk, IfSome, string_bytes};
 ghost use Rattle.solutions.specs.declared.extras.Extras.{Extras};
 ghost use Rattle.solutions.specs.Solutions.{IsSetPlay, IsTry, IsSolution};
-ghost use Rattle.solution_text.specs.Text.{goal_word, cooked_text, headline, IsTextOf, IsSetPlayText, AreTriesText, IsSolutionText};
+ghost use Rattle.solution_text.specs.Text.{headline_word, cooked_text, headline, IsTextOf, IsSetPlayText, AreTriesText, IsSolutionText};
 
 use crate::keys::keys_text;
 use crate::tries::{set_play_text, tries_text};
@@ -12,7 +12,7 @@ use solutions::{Solution, Try, Variation};
 use std::alloc::{AllocError, Allocator};
 
 fn goal_word(goal: Goal) -> &'static str
-    ensures { result.now ≡ goal_word goal }
+    ensures { result.now ≡ headline_word goal }
 {
     match goal {
         Goal::Mate => "mate",

@@ -1,20 +1,10 @@
 -- What is left to the replies after a move, and which of them last longest.
 use Rattle.std.proofs.Common.{◌≡◌, ℕ, zero, suc, ◌+◌, ◌-◌, ◌*◌, ◌<◌, ◌≤◌, ◌⊎◌, inl, inr, refl, sym, ◌∙◌, subst, arith, false, Bool, IsTrue, ◌↔◌, ap, List, [], ◌∷◌, ◌++◌, append_assoc}
 use Rattle.board.specs.declared.game.Side.{Side}
-use Rattle.board.specs.Games.{is_same_side}
-use Rattle.board.specs.Board.{PlainBoard}
-use Rattle.rules.specs.declared.goal.Goal.{Goal}
-use Rattle.rules.specs.Squares.{Ply}
-use Rattle.rules.specs.Moves.{IsMove, IsLawful}
+use Rattle.solutions.proofs.Common.{is_same_side, PlainBoard, Goal, Ply, IsMove, IsLawful, one_after, to_other, turn-own, turn-other, same_side-self, twice, twice-double, Forces-even, Wins, IsFewest, ForcesNothing, IsAnswer, forced_by, nothing_at_once, same_mover, forced_within, reached_now, not_reached, IsMet, Lasts}
 use Rattle.rules.specs.Forces.{IsReached, Forces}
-use Rattle.rules.proofs.Keeps.{one_after}
-use Rattle.rules.proofs.Forcing.{to_other, turn-own, turn-other, same_side-self, twice, twice-double, Forces-even}
-use Rattle.problems.specs.Answer.{Wins, IsFewest, ForcesNothing, IsAnswer}
 use Rattle.problems.specs.declared.answer.Answer.{Answer}
 use Rattle.problems.specs.declared.answer.Answer.TheVariants.{Mate as mates, NoneWithin}
-use Rattle.problems.proofs.Winning.{forced_by, nothing_at_once, same_mover}
-use Rattle.trees.proofs.Forcing.{forced_within, reached_now, not_reached}
-use Rattle.solutions.specs.Lines.{IsMet, Lasts}
 use Rattle.board.proofs.RankText.{on_false as on_other}
 
 -- ---- the fewest plies are odd

@@ -1,22 +1,10 @@
 -- The moves of a list of which something holds, move by move.
 use Rattle.std.proofs.Common.{◌≡◌, ℕ, suc, ◌+◌, ◌<◌, ◌≤◌, ◌⊎◌, inl, inr, sym, ap, subst, ◌∙◌, arith, List, [], ◌∷◌, ◌++◌, length, length-take, take, get_or, get_or-take, AllPairs, All, Contains, Some, slice_get}
-use Rattle.std.proofs.lemmas.Grind.{common_steps, elements}
-use Rattle.std.proofs.lemmas.List.{take_all}
-use Rattle.std.proofs.lemmas.List.Elements.{All-push, All-get_or, All-contains, Contains-push, Contains-append_left, Contains-append_cases}
+use Rattle.solutions.proofs.Common.{common_steps, elements, take_all, All-push, All-get_or, All-contains, Contains-push, Contains-append_left, Contains-append_cases, Game, PlainBoard, Ply, IsLawful, IsPlyBefore, ListsLawful, Wins, WinsIn, ListsMoves, same_some, same_default}
 use Rattle.std.proofs.Math.Seq.{take-suc}
-use Rattle.board.specs.declared.game.Game.{Game}
-use Rattle.board.specs.Board.{PlainBoard}
-use Rattle.rules.specs.Squares.{Ply}
-use Rattle.rules.specs.Moves.{IsLawful}
-use Rattle.rules.specs.Order.{IsPlyBefore, ListsLawful}
 use Rattle.moves.proofs.Picking.{Picks, keep, skip}
-use Rattle.problems.specs.Answer.{Wins}
 use Rattle.problems.specs.declared.root.Root.{Root}
-use Rattle.problems.specs.Roots.{WinsIn}
-use Rattle.solutions.specs.Lines.{ListsMoves}
 use Rattle.rules.proofs.Lists.{split3}
-use Rattle.problems.proofs.Jobs.{same_some}
-use Rattle.problems.proofs.Winning.{same_default}
 
 -- ---- one element more
 

@@ -1,13 +1,7 @@
 -- The keys, one after another, each with its play.
 use Rattle.std.proofs.Common.{◌≡◌, ℕ, ◌+◌, ◌<◌, ◌≤◌, refl, sym, ap, subst, ◌∙◌, List, [], ◌∷◌, ◌++◌, length, take, get_or, All, map}
-use Rattle.std.proofs.lemmas.List.{map-append, take_all}
-use Rattle.std.proofs.lemmas.List.Elements.{All-push, All-nil}
-use Rattle.board.specs.Board.{PlainBoard}
-use Rattle.rules.specs.declared.goal.Goal.{Goal}
-use Rattle.rules.specs.Squares.{Ply}
+use Rattle.solutions.proofs.Common.{map-append, take_all, All-push, All-nil, PlainBoard, Goal, Ply, ListsContinuations, IsKeyPlay, ListsKeyPlays}
 use Rattle.solutions.specs.declared.key_play.KeyPlay.{KeyPlay}
-use Rattle.solutions.specs.Lines.{ListsContinuations}
-use Rattle.solutions.specs.Solutions.{IsKeyPlay, ListsKeyPlays}
 use Rattle.solutions.proofs.Lists.{take_more}
 
 abbrev pub keys_of : {A : Type 0} → List (KeyPlay A) → List Ply

@@ -1,20 +1,7 @@
 -- The one reply that refutes a move, and the moves that one reply alone refutes.
 use Rattle.std.proofs.Common.{◌≡◌, ℕ, ◌+◌, ◌-◌, ◌<◌, ◌≤◌, inl, inr, sym, subst, ◌∙◌, arith, rules, List, [], ◌∷◌, ◌++◌, length, take, get_or, All, map, Contains, Option, Some, None, is_some, true, false, MatchOption}
-use Rattle.std.proofs.lemmas.Bool.{false≢true}
-use Rattle.std.proofs.lemmas.List.{map-append, take_all}
-use Rattle.std.proofs.lemmas.List.Elements.{All-push, All-nil}
-use Rattle.std.proofs.lemmas.Grind.{common_steps, elements}
-use Rattle.board.specs.declared.game.Game.{Game}
-use Rattle.board.specs.Board.{PlainBoard}
-use Rattle.rules.specs.declared.goal.Goal.{Goal}
-use Rattle.rules.specs.Squares.{Ply}
-use Rattle.rules.specs.Moves.{IsMove, IsLawful}
-use Rattle.rules.specs.Order.{IsPlyBefore, ListsLawful}
-use Rattle.rules.proofs.Keeps.{one_after}
-use Rattle.problems.specs.Answer.{Wins}
+use Rattle.solutions.proofs.Common.{false≢true, map-append, take_all, All-push, All-nil, common_steps, elements, Game, PlainBoard, Goal, Ply, IsMove, IsLawful, IsPlyBefore, ListsLawful, one_after, Wins, IsMet, Refutes, RefutesAlone, IsTry, ListsTries}
 use Rattle.solutions.specs.declared.first_try.Try.{Try}
-use Rattle.solutions.specs.Lines.{IsMet}
-use Rattle.solutions.specs.Solutions.{Refutes, RefutesAlone, IsTry, ListsTries}
 use Rattle.solutions.proofs.Lists.{PicksMoves, pick_one, pick_skip, pick_all, among_before, among_here, among_cases}
 use Rattle.solutions.proofs.Forcing.{met_here, key_meets}
 

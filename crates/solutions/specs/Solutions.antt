@@ -42,12 +42,12 @@ abbrev pub IsVariation : {A : Type 0} → Goal → PlainBoard → Variation A �
 IsVariation goal q v = (p : PlainBoard) × IsMove q v.reply p × TellsVariation goal p v
 
 -- the replies of variations
-abbrev pub replies_of : {A : Type 0} → List (Variation A) → List Ply
-replies_of variations = map (λ v. v.reply) variations
+abbrev pub variation_replies : {A : Type 0} → List (Variation A) → List Ply
+variation_replies variations = map (λ v. v.reply) variations
 
 -- the variations of exactly the replies that are met within n plies, in order
 pub record ListsVariations {A : Type 0} (goal : Goal) (q : PlainBoard) (n : ℕ) (variations : List (Variation A)) : Type 0 where
-  pub replies : ListsMoves q.game (IsMet goal q n) (replies_of variations)
+  pub replies : ListsMoves q.game (IsMet goal q n) (variation_replies variations)
   pub each : All (IsVariation goal q) variations
 
 -- a key's threats, and a variation for each lawful reply, in order
@@ -55,7 +55,7 @@ pub record IsKeyPlay {A : Type 0} (goal : Goal) (b : PlainBoard) (n : ℕ) (k : 
   pub after : PlainBoard
   pub move : IsMove b k.first after
   pub threats : AreThreats goal after (n - 2) k.threats
-  pub replies : ListsLawful after (replies_of k.variations.items)
+  pub replies : ListsLawful after (variation_replies k.variations.items)
   pub variations : All (IsVariation goal after) k.variations.items
 
 -- exactly the keys, in order, each with its play

@@ -5,25 +5,25 @@ use Rattle.atomic_table.specs.Seated.{TableId}
 use Rattle.atomic_table.specs.declared.shared.Seat.{Seat}
 use Rattle.solver.specs.declared.listening.Place.{Place}
 use Rattle.solver.specs.declared.place_word.PlaceView.{PlaceView}
-use Rattle.solver.specs.Placing.{IsPlace, place_of}
+use Rattle.solver.specs.Placing.{IsPlace, word_place}
 
 -- a seat's view, by the place that it found and the one that the word stood for after its last step
-abbrev pub view : Place → Place → PlaceView
-view found told = record { found = found; told = told }
+abbrev pub place_view : Place → Place → PlaceView
+place_view found told = record { found = found; told = told }
 
 -- The rule: the one word stands for a place that a search can be at
 pub record PlaceHolds (s : State (Unit {0}) PlaceView) : Type 0 where
   pub word : ℕ
   pub alone : s.words ≡ word ∷ []
-  pub right : IsPlace (place_of word)
+  pub right : IsPlace (word_place word)
 
 -- after a look the seat knows the place that was found
-abbrev pub looked : Me (Unit {0}) PlaceView → ℕ → Me (Unit {0}) PlaceView → Type 0
-looked m word m' = ((m'.0 ≡ view (place_of word) (place_of word)) × IsPlace (place_of word)) × (m'.1 ≡ m.1)
+abbrev pub place_seen : Me (Unit {0}) PlaceView → ℕ → Me (Unit {0}) PlaceView → Type 0
+place_seen m word m' = ((m'.0 ≡ place_view (word_place word) (word_place word)) × IsPlace (word_place word)) × (m'.1 ≡ m.1)
 
 -- after a word is written the seat knows the place that it stands for
-abbrev pub written : ℕ → Me (Unit {0}) PlaceView → Me (Unit {0}) PlaceView → Type 0
-written word m m' = (m'.0 ≡ view m.0.found (place_of word)) × (m'.1 ≡ m.1)
+abbrev pub place_written : ℕ → Me (Unit {0}) PlaceView → Me (Unit {0}) PlaceView → Type 0
+place_written word m m' = (m'.0 ≡ place_view m.0.found (word_place word)) × (m'.1 ≡ m.1)
 
 -- the seat is one of this word's
 abbrev pub IsPlaceSeatOf : TableId → Seat (Unit {0}) PlaceView → Type 0

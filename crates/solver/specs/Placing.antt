@@ -13,12 +13,12 @@ abbrev pub place : ℕ → ℕ → ℕ → Place
 place none_within tried moves = record { none_within = none_within; tried = tried; moves = moves }
 
 -- the place that a word stands for: its lowest 16 bits are the moves tried, the next 16 the moves, and those above the plies
-abbrev pub place_of : ℕ → Place
-place_of word = place (word / 65536 / 65536) (word % 65536) (word / 65536 % 65536)
+abbrev pub word_place : ℕ → Place
+word_place word = place (word / 65536 / 65536) (word % 65536) (word / 65536 % 65536)
 
 -- the place at which a round begins
-abbrev pub begun : ℕ → ℕ → Place
-begun none_within moves = place (min none_within 63) 0 (min moves 512)
+abbrev pub place_begun : ℕ → ℕ → Place
+place_begun none_within moves = place (min none_within 63) 0 (min moves 512)
 
 -- the place where a move more is tried, up to all
 abbrev pub stepped : Place → Place

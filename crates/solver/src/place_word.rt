@@ -1,7 +1,7 @@
 //! The word that tells how far a search is: the search writes it, and whoever asks reads it. Each step on it is told by a seat of its own.
 ghost use Rattle.std.specs.Prelude.{◌≡◌, IfOk};
-ghost use Rattle.solver.specs.Placing.{IsPlace, place, place_of, begun, stepped};
-ghost use Rattle.solver.specs.PlaceRule.{PlaceHolds, view, looked, written, IsPlaceSeatOf, found_place, told_place};
+ghost use Rattle.solver.specs.Placing.{IsPlace, place, word_place, place_begun, stepped};
+ghost use Rattle.solver.specs.PlaceRule.{PlaceHolds, place_view, place_seen, place_written, IsPlaceSeatOf, found_place, told_place};
 
 use crate::listening::Place;
 use atomic_table::{Play, Table, TableRule};
@@ -34,21 +34,21 @@ pub struct Placed;
 impl TableRule<(), PlaceView, u64> for Placed {
     ghost holds = { λ _. PlaceHolds };
 
-    ghost first = { λ _. view (place_of 0) (place_of 0) };
+    ghost first = { λ _. place_view (word_place 0) (word_place 0) };
 }
 
 /// The word is read.
 struct Look;
 
 impl Play<(), PlaceView> for Look {
-    ghost then = { λ st. looked };
+    ghost then = { λ st. place_seen };
 }
 
 /// The word is written.
 struct Tell;
 
 impl Play<(), PlaceView> for Tell {
-    ghost then = { λ st m n. written n m };
+    ghost then = { λ st m n. place_written n m };
 }
 
 /// How far a search is, in one word.
@@ -81,7 +81,7 @@ impl PlaceWord {
     /// A round begins: nothing is forced within so many plies, and none of so many moves is tried.
     pub(crate) fn begin(&self, none_within: u8, moves: u16) -> PlaceSeat
         ensures seat { IsPlaceSeatOf self.now result }
-        ensures told { told_place result ≡ begun none_within moves }
+        ensures told { told_place result ≡ place_begun none_within moves }
     {
         let (_, mut seat) = self.read();
         let none_within = u64::from(none_within).min(MOST_PLIES);
@@ -120,8 +120,8 @@ impl PlaceWord {
     // The word.
     fn read(&self) -> (u64, PlaceSeat)
         ensures seat { IsPlaceSeatOf self.now result.1 }
-        ensures found { (found_place result.1 ≡ place_of result.0) × (told_place result.1 ≡ place_of result.0) }
-        ensures place { IsPlace (place_of result.0) }
+        ensures found { (found_place result.1 ≡ word_place result.0) × (told_place result.1 ≡ word_place result.0) }
+        ensures place { IsPlace (word_place result.0) }
     {
         self.table.shared.load_new_seat::<Look>(0)
     }
@@ -129,10 +129,10 @@ impl PlaceWord {
     // Writes the word.
     fn tell(&self, seat: &mut PlaceSeat, word: u64)
         requires seat { IsPlaceSeatOf self.now seat.old }
-        requires place { IsPlace (place_of word) }
+        requires place { IsPlace (word_place word) }
         ensures seat { IsPlaceSeatOf self.now seat.new }
         ensures found { found_place seat.new ≡ found_place seat.old }
-        ensures told { told_place seat.new ≡ place_of word }
+        ensures told { told_place seat.new ≡ word_place word }
     {
         self.table.shared.store::<Tell>(seat, 0, word)
     }

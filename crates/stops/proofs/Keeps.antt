@@ -6,7 +6,7 @@ use lib.ListN.{get_elem?}
 use Rattle.atomic_table.specs.Table.{State, Me, keeps, stepped, Allows, Splits, opening}
 use Rattle.atomic_table.proofs.Lists.{at_set, set_again, at_snoc}
 use Rattle.stops.specs.declared.views.RequestView.{RequestView}
-use Rattle.stops.specs.Rule.{view, dealt, FitsRequests, RequestsHold, heard, made}
+use Rattle.stops.specs.Rule.{request_view, hearing_view, FitsRequests, RequestsHold, heard, made}
 use Rattle.stops.specs.Promise.{AreMade}
 
 abbrev St : Type 0
@@ -15,12 +15,12 @@ St = State (Unit {0}) RequestView
 abbrev M : Type 0
 M = Me (Unit {0}) RequestView
 
-first_fits : (seat : ℕ) (v : RequestView) → get_elem? (view 0 true ∷ []) seat ≡ option.some v → FitsRequests 0 0 seat v
-first_fits zero v e = subst (FitsRequests 0 0 zero) (option.some-injective (view 0 true) v e) record { past = le_refl 0; whole = λ _. refl; one = λ _. refl }
+first_fits : (seat : ℕ) (v : RequestView) → get_elem? (request_view 0 true ∷ []) seat ≡ option.some v → FitsRequests 0 0 seat v
+first_fits zero v e = subst (FitsRequests 0 0 zero) (option.some-injective (request_view 0 true) v e) record { past = le_refl 0; whole = λ _. refl; one = λ _. refl }
 first_fits (suc seat) v e = absurd (option.some-ne-none v (sym e))
 
 -- at the start no request was made
-pub begins : RequestsHold (opening (0 ∷ []) [] (view 0 true))
+pub begins : RequestsHold (opening (0 ∷ []) [] (request_view 0 true))
 begins = record { made = 0; asker = 0; alone = refl; each_seat = first_fits }
 
 -- what another seat knows: if it asked, there would be two that do, unless nothing was asked
@@ -33,8 +33,8 @@ others s r id seat n me v at there apart who a = ⊎_elim
 
 -- the word becomes n, no less than it was, and the seat knows n
 rises : (s : St) (r : RequestsHold s) (id : ℕ) (me : M) (n : ℕ) → get_elem? s.views id ≡ option.some me.0 → r.made ≤ n → (me.0.asks ≡ true) ⊎ (n ≡ r.made)
-    → RequestsHold (stepped s 0 n id me.1 (view n me.0.asks) keeps)
-rises s r id me n at more who = let mine = r.each_seat id me.0 at in let w : RequestView = view n me.0.asks in record {
+    → RequestsHold (stepped s 0 n id me.1 (request_view n me.0.asks) keeps)
+rises s r id me n at more who = let mine = r.each_seat id me.0 at in let w : RequestView = request_view n me.0.asks in record {
   made = n;
   asker = r.asker;
   alone = ap (λ ws. set ws 0 n) r.alone;
@@ -53,22 +53,22 @@ hears_allowed slots id me s r _ at _ =
     let is = found s r in
     let n : ℕ = get_or s.words 0 0 in
     let mine = r.each_seat id me.0 at in
-    (view n me.0.asks, keeps, tt, rises s r id me n at (omega (arith, is)) (inr (sym is)), ((refl, omega (arith, is, mine.past), λ a. mine.whole a ∙ is), refl))
+    (request_view n me.0.asks, keeps, tt, rises s r id me n at (omega (arith, is)) (inr (sym is)), ((refl, omega (arith, is, mine.past), λ a. mine.whole a ∙ is), refl))
 
 pub asks_allowed : (slots id : ℕ) (me : M) (n : ℕ) → me.0.asks ≡ true → n ≡ me.0.requests + 1 → Allows RequestsHold slots id me 0 (λ _. n) (λ _. made n me)
 asks_allowed slots id me n own next s r _ at _ =
     let mine = r.each_seat id me.0 at in
-    (view n me.0.asks, keeps, tt, rises s r id me n at (omega (arith, next, mine.whole own)) (inl own), (refl, refl))
+    (request_view n me.0.asks, keeps, tt, rises s r id me n at (omega (arith, next, mine.whole own)) (inl own), (refl, refl))
 
-pub deals_allowed : (id : ℕ) (v : RequestView) → Splits RequestsHold id v v (dealt v)
+pub deals_allowed : (id : ℕ) (v : RequestView) → Splits RequestsHold id v v (hearing_view v)
 deals_allowed id v s r at = let same = set_again s.views id v at in let mine = r.each_seat id v at in record {
   made = r.made;
   asker = r.asker;
   alone = r.alone;
   each_seat = λ seat u e. ⊎_elim
       (λ (x : get_elem? (set s.views id v) seat ≡ option.some u). r.each_seat seat u (ap (λ vs. get_elem? vs seat) (sym same) ∙ x))
-      (λ (x : dealt v ≡ u). subst (FitsRequests r.asker r.made seat) x record { past = mine.past; whole = λ a. absurd (false≢true a); one = λ a. absurd (false≢true a) })
-      (at_snoc (set s.views id v) (dealt v) u seat e);
+      (λ (x : hearing_view v ≡ u). subst (FitsRequests r.asker r.made seat) x record { past = mine.past; whole = λ a. absurd (false≢true a); one = λ a. absurd (false≢true a) })
+      (at_snoc (set s.views id v) (hearing_view v) u seat e);
 }
 
 pub are_made : (s : St) → AreMade s

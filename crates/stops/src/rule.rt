@@ -1,6 +1,6 @@
 //! The rule that every step keeps, and what each of the two kinds of step tells.
 ghost use Rattle.std.specs.Prelude.{true};
-ghost use Rattle.stops.specs.Rule.{RequestsHold, view, dealt, heard, made};
+ghost use Rattle.stops.specs.Rule.{RequestsHold, request_view, hearing_view, heard, made};
 
 use crate::views::RequestView;
 use atomic_table::{Play, Split, TableRule};
@@ -11,7 +11,7 @@ pub struct Counted;
 impl TableRule<(), RequestView, u64> for Counted {
     ghost holds = { λ _. RequestsHold };
 
-    ghost first = { λ _. view 0 true };
+    ghost first = { λ _. request_view 0 true };
 }
 
 /// The word is read.
@@ -34,5 +34,5 @@ pub(crate) struct Deal;
 impl Split<RequestView> for Deal {
     ghost left = { λ v. v };
 
-    ghost right = { dealt };
+    ghost right = { hearing_view };
 }

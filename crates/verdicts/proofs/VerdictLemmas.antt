@@ -14,7 +14,7 @@ use Rattle.certificates.specs.Answers.{IsUpTo}
 use Rattle.verifying.specs.declared.fault.Fault.{Fault}
 use Rattle.verifying.specs.declared.fault.Fault.TheVariants as certificate
 use Rattle.verifying.specs.Certificate.{IsCertificate, IsRefusedWith}
-use Rattle.verifying.specs.FirstLine.{answer_text as first_line}
+use Rattle.verifying.specs.FirstLine.{first_line}
 use Rattle.verifying.proofs.Refused.{certificate_begins}
 use Rattle.refusals.specs.declared.refusal.Refusal.TheVariants as refusal
 use Rattle.command_line.specs.declared.line.Subject.{Subject}

@@ -1,15 +1,6 @@
 -- The lawful moves of a list, and the one at a place.
 use Rattle.std.proofs.Common.{◌≡◌, ◌<◌, ℕ, ◌+◌, List, length, get_or, take, refl, sym, ap, ◌∙◌, subst, All, Contains, slice_get}
-use Rattle.std.proofs.lemmas.List.{take_more}
-use Rattle.std.proofs.lemmas.List.Elements.{All-push, All-get_or, All-take}
-use Rattle.std.proofs.lemmas.Option.{get_or_from_slice_get, same_Some, slice_get_read, slice_get_within}
-use Rattle.board.specs.Board.{PlainBoard}
-use Rattle.rules.specs.Squares.{Ply}
-use Rattle.rules.specs.Moves.{IsLawful}
-use Rattle.rules.specs.Order.{ListsLawful}
-use Rattle.problems.proofs.Tried.{all_listed}
-use Rattle.wintree.proofs.Listings.{one_list}
-use Rattle.verifying.specs.Certificate.{IsMoveAt}
+use Rattle.verifying.proofs.Common.{take_more, All-push, All-get_or, All-take, get_or_from_slice_get, same_Some, slice_get_read, slice_get_within, PlainBoard, Ply, IsLawful, ListsLawful, all_listed, one_list, IsMoveAt}
 
 pub listed_item : (b : PlainBoard) (moves list : List Ply) (i : ℕ) (m : Ply) → ListsLawful b moves → list ≡ moves → i < length moves → m ≡ get_or list i m → IsLawful b m
 listed_item b moves list i m lists same lt is =

@@ -1,24 +1,9 @@
 -- A text has one list of lines.
 use Rattle.std.proofs.Common.{◌≡◌, ◌≢◌, inl, inr, ◌<◌, ◌≤◌, ℕ, ◌+◌, ◌/◌, ◌%◌, List, [], ◌∷◌, ◌++◌, length, replicate, refl, sym, ap, ◌∙◌, subst, arith, append_assoc, All, Bool, true, not, ◌&&◌, nat_eq, codes, Option, None, Some}
-use Rattle.std.proofs.lemmas.Bool.Decides.{Decides-eqb, Decides-not, nat_tests}
-use Rattle.std.proofs.lemmas.Bool.{and_parts, cases_lt}
-use Rattle.std.proofs.lemmas.List.Elements.{All-nil, All-cons, All-head, All-tail, All-append, All-replicate}
-use Rattle.std.proofs.lemmas.Fmt.{decimal_digit}
-use Rattle.std.specs.Fmt.{decimal}
-use Rattle.board.specs.declared.game.Kind.{Kind}
-use Rattle.board.specs.declared.game.Kind.TheVariants.{King, Queen, Rook, Bishop, Knight, Pawn}
-use Rattle.rules.specs.declared.goal.Goal.{Goal}
+use Rattle.verifying.proofs.Common.{Decides-eqb, Decides-not, nat_tests, and_parts, cases_lt, All-nil, All-cons, All-head, All-tail, All-append, All-replicate, decimal_digit, decimal, Kind, King, Queen, Rook, Bishop, Knight, Pawn, Goal, promotion_text, move_text, Ply, Answer, HasNoFeed, Word, Seen, Claimed, Stalemated, first_line, goal_text, IsInRange, place_letter, word_text, words_line, fed}
 use Rattle.rules.specs.declared.goal.Goal.TheVariants as goal
-use Rattle.rules.specs.MoveText.{promotion_text, move_text}
-use Rattle.rules.specs.Squares.{Ply}
-use Rattle.problems.specs.declared.answer.Answer.{Answer}
 use Rattle.problems.specs.declared.answer.Answer.TheVariants.{Mate, NoneWithin}
-use Rattle.devices.specs.Lines.{HasNoFeed}
-use Rattle.verifying.specs.declared.words.Word.{Word}
-use Rattle.verifying.specs.declared.words.Word.TheVariants.{Seen, Claimed, Stalemated, Place}
-use Rattle.verifying.specs.FirstLine.{answer_text, goal_text, IsInRange}
-use Rattle.verifying.specs.Words.{letter_of, word_text, line_text}
-use Rattle.verifying.specs.Refusals.{fed}
+use Rattle.verifying.specs.declared.words.Word.TheVariants.{Place}
 use Rattle.verifying.proofs.OneAnswer.{high_decimal, same_cons}
 
 abbrev NoFeed : ℕ → Type 0
@@ -26,7 +11,7 @@ NoFeed x = x ≢ 10
 
 -- ---- lines without a feed
 
-letter_no_feed : (n : ℕ) → n < 50 → letter_of n ≢ 10
+letter_no_feed : (n : ℕ) → n < 50 → place_letter n ≢ 10
 letter_no_feed n small = grind (arith, nat_tests)
 
 -- no byte of the text is a feed
@@ -45,12 +30,12 @@ word_no_feed Seen = no_feed_in (codes ".") refl
 word_no_feed Claimed = no_feed_in (codes "=") refl
 word_no_feed Stalemated = no_feed_in (codes "-") refl
 word_no_feed (Place n) =
-    All-append NoFeed (replicate (n / 50) 90) (letter_of (n % 50) ∷ []) (All-replicate NoFeed (n / 50) 90 (λ e. omega (arith, e)))
-    (All-cons NoFeed (letter_of (n % 50)) [] (letter_no_feed (n % 50) (omega arith)) (All-nil NoFeed))
+    All-append NoFeed (replicate (n / 50) 90) (place_letter (n % 50) ∷ []) (All-replicate NoFeed (n / 50) 90 (λ e. omega (arith, e)))
+    (All-cons NoFeed (place_letter (n % 50)) [] (letter_no_feed (n % 50) (omega arith)) (All-nil NoFeed))
 
-pub line_no_feed : (words : List Word) → HasNoFeed (line_text words)
+pub line_no_feed : (words : List Word) → HasNoFeed (words_line words)
 line_no_feed [] = All-nil NoFeed
-line_no_feed (w ∷ words) = All-append NoFeed (word_text w) (line_text words) (word_no_feed w) (line_no_feed words)
+line_no_feed (w ∷ words) = All-append NoFeed (word_text w) (words_line words) (word_no_feed w) (line_no_feed words)
 
 letter_no_feed_too : (p : Option Kind) → HasNoFeed (promotion_text p)
 letter_no_feed_too None = All-nil NoFeed
@@ -78,7 +63,7 @@ goal_no_feed : (goal : Goal) → HasNoFeed (goal_text goal)
 goal_no_feed goal.Mate = no_feed_in (codes "mate ") refl
 goal_no_feed goal.MateOrStale = no_feed_in (codes "goal ") refl
 
-pub answer_no_feed : (goal : Goal) (answer : Answer) → IsInRange answer → HasNoFeed (answer_text goal answer)
+pub answer_no_feed : (goal : Goal) (answer : Answer) → IsInRange answer → HasNoFeed (first_line goal answer)
 answer_no_feed goal (Mate n first) range =
     All-append NoFeed (goal_text goal) (decimal n ++ 32 ∷ move_text first) (goal_no_feed goal)
     (All-append NoFeed (decimal n) (32 ∷ move_text first) (decimal_no_feed n range.1) (All-cons NoFeed 32 (move_text first) (λ e. omega (arith, e)) (move_no_feed first)))

@@ -1,19 +1,7 @@
 -- What a line makes of the claims: they grow, no two of them are about one position, if no two were, and what held still holds.
 use Rattle.std.proofs.Common.{◌≡◌, ◌≤◌, ℕ, ◌-◌, ◌∷◌, refl, inl, inr, List, [], ◌++◌, sym, ◌∙◌, ap, subst, append_assoc, arith, Contains, ◌+◌, ◌*◌, ◌%◌, Bool, true, false, nat_lt, if◌then◌else◌}
-use Rattle.std.proofs.lemmas.List.{append-nil}
-use Rattle.std.proofs.lemmas.List.Elements.{Contains-append_left, Contains-push, Contains-push_cases}
-use Rattle.board.specs.Board.{PlainBoard}
-use Rattle.rules.specs.declared.goal.Goal.{Goal}
-use Rattle.rules.specs.Squares.{Ply}
-use Rattle.certificates.specs.declared.claim.Claim.{Claim}
-use Rattle.certificates.specs.Claims.{ClaimsSoMany, ClaimsSoFew, EscapesBy, FailsBy, HoldsOver, MetBy, WinsBy, IsWon}
-use Rattle.problems.specs.declared.answer.Answer.{Answer}
-use Rattle.verifying.specs.declared.part.Part.{Part}
-use Rattle.verifying.specs.declared.part.Part.TheVariants.{First, Win, Yes, Lesser, No}
-use Rattle.verifying.specs.declared.words.Word.{Word}
-use Rattle.verifying.specs.declared.words.Word.TheVariants.{Seen, Claimed, Stalemated, Place}
-use Rattle.verifying.specs.Reading.{AreApart, IsLineOf, ReadsLine, begun_claims}
-use Rattle.verifying.specs.Certificate.{NoneAbout, TellInTurn, Meets, MeetsReply, ShowWin, IsYesLine, IsNoLine, IsLesserLine, Resists, TellsFailure, FailsBecause, ShowFailures, with_claim, shorter_claim}
+use Rattle.verifying.proofs.Common.{append-nil, Contains-append_left, Contains-push, Contains-push_cases, PlainBoard, Goal, Ply, Claim, ClaimsSoMany, ClaimsSoFew, EscapesBy, FailsBy, HoldsOver, MetBy, WinsBy, IsWon, Answer, Part, First, Win, Yes, Lesser, No, Word, Seen, Claimed, Stalemated, AreApart, IsLineOf, ReadsLine, begun_claims, NoneAbout, TellInTurn, Meets, MeetsReply, ShowWin, IsYesLine, IsNoLine, IsLesserLine, Resists, TellsFailure, FailsBecause, ShowFailures, with_claim, shorter_claim}
+use Rattle.verifying.specs.declared.words.Word.TheVariants.{Place}
 use Rattle.problems.specs.declared.answer.Answer.TheVariants as answer
 
 -- the new list has the old one's claims, and perhaps more behind them

@@ -1,24 +1,9 @@
 -- The map of claims: a position has one list of words, and what is entered by it is found.
 use Rattle.std.proofs.Common.{◌≡◌, ℕ, zero, suc, ◌+◌, ◌*◌, ◌/◌, ◌%◌, ◌<◌, ◌≤◌, refl, sym, ap, subst, ◌∙◌, arith, inl, inr, true, cond, ◌||◌, eqb, leb, eqb-true, leb-true, List, [], ◌∷◌, ◌++◌, length, get_or, Option, Some, None, unwrap_or, Contains, bytes_eq}
 use Rattle.std.specs.Map.{lookup}
-use Rattle.std.proofs.lemmas.Bool.{agree_below_at, or_cases, cases_eq, cond_both, both_ways}
-use Rattle.std.proofs.lemmas.List.{same_lists, get_or_default}
-use Rattle.std.proofs.lemmas.List.Elements.{Contains-append_left, Contains-push, Contains-push_cases}
-use Rattle.std.proofs.lemmas.Slice.Eq.{bytes_eq-Decides}
-use Rattle.board.specs.declared.game.Game.{Game}
-use Rattle.board.specs.declared.game.Game.TheVariants.{LosAlamos, Gardner}
-use Rattle.board.specs.declared.game.Side.{Side}
-use Rattle.board.specs.declared.game.Side.TheVariants.{White, Black}
-use Rattle.board.specs.declared.game.Kind.{Kind}
-use Rattle.board.specs.declared.game.Kind.TheVariants.{King, Queen, Rook, Bishop, Knight, Pawn}
+use Rattle.verifying.proofs.Common.{agree_below_at, or_cases, cases_eq, cond_both, both_ways, same_lists, get_or_default, Contains-append_left, Contains-push, Contains-push_cases, bytes_eq-Decides, Game, LosAlamos, Gardner, Side, White, Black, Kind, King, Queen, Rook, Bishop, Knight, Pawn, PlainBoard, squares_of, digit, man_of, code_on, flags_of, game_of, game_of_flags, mover_of_flags, word_of, place_of, unpacked, IsPacked, IsUnused, units_in-at, within_36, Claim, AreWordsOf, IsFoundIn, IsIndexOf}
 use Rattle.board.specs.declared.game.Unit.{Unit as Man}
-use Rattle.board.specs.Board.{PlainBoard}
-use Rattle.board.specs.Games.{squares_of}
-use Rattle.moves.specs.Words.{digit, man_of, code_on, flags_of, game_of, game_of_flags, mover_of_flags, word_of, place_of, unpacked, IsPacked, IsUnused}
 use Rattle.moves.proofs.Digits.{digit_shifted}
-use Rattle.moves.proofs.Packing.{units_in-at, within_36}
-use Rattle.certificates.specs.declared.claim.Claim.{Claim}
-use Rattle.verifying.specs.Index.{AreWordsOf, IsFoundIn, IsIndexOf}
 
 -- ---- a position has one list of words
 

@@ -1,29 +1,14 @@
 -- An input that is read, and what its end or its first fault tells.
 use Rattle.std.proofs.Common.{◌≡◌, ℕ, List, [], ◌∷◌, ◌++◌, Option, None, Some, IfSome, true, Result, Ok, Err, IfOk, IfErr, IsErr, IsErrAnd, refl, sym, ap, ◌∙◌, subst, append_assoc}
-use Rattle.std.proofs.lemmas.List.{append-nil}
+use Rattle.verifying.proofs.Common.{append-nil, Consumes, PlainBoard, Goal, Answer, IsAnswer, IsUpTo, OfInput, HasNoFeed, left_of, BeginsLong, ReadsText, Checker, Fault, AnswerFault, TooLong, NoMemory, ReadFailed, TellsOf, fault_of_input, reads_lost, IsCertificate, IsRefusedWith, HasTakenText, TakesMore, RefusesMore, IsProvedBy, then_so}
 use Rattle.std.proofs.KnownBytes.{Consumes-trans}
-use Rattle.std.specs.Io.KnownBytes.{Consumes}
-use Rattle.board.specs.Board.{PlainBoard}
-use Rattle.rules.specs.declared.goal.Goal.{Goal}
-use Rattle.problems.specs.declared.answer.Answer.{Answer}
-use Rattle.problems.specs.Answer.{IsAnswer}
-use Rattle.certificates.specs.Answers.{IsUpTo}
 use Rattle.certificates.proofs.Certified.{certified}
-use Rattle.devices.specs.Input.{OfInput}
-use Rattle.devices.specs.Lines.{HasNoFeed, left_of}
-use Rattle.devices.specs.Within.{BeginsLong, ReadsText}
 use Rattle.devices.specs.declared.lines.Unread.{Unread}
 use Rattle.devices.specs.declared.transfer.InputFault.{InputFault}
 use Rattle.devices.specs.declared.transfer.InputFault.TheVariants as input
-use Rattle.verifying.specs.declared.checker.Checker.{Checker}
-use Rattle.verifying.specs.declared.fault.Fault.{Fault}
-use Rattle.verifying.specs.declared.fault.Fault.TheVariants.{Answer as AnswerFault, Claim, TooLong, NoMemory, ReadFailed}
-use Rattle.verifying.specs.Refusals.{TellsOf, fault_of_input, reads_failed}
-use Rattle.verifying.specs.Certificate.{IsCertificate, IsRefusedWith}
-use Rattle.verifying.specs.Checking.{HasTakenText, TakesMore, RefusesMore, IsProvedBy}
+use Rattle.verifying.specs.declared.fault.Fault.TheVariants.{Claim}
 use Rattle.verifying.proofs.Refused.{line_long, certificate_begins, fault_of_text, lost}
 use Rattle.verifying.proofs.Sound.{certificate_certifies}
-use Rattle.devices.proofs.InputLemmas.{of_input_then as then_so}
 
 -- a text is gone from the front of the input, and the checker has taken it
 abbrev pub HasReadOf : {A : Type 0} → Goal → PlainBoard → Option (List ℕ) → Option (List ℕ) → Checker A → Type 0
@@ -104,7 +89,7 @@ any_told goal first = fault_of_text goal first NoMemory (λ memory device. absur
 
 -- ---- how many reads failed
 
-pub none_failed : (r : Result Answer Fault) → IfErr r (λ fault. fault ≡ ReadFailed → ⊥) → reads_failed r ≡ 0
+pub none_failed : (r : Result Answer Fault) → IfErr r (λ fault. fault ≡ ReadFailed → ⊥) → reads_lost r ≡ 0
 none_failed (Ok answer) unread = refl
 none_failed (Err AnswerFault) unread = refl
 none_failed (Err (Claim number)) unread = refl
@@ -112,7 +97,7 @@ none_failed (Err TooLong) unread = refl
 none_failed (Err NoMemory) unread = refl
 none_failed (Err ReadFailed) unread = absurd (unread refl)
 
-pub not_read : (fault : Fault) (r : Result Answer Fault) → (fault ≡ ReadFailed → ⊥) → IsErr r × IsErrAnd r (λ f. f ≡ fault) → reads_failed r ≡ 0
+pub not_read : (fault : Fault) (r : Result Answer Fault) → (fault ≡ ReadFailed → ⊥) → IsErr r × IsErrAnd r (λ f. f ≡ fault) → reads_lost r ≡ 0
 not_read fault (Ok answer) unread err = absurd err.1
 not_read fault (Err f) unread err = none_failed (Err f) (λ e. unread (sym err.1 ∙ e))
 

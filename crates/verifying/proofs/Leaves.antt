@@ -1,17 +1,7 @@
 -- What is forced within at most three plies.
 use Rattle.std.proofs.Common.{◌≡◌, ℕ, ◌<◌, ◌↔◌, IsTrue, Bool, false, zero, suc, refl, sym, ap, subst, ◌∙◌, arith}
-use Rattle.std.proofs.lemmas.Bool.{false≢true}
-use Rattle.board.specs.declared.game.Side.{Side}
-use Rattle.board.specs.declared.game.Side.TheVariants.{White, Black}
-use Rattle.board.specs.Games.{is_same_side, other_side}
-use Rattle.board.specs.Board.{PlainBoard}
+use Rattle.verifying.proofs.Common.{false≢true, Side, White, Black, is_same_side, other_side, PlainBoard, Goal, Ply, IsMove, IsReached, Forces, mover-after, same_side-self, to_other, Forces-more, Forces-even}
 use Rattle.board.proofs.RankText.{on_true as on_own, on_false as on_other}
-use Rattle.rules.specs.declared.goal.Goal.{Goal}
-use Rattle.rules.specs.Squares.{Ply}
-use Rattle.rules.specs.Moves.{IsMove}
-use Rattle.rules.specs.Forces.{IsReached, Forces}
-use Rattle.rules.proofs.Keeps.{mover-after}
-use Rattle.rules.proofs.Forcing.{same_side-self, to_other, Forces-more, Forces-even}
 use Rattle.moves.proofs.Looking.{other_twice}
 
 -- nothing is forced within no ply

@@ -1,27 +1,7 @@
 -- What a test, a search and the words of a line yield, by what is known of them.
 use Rattle.std.proofs.Common.{◌≡◌, ◌↔◌, List, Bool, true, false, IsTrue, None, Some, refl, sym, ap, ◌∙◌, subst, ◌<◌, ◌≤◌, ℕ, suc, ◌+◌, [], ◌∷◌, length, get_or, drop, arith, Option, is_some, ◌≢◌, inl, inr, ◌-◌, ◌++◌, ◌⊎◌, take, All, not, nat_lt, if◌then◌else◌, length-append}
-use Rattle.std.proofs.lemmas.Bool.{false≢true, cases_lt, cases_eq}
-use Rattle.std.proofs.lemmas.Option.{none-some, same_Some}
-use Rattle.certificates.specs.declared.claim.Claim.{Claim}
-use Rattle.verifying.specs.Yielding.{YieldsOnly, FindsOnly}
-use Rattle.std.proofs.lemmas.List.{drop_all, drop_more, take-append-le, take-append-drop}
-use Rattle.rules.specs.Squares.{Ply}
-use Rattle.verifying.specs.declared.words.Word.{Word}
-use Rattle.verifying.specs.Certificate.{TellInTurn, NoneAbout, IsMoveAt, Meets, MeetsReply, MeetReplies, ShowWin, IsYesLine, Resists, TellsFailure, FailsBecause, ReachesNothing, ShowFailures, IsLesserLine, with_claim}
-use Rattle.std.proofs.lemmas.Bool.Decides.{Decides-not, nat_tests}
-use Rattle.std.proofs.Math.Seq.{get_or-append_seam, take-length}
-use Rattle.board.specs.Board.{PlainBoard}
-use Rattle.rules.specs.declared.goal.Goal.{Goal}
-use Rattle.rules.specs.Moves.{IsMove, IsLawful}
-use Rattle.rules.specs.Order.{IsPlyBefore, ListsLawful}
-use Rattle.rules.specs.Forces.{IsReached, Forces}
-use Rattle.rules.proofs.Keeps.{one_after}
-use Rattle.wintree.proofs.Listings.{one_list, lower_once}
-use Rattle.certificates.specs.Claims.{ClaimsSoFew}
-use Rattle.certificates.specs.Answers.{HasClaim}
-use Rattle.certificates.proofs.Claimed.{forced_within}
-use Rattle.verifying.specs.declared.words.Word.TheVariants.{Seen, Claimed, Stalemated, Place}
-use Rattle.verifying.specs.Reading.{AreApart}
+use Rattle.verifying.proofs.Common.{false≢true, cases_lt, cases_eq, none-some, same_Some, Claim, YieldsOnly, FindsOnly, drop_all, drop_more, take-append-le, take-append-drop, Ply, Word, TellInTurn, NoneAbout, IsMoveAt, Meets, MeetsReply, MeetReplies, ShowWin, IsYesLine, Resists, TellsFailure, FailsBecause, ReachesNothing, ShowFailures, IsLesserLine, with_claim, Decides-not, nat_tests, get_or-append_seam, take-length, PlainBoard, Goal, IsMove, IsLawful, IsPlyBefore, ListsLawful, IsReached, Forces, one_after, one_list, lower_once, ClaimsSoFew, HasClaim, forced_within, Seen, Claimed, Stalemated, AreApart}
+use Rattle.verifying.specs.declared.words.Word.TheVariants.{Place}
 use Rattle.verifying.proofs.OneAnswer.{same_cons}
 use Rattle.verifying.proofs.Failing.{one_move_at}
 

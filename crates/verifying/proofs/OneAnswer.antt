@@ -1,24 +1,6 @@
 -- What the first line's texts are, and that each is of one answer at most.
 use Rattle.std.proofs.Common.{◌≡◌, inl, inr, ◌≤◌, ℕ, ◌+◌, ◌/◌, ◌%◌, List, [], ◌∷◌, ◌++◌, length, get_or, take, refl, sym, ap, ◌∙◌, arith, Option, None, Some, IfSome, nat_eq, if◌then◌else◌, codes}
-use Rattle.std.proofs.lemmas.Bool.{cases_lt}
-use Rattle.std.proofs.lemmas.Fmt.{decimal_digit, decimal_step, decimal_injective}
-use Rattle.std.specs.Fmt.{decimal}
-use Rattle.board.specs.declared.game.Kind.{Kind}
-use Rattle.board.specs.declared.game.Kind.TheVariants.{King, Queen, Rook, Bishop, Knight, Pawn}
-use Rattle.rules.specs.Squares.{Place, Ply, IsOnBoard}
-use Rattle.rules.specs.Moves.{IsPromoted, IsLawful, IsPromotion}
-use Rattle.rules.specs.MoveText.{square_text, promotion_text, move_text}
-use Rattle.std.proofs.lemmas.List.{append_cancel_left}
-use Rattle.board.specs.declared.game.Game.{Game}
-use Rattle.board.specs.declared.game.Game.TheVariants.{LosAlamos, Gardner}
-use Rattle.board.specs.Board.{PlainBoard}
-use Rattle.rules.specs.declared.goal.Goal.{Goal}
-use Rattle.rules.proofs.Lists.{IsNumbered-lawful}
-use Rattle.problems.specs.declared.answer.Answer.{Answer}
-use Rattle.certificates.specs.declared.claim.Claim.{Claim}
-use Rattle.verifying.specs.declared.words.Word.{Word}
-use Rattle.verifying.specs.FirstLine.{answer_text, goal_text, IsInRange, HasNamedMove, IsNamedSquare, HasName}
-use Rattle.verifying.specs.Certificate.{YesLinesMake, ProveAnswer, IsCertificate}
+use Rattle.verifying.proofs.Common.{cases_lt, decimal_digit, decimal_step, decimal_injective, decimal, Kind, King, Queen, Rook, Bishop, Knight, Pawn, Place, Ply, IsOnBoard, IsPromoted, IsLawful, IsPromotion, square_text, promotion_text, move_text, append_cancel_left, Game, LosAlamos, Gardner, PlainBoard, Goal, IsNumbered-lawful, Answer, Claim, Word, first_line, goal_text, IsInRange, HasNamedMove, IsNamedSquare, HasName, YesLinesMake, ProveAnswer, IsCertificate}
 use Rattle.rules.proofs.Room.{width_six as six}
 use Rattle.rules.specs.declared.goal.Goal.TheVariants as goal
 use Rattle.problems.specs.declared.answer.Answer.TheVariants as answer
@@ -128,11 +110,11 @@ one_mate n k m l few also named named_too e =
     let both = one_number n k (move_text m) (move_text l) few also e in
     ap (λ k. answer.Mate k m) both.0 ∙ ap (λ (x : Ply). answer.Mate k x) (one_move m l named named_too both.1)
 
-not_none : (goal : Goal) (n limit : ℕ) (m : Ply) → answer_text goal (answer.Mate n m) ≡ answer_text goal (answer.NoneWithin limit) → ⊥
+not_none : (goal : Goal) (n limit : ℕ) (m : Ply) → first_line goal (answer.Mate n m) ≡ first_line goal (answer.NoneWithin limit) → ⊥
 not_none goal.Mate n limit m e = let head = same_cons 109 110 _ _ e in omega (arith, head.0)
 not_none goal.MateOrStale n limit m e = let head = same_cons 103 110 _ _ e in omega (arith, head.0)
 
-pub one_answer : (goal : Goal) (a b : Answer) → IsInRange a → IsInRange b → HasNamedMove a → HasNamedMove b → answer_text goal a ≡ answer_text goal b → a ≡ b
+pub one_answer : (goal : Goal) (a b : Answer) → IsInRange a → IsInRange b → HasNamedMove a → HasNamedMove b → first_line goal a ≡ first_line goal b → a ≡ b
 one_answer goal (answer.Mate n m) (answer.Mate k l) range also named named_too e = one_mate n k m l range.1 also.1 named named_too (append_cancel_left (goal_text goal) _ _ e)
 one_answer goal (answer.Mate n m) (answer.NoneWithin limit) range also named named_too e = absurd (not_none goal n limit m e)
 one_answer goal (answer.NoneWithin limit) (answer.Mate k l) range also named named_too e = absurd (not_none goal k limit l (sym e))

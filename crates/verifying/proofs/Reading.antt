@@ -1,27 +1,12 @@
 -- The lines of a certificate are read on to their end, and what is read on to its end is a certificate.
 use Rattle.std.proofs.Common.{◌≡◌, ◌<◌, ◌≤◌, inl, inr, ℕ, ◌+◌, ◌-◌, ◌%◌, List, [], ◌∷◌, ◌++◌, length, map, refl, sym, ap, ◌∙◌, subst, arith, All}
-use Rattle.std.proofs.lemmas.Bool.{cases_lt}
-use Rattle.std.proofs.lemmas.List.Elements.{All-cons, All-head, All-nil, All-tail}
-use Rattle.std.proofs.lemmas.Option.{slice_get_within}
-use Rattle.board.specs.Board.{PlainBoard}
-use Rattle.rules.specs.declared.goal.Goal.{Goal}
-use Rattle.problems.specs.declared.answer.Answer.{Answer}
+use Rattle.verifying.proofs.Common.{cases_lt, All-cons, All-head, All-nil, All-tail, slice_get_within, PlainBoard, Goal, Answer, Claim, Mate, Part, First, Win, Yes, Lesser, No, Word, first_line, words_line, fed, AreLinesFrom, IsCertificate, IsNoLine, IsSomeYesLine, NoLinesMake, ProveAnswer, with_claim, IsEnded, ReadsLine, ReadsOn, ReadsWords, begun_claims, begun_part, behind_yes}
 use Rattle.problems.specs.declared.answer.Answer.TheVariants as answer
-use Rattle.certificates.specs.declared.claim.Claim.{Claim}
-use Rattle.verifying.specs.declared.part.Mate.{Mate}
-use Rattle.verifying.specs.declared.part.Part.{Part}
-use Rattle.verifying.specs.declared.part.Part.TheVariants.{First, Win, Yes, Lesser, No}
-use Rattle.verifying.specs.declared.words.Word.{Word}
-use Rattle.verifying.specs.FirstLine.{answer_text}
-use Rattle.verifying.specs.Words.{line_text}
-use Rattle.verifying.specs.Refusals.{fed}
-use Rattle.verifying.specs.Certificate.{AreLinesFrom, IsCertificate, IsNoLine, IsSomeYesLine, NoLinesMake, ProveAnswer, with_claim}
-use Rattle.verifying.specs.Reading.{IsEnded, ReadsLine, ReadsOn, ReadsWords, begun_claims, begun_part, behind_yes}
 use Rattle.verifying.proofs.Making.{if_less, if_not_less}
 use Rattle.verifying.proofs.OneAnswer.{certificate_named}
 
 abbrev pub IsShort : List Word → Type 0
-IsShort line = length (line_text line) ≤ 8192
+IsShort line = length (words_line line) ≤ 8192
 
 another : (mate : Mate) (place count : ℕ) → place < count → behind_yes mate place count ≡ Yes mate place
 another mate place count less = if_less place count (Yes mate place) (Lesser mate) less
@@ -32,7 +17,7 @@ no_other mate place count whole = if_not_less place count (Yes mate place) (Less
 module _ (goal : Goal) (b : PlainBoard) where
   -- ---- the lines of a certificate
 
-  no_read : (told : Answer) (place : ℕ) (lines : List (List Word)) (old held : List Claim) → AreLinesFrom (IsNoLine goal) place lines old held → length held ≤ place + length lines → All IsShort lines → ReadsOn goal b (No told place) old (map line_text lines) told
+  no_read : (told : Answer) (place : ℕ) (lines : List (List Word)) (old held : List Claim) → AreLinesFrom (IsNoLine goal) place lines old held → length held ≤ place + length lines → All IsShort lines → ReadsOn goal b (No told place) old (map words_line lines) told
   no_read told place [] old held are whole short = (place, refl, omega (arith, whole, ap length are))
   no_read told place (line ∷ lines) old held (c, next, at, first, rest) whole short = (
     No told (place + 1),
@@ -41,7 +26,7 @@ module _ (goal : Goal) (b : PlainBoard) where
     no_read told (place + 1) lines next held rest (omega (arith, whole)) (All-tail IsShort line lines short),
   )
 
-  lesser_read : (mate : Mate) (lines : List (List Word)) (old held : List Claim) → NoLinesMake goal b mate.plies mate.first lines held → length held < length lines → All IsShort lines → ReadsOn goal b (Lesser mate) old (map line_text lines) (answer.Mate mate.plies mate.first)
+  lesser_read : (mate : Mate) (lines : List (List Word)) (old held : List Claim) → NoLinesMake goal b mate.plies mate.first lines held → length held < length lines → All IsShort lines → ReadsOn goal b (Lesser mate) old (map words_line lines) (answer.Mate mate.plies mate.first)
   lesser_read mate [] old held make fewer short = absurd make
   lesser_read mate (line ∷ lines) old held (next, begins, rest) fewer short = (
     No (answer.Mate mate.plies mate.first) 0,
@@ -51,23 +36,23 @@ module _ (goal : Goal) (b : PlainBoard) where
   )
 
   module _ (mate : Mate) (noes : List (List Word)) (held : List Claim) (make : NoLinesMake goal b mate.plies mate.first noes held) (fewer : length held < length noes) where
-    yes_read : (place : ℕ) (yeas : List (List Word)) (old won : List Claim) → AreLinesFrom (IsSomeYesLine goal) place yeas old won → length won ≤ place + length yeas → All IsShort (yeas ++ noes) → ReadsOn goal b (behind_yes mate place (length old)) old (map line_text (yeas ++ noes)) (answer.Mate mate.plies mate.first)
+    yes_read : (place : ℕ) (yeas : List (List Word)) (old won : List Claim) → AreLinesFrom (IsSomeYesLine goal) place yeas old won → length won ≤ place + length yeas → All IsShort (yeas ++ noes) → ReadsOn goal b (behind_yes mate place (length old)) old (map words_line (yeas ++ noes)) (answer.Mate mate.plies mate.first)
     yes_read place [] old won are whole short =
-        subst (λ (p : Part). ReadsOn goal b p old (map line_text noes) (answer.Mate mate.plies mate.first)) (sym (no_other mate place (length old) (omega (arith, whole, ap length are)))) (lesser_read mate noes old held make fewer short)
+        subst (λ (p : Part). ReadsOn goal b p old (map words_line noes) (answer.Mate mate.plies mate.first)) (sym (no_other mate place (length old) (omega (arith, whole, ap length are)))) (lesser_read mate noes old held make fewer short)
     yes_read place (line ∷ yeas) old won (c, next, at, first, rest) whole short =
-        subst (λ (p : Part). ReadsOn goal b p old (map line_text ((line ∷ yeas) ++ noes)) (answer.Mate mate.plies mate.first)) (sym (another mate place (length old) (slice_get_within old place c at))) (
+        subst (λ (p : Part). ReadsOn goal b p old (map words_line ((line ∷ yeas) ++ noes)) (answer.Mate mate.plies mate.first)) (sym (another mate place (length old) (slice_get_within old place c at))) (
           behind_yes mate (place + 1) (length next),
           next,
           inr (line, refl, All-head IsShort line (yeas ++ noes) short, ((c, at, first), refl)),
           yes_read (place + 1) yeas next won rest (omega (arith, whole)) (All-tail IsShort line (yeas ++ noes) short),
         )
 
-  proof_read : (told : Answer) (lines : List (List Word)) → ProveAnswer goal b told lines → All IsShort lines → ReadsOn goal b (begun_part told) (begun_claims b told) (map line_text lines) told
+  proof_read : (told : Answer) (lines : List (List Word)) → ProveAnswer goal b told lines → All IsShort lines → ReadsOn goal b (begun_part told) (begun_claims b told) (map words_line lines) told
   proof_read (answer.Mate n first) lines ([], noes, is, (won, make, few), held) short = absurd make
   proof_read (answer.Mate n first) lines (line ∷ yeas, noes, is, (won, (next, begins, rest), few), (held, make, fewer)) short =
       let mate : Mate = record { plies = n; first = first } in
       let all = subst (All IsShort) is short in
-      subst (λ (l : List (List Word)). ReadsOn goal b (Win mate) [] (map line_text l) (answer.Mate n first)) (sym is) (
+      subst (λ (l : List (List Word)). ReadsOn goal b (Win mate) [] (map words_line l) (answer.Mate n first)) (sym is) (
         behind_yes mate 1 (length next),
         next,
         inr (line, refl, All-head IsShort line (yeas ++ noes) all, (begins, refl)),
@@ -75,7 +60,7 @@ module _ (goal : Goal) (b : PlainBoard) where
       )
   proof_read (answer.NoneWithin limit) lines (held, are, whole) short = no_read (answer.NoneWithin limit) 0 lines (with_claim [] b (limit - 1 + limit % 2)) held are (omega (arith, whole)) short
 
-  pub certificate_read : (told : Answer) (text : List ℕ) (certificate : IsCertificate goal b told text) → ReadsOn goal b First [] (answer_text goal told ∷ map line_text certificate.lines) told
+  pub certificate_read : (told : Answer) (text : List ℕ) (certificate : IsCertificate goal b told text) → ReadsOn goal b First [] (first_line goal told ∷ map words_line certificate.lines) told
   certificate_read told text certificate = (
     begun_part told,
     begun_claims b told,
@@ -87,12 +72,12 @@ module _ (goal : Goal) (b : PlainBoard) where
 
   -- lines are those of words that prove something
   abbrev AreOf : List (List ℕ) → (List (List Word) → Type 0) → Type 0
-  AreOf lines P = (words : List (List Word)) × (lines ≡ map line_text words) × All IsShort words × P words
+  AreOf lines P = (words : List (List Word)) × (lines ≡ map words_line words) × All IsShort words × P words
 
-  one_more : (line : List ℕ) (lines : List (List ℕ)) (word : List Word) (P Q : List (List Word) → Type 0) → line ≡ line_text word → length line ≤ 8192 → ((words : List (List Word)) → P words → Q (word ∷ words)) → AreOf lines P → AreOf (line ∷ lines) Q
+  one_more : (line : List ℕ) (lines : List (List ℕ)) (word : List Word) (P Q : List (List Word) → Type 0) → line ≡ words_line word → length line ≤ 8192 → ((words : List (List Word)) → P words → Q (word ∷ words)) → AreOf lines P → AreOf (line ∷ lines) Q
   one_more line lines word P Q is small so (words, are, short, holds) = (
     word ∷ words,
-    ap (λ (l : List ℕ). l ∷ lines) is ∙ ap (λ (l : List (List ℕ)). line_text word ∷ l) are,
+    ap (λ (l : List ℕ). l ∷ lines) is ∙ ap (λ (l : List (List ℕ)). words_line word ∷ l) are,
     All-cons IsShort word words (subst (λ (l : List ℕ). length l ≤ 8192) is small) short,
     so words holds,
   )
@@ -149,7 +134,7 @@ module _ (goal : Goal) (b : PlainBoard) where
     | inr whole ↦ only_lesser told mate place old (line ∷ lines) whole reads
   ]
     where
-      of_words : {next : Part} {new : List Claim} → ReadsLine goal b (Yes mate place) line old next new → (words : List Word) × (line ≡ line_text words) × (length line ≤ 8192) × ReadsWords goal b (Yes mate place) words old next new
+      of_words : {next : Part} {new : List Claim} → ReadsLine goal b (Yes mate place) line old next new → (words : List Word) × (line ≡ words_line words) × (length line ≤ 8192) × ReadsWords goal b (Yes mate place) words old next new
       of_words (inl (first, answered)) = absurd cc
       of_words (inr read) = read
 
@@ -178,5 +163,5 @@ module _ (goal : Goal) (b : PlainBoard) where
         lines = words;
         prove = prove;
         short = short;
-        spelled = ap fed (ap (λ (l : List ℕ). l ∷ lines) spelled ∙ ap (λ (l : List (List ℕ)). answer_text goal mine ∷ l) are);
+        spelled = ap fed (ap (λ (l : List ℕ). l ∷ lines) spelled ∙ ap (λ (l : List (List ℕ)). first_line goal mine ∷ l) are);
       })

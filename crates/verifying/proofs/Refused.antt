@@ -1,38 +1,11 @@
 -- What a checker has taken, what it refuses and that it is no certificate, and what it proves.
 use Rattle.std.proofs.Common.{◌≡◌, ℕ, ◌+◌, ◌<◌, List, [], ◌++◌, length, Option, None, Some, sym, ap, subst, Err, suc, codes, inl, inr, ◌≤◌, ◌∷◌, map, refl, ◌∙◌, arith, append_assoc, length-append, All, ◌↔◌, nat_lt, Bool, true, false, if◌then◌else◌}
-use Rattle.std.specs.Io.KnownBytes.{Consumes}
-use Rattle.board.specs.Board.{PlainBoard}
-use Rattle.rules.specs.declared.goal.Goal.{Goal}
-use Rattle.problems.specs.declared.answer.Answer.{Answer}
-use Rattle.certificates.specs.declared.claim.Claim.{Claim}
-use Rattle.devices.specs.Input.{OfInput}
-use Rattle.devices.specs.Lines.{HasNoFeed}
-use Rattle.devices.proofs.InputLemmas.{of_any as any_input}
-use Rattle.verifying.specs.declared.fault.Fault.{Fault}
-use Rattle.verifying.specs.declared.fault.Fault.TheVariants.{Answer as AnswerFault, Claim as NumberedFault, TooLong, NoMemory, ReadFailed}
-use Rattle.verifying.specs.declared.part.Part.{Part}
-use Rattle.verifying.specs.Reading.{HasRead, answer_of, IsEnded, ReadsLine, ReadsOn, IsLineOf, ReadsAnswer, ReadsWords, begun_claims, begun_part, part_behind}
-use Rattle.verifying.specs.Refusals.{AreLines, HasLongLine, TellsOf, IsClaimLine, fed}
+use Rattle.verifying.proofs.Common.{Consumes, PlainBoard, Goal, Answer, Claim, OfInput, HasNoFeed, any_input, Fault, AnswerFault, NumberedFault, TooLong, NoMemory, ReadFailed, Part, HasRead, answer_of, IsEnded, ReadsLine, ReadsOn, IsLineOf, ReadsAnswer, ReadsWords, begun_claims, begun_part, part_behind, AreLines, HasLongLine, TellsOf, IsClaimLine, fed, All-cons, All-nil, All-weaker, All-push, decimal, promotion_text, move_text, First, Win, Yes, Lesser, No, first_line, goal_text, HasFirstLine, IsInRange, HasNamedMove, words_line, IsCertificate, IsRefusedWith, flat_map-append, append-nil, same_Some, Checker, Mate, Word, HasTakenText, TakesMore, RefusesMore, IsProvedBy, FindsOnly}
 use Rattle.verifying.specs.Taking.{fault_at}
-use Rattle.std.proofs.lemmas.List.Elements.{All-cons, All-nil, All-weaker, All-push}
-use Rattle.std.specs.Fmt.{decimal}
-use Rattle.rules.specs.MoveText.{promotion_text, move_text}
-use Rattle.verifying.specs.declared.part.Part.TheVariants.{First, Win, Yes, Lesser, No}
-use Rattle.verifying.specs.FirstLine.{answer_text, goal_text, HasFirstLine, IsInRange, HasNamedMove}
-use Rattle.verifying.specs.Words.{line_text}
-use Rattle.verifying.specs.Certificate.{IsCertificate, IsRefusedWith}
 use Rattle.verifying.proofs.Making.{finds_none}
 use Rattle.verifying.proofs.Feeds.{answer_no_feed, line_no_feed, left_over, next_of, none_of, long_of}
 use Rattle.verifying.proofs.OneAnswer.{decimal_short, letter_long, one_answer, certificate_named, same_cons}
 use Rattle.verifying.proofs.Reading.{certificate_read, certificate_of}
-use Rattle.std.proofs.lemmas.Grind.{flat_map-append}
-use Rattle.std.proofs.lemmas.List.{append-nil}
-use Rattle.std.proofs.lemmas.Option.{same_Some}
-use Rattle.verifying.specs.declared.checker.Checker.{Checker}
-use Rattle.verifying.specs.declared.part.Mate.{Mate}
-use Rattle.verifying.specs.declared.words.Word.{Word}
-use Rattle.verifying.specs.Checking.{HasTakenText, TakesMore, RefusesMore, IsProvedBy}
-use Rattle.verifying.specs.Yielding.{FindsOnly}
 use Rattle.verifying.proofs.Grown.{none_apart, reads_apart}
 use Rattle.verifying.proofs.Sound.{certificate_certifies}
 use Rattle.verifying.proofs.Spelling.{one_line}
@@ -75,7 +48,7 @@ goal_long : (goal : Goal) → length (goal_text goal) ≡ 5
 goal_long goal.Mate = refl
 goal_long goal.MateOrStale = refl
 
-answer_short : (goal : Goal) (mine : Answer) → IsInRange mine → length (answer_text goal mine) ≤ 8192
+answer_short : (goal : Goal) (mine : Answer) → IsInRange mine → length (first_line goal mine) ≤ 8192
 answer_short goal (answer.Mate n m) range =
     let digits = decimal_short n range.1 in
     let name : length (move_text m) ≡ suc (suc (suc (suc (length (promotion_text m.promotion))))) = refl in
@@ -83,7 +56,7 @@ answer_short goal (answer.Mate n m) range =
     omega (arith, length-append (goal_text goal) (decimal n ++ 32 ∷ move_text m), length-append (decimal n) (32 ∷ move_text m), goal_long goal, digits, name, letter)
 answer_short goal (answer.NoneWithin limit) range =
     let digits = decimal_short limit range.1 in
-    let whole : length (answer_text goal (answer.NoneWithin limit)) ≡ length (codes "none within ") + length (decimal limit) = length-append (codes "none within ") (decimal limit) in
+    let whole : length (first_line goal (answer.NoneWithin limit)) ≡ length (codes "none within ") + length (decimal limit) = length-append (codes "none within ") (decimal limit) in
     omega (arith, whole, digits)
 
 module _ (goal : Goal) (b : PlainBoard) where
@@ -104,13 +77,13 @@ module _ (goal : Goal) (b : PlainBoard) where
   grammar_no_feed : (o : Option Answer) (lines : List (List ℕ)) → AreLines goal o lines → All HasNoFeed lines
   grammar_no_feed None lines none = subst (All HasNoFeed) (sym none) (All-nil HasNoFeed)
   grammar_no_feed (Some told) lines (range, (claims, is, are)) =
-      subst (All HasNoFeed) (sym is) (All-cons HasNoFeed (answer_text goal told) claims (answer_no_feed goal told range)
+      subst (All HasNoFeed) (sym is) (All-cons HasNoFeed (first_line goal told) claims (answer_no_feed goal told range)
       (All-weaker IsClaimLine HasNoFeed (λ line words. subst HasNoFeed (sym words.1) (line_no_feed words.0)) claims are))
 
   -- what a certificate has behind what was read of it
   certificate_left : (number : ℕ) (part : Part) (claims : List Claim) (text rest : List ℕ) (mine : Answer) → HasRead goal b number part claims text → IsCertificate goal b mine (text ++ rest) → (more : List (List ℕ)) × ReadsOn goal b part claims more mine × (fed more ≡ rest)
   certificate_left number part claims text rest mine read certificate =
-      let xs : List (List ℕ) = answer_text goal mine ∷ map line_text certificate.lines in
+      let xs : List (List ℕ) = first_line goal mine ∷ map words_line certificate.lines in
       let reads = certificate_read goal b mine (text ++ rest) certificate in
       let left = left_over xs read.lines rest (all_no_feed First [] xs mine reads) (grammar_no_feed (answer_of part) read.lines read.grammar) (sym certificate.spelled ∙ ap (λ (l : List ℕ). l ++ rest) read.spelled) in
       (left.0, (read.left left.0 mine).0 (subst (λ (l : List (List ℕ)). ReadsOn goal b First [] l mine) left.1 reads), left.2)
@@ -151,20 +124,20 @@ module _ (goal : Goal) (b : PlainBoard) where
 
 pub certificate_begins : (goal : Goal) (b : PlainBoard) (answer : Answer) (text : List ℕ) → IsCertificate goal b answer text → HasFirstLine goal answer text
 certificate_begins goal b answer text certificate =
-    (certificate.range, (fed (map line_text certificate.lines), certificate.spelled ∙ append_assoc (answer_text goal answer) (10 ∷ []) (fed (map line_text certificate.lines))))
+    (certificate.range, (fed (map words_line certificate.lines), certificate.spelled ∙ append_assoc (first_line goal answer) (10 ∷ []) (fed (map words_line certificate.lines))))
 
-pub begun_answer : (goal : Goal) (b : PlainBoard) (told answer : Answer) (rest : List ℕ) → IsInRange told → HasNamedMove told → IsCertificate goal b answer (answer_text goal told ++ 10 ∷ rest) → answer ≡ told
+pub begun_answer : (goal : Goal) (b : PlainBoard) (told answer : Answer) (rest : List ℕ) → IsInRange told → HasNamedMove told → IsCertificate goal b answer (first_line goal told ++ 10 ∷ rest) → answer ≡ told
 begun_answer goal b told answer rest range named certificate =
-    let text = answer_text goal told ++ 10 ∷ rest in
-    let xs : List (List ℕ) = answer_text goal answer ∷ map line_text certificate.lines in
-    let next = next_of xs (answer_text goal told) rest (all_no_feed goal b First [] xs answer (certificate_read goal b answer text certificate)) (answer_no_feed goal told range) (sym certificate.spelled) in
-    let is = (same_cons (answer_text goal answer) (answer_text goal told) (map line_text certificate.lines) next.0 next.1).0 in
+    let text = first_line goal told ++ 10 ∷ rest in
+    let xs : List (List ℕ) = first_line goal answer ∷ map words_line certificate.lines in
+    let next = next_of xs (first_line goal told) rest (all_no_feed goal b First [] xs answer (certificate_read goal b answer text certificate)) (answer_no_feed goal told range) (sym certificate.spelled) in
+    let is = (same_cons (first_line goal answer) (first_line goal told) (map words_line certificate.lines) next.0 next.1).0 in
     one_answer goal answer told certificate.range range (certificate_named goal b answer text certificate) named is
 
 -- ---- what a line is found to be
 
 module _ (goal : Goal) (b : PlainBoard) (line : List ℕ) where
-  found_answer : (answer : Answer) → IsInRange answer → HasNamedMove answer → line ≡ answer_text goal answer → FindsOnly (ReadsAnswer goal b line) (Some (begun_part answer)) (begun_claims b answer)
+  found_answer : (answer : Answer) → IsInRange answer → HasNamedMove answer → line ≡ first_line goal answer → FindsOnly (ReadsAnswer goal b line) (Some (begun_part answer)) (begun_claims b answer)
   found_answer answer range named is next new = (
     λ (mine, also, named_too, spelled, comes, made).
         let one : mine ≡ answer = one_answer goal mine answer also range named_too named (sym spelled ∙ is) in
@@ -180,7 +153,7 @@ module _ (goal : Goal) (b : PlainBoard) (line : List ℕ) where
         to (inl (also, reads)) = (h next new).0 reads
         to (inr (words, spelled, small, (is_line, is))) = absurd (subst (λ (p : Part). IsLineOf goal b p words old new) first is_line)
 
-    pub words_found : (words : List Word) → (part ≡ First → ⊥) → line ≡ line_text words → length line ≤ 8192 → FindsOnly (ReadsWords goal b part words old) found claims → FindsOnly (ReadsLine goal b part line old) found claims
+    pub words_found : (words : List Word) → (part ≡ First → ⊥) → line ≡ words_line words → length line ≤ 8192 → FindsOnly (ReadsWords goal b part words old) found claims → FindsOnly (ReadsLine goal b part line old) found claims
     words_found words other is small h next new = (to, λ it. inr (words, is, small, (h next new).1 it))
       where
         to : ReadsLine goal b part line old next new → (found ≡ Some next) × (new ≡ claims)
@@ -188,15 +161,15 @@ module _ (goal : Goal) (b : PlainBoard) (line : List ℕ) where
         to (inr (mine, spelled, also, read)) = (h next new).0 (subst (λ (l : List Word). ReadsWords goal b part l old next new) (one_line mine words (sym spelled ∙ is)) read)
 
   -- the answer of the first line, or that there is none
-  pub answer_found : (part : Part) (old claims : List Claim) (answer : Answer) (next : Part) → part ≡ First → IsInRange answer → HasNamedMove answer → line ≡ answer_text goal answer → next ≡ begun_part answer → claims ≡ begun_claims b answer → FindsOnly (ReadsLine goal b part line old) (Some next) claims
+  pub answer_found : (part : Part) (old claims : List Claim) (answer : Answer) (next : Part) → part ≡ First → IsInRange answer → HasNamedMove answer → line ≡ first_line goal answer → next ≡ begun_part answer → claims ≡ begun_claims b answer → FindsOnly (ReadsLine goal b part line old) (Some next) claims
   answer_found part old claims answer next first range named is comes made =
       subst (λ (p : Part). FindsOnly (ReadsLine goal b part line old) (Some p) claims) (sym comes) (subst (λ (l : List Claim). FindsOnly (ReadsLine goal b part line old) (Some (begun_part answer)) l) (sym made)
       (first_found part old (begun_claims b answer) (Some (begun_part answer)) first (found_answer answer range named is)))
 
-  pub no_answer_found : (part : Part) (old claims : List Claim) → part ≡ First → ((answer : Answer) → IsInRange answer → HasNamedMove answer → line ≡ answer_text goal answer → ⊥) → FindsOnly (ReadsLine goal b part line old) None claims
+  pub no_answer_found : (part : Part) (old claims : List Claim) → part ≡ First → ((answer : Answer) → IsInRange answer → HasNamedMove answer → line ≡ first_line goal answer → ⊥) → FindsOnly (ReadsLine goal b part line old) None claims
   no_answer_found part old claims first none = first_found part old claims None first (finds_none (ReadsAnswer goal b line) claims (λ next new reads. none reads.0 reads.1 reads.2 reads.3))
 
-  pub no_words_found : (part : Part) (old claims : List Claim) → (part ≡ First → ⊥) → ((words : List Word) → line ≡ line_text words → ⊥) → FindsOnly (ReadsLine goal b part line old) None claims
+  pub no_words_found : (part : Part) (old claims : List Claim) → (part ≡ First → ⊥) → ((words : List Word) → line ≡ words_line words → ⊥) → FindsOnly (ReadsLine goal b part line old) None claims
   no_words_found part old claims other none = finds_none (ReadsLine goal b part line old) claims untold
     where
       untold : (next : Part) (new : List Claim) → ReadsLine goal b part line old next new → ⊥
@@ -286,9 +259,9 @@ pub none_taken : {A : Type 0} (goal : Goal) (b : PlainBoard) (checker : Checker 
 none_taken goal b checker goal_is board_is none first empty = taken_as goal b checker 0 First [] [] goal_is board_is none first empty (nothing_read goal b)
 
 -- the line of an answer was taken
-pub answer_taken : {A : Type 0} (goal : Goal) (b : PlainBoard) (answer : Answer) (checker : Checker A) → IsInRange answer → HasNamedMove answer → checker.goal ≡ goal → checker.board ≡ b → checker.number ≡ 1 → checker.part ≡ begun_part answer → checker.claims ≡ begun_claims b answer → HasTakenText goal b checker (answer_text goal answer ++ 10 ∷ [])
+pub answer_taken : {A : Type 0} (goal : Goal) (b : PlainBoard) (answer : Answer) (checker : Checker A) → IsInRange answer → HasNamedMove answer → checker.goal ≡ goal → checker.board ≡ b → checker.number ≡ 1 → checker.part ≡ begun_part answer → checker.claims ≡ begun_claims b answer → HasTakenText goal b checker (first_line goal answer ++ 10 ∷ [])
 answer_taken goal b answer checker range named goal_is board_is one is made =
-    let line = answer_text goal answer in
+    let line = first_line goal answer in
     taken_as goal b checker 1 (begun_part answer) (begun_claims b answer) (line ++ 10 ∷ []) goal_is board_is one is made
     (line_read goal b 0 First (begun_part answer) [] (begun_claims b answer) [] line (answer_found goal b line First [] (begun_claims b answer) answer (begun_part answer) refl range named refl refl refl) (nothing_read goal b))
 

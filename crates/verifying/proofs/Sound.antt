@@ -1,32 +1,9 @@
 -- A certificate certifies its answer: what its lines tell holds over the claims that they make.
 use Rattle.std.proofs.Common.{◌≡◌, ◌<◌, ◌≤◌, ℕ, ◌+◌, ◌∷◌, [], List, length, get_or, take, sym, ◌∙◌, ap, subst, arith, All, Contains, Some, slice_get, ◌⊎◌, inl, inr, ◌-◌, ◌*◌, ◌/◌, ◌%◌, ◌++◌, min}
-use Rattle.std.proofs.lemmas.List.{take_all, take-append-le, get_or-take, length-take, get_or_default}
-use Rattle.std.proofs.lemmas.List.Elements.{All-weaker, All-contains, All-cons, All-get_or, All-nil, Contains-push}
-use Rattle.std.proofs.lemmas.Option.{get_or_from_slice_get, slice_get-get_or, same_Some, slice_get_within}
-use Rattle.certificates.specs.declared.claim.Claim.{Claim}
+use Rattle.verifying.proofs.Common.{take_all, take-append-le, get_or-take, length-take, get_or_default, All-weaker, All-contains, All-cons, All-get_or, All-nil, Contains-push, get_or_from_slice_get, slice_get-get_or, same_Some, slice_get_within, Claim, cases_lt, get_or-append_seam, take-length, PlainBoard, Goal, Ply, IsMove, IsLawful, IsPlyBefore, ListsLawful, IsReached, one_after, split3, ForcesNothing, Answer, not_reached, one_way, ClaimsSoMany, EscapesBy, FailsBy, HoldsOver, IsWon, MetBy, WinsBy, AllHold, AllWon, Certifies, HasClaim, IsOdd, forced_within, Word, Seen, Claimed, Stalemated, IsInRange, AreLinesFrom, FailsBecause, IsCertificate, IsLesserLine, IsNoLine, IsSomeYesLine, IsYesLine, Meets, MeetsReply, NoLinesMake, ProveAnswer, ReachesNothing, Resists, ShowFailures, TellInTurn, TellsFailure, YesLinesMake, shorter_claim, with_claim}
 use Rattle.verifying.proofs.Grown.{Extends, claimed_few, claimed_many, extends_same, extends_twice, still_fails, still_holds, still_met, still_there, still_wins, still_won, Grows, lesser_grows, no_grows, reason_grows, reply_grows, told_grows, yes_grows}
 use Rattle.verifying.proofs.Failing.{all_more}
-use Rattle.std.proofs.lemmas.Bool.{cases_lt}
-use Rattle.std.proofs.Math.Seq.{get_or-append_seam, take-length}
-use Rattle.board.specs.Board.{PlainBoard}
-use Rattle.rules.specs.declared.goal.Goal.{Goal}
-use Rattle.rules.specs.Squares.{Ply}
-use Rattle.rules.specs.Moves.{IsMove, IsLawful}
-use Rattle.rules.specs.Order.{IsPlyBefore, ListsLawful}
-use Rattle.rules.specs.Forces.{IsReached}
-use Rattle.rules.proofs.Keeps.{one_after}
-use Rattle.rules.proofs.Lists.{split3}
-use Rattle.problems.specs.Answer.{ForcesNothing}
-use Rattle.problems.specs.declared.answer.Answer.{Answer}
-use Rattle.problems.proofs.Tried.{not_reached}
-use Rattle.wintree.proofs.Listings.{lower_once as one_way}
-use Rattle.certificates.specs.Claims.{ClaimsSoMany, EscapesBy, FailsBy, HoldsOver, IsWon, MetBy, WinsBy, AllHold, AllWon}
-use Rattle.certificates.specs.Answers.{Certifies, HasClaim, IsOdd}
-use Rattle.certificates.proofs.Claimed.{forced_within}
-use Rattle.verifying.specs.declared.words.Word.{Word}
-use Rattle.verifying.specs.declared.words.Word.TheVariants.{Seen, Claimed, Stalemated, Place}
-use Rattle.verifying.specs.FirstLine.{IsInRange}
-use Rattle.verifying.specs.Certificate.{AreLinesFrom, FailsBecause, IsCertificate, IsLesserLine, IsNoLine, IsSomeYesLine, IsYesLine, Meets, MeetsReply, NoLinesMake, ProveAnswer, ReachesNothing, Resists, ShowFailures, TellInTurn, TellsFailure, YesLinesMake, shorter_claim, with_claim}
+use Rattle.verifying.specs.declared.words.Word.TheVariants.{Place}
 use Rattle.verifying.proofs.Making.{if_less}
 use Rattle.problems.specs.declared.answer.Answer.TheVariants as answer
 

@@ -1,10 +1,7 @@
 -- A line is of one list of words at most.
 use Rattle.std.proofs.Common.{◌≡◌, ◌≢◌, ◌<◌, ◌≤◌, ℕ, zero, suc, ◌+◌, ◌-◌, ◌*◌, ◌/◌, ◌%◌, nat_eq, nat_lt, if◌then◌else◌, List, [], ◌∷◌, ◌++◌, refl, sym, ap, ◌∙◌, arith, length, get_or, take, drop, replicate, append_assoc}
-use Rattle.std.proofs.lemmas.Bool.Decides.{nat_tests}
-use Rattle.std.proofs.lemmas.List.{take-append-drop, drop_more, take_all}
-use Rattle.verifying.specs.declared.words.Word.{Word}
-use Rattle.verifying.specs.declared.words.Word.TheVariants.{Seen, Claimed, Stalemated, Place}
-use Rattle.verifying.specs.Words.{letter_of, word_text, line_text}
+use Rattle.verifying.proofs.Common.{nat_tests, take-append-drop, drop_more, take_all, Word, Seen, Claimed, Stalemated, place_letter, word_text, words_line}
+use Rattle.verifying.specs.declared.words.Word.TheVariants.{Place}
 use Rattle.wintree.proofs.Turns.{same_head, same_tail}
 
 -- ---- a word is so many Zs, and then a byte that is none
@@ -19,7 +16,7 @@ abbrev last_byte : Word → ℕ
 last_byte Seen = 46
 last_byte Claimed = 61
 last_byte Stalemated = 45
-last_byte (Place n) = letter_of (n % 50)
+last_byte (Place n) = place_letter (n % 50)
 
 no_fifty : (w : Word) → last_byte w ≢ 90
 no_fifty Seen e = omega (arith, e)
@@ -67,52 +64,52 @@ only_fifties (suc k) (suc f) c x other e = only_fifties k f c x other (same_tail
 
 -- ---- lines
 
-line_spelled : (w : Word) (words : List Word) → line_text (w ∷ words) ≡ replicate (fifties w) 90 ++ last_byte w ∷ line_text words
+line_spelled : (w : Word) (words : List Word) → words_line (w ∷ words) ≡ replicate (fifties w) 90 ++ last_byte w ∷ words_line words
 line_spelled w words =
-    ap (λ (x : List ℕ). x ++ line_text words) (spelled w) ∙ append_assoc (replicate (fifties w) 90) (last_byte w ∷ []) (line_text words)
+    ap (λ (x : List ℕ). x ++ words_line words) (spelled w) ∙ append_assoc (replicate (fifties w) 90) (last_byte w ∷ []) (words_line words)
 
-pub one_line : (words others : List Word) → line_text words ≡ line_text others → words ≡ others
+pub one_line : (words others : List Word) → words_line words ≡ words_line others → words ≡ others
 one_line [] [] e = refl
-one_line [] (w ∷ others) e = absurd (some_bytes (fifties w) (last_byte w) (line_text others) (sym (line_spelled w others) ∙ sym e))
-one_line (v ∷ words) [] e = absurd (some_bytes (fifties v) (last_byte v) (line_text words) (sym (line_spelled v words) ∙ e))
+one_line [] (w ∷ others) e = absurd (some_bytes (fifties w) (last_byte w) (words_line others) (sym (line_spelled w others) ∙ sym e))
+one_line (v ∷ words) [] e = absurd (some_bytes (fifties v) (last_byte v) (words_line words) (sym (line_spelled v words) ∙ e))
 one_line (v ∷ words) (w ∷ others) e =
-    let same = one_start (fifties v) (fifties w) (last_byte v) (last_byte w) (line_text words) (line_text others) (no_fifty v) (no_fifty w) (sym (line_spelled v words) ∙ (e ∙ line_spelled w others)) in
+    let same = one_start (fifties v) (fifties w) (last_byte v) (last_byte w) (words_line words) (words_line others) (no_fifty v) (no_fifty w) (sym (line_spelled v words) ∙ (e ∙ line_spelled w others)) in
     ap (λ (x : Word). x ∷ words) (one_word v w same.0 same.1) ∙ ap (λ (l : List Word). w ∷ l) (one_line words others same.2)
 
 -- words of which the first ones were read
-after_read : (read others : List Word) (rest : List ℕ) → line_text others ≡ line_text read ++ rest → (more : List Word) × (line_text more ≡ rest)
+after_read : (read others : List Word) (rest : List ℕ) → words_line others ≡ words_line read ++ rest → (more : List Word) × (words_line more ≡ rest)
 after_read [] others rest e = (others, e)
-after_read (v ∷ read) [] rest e = absurd (some_bytes (fifties v) (last_byte v) (line_text read ++ rest) (sym (whole v read rest) ∙ sym e))
+after_read (v ∷ read) [] rest e = absurd (some_bytes (fifties v) (last_byte v) (words_line read ++ rest) (sym (whole v read rest) ∙ sym e))
   where
-    whole : (v : Word) (read : List Word) (rest : List ℕ) → line_text (v ∷ read) ++ rest ≡ replicate (fifties v) 90 ++ last_byte v ∷ (line_text read ++ rest)
-    whole v read rest = ap (λ (x : List ℕ). x ++ rest) (line_spelled v read) ∙ append_assoc (replicate (fifties v) 90) (last_byte v ∷ line_text read) rest
+    whole : (v : Word) (read : List Word) (rest : List ℕ) → words_line (v ∷ read) ++ rest ≡ replicate (fifties v) 90 ++ last_byte v ∷ (words_line read ++ rest)
+    whole v read rest = ap (λ (x : List ℕ). x ++ rest) (line_spelled v read) ∙ append_assoc (replicate (fifties v) 90) (last_byte v ∷ words_line read) rest
 after_read (v ∷ read) (w ∷ others) rest e =
-    let whole : line_text (v ∷ read) ++ rest ≡ replicate (fifties v) 90 ++ last_byte v ∷ (line_text read ++ rest) = ap (λ (x : List ℕ). x ++ rest) (line_spelled v read) ∙ append_assoc (replicate (fifties v) 90) (last_byte v ∷ line_text read) rest in
-    let same = one_start (fifties w) (fifties v) (last_byte w) (last_byte v) (line_text others) (line_text read ++ rest) (no_fifty w) (no_fifty v) (sym (line_spelled w others) ∙ (e ∙ whole)) in
+    let whole : words_line (v ∷ read) ++ rest ≡ replicate (fifties v) 90 ++ last_byte v ∷ (words_line read ++ rest) = ap (λ (x : List ℕ). x ++ rest) (line_spelled v read) ∙ append_assoc (replicate (fifties v) 90) (last_byte v ∷ words_line read) rest in
+    let same = one_start (fifties w) (fifties v) (last_byte w) (last_byte v) (words_line others) (words_line read ++ rest) (no_fifty w) (no_fifty v) (sym (line_spelled w others) ∙ (e ∙ whole)) in
     after_read read others rest same.2
 
 -- a byte that ends no word
-no_word_there : (f byte : ℕ) (rest : List ℕ) → byte ≢ 90 → ((w : Word) → word_text w ≢ replicate f 90 ++ byte ∷ []) → (more : List Word) → line_text more ≡ replicate f 90 ++ byte ∷ rest → ⊥
+no_word_there : (f byte : ℕ) (rest : List ℕ) → byte ≢ 90 → ((w : Word) → word_text w ≢ replicate f 90 ++ byte ∷ []) → (more : List Word) → words_line more ≡ replicate f 90 ++ byte ∷ rest → ⊥
 no_word_there f byte rest other none [] e = some_bytes f byte rest (sym e)
 no_word_there f byte rest other none (w ∷ more) e =
-    let same = one_start (fifties w) f (last_byte w) byte (line_text more) rest (no_fifty w) other (sym (line_spelled w more) ∙ e) in
+    let same = one_start (fifties w) f (last_byte w) byte (words_line more) rest (no_fifty w) other (sym (line_spelled w more) ∙ e) in
     none w (spelled w ∙ (ap (λ k. replicate k 90 ++ last_byte w ∷ []) same.0 ∙ ap (λ x. replicate f 90 ++ x ∷ []) same.1))
 
-pub no_such_words : (line : List ℕ) (read : List Word) (f i byte : ℕ) → i < length line → byte ≡ get_or line i byte → take i line ≡ line_text read ++ replicate f 90 → byte ≢ 90 → ((w : Word) → word_text w ≢ replicate f 90 ++ byte ∷ []) → (others : List Word) → line ≡ line_text others → ⊥
+pub no_such_words : (line : List ℕ) (read : List Word) (f i byte : ℕ) → i < length line → byte ≡ get_or line i byte → take i line ≡ words_line read ++ replicate f 90 → byte ≢ 90 → ((w : Word) → word_text w ≢ replicate f 90 ++ byte ∷ []) → (others : List Word) → line ≡ words_line others → ⊥
 no_such_words line read f i byte lt is so_far other none others e =
     let cut : line ≡ take i line ++ byte ∷ drop (i + 1) line =
     sym (take-append-drop i line) ∙ (ap (λ (l : List ℕ). take i line ++ l) (drop_more line i byte lt) ∙ ap (λ x. take i line ++ x ∷ drop (i + 1) line) (sym is)) in
-    let whole : line_text others ≡ line_text read ++ (replicate f 90 ++ byte ∷ drop (i + 1) line) =
-    sym e ∙ (cut ∙ (ap (λ (l : List ℕ). l ++ byte ∷ drop (i + 1) line) so_far ∙ append_assoc (line_text read) (replicate f 90) (byte ∷ drop (i + 1) line))) in
+    let whole : words_line others ≡ words_line read ++ (replicate f 90 ++ byte ∷ drop (i + 1) line) =
+    sym e ∙ (cut ∙ (ap (λ (l : List ℕ). l ++ byte ∷ drop (i + 1) line) so_far ∙ append_assoc (words_line read) (replicate f 90) (byte ∷ drop (i + 1) line))) in
     let left = after_read read others (replicate f 90 ++ byte ∷ drop (i + 1) line) whole in
     no_word_there f byte (drop (i + 1) line) other none left.0 left.1
 
-pub no_last_word : (line : List ℕ) (read : List Word) (f i : ℕ) → length line ≤ i → take i line ≡ line_text read ++ replicate f 90 → f ≢ 0 → (others : List Word) → line ≡ line_text others → ⊥
+pub no_last_word : (line : List ℕ) (read : List Word) (f i : ℕ) → length line ≤ i → take i line ≡ words_line read ++ replicate f 90 → f ≢ 0 → (others : List Word) → line ≡ words_line others → ⊥
 no_last_word line read f i whole so_far some others e =
     let left = after_read read others (replicate f 90) (sym e ∙ (sym (take_all i line whole) ∙ so_far)) in
     ends f left.0 some left.1
   where
-    ends : (f : ℕ) (more : List Word) → f ≢ 0 → line_text more ≡ replicate f 90 → ⊥
+    ends : (f : ℕ) (more : List Word) → f ≢ 0 → words_line more ≡ replicate f 90 → ⊥
     ends zero more some e = some refl
     ends (suc f) [] some e = cc
-    ends (suc f) (w ∷ more) some e = only_fifties (fifties w) (suc f) (last_byte w) (line_text more) (no_fifty w) (sym (line_spelled w more) ∙ e)
+    ends (suc f) (w ∷ more) some e = only_fifties (fifties w) (suc f) (last_byte w) (words_line more) (no_fifty w) (sym (line_spelled w more) ∙ e)

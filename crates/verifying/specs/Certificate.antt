@@ -14,9 +14,9 @@ use Rattle.certificates.specs.Claims.{ClaimsSoMany, ClaimsSoFew}
 use Rattle.verifying.specs.declared.fault.Fault.{Fault}
 use Rattle.verifying.specs.declared.words.Word.{Word}
 use Rattle.verifying.specs.declared.words.Word.TheVariants.{Seen, Claimed, Stalemated, Place}
-use Rattle.verifying.specs.FirstLine.{answer_text, IsInRange}
+use Rattle.verifying.specs.FirstLine.{first_line, IsInRange}
 use Rattle.verifying.specs.Refusals.{TellsOf, fed}
-use Rattle.verifying.specs.Words.{line_text}
+use Rattle.verifying.specs.Words.{words_line}
 
 -- no claim is about the position
 abbrev pub NoneAbout : List Claim → PlainBoard → Type 0
@@ -147,8 +147,8 @@ pub record IsCertificate (goal : Goal) (b : PlainBoard) (answer : Answer) (text 
   pub range : IsInRange answer
   pub lines : List (List Word)
   pub prove : ProveAnswer goal b answer lines
-  pub short : All (λ line. length (line_text line) ≤ 8192) lines
-  pub spelled : text ≡ fed (answer_text goal answer ∷ map line_text lines)
+  pub short : All (λ line. length (words_line line) ≤ 8192) lines
+  pub spelled : text ≡ fed (first_line goal answer ∷ map words_line lines)
 
 -- the text is a certificate of no answer
 abbrev pub IsNoCertificate : Goal → PlainBoard → List ℕ → Type 0

@@ -17,9 +17,9 @@ goal_text goal.Mate = codes "mate "
 goal_text goal.MateOrStale = codes "goal "
 
 -- the answer as its line has it
-abbrev pub answer_text : Goal → Answer → List ℕ
-answer_text goal (Mate plies first) = goal_text goal ++ (decimal plies ++ 32 ∷ move_text first)
-answer_text goal (NoneWithin limit) = codes "none within " ++ decimal limit
+abbrev pub first_line : Goal → Answer → List ℕ
+first_line goal (Mate plies first) = goal_text goal ++ (decimal plies ++ 32 ∷ move_text first)
+first_line goal (NoneWithin limit) = codes "none within " ++ decimal limit
 
 -- the plies are 1 to 63, and a mate's are odd
 abbrev pub IsInRange : Answer → Type 0
@@ -41,4 +41,4 @@ HasNamedMove (NoneWithin limit) = ⊤
 
 -- the text's first line is the answer's
 abbrev pub HasFirstLine : Goal → Answer → List ℕ → Type 0
-HasFirstLine goal answer text = IsInRange answer × ((rest : List ℕ) × (text ≡ answer_text goal answer ++ 10 ∷ rest))
+HasFirstLine goal answer text = IsInRange answer × ((rest : List ℕ) × (text ≡ first_line goal answer ++ 10 ∷ rest))

@@ -10,8 +10,8 @@ use Rattle.verifying.specs.declared.part.Mate.{Mate}
 use Rattle.verifying.specs.declared.part.Part.{Part}
 use Rattle.verifying.specs.declared.part.Part.TheVariants.{First, Win, Yes, Lesser, No}
 use Rattle.verifying.specs.declared.words.Word.{Word}
-use Rattle.verifying.specs.FirstLine.{answer_text, IsInRange, HasNamedMove}
-use Rattle.verifying.specs.Words.{line_text}
+use Rattle.verifying.specs.FirstLine.{first_line, IsInRange, HasNamedMove}
+use Rattle.verifying.specs.Words.{words_line}
 use Rattle.verifying.specs.Refusals.{AreLines, fed}
 use Rattle.verifying.specs.Certificate.{with_claim, shorter_claim, IsYesLine, IsSomeYesLine, IsNoLine, IsLesserLine}
 
@@ -68,7 +68,7 @@ IsLineOf goal b (No answer place) words old new = IsLineAt (IsNoLine goal) place
 -- the line is an answer's, and what comes behind it
 abbrev pub ReadsAnswer : Goal → PlainBoard → List ℕ → Part → List Claim → Type 0
 ReadsAnswer goal b line next new =
-    (answer : Answer) × IsInRange answer × HasNamedMove answer × (line ≡ answer_text goal answer) × (next ≡ begun_part answer) × (new ≡ begun_claims b answer)
+    (answer : Answer) × IsInRange answer × HasNamedMove answer × (line ≡ first_line goal answer) × (next ≡ begun_part answer) × (new ≡ begun_claims b answer)
 
 -- the words are a line of this part, and what comes behind it
 abbrev pub ReadsWords : Goal → PlainBoard → Part → List Word → List Claim → Part → List Claim → Type 0
@@ -77,7 +77,7 @@ ReadsWords goal b part words old next new = IsLineOf goal b part words old new �
 -- the line is the answer's, where that comes first, or one of words; and what comes behind it
 abbrev pub ReadsLine : Goal → PlainBoard → Part → List ℕ → List Claim → Part → List Claim → Type 0
 ReadsLine goal b part line old next new = ((part ≡ First) × ReadsAnswer goal b line next new)
-    ⊎ ((words : List Word) × (line ≡ line_text words) × (length line ≤ 8192) × ReadsWords goal b part words old next new)
+    ⊎ ((words : List Word) × (line ≡ words_line words) × (length line ≤ 8192) × ReadsWords goal b part words old next new)
 
 -- no line is left out, and the answer is this one
 abbrev pub IsEnded : Part → List Claim → Answer → Type 0

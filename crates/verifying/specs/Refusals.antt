@@ -9,8 +9,8 @@ use Rattle.devices.specs.declared.transfer.InputFault.TheVariants as input
 use Rattle.verifying.specs.declared.fault.Fault.{Fault}
 use Rattle.verifying.specs.declared.fault.Fault.TheVariants.{Answer as IsAnswerFault, Claim, TooLong, NoMemory, ReadFailed}
 use Rattle.verifying.specs.declared.words.Word.{Word}
-use Rattle.verifying.specs.FirstLine.{answer_text, HasFirstLine, IsInRange}
-use Rattle.verifying.specs.Words.{line_text}
+use Rattle.verifying.specs.FirstLine.{first_line, HasFirstLine, IsInRange}
+use Rattle.verifying.specs.Words.{words_line}
 
 -- the fault of each fault of the input
 abbrev pub fault_of_input : InputFault → Fault
@@ -19,18 +19,18 @@ fault_of_input input.TooLong = TooLong
 fault_of_input input.NoMemory = NoMemory
 
 -- how many reads failed
-abbrev pub reads_failed : Result Answer Fault → ℕ
-reads_failed (Err ReadFailed) = 1
-reads_failed _ = 0
+abbrev pub reads_lost : Result Answer Fault → ℕ
+reads_lost (Err ReadFailed) = 1
+reads_lost _ = 0
 
 -- a line is the text of words
 abbrev pub IsClaimLine : List ℕ → Type 0
-IsClaimLine line = (words : List Word) × (line ≡ line_text words)
+IsClaimLine line = (words : List Word) × (line ≡ words_line words)
 
 -- the lines so far: none, or the answer's and lines of words
 abbrev pub AreLines : Goal → Option Answer → List (List ℕ) → Type 0
 AreLines goal None lines = lines ≡ []
-AreLines goal (Some answer) lines = IsInRange answer × ((claims : List (List ℕ)) × (lines ≡ answer_text goal answer ∷ claims) × All IsClaimLine claims)
+AreLines goal (Some answer) lines = IsInRange answer × ((claims : List (List ℕ)) × (lines ≡ first_line goal answer ∷ claims) × All IsClaimLine claims)
 
 -- lines, each with its feed
 abbrev pub fed : List (List ℕ) → List ℕ

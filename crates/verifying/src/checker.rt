@@ -5,7 +5,7 @@ ghost use Rattle.problems.specs.declared.answer.Answer.{Answer as TheAnswer};
 ghost use Rattle.devices.specs.Lines.{HasNoFeed};
 ghost use Rattle.verifying.specs.declared.part.Part.{Part as ThePart};
 ghost use Rattle.verifying.specs.declared.fault.Fault.TheVariants.{NoMemory, ReadFailed};
-ghost use Rattle.verifying.specs.FirstLine.{answer_text, IsInRange, HasNamedMove};
+ghost use Rattle.verifying.specs.FirstLine.{first_line, IsInRange, HasNamedMove};
 ghost use Rattle.verifying.specs.Checking.{HasTaken, IsProvedBy, HasTakenText, RefusesMore, TakesMore};
 ghost use Rattle.verifying.specs.Reading.{AreApart, IsEnded, ReadsLine, ReadsWords, answer_of as told_at, behind_yes as part_behind_yes, begun_claims, begun_part};
 ghost use Rattle.verifying.specs.Taking.{fault_at};
@@ -138,7 +138,7 @@ impl<A: Allocator + Copy> Checker<A> {
     ) -> Result<Checker<A>, AllocError>
         requires range { IsInRange answer }
         requires named { HasNamedMove answer }
-        ensures { IfOk result (λ checker. HasTakenText goal board.now checker (answer_text goal answer ++ 10 ∷ [])) }
+        ensures { IfOk result (λ checker. HasTakenText goal board.now checker (first_line goal answer ++ 10 ∷ [])) }
     {
         let mut claims = Claims::new(alloc);
         let part = begun(&mut claims, board, answer)?;

@@ -4,7 +4,7 @@ ghost use Rattle.std.specs.Fmt.{decimal};
 ghost use Rattle.rules.specs.MoveText.{square_text, promotion_text, move_text};
 ghost use Rattle.rules.specs.Moves.{IsPromoted};
 ghost use Rattle.certificates.specs.Answers.{IsOdd};
-ghost use Rattle.verifying.specs.FirstLine.{goal_text, answer_text, HasName, IsInRange, HasNamedMove, IsNamedSquare};
+ghost use Rattle.verifying.specs.FirstLine.{goal_text, first_line, HasName, IsInRange, HasNamedMove, IsNamedSquare};
 ghost use Rattle.board.specs.declared.game.Kind.{Kind as PlainKind};
 ghost use Rattle.problems.specs.declared.answer.Answer.{Answer as PlainAnswer};
 ghost use Rattle.rules.specs.Squares.{Place, Ply};
@@ -163,8 +163,8 @@ fn word_of(goal: Goal) -> &'static [u8]
 pub(crate) fn answer_of(line: &[u8], goal: Goal) -> Option<Answer>
     ensures range { IfSome result IsInRange }
     ensures text { MatchOption result
-        ((answer : PlainAnswer) → IsInRange answer → HasNamedMove answer → line.now ≢ answer_text goal answer)
-        (λ answer. line.now ≡ answer_text goal answer) }
+        ((answer : PlainAnswer) → IsInRange answer → HasNamedMove answer → line.now ≢ first_line goal answer)
+        (λ answer. line.now ≡ first_line goal answer) }
     ensures named { IfSome result HasNamedMove }
 {
     if let Some(digits) = line.strip_prefix(b"none within ") {

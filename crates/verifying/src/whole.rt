@@ -4,7 +4,7 @@ ghost use Rattle.verifying.specs.declared.fault.Fault.TheVariants.{NoMemory, Rea
 ghost use Rattle.problems.specs.Answer.{IsAnswer};
 ghost use Rattle.devices.specs.Input.{OfInput};
 ghost use Rattle.certificates.specs.Answers.{IsUpTo};
-ghost use Rattle.verifying.specs.Refusals.{TellsOf, reads_failed};
+ghost use Rattle.verifying.specs.Refusals.{TellsOf, reads_lost};
 ghost use Rattle.verifying.specs.Certificate.{IsCertificate, IsRefusedWith};
 
 use crate::checker::{Checker, MOST_LINE};
@@ -28,7 +28,7 @@ pub fn verify_input<S: Source, A: Allocator + Copy>(
 
     // It is what the text says, or the fault is one of the text.
     ensures text { OfInput (S.remaining reader.old) (λ input. TellsOf goal input result) }
-    ensures counts { S.failures reader.new ≡ S.failures reader.old + reads_failed result }
+    ensures counts { S.failures reader.new ≡ S.failures reader.old + reads_lost result }
 
     // It is the answer of which the text is a certificate.
     ensures certificate { IfOk result (λ answer.

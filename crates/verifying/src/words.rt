@@ -1,6 +1,6 @@
 //! The words of a claim's line.
 ghost use Rattle.std.specs.Prelude.{◌≡◌, ◌≢◌, ◌<◌, ◌≤◌, ◌∷◌, ◌++◌, [], ℕ, List, IfOk, IsTrue, MatchOption, false, length, replicate};
-ghost use Rattle.verifying.specs.Words.{letter_of, word_text, line_text};
+ghost use Rattle.verifying.specs.Words.{place_letter, word_text, words_line};
 
 use std::alloc::{AllocError, Allocator};
 
@@ -20,8 +20,8 @@ pub enum Word {
 /// The place below 50 of the letter.
 fn place_of(letter: u8) -> Option<u8>
     ensures { MatchOption result
-        ((n : ℕ) → n < 50 → letter ≢ letter_of n)
-        (λ n. (n < 50) × (letter ≡ letter_of n)) }
+        ((n : ℕ) → n < 50 → letter ≢ place_letter n)
+        (λ n. (n < 50) × (letter ≡ place_letter n)) }
 {
     if letter >= b'a' && letter <= b'z' {
         return Some(letter - b'a');
@@ -70,8 +70,8 @@ pub(crate) fn read_words<A: Allocator>(
     words: &mut Vec<Word, A>,
 ) -> Result<bool, AllocError>
     requires { length line.now ≤ 8192 }
-    ensures read { IfOk result (λ all. IsTrue all → line.now ≡ line_text words.new.items) }
-    ensures refuses { IfOk result (λ all. all ≡ false → (other : List Word) → line.now ≡ line_text other → ⊥) }
+    ensures read { IfOk result (λ all. IsTrue all → line.now ≡ words_line words.new.items) }
+    ensures refuses { IfOk result (λ all. all ≡ false → (other : List Word) → line.now ≡ words_line other → ⊥) }
 {
     words.clear();
     let mut fifties = 0;

@@ -1,16 +1,7 @@
 -- How many braces a text's beginnings leave open.
 use Rattle.std.proofs.Common.{◌≡◌, ℕ, zero, suc, ◌+◌, ◌-◌, ◌≤◌, List, [], ◌∷◌, ◌++◌, length, take, refl, sym, ap, ◌∙◌, subst, inl, inr, arith, append_assoc, length-append, Result, Ok, Err, IfErr, IsOkUnless, count_by, ◌==◌}
 use Rattle.std.proofs.Math.Seq.{take-append-add}
-use Rattle.std.proofs.lemmas.List.{take-append-le}
-use Rattle.wintree.specs.declared.tree.End.{End}
-use Rattle.wintree.specs.declared.tree.End.TheVariants.{Mate, Stale}
-use Rattle.wintree.specs.Plan.{Plan, ends, splits, Replies, last, more, depth, deepest, IsPlan, ArePlans}
-use Rattle.rules.specs.MoveText.{move_text}
-use Rattle.wintree.specs.Text.{text, replies_text, end_text, TreeText}
-use Rattle.wintree.specs.declared.fault.TreeFault.{TreeFault}
-use Rattle.wintree.specs.declared.fault.TreeFault.TheVariants.{Grammar, Deep, NoMemory}
-use Rattle.wintree.specs.Offset.{IsDeep, IsFaultOf}
-use Rattle.wintree.specs.Ahead.{IsPlain}
+use Rattle.wintree.proofs.Common.{take-append-le, End, Mate, Stale, Plan, ends, splits, Replies, last, more, depth, deepest, IsPlan, ArePlans, move_text, text, replies_text, end_text, TreeText, TreeFault, Grammar, Deep, NoMemory, IsDeep, IsFaultOf, IsPlain}
 use Rattle.wintree.proofs.Places.{count_by-append, count_by-take-le, take_whole}
 use Rattle.wintree.proofs.MoveTexts.{plain_move}
 use Rattle.wintree.proofs.Standing.{le_or_lt}

@@ -1,18 +1,9 @@
 -- Where a line may end.
 use Rattle.std.proofs.Common.{◌≡◌, ◌↔◌, ℕ, zero, suc, ◌<◌, Bool, true, false, not, ◌==◌, IsTrue, Option, SomeIff, List, length, refl, sym, ◌∙◌, subst, inl, inr, arith}
 use Rattle.std.specs.Bool.{then_some}
-use Rattle.std.proofs.lemmas.Bool.{true≢false}
-use Rattle.std.proofs.lemmas.Bool.Decides.{eqb_tells}
-use Rattle.board.specs.Board.{PlainBoard}
-use Rattle.rules.specs.Squares.{Ply}
-use Rattle.rules.specs.Reach.{IsInCheck}
-use Rattle.rules.specs.Moves.{IsLawful}
-use Rattle.rules.specs.Order.{ListsLawful}
-use Rattle.rules.specs.declared.goal.Goal.{Goal}
+use Rattle.wintree.proofs.Common.{true≢false, eqb_tells, PlainBoard, Ply, IsInCheck, IsLawful, ListsLawful, Goal, End, EndsAt}
 use Rattle.rules.specs.declared.goal.Goal.TheVariants as goals
-use Rattle.wintree.specs.declared.tree.End.{End}
 use Rattle.wintree.specs.declared.tree.End.TheVariants as ending
-use Rattle.wintree.specs.Wins.{EndsAt}
 use Rattle.wintree.proofs.Listings.{some_lawful, none_lawful}
 
 no_lawful : (goal : Goal) (b : PlainBoard) (end : End) → EndsAt goal b end → (m : Ply) → IsLawful b m → ⊥

@@ -2,18 +2,10 @@
 use Rattle.std.proofs.Common.{◌≡◌, ℕ, zero, suc, ◌+◌, ◌-◌, ◌≤◌, max, true, false, [], subst, inl, inr, arith, Contains}
 use Rattle.board.specs.declared.game.Side.{Side}
 use Rattle.board.specs.Games.{is_same_side}
-use Rattle.board.specs.Board.{PlainBoard}
-use Rattle.rules.specs.Squares.{Ply}
-use Rattle.rules.specs.Moves.{IsMove}
-use Rattle.rules.specs.declared.goal.Goal.{Goal}
+use Rattle.wintree.proofs.Common.{PlainBoard, Ply, IsMove, Goal, Forces, IsReached, one_after, End, Plan, ends, splits, Replies, last, more, Wins, EachWins, EndsAt, moves_of, height, highest}
 use Rattle.rules.specs.declared.goal.Goal.TheVariants as goals
-use Rattle.rules.specs.Forces.{Forces, IsReached}
-use Rattle.rules.proofs.Keeps.{one_after}
 use Rattle.rules.proofs.Forcing.{to_own, to_other, turn-own, turn-other, same_side-self, Forces-more}
-use Rattle.wintree.specs.declared.tree.End.{End}
 use Rattle.wintree.specs.declared.tree.End.TheVariants as ending
-use Rattle.wintree.specs.Plan.{Plan, ends, splits, Replies, last, more}
-use Rattle.wintree.specs.Wins.{Wins, EachWins, EndsAt, moves_of, height, highest}
 use Rattle.wintree.proofs.Listings.{among_first, among_more}
 
 reached : (goal : Goal) (b : PlainBoard) (end : End) → EndsAt goal b end → IsReached goal b

@@ -1,10 +1,6 @@
 -- The height of a plan.
 use Rattle.std.proofs.Common.{◌≡◌, ℕ, zero, suc, ◌+◌, ◌*◌, ◌<◌, ◌≤◌, max, List, [], ◌∷◌, length, drop, get_or, sym, ap, ◌∙◌, arith}
-use Rattle.std.proofs.lemmas.List.{drop_more}
-use Rattle.rules.specs.Squares.{Ply}
-use Rattle.wintree.specs.Plan.{Plan, ends, splits, Replies, last, more, depth, deepest, deepest_in, replies_of, plan_of}
-use Rattle.wintree.specs.Wins.{height, highest}
-use Rattle.wintree.specs.Answered.{highest_in}
+use Rattle.wintree.proofs.Common.{drop_more, Ply, Plan, ends, splits, Replies, last, more, depth, deepest, deepest_in, replies_of, plan_of, height, highest, highest_in}
 
 mutual
   -- a plan is at most twice as high as it is deep, less one

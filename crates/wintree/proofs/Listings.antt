@@ -1,9 +1,6 @@
 -- A board has one list of its lawful moves.
 use Rattle.std.proofs.Common.{◌≡◌, ◌↔◌, ◌⊎◌, ℕ, zero, suc, ◌<◌, List, [], ◌∷◌, length, get_or, refl, sym, ap, ◌∙◌, subst, inl, inr, arith, Contains, AllPairs}
-use Rattle.board.specs.Board.{PlainBoard}
-use Rattle.rules.specs.Squares.{Ply}
-use Rattle.rules.specs.Moves.{IsLawful}
-use Rattle.rules.specs.Order.{IsPlyBefore, ListsLawful}
+use Rattle.wintree.proofs.Common.{PlainBoard, Ply, IsLawful, IsPlyBefore, ListsLawful}
 
 pub among_first : {X : Type 0} (x : X) (xs : List X) → Contains (x ∷ xs) x
 among_first x xs = (zero, omega arith, refl)

@@ -1,14 +1,8 @@
 -- A plan made of a list of replies.
 use Rattle.std.proofs.Common.{◌≡◌, ℕ, suc, ◌+◌, ◌<◌, ◌≤◌, max, List, [], ◌∷◌, ◌++◌, length, sym, ◌∙◌, subst, ap, arith, All, Vec}
-use Rattle.std.proofs.lemmas.List.{length_push}
-use Rattle.std.proofs.lemmas.List.Elements.{recursion_from_All, All-push}
-use Rattle.std.specs.List.{AllByRecursion}
+use Rattle.wintree.proofs.Common.{length_push, recursion_from_All, All-push, AllByRecursion, plan_after, HasReplies, KeepsPlan, Ply, IsPly, Plan, depth, deepest, deepest_in, replies_of, plan_of, IsPlan, ArePlans, ArePlansIn}
 use Rattle.wintree.specs.declared.tree.Next.{Next}
 use Rattle.wintree.specs.declared.tree.Next.TheVariants.{Replies}
-use Rattle.wintree.specs.View.{plan_after, HasReplies, KeepsPlan}
-use Rattle.rules.specs.Squares.{Ply}
-use Rattle.rules.specs.Moves.{IsPly}
-use Rattle.wintree.specs.Plan.{Plan, depth, deepest, deepest_in, replies_of, plan_of, IsPlan, ArePlans, ArePlansIn}
 
 pub deepest-replies_of : (first : Ply × Plan) (others : List (Ply × Plan)) → deepest (replies_of first others) ≡ deepest_in (first ∷ others)
 deepest-replies_of first [] = omega arith

@@ -1,14 +1,6 @@
 -- Reading a move, a byte at a time.
 use Rattle.std.proofs.Common.{◌≡◌, ◌⊎◌, ℕ, ◌+◌, ◌<◌, ◌≤◌, List, [], ◌∷◌, ◌++◌, length, take, drop, refl, sym, ap, ◌∙◌, subst, inl, inr, arith, Option, Some, None, Bool, true, false, cond, IfSome, slice_get, is_some, ◌==◌}
-use Rattle.std.proofs.lemmas.Option.{slice_get_within}
-use Rattle.std.proofs.lemmas.Bool.{true≢false}
-use Rattle.board.specs.declared.game.Kind.{Kind}
-use Rattle.board.specs.declared.game.Kind.TheVariants.{Queen, Rook, Bishop, Knight}
-use Rattle.rules.specs.Moves.{IsPromoted, IsPly}
-use Rattle.rules.specs.Squares.{Ply}
-use Rattle.wintree.specs.declared.fault.TreeFault.{TreeFault}
-use Rattle.rules.specs.MoveText.{square_text, promotion_text, move_text}
-use Rattle.wintree.specs.Ahead.{Spans, IsPlain, ReadsMove, ReadsCell, NoCell, NoMove, promotion_of, next_byte}
+use Rattle.wintree.proofs.Common.{slice_get_within, true≢false, Kind, Queen, Rook, Bishop, Knight, IsPromoted, IsPly, Ply, TreeFault, square_text, promotion_text, move_text, Spans, IsPlain, ReadsMove, ReadsCell, NoCell, NoMove, promotion_of, next_byte}
 use Rattle.wintree.proofs.Places.{spans_none, spans_more, count_by-append}
 use Rattle.wintree.proofs.MoveTexts.{kind_of, no_brace, some_move, is_some_move}
 

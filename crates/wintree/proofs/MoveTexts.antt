@@ -1,14 +1,7 @@
 -- The text of a move tells where the move ends.
 use Rattle.std.proofs.Common.{◌≡◌, ◌≢◌, ◌⊎◌, ℕ, ◌+◌, ◌<◌, ◌≤◌, List, [], ◌∷◌, ◌++◌, refl, sym, ap, ◌∙◌, inl, inr, arith, Option, Some, None, Bool, true, false, ◌==◌, cond, count_by}
-use Rattle.std.proofs.lemmas.Bool.{ne_eqb, true≢false}
-use Rattle.std.proofs.lemmas.Bool.Decides.{eqb_tells}
+use Rattle.wintree.proofs.Common.{ne_eqb, true≢false, eqb_tells, Kind, King, Queen, Rook, Bishop, Knight, Pawn, Ply, IsPly, square_text, promotion_text, move_text, promotion_of, next_byte, IsPlain}
 use Rattle.wintree.proofs.Places.{count_by-append}
-use Rattle.board.specs.declared.game.Kind.{Kind}
-use Rattle.board.specs.declared.game.Kind.TheVariants.{King, Queen, Rook, Bishop, Knight, Pawn}
-use Rattle.rules.specs.Squares.{Ply}
-use Rattle.rules.specs.Moves.{IsPly}
-use Rattle.rules.specs.MoveText.{square_text, promotion_text, move_text}
-use Rattle.wintree.specs.Ahead.{promotion_of, next_byte, IsPlain}
 
 -- the text of a promotion is nothing, or a letter of one
 letter_of : (p : Option Kind) → (promotion_text p ≡ []) ⊎ ((b : ℕ) × (promotion_text p ≡ b ∷ []) × (promotion_of (Some b) ≢ None))

@@ -1,14 +1,6 @@
 -- No text belongs to two plans.
 use Rattle.std.proofs.Common.{◌≡◌, ℕ, ◌+◌, List, [], ◌∷◌, ◌++◌, refl, sym, ap, ap₂, ◌∙◌, arith, append_assoc, None}
-use Rattle.std.proofs.lemmas.List.{append_cancel_right, append-nil}
-use Rattle.rules.specs.Squares.{Ply}
-use Rattle.rules.specs.Moves.{IsPly}
-use Rattle.wintree.specs.declared.tree.End.{End}
-use Rattle.wintree.specs.declared.tree.End.TheVariants.{Mate, Stale}
-use Rattle.wintree.specs.Plan.{Plan, ends, splits, Replies, last, more, IsPlan, ArePlans}
-use Rattle.rules.specs.MoveText.{move_text}
-use Rattle.wintree.specs.Text.{text, replies_text, end_text}
-use Rattle.wintree.specs.Ahead.{promotion_of, next_byte}
+use Rattle.wintree.proofs.Common.{append_cancel_right, append-nil, Ply, IsPly, End, Mate, Stale, Plan, ends, splits, Replies, last, more, IsPlan, ArePlans, move_text, text, replies_text, end_text, promotion_of, next_byte}
 use Rattle.rules.proofs.Naming.{one_name}
 use Rattle.wintree.proofs.MoveTexts.{same_rest}
 use Rattle.wintree.proofs.Turns.{same_head, same_tail, end_no_letter, end_no_brace}

@@ -1,19 +1,6 @@
 -- The reader's turns: what it has read, and where it stops.
 use Rattle.std.proofs.Common.{◌≡◌, ◌≢◌, ◌↔◌, ℕ, zero, suc, ◌+◌, ◌<◌, ◌≤◌, List, [], ◌∷◌, ◌++◌, length, take, refl, sym, ap, ◌∙◌, subst, inl, inr, arith, append_assoc, Some, None, slice_get, count_by, ◌==◌}
-use Rattle.std.proofs.lemmas.Option.{slice_get_within, slice_get-get_or}
-use Rattle.std.proofs.lemmas.List.Elements.{recursion_from_All}
-use Rattle.std.specs.List.{AllByRecursion}
-use Rattle.rules.specs.Squares.{Ply}
-use Rattle.rules.specs.Moves.{IsPly}
-use Rattle.wintree.specs.declared.tree.End.{End}
-use Rattle.wintree.specs.declared.tree.End.TheVariants.{Mate}
-use Rattle.wintree.specs.declared.fault.TreeFault.{TreeFault}
-use Rattle.wintree.specs.declared.fault.TreeFault.TheVariants.{Grammar, Deep, NoMemory}
-use Rattle.wintree.specs.Plan.{Plan, ends, depth, deepest_in, plan_of}
-use Rattle.rules.specs.MoveText.{move_text}
-use Rattle.wintree.specs.Text.{text, end_text}
-use Rattle.wintree.specs.Offset.{IsFaultOf}
-use Rattle.wintree.specs.Ahead.{Stands, Spans, AfterTree, IsTreeAhead, AreRepliesAhead, ReadsTree, ReadsReplies, ReadsMove, NoMove, listed_text, closed_text, next_byte, promotion_of}
+use Rattle.wintree.proofs.Common.{slice_get_within, slice_get-get_or, recursion_from_All, AllByRecursion, Ply, IsPly, End, Mate, TreeFault, Grammar, Deep, NoMemory, Plan, ends, depth, deepest_in, plan_of, move_text, text, end_text, IsFaultOf, Stands, Spans, AfterTree, IsTreeAhead, AreRepliesAhead, ReadsTree, ReadsReplies, ReadsMove, NoMove, listed_text, closed_text, next_byte, promotion_of}
 use Rattle.wintree.proofs.Lists.{depth-plan_of, plan-plan_of}
 use Rattle.wintree.proofs.Tails.{text-plan_of, closed_last, listed_more}
 use Rattle.wintree.proofs.Places.{spans_none, spans_more, spans_join}

@@ -1,10 +1,6 @@
 -- The text of a list of replies, as it is written.
 use Rattle.std.proofs.Common.{◌≡◌, ℕ, ◌<◌, List, [], ◌∷◌, ◌++◌, length, refl, sym, ap, ◌∙◌, append_assoc, arith}
-use Rattle.rules.specs.Squares.{Ply}
-use Rattle.wintree.specs.Plan.{Plan, replies_of, plan_of}
-use Rattle.rules.specs.MoveText.{move_text}
-use Rattle.wintree.specs.Text.{text, replies_text}
-use Rattle.wintree.specs.Ahead.{closed_text, listed_text}
+use Rattle.wintree.proofs.Common.{Ply, Plan, replies_of, plan_of, move_text, text, replies_text, closed_text, listed_text}
 
 tail_of : (first : Ply × Plan) (others : List (Ply × Plan)) → move_text first.0 ++ 58 ∷ (text first.1 ++ closed_text 44 others) ≡ replies_text (replies_of first others) ++ 125 ∷ []
 tail_of first [] = simp append_assoc

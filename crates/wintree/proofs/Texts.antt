@@ -1,12 +1,6 @@
 -- What stands ahead, a move at a time.
 use Rattle.std.proofs.Common.{◌≡◌, ◌⊎◌, ℕ, suc, List, ◌∷◌, ◌++◌, refl, sym, ap, ◌∙◌, inl, inr, append_assoc}
-use Rattle.rules.specs.Squares.{Ply}
-use Rattle.rules.specs.Moves.{IsPly}
-use Rattle.wintree.specs.declared.tree.End.{End}
-use Rattle.wintree.specs.Plan.{Plan, ends, splits, Replies, last, more, IsPlan, ArePlans}
-use Rattle.rules.specs.MoveText.{move_text}
-use Rattle.wintree.specs.Text.{text, replies_text, end_text}
-use Rattle.wintree.specs.Ahead.{AfterTree, IsTreeAhead, AreRepliesAhead}
+use Rattle.wintree.proofs.Common.{Ply, IsPly, End, Plan, ends, splits, Replies, last, more, IsPlan, ArePlans, move_text, text, replies_text, end_text, AfterTree, IsTreeAhead, AreRepliesAhead}
 
 -- after the attacker's move: an end and what follows the tree, or a brace and replies
 abbrev pub AfterAttack : ℕ → List ℕ → Type 0

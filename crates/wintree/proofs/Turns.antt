@@ -1,12 +1,6 @@
 -- What is ahead once a byte was read.
 use Rattle.std.proofs.Common.{◌≡◌, ◌↔◌, ◌⊎◌, ℕ, suc, List, [], ◌∷◌, ◌++◌, refl, sym, ap, ◌∙◌, subst, inl, inr, Some, None, arith}
-use Rattle.rules.specs.Squares.{Ply}
-use Rattle.rules.specs.Moves.{IsPly}
-use Rattle.wintree.specs.declared.tree.End.{End}
-use Rattle.wintree.specs.declared.tree.End.TheVariants.{Mate, Stale}
-use Rattle.rules.specs.MoveText.{move_text, promotion_text}
-use Rattle.wintree.specs.Text.{end_text}
-use Rattle.wintree.specs.Ahead.{AfterTree, IsTreeAhead, AreRepliesAhead, promotion_of, next_byte}
+use Rattle.wintree.proofs.Common.{Ply, IsPly, End, Mate, Stale, move_text, promotion_text, end_text, AfterTree, IsTreeAhead, AreRepliesAhead, promotion_of, next_byte}
 use Rattle.wintree.proofs.MoveTexts.{same_rest}
 use Rattle.wintree.proofs.Texts.{AfterAttack, AfterReply, attack_ahead, tree_ahead, reply_ahead, replies_ahead}
 

@@ -1,16 +1,6 @@
 -- Laws of winning plans.
 use Rattle.std.proofs.Common.{◌≡◌, ◌↔◌, ℕ, suc, ◌+◌, ◌<◌, List, [], ◌∷◌, length, drop, get_or, refl, sym, ap, ◌∙◌, subst, arith}
-use Rattle.std.proofs.lemmas.List.{drop_more}
-use Rattle.board.specs.Board.{PlainBoard}
-use Rattle.rules.specs.Squares.{Ply}
-use Rattle.rules.specs.Moves.{IsMove}
-use Rattle.rules.specs.Order.{ListsLawful}
-use Rattle.rules.specs.declared.goal.Goal.{Goal}
-use Rattle.rules.proofs.Keeps.{one_after}
-use Rattle.wintree.specs.declared.tree.End.{End}
-use Rattle.wintree.specs.Plan.{Plan, ends, replies_of, plan_of}
-use Rattle.wintree.specs.Wins.{Wins, EachWins, EndsAt, moves_of}
-use Rattle.wintree.specs.Answered.{WinsAfter, AreAnswered}
+use Rattle.wintree.proofs.Common.{drop_more, PlainBoard, Ply, IsMove, ListsLawful, Goal, one_after, End, Plan, ends, replies_of, plan_of, Wins, EachWins, EndsAt, moves_of, WinsAfter, AreAnswered}
 use Rattle.wintree.proofs.Listings.{one_list}
 use Rattle.wintree.proofs.Heights.{next_item}
 

@@ -1,8 +1,5 @@
 use Rattle.std.proofs.Common.{get_or, All, subst}
-use Rattle.std.proofs.lemmas.Bool.{iff_false}
-use Rattle.std.proofs.lemmas.List.{get_or_default, take_all}
-use Rattle.std.proofs.lemmas.List.Elements.{All-more}
-use Rattle.board.specs.Notation.{IsLetter}
+use Rattle.board.proofs.Common.{iff_false, get_or_default, take_all, All-more, IsLetter}
 use Rattle.board.proofs.betza.has_foreign_byte.Goals as goal
 
 pub returns-then-not-is_letter : goal.returns-then-not-is_letter

@@ -1,8 +1,5 @@
 use Rattle.std.proofs.Common.{◌≡◌, ◌≢◌, ℕ, ◌+◌, ◌<◌, List, [], ◌∷◌, ◌++◌, All, Any, length, length-append, length-take, get_or, take, drop, take-append-drop, sym, ap, ◌∙◌, arith, append_assoc}
-use Rattle.std.proofs.lemmas.List.{take_more, get_or_default, get_or_append_left, get_or-append-add}
-use Rattle.std.proofs.lemmas.List.Quantifiers.{all_pairs_push}
-use Rattle.board.specs.declared.terms.Term.{Term}
-use Rattle.board.specs.Denotation.{AreDistinct}
+use Rattle.board.proofs.Common.{take_more, get_or_default, get_or_append_left, get_or-append-add, all_pairs_push, Term, AreDistinct}
 use Rattle.board.proofs.betza.joined.Goals as goal
 
 -- terms whose beginning has the next one's atom already

@@ -1,7 +1,5 @@
 use Rattle.std.proofs.Common.{◌≡◌, length, subst, arith}
-use Rattle.std.proofs.lemmas.Bool.Decides.{nat_tests}
-use Rattle.board.specs.declared.betza.BetzaFault.TheVariants.{Empty, Letter}
-use Rattle.board.specs.Denotation.{ListsSteps}
+use Rattle.board.proofs.Common.{nat_tests, Empty, Letter, ListsSteps}
 use Rattle.board.proofs.RankText.{empty_text}
 use Rattle.board.proofs.WordByWord.{one_reading}
 use Rattle.board.proofs.BetzaFaulty.{no_fault}

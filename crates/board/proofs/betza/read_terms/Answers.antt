@@ -1,12 +1,5 @@
 use Rattle.std.proofs.Common.{◌≡◌, ◌≢◌, ℕ, ◌==◌, ◌++◌, List, [], length, Option, Some, None, MatchOption, ap, subst, ◌∙◌, arith}
-use Rattle.std.specs.Option.{ok_or}
-use Rattle.std.specs.Result.{IfOk, IfErr}
-use Rattle.std.proofs.lemmas.Bool.{false≢true}
-use Rattle.std.proofs.lemmas.Bool.Decides.{nat_tests}
-use Rattle.board.specs.declared.betza.BetzaFault.{BetzaFault}
-use Rattle.board.specs.declared.betza.BetzaFault.TheVariants.{Repeated}
-use Rattle.board.specs.BetzaFaults.{IsBetzaFault}
-use Rattle.board.specs.Notation.{IsReading}
+use Rattle.board.proofs.Common.{ok_or, IfOk, IfErr, false≢true, nat_tests, BetzaFault, Repeated, IsBetzaFault, IsReading}
 use Rattle.board.proofs.RankText.{empty_text}
 use Rattle.board.proofs.WordByWord.{IsReadTo, none_read, one_read, shorter, front_distinct}
 use Rattle.board.proofs.BetzaFaulty.{unreadable, accepted, repeated}

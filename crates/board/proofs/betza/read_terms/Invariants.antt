@@ -1,6 +1,5 @@
 use Rattle.std.proofs.Common.{◌≡◌, List, length, MatchOption}
-use Rattle.board.specs.declared.terms.Term.{Term}
-use Rattle.board.specs.Denotation.{AreDistinct}
+use Rattle.board.proofs.Common.{Term, AreDistinct}
 use Rattle.board.proofs.WordByWord.{IsReadTo}
 use Rattle.board.proofs.betza.read_terms.Given as goal
 

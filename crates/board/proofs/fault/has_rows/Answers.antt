@@ -1,12 +1,8 @@
 use Rattle.std.proofs.Common.{rules, tests, ◌≡◌, ℕ, ◌<◌, zero, suc, List, [], ◌∷◌, All, eqb, length, map, replicate, get_or, sym, ap, subst, ◌∙◌, refl, arith}
 use Rattle.std.specs.Slice.Iter.{split_callee}
-use Rattle.std.proofs.lemmas.Bool.{false≢true, iff_false}
-use Rattle.std.proofs.lemmas.Bool.Decides.{nat_tests}
+use Rattle.board.proofs.Common.{false≢true, iff_false, nat_tests, length_push, take_all, All-more, All-head, All-tail, rows, row_width}
 use Rattle.std.proofs.lemmas.Iterator.Consumers.{YieldsList-turn, YieldsList-end}
 use Rattle.std.proofs.lemmas.Iterator.Splits.{YieldsList-from_slice_split}
-use Rattle.std.proofs.lemmas.List.{length_push, take_all}
-use Rattle.std.proofs.lemmas.List.Elements.{All-more, All-head, All-tail}
-use Rattle.board.specs.FenFaults.{rows, row_width}
 use Rattle.board.proofs.fault.has_rows.Goals as goal
 use Rattle.board.proofs.fault.has_rows.Goals.{then-count-width-via-then-count-width, then-count-width-via-else-count-width+then-not-is_wide}
 

@@ -1,8 +1,5 @@
 use Rattle.std.proofs.Common.{◌≡◌, List, ℕ, Result, rules, sym, subst}
-use Rattle.std.specs.Result.{IsOk, IsOkAnd}
-use Rattle.board.specs.declared.game.Kind.{Kind}
-use Rattle.board.specs.Denotation.{terms_of}
-use Rattle.board.specs.Notation.{IsReading, piece_text}
+use Rattle.board.proofs.Common.{IsOk, IsOkAnd, Kind, terms_of, IsReading, piece_text}
 use Rattle.board.proofs.Strings.{IsReading-piece_text}
 use Rattle.board.proofs.piece_table.steps.Goals as goal
 

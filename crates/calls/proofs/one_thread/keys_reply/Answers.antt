@@ -8,5 +8,4 @@ pub returns : goal.returns
 returns g c =
     let sound : IsSoundText c.args.fen.now c.in_ok-position.position = search rules in
     gives_output vec_items (record { fen = c.args.fen; action = Keys c.args.goal c.args.limits }) [] c.in_ok-position.position
-    (Keys c.args.goal c.args.limits) c.key_lines.result sound refl
-    (c.key_lines.ensures c.args.goal c.in_ok-position.position c.args.limits refl c.keys_found_alone-found.ensures)
+    (Keys c.args.goal c.args.limits) c.keys_shown.result sound refl c.keys_shown.ensures

@@ -8,5 +8,4 @@ pub returns : goal.returns
 returns g c =
     let sound : IsSoundText c.args.fen.now c.in_ok-position.position = search rules in
     gives_output vec_items (record { fen = c.args.fen; action = Solve c.args.goal c.args.limits }) [] c.in_ok-position.position
-    (Solve c.args.goal c.args.limits) c.answer_line.result sound refl
-    (c.answer_line.ensures c.in_ok-position.position c.args.limits c.answer_found_alone.ensures)
+    (Solve c.args.goal c.args.limits) c.answer_shown.result sound refl c.answer_shown.ensures

@@ -8,5 +8,4 @@ pub returns : goal.returns
 returns g c =
     let sound : IsSoundText c.args.fen.now c.in_ok-position.position = search rules in
     gives_output vec_items (record { fen = c.args.fen; action = Tree c.args.goal c.args.limits }) [] c.in_ok-position.position
-    (Tree c.args.goal c.args.limits) c.plan_line.result sound refl
-    (c.plan_line.ensures c.args.goal c.in_ok-position.position c.args.limits refl c.tree_found_alone-found.ensures)
+    (Tree c.args.goal c.args.limits) c.tree_shown.result sound refl c.tree_shown.ensures

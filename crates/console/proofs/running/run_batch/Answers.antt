@@ -44,4 +44,4 @@ returns-in-Ok-clause-runs g c =
 
 pub returns-clause-runs : goal.returns-clause-runs
 returns-clause-runs g c =
-    batch_refused c.args.batch _ c.in-Err.fault (omega arith) c.in-Err.ensures (rw (← c.refusal_of.ensures) (rw c.search_refused-refused.ensures at c.refuse_and_tell.ensures.refuses))
+    batch_refused c.args.batch _ c.in-Err.refusal (omega arith) c.in-Err.ensures (rw c.search_refused-refused.ensures at c.refuse_and_tell.ensures.refuses)

@@ -1,7 +1,5 @@
 use Rattle.std.proofs.Common.{◌≡◌, ◌∙◌, sym, ap, Option, Some, None, ℕ}
-use Rattle.std.specs.Option.{MatchOption}
-use Rattle.entry.specs.Bounds.{Bounds, IsBounds}
-use Rattle.entry.specs.Packing.{upto_byte}
+use Rattle.entry.proofs.Common.{MatchOption, Bounds, IsBounds, upto_byte}
 use Rattle.entry.proofs.Words.{fields_of, one_interval}
 use Rattle.entry.proofs.packing.interval_of.Goals as goal
 

@@ -1,6 +1,5 @@
 use Rattle.std.proofs.Common.{subst}
-use Rattle.board.specs.Board.{PlainBoard}
-use Rattle.entry.specs.Packing.{entry_of, Packing}
+use Rattle.entry.proofs.Common.{PlainBoard, entry_of, Packing}
 use Rattle.entry.proofs.packing.pack_board.Goals as goal
 
 pub returns : goal.returns

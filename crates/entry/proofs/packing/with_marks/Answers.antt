@@ -1,7 +1,5 @@
 use Rattle.std.proofs.Common.{rules, ◌≡◌, ◌+◌, ◌*◌, ◌%◌, ◌^◌, [], ◌∷◌, get_or, arith, subst}
-use Rattle.moves.specs.Words.{unpacked}
-use Rattle.entry.specs.Bounds.{Bounds}
-use Rattle.entry.specs.Packing.{side_bit, goal_bit, entry_of, Packing}
+use Rattle.entry.proofs.Common.{unpacked, Bounds, side_bit, goal_bit, entry_of, Packing}
 use Rattle.entry.proofs.BoardWords.{first_small, second_small, third_small, board_packing}
 use Rattle.entry.proofs.packing.with_marks.Goals as goal
 

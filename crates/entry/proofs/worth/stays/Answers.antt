@@ -1,6 +1,5 @@
 use Rattle.std.proofs.Common.{ℕ, ◌<◌, ◌↔◌, IsTrue, nat_lt, subst, sym, ◌∙◌}
-use Rattle.std.proofs.lemmas.Bool.{false≢true}
-use Rattle.entry.specs.Prefers.{weight}
+use Rattle.entry.proofs.Common.{false≢true, weight}
 use Rattle.entry.proofs.Decided.{lt_decides}
 use Rattle.entry.proofs.Preferred.{stays_same, stays_other}
 use Rattle.entry.proofs.worth.stays.Goals as goal

@@ -1,6 +1,5 @@
 use Rattle.std.proofs.Common.{◌↔◌, inl, inr, refl, subst}
-use Rattle.rules.specs.Forces.{Forces}
-use Rattle.laws.specs.Turnings.{exchanged, MayTurn, files_mirror, sides_mirror}
+use Rattle.laws.proofs.Common.{Forces, exchanged, MayTurn, files_mirror, sides_mirror}
 use Rattle.laws.proofs.Forced.{Forces-turned, Forces-back}
 use Rattle.laws.proofs.turning.mirror_laws.Goals as goal
 

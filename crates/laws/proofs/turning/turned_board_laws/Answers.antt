@@ -1,5 +1,4 @@
-use Rattle.board.specs.Board.{IsPosition}
-use Rattle.rules.specs.Reach.{IsSound}
+use Rattle.laws.proofs.Common.{IsPosition, IsSound}
 use Rattle.laws.proofs.Squares.{back_of}
 use Rattle.laws.proofs.Turned.{IsTurned-back, both_ways}
 use Rattle.laws.proofs.Forced.{IsSound-turned}

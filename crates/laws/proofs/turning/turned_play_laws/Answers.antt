@@ -1,5 +1,4 @@
-use Rattle.rules.specs.Moves.{IsMated, IsStalemated}
-use Rattle.rules.specs.Forces.{Forces}
+use Rattle.laws.proofs.Common.{IsMated, IsStalemated, Forces}
 use Rattle.laws.proofs.Turned.{both_ways}
 use Rattle.laws.proofs.Play.{IsInCheck-turned, IsInCheck-back, MayTurn-move, IsMove-turned}
 use Rattle.laws.proofs.Forced.{IsMove-back, there_again, IsMated-turned, IsStalemated-turned, Forces-turned, Forces-back, Forces-mover}

@@ -1,13 +1,5 @@
 use Rattle.std.proofs.Common.{◌≡◌, ℕ, ◌+◌, ◌*◌, ◌<◌, ◌≤◌, ap, subst, ◌∙◌, arith, true, false, Bool, cond, None, Option, take}
-use Rattle.std.specs.List.{count_by}
-use Rattle.std.proofs.lemmas.List.Sums.{count_by_more_yes, count_by_more_no, sum_by-take-le}
-use Rattle.board.specs.declared.game.Game.{Game}
-use Rattle.board.specs.declared.game.Game.TheVariants.{LosAlamos, Gardner}
-use Rattle.board.specs.declared.game.Unit.{Unit as Man}
-use Rattle.board.specs.Games.{squares_of, most_units}
-use Rattle.board.specs.Board.{PlainBoard, unit_on, is_of_side, IsPosition}
-use Rattle.rules.specs.Squares.{square_number}
-use Rattle.rules.specs.Listing.{ListsBelow}
+use Rattle.rules.proofs.Common.{count_by, count_by_more_yes, count_by_more_no, sum_by-take-le, Game, LosAlamos, Gardner, Man, squares_of, most_units, PlainBoard, unit_on, is_of_side, IsPosition, square_number, ListsBelow}
 use Rattle.rules.proofs.Lists.{ListsBelow-not_own, ListsLawful-from}
 use Rattle.rules.proofs.Room.{squares_36}
 use Rattle.rules.proofs.list.lawful.Goals as goal

@@ -1,8 +1,5 @@
 use Rattle.std.proofs.Common.{◌*◌, ◌≤◌, take}
-use Rattle.std.specs.List.{count_by}
-use Rattle.arrayvec.specs.ArrayVec.{array_vec_len}
-use Rattle.board.specs.Board.{is_of_side}
-use Rattle.rules.specs.Listing.{ListsBelow}
+use Rattle.rules.proofs.Common.{count_by, array_vec_len, is_of_side, ListsBelow}
 use Rattle.rules.proofs.list.lawful.Given as goal
 
 abbrev pub invariant-loop-number : goal.invariant-loop-number

@@ -1,10 +1,5 @@
 use Rattle.std.proofs.Common.{◌≡◌, ℕ, ◌+◌, ◌*◌, ◌<◌, get_or, None, sym, ap, ◌∙◌, arith, add_assoc}
-use Rattle.std.proofs.lemmas.Bool.{false≢true}
-use Rattle.rules.specs.declared.list.TheConstants.{PROMOTIONS}
-use Rattle.rules.specs.Squares.{Ply, square_number}
-use Rattle.rules.specs.Moves.{IsLawful}
-use Rattle.rules.specs.Order.{promotion_number}
-use Rattle.rules.specs.Listing.{ply_number}
+use Rattle.rules.proofs.Common.{false≢true, PROMOTIONS, Ply, square_number, IsLawful, promotion_number, ply_number}
 use Rattle.rules.proofs.Lists.{IsNumbered, numbered_promotion, ListsBelow-skip, ListsBelow-push, first_promotion}
 use Rattle.rules.proofs.list.push_between.Goals as goal
 use Rattle.rules.proofs.list.push_between.Goals.{then-is_lawful_by, else-is_lawful_by}

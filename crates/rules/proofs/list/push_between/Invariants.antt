@@ -1,9 +1,5 @@
 use Rattle.std.proofs.Common.{◌≡◌, ◌+◌, ◌*◌, ◌≤◌, min, Some}
-use Rattle.arrayvec.specs.ArrayVec.{array_vec_len}
-use Rattle.board.specs.declared.game.Kind.TheVariants.{Pawn}
-use Rattle.board.specs.declared.game.Unit.{Unit as Man}
-use Rattle.rules.specs.Squares.{square_number, unit_at}
-use Rattle.rules.specs.Listing.{ListsBelow}
+use Rattle.rules.proofs.Common.{array_vec_len, Pawn, Man, square_number, unit_at, ListsBelow}
 use Rattle.rules.proofs.list.push_between.Given as goal
 
 abbrev pub invariant-loop-promotion : goal.invariant-loop-promotion

@@ -1,12 +1,5 @@
 use Rattle.std.proofs.Common.{◌≡◌, ℕ, ◌+◌, ◌*◌, sym, ap, subst, ◌∙◌, arith}
-use Rattle.std.proofs.lemmas.Bool.{false≢true}
-use Rattle.arrayvec.specs.ArrayVec.{array_vec_len}
-use Rattle.board.specs.declared.game.Game.{Game}
-use Rattle.board.specs.Games.{squares_of}
-use Rattle.board.specs.Board.{unit_on}
-use Rattle.rules.specs.Squares.{IsOnBoard, square_number, unit_at}
-use Rattle.rules.specs.Reach.{Reaches}
-use Rattle.rules.specs.Listing.{ListsBelow}
+use Rattle.rules.proofs.Common.{false≢true, array_vec_len, Game, squares_of, unit_on, IsOnBoard, square_number, unit_at, Reaches, ListsBelow}
 use Rattle.rules.proofs.Lists.{ListsBelow-unreached, ListsBelow-all_to}
 use Rattle.rules.proofs.Room.{share-more, share-most, share-step, squares_36}
 use Rattle.rules.proofs.list.push_from.Goals as goal

@@ -1,7 +1,5 @@
 use Rattle.std.proofs.Common.{◌+◌, ◌*◌, ◌≤◌}
-use Rattle.arrayvec.specs.ArrayVec.{array_vec_len}
-use Rattle.rules.specs.Squares.{square_number}
-use Rattle.rules.specs.Listing.{ListsBelow}
+use Rattle.rules.proofs.Common.{array_vec_len, square_number, ListsBelow}
 use Rattle.rules.proofs.Room.{share}
 use Rattle.rules.proofs.list.push_from.Given as goal
 

@@ -1,6 +1,5 @@
 use Rattle.std.proofs.Common.{◌≡◌, sym, ap, ◌∙◌}
-use Rattle.std.proofs.lemmas.Bool.{false≢true}
-use Rattle.rules.specs.Squares.{Ply}
+use Rattle.rules.proofs.Common.{false≢true, Ply}
 use Rattle.rules.proofs.Keeps.{to_on_board}
 use Rattle.rules.proofs.plies.pseudo_legal.Goals as goal
 use Rattle.rules.proofs.plies.pseudo_legal.Goals.{then-not-is_on_board-via-then-not-is_on_board, then-not-is_on_board-via-else-not-is_on_board+then-not-is_on_board-2}

@@ -1,6 +1,5 @@
 use Rattle.std.proofs.Common.{◌++◌, [], ◌∷◌, sym, ap, ◌∙◌}
-use Rattle.std.proofs.lemmas.List.{append-nil, append_assoc}
-use Rattle.rules.specs.Squares.{square_number}
+use Rattle.rules.proofs.Common.{append-nil, append_assoc, square_number}
 use Rattle.rules.specs.Rays.IsRay.{edge, onward}
 use Rattle.rules.proofs.rays.+extend.Goals as goal
 

@@ -1,7 +1,5 @@
 use Rattle.std.proofs.Common.{◌≡◌, refl, sym, arith, ◌∙◌}
-use Rattle.std.proofs.lemmas.Bool.{false≢true}
-use Rattle.rules.specs.Squares.{IsOnBoard}
-use Rattle.rules.specs.Reach.Leads.{again}
+use Rattle.rules.proofs.Common.{false≢true, IsOnBoard, again}
 use Rattle.rules.proofs.Rides.{Leads-nowhere, Leads-here, Leads-single, Leads-blocked, Leads-onward, place_eq, room_of-step, empty_from, taken_from}
 use Rattle.rules.proofs.reach.+leads.Goals as goal
 use Rattle.rules.proofs.reach.+leads.Goals.{then-not-step-via-then-not-step, then-not-step-via-else-not-step+then-is_some}

@@ -1,6 +1,5 @@
 use Rattle.std.proofs.Common.{sym, ◌∙◌}
-use Rattle.std.proofs.lemmas.Bool.{false≢true}
-use Rattle.rules.specs.Reach.{IsCheckAt}
+use Rattle.rules.proofs.Common.{false≢true, IsCheckAt}
 use Rattle.rules.proofs.Listed.{none_more}
 use Rattle.rules.proofs.reach.in_check_by.Goals as goal
 

@@ -1,6 +1,5 @@
 use Rattle.std.proofs.Common.{◌<◌}
-use Rattle.rules.specs.Squares.{Place, IsOnBoard, square_number}
-use Rattle.rules.specs.Reach.{IsCheckAt}
+use Rattle.rules.proofs.Common.{Place, IsOnBoard, square_number, IsCheckAt}
 use Rattle.rules.proofs.reach.in_check_by.Given as goal
 
 -- the king stands on no square so far, or isn't attacked there

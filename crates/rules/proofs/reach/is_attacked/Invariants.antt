@@ -1,6 +1,5 @@
 use Rattle.std.proofs.Common.{◌<◌}
-use Rattle.rules.specs.Squares.{Place, IsOnBoard, square_number}
-use Rattle.rules.specs.Reach.{AttacksFrom}
+use Rattle.rules.proofs.Common.{Place, IsOnBoard, square_number, AttacksFrom}
 use Rattle.rules.proofs.reach.is_attacked.Given as goal
 
 -- no square so far attacks this one

@@ -1,10 +1,5 @@
 use Rattle.std.proofs.Common.{◌≡◌, take, refl, subst, sym, arith, ◌∙◌}
-use Rattle.std.proofs.lemmas.Bool.{false≢true}
-use Rattle.std.proofs.lemmas.List.{take_all}
-use Rattle.std.proofs.lemmas.List.Elements.{All-more}
-use Rattle.board.specs.Denotation.{terms_of, ListsSteps}
-use Rattle.board.specs.Games.{IsPlayed}
-use Rattle.rules.specs.Reach.{ReachesBy}
+use Rattle.rules.proofs.Common.{false≢true, take_all, All-more, terms_of, ListsSteps, IsPlayed, ReachesBy}
 use Rattle.rules.proofs.Listed.{goes_at, reached_at, not_reached}
 use Rattle.rules.proofs.reach.reaches.Goals as goal
 

@@ -1,8 +1,5 @@
 use Rattle.std.proofs.Common.{All, ◌-◌, subst, sym, string_bytes}
-use Rattle.std.proofs.lemmas.Result.{IfOk-weaker}
-use Rattle.rules.proofs.Keeps.{one_after}
-use Rattle.solutions.specs.Solutions.{AreThreats, IsVariation}
-use Rattle.solution_text.specs.Text.{AreTexts, IsVariationText}
+use Rattle.solution_text.proofs.Common.{IfOk-weaker, one_after, AreThreats, IsVariation, AreTexts, IsVariationText}
 use Rattle.solution_text.proofs.keys.key_text.Goals as goal
 
 pub threats_text-requires : goal.threats_text-requires

@@ -1,7 +1,5 @@
 use Rattle.std.proofs.Common.{◌++◌, ◌∙◌, ap, subst, sym, string_bytes}
-use Rattle.std.proofs.lemmas.List.{take_all}
-use Rattle.solutions.specs.Solutions.{IsKeyPlay}
-use Rattle.solution_text.specs.Text.{AreTexts, IsKeyText}
+use Rattle.solution_text.proofs.Common.{take_all, IsKeyPlay, AreTexts, IsKeyText}
 use Rattle.solution_text.proofs.Texts.{AreTexts-more}
 use Rattle.solution_text.proofs.keys.keys_text.Goals as goal
 

@@ -1,8 +1,5 @@
 use Rattle.std.proofs.Common.{All, ◌++◌, ◌∙◌, ap, subst, sym, string_bytes}
-use Rattle.std.proofs.lemmas.Result.{IfOk-weaker}
-use Rattle.rules.specs.Moves.{IsLawful}
-use Rattle.solutions.specs.Solutions.{passed, AreThreats}
-use Rattle.solution_text.specs.Text.{AreTexts, IsNumbered, threat_word, AreThreatsText}
+use Rattle.solution_text.proofs.Common.{IfOk-weaker, IsLawful, passed, AreThreats, AreTexts, IsNumbered, threat_word, AreThreatsText}
 use Rattle.solution_text.proofs.BestLine.{continuations_lawful}
 use Rattle.solution_text.proofs.keys.threats_text.Goals as goal
 

@@ -1,7 +1,5 @@
 use Rattle.std.proofs.Common.{◌-◌, [], ◌∷◌, ap, subst, sym, arith, length, take, drop, string_bytes}
-use Rattle.std.proofs.lemmas.Result.{IfOk-weaker}
-use Rattle.solutions.specs.Lines.{IsBestLine}
-use Rattle.solution_text.specs.Text.{IsLineText}
+use Rattle.solution_text.proofs.Common.{IfOk-weaker, IsBestLine, IsLineText}
 use Rattle.solution_text.proofs.BestLine.{one_is, two_is, first_lawful, reply_lawful, rest_best, fewer}
 use Rattle.solution_text.proofs.lines.+line_text.Goals as goal
 

@@ -1,7 +1,5 @@
 use Rattle.std.proofs.Common.{subst, sym, refl, string_bytes}
-use Rattle.std.proofs.lemmas.List.{take_all}
-use Rattle.rules.specs.Moves.{IsLawful}
-use Rattle.solution_text.specs.Text.{AreTexts, IsNumbered}
+use Rattle.solution_text.proofs.Common.{take_all, IsLawful, AreTexts, IsNumbered}
 use Rattle.solution_text.proofs.Texts.{AreTexts-more}
 use Rattle.solution_text.proofs.lines.numbered_moves.Goals as goal
 

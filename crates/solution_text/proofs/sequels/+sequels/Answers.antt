@@ -1,24 +1,8 @@
 use Rattle.std.proofs.Common.{ℕ, ◌≤◌, [], ◌++◌, codes, refl, sym, ap, subst, ◌∙◌, arith, drop, string_bytes}
-use Rattle.std.proofs.lemmas.List.{append-nil}
-use Rattle.std.specs.Fmt.{decimal}
-use Rattle.board.specs.Board.{PlainBoard}
-use Rattle.rules.specs.declared.goal.Goal.{Goal}
-use Rattle.rules.specs.Squares.{Ply}
-use Rattle.rules.specs.Moves.{IsLawful}
-use Rattle.rules.specs.Order.{ListsLawful}
-use Rattle.rules.proofs.Forcing.{same_side-self}
-use Rattle.problems.specs.Answer.{ForcesNothing}
-use Rattle.algebraic.specs.declared.naming.Notation.{Notation}
-use Rattle.algebraic.specs.Text.{name_text}
+use Rattle.solution_text.proofs.Common.{append-nil, decimal, PlainBoard, Goal, Ply, IsLawful, ListsLawful, same_side-self, ForcesNothing, Notation, name_text, ListsContinuations, IsMet, IsPlay, sequel, play, replies_in, key_reaches, key_meets, mate_found, nothing_found, met_here, AreDualsText, IsPlayText, TellsSequel, TellsLong}
 use Rattle.problems.proofs.Jobs.{lawful_job}
 use Rattle.decision.proofs.Options.{none_at, some_at}
 use Rattle.trees.proofs.Forcing.{some_ply, forced_within}
-use Rattle.solutions.specs.Lines.{ListsContinuations, IsMet}
-use Rattle.solutions.specs.Whole.{IsPlay, sequel, play, replies_in}
-use Rattle.solutions.proofs.Forcing.{key_reaches, key_meets, mate_found, nothing_found, met_here}
-use Rattle.solution_text.specs.Text.{AreDualsText}
-use Rattle.solution_text.specs.WholeText.{IsPlayText}
-use Rattle.solution_text.specs.Telling.{TellsSequel, TellsLong}
 use Rattle.solution_text.proofs.BestLine.{continuations_lawful}
 use Rattle.solution_text.proofs.Told.{TellsThreat, tell_none, tell_one, tell_skip, tell_all, all_lawful, some_move, first_is, same_plies, no_long, a_long}
 use Rattle.solution_text.proofs.sequels.+sequels.Goals as goal

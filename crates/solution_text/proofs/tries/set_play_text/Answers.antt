@@ -1,7 +1,5 @@
 use Rattle.std.proofs.Common.{All, ◌∙◌, subst, sym, string_bytes}
-use Rattle.std.proofs.lemmas.Result.{IfOk-weaker}
-use Rattle.solutions.specs.Solutions.{IsVariation}
-use Rattle.solution_text.specs.Text.{AreTexts, IsVariationText}
+use Rattle.solution_text.proofs.Common.{IfOk-weaker, IsVariation, AreTexts, IsVariationText}
 use Rattle.solution_text.proofs.Texts.{set_play_is}
 use Rattle.solution_text.proofs.tries.set_play_text.Goals as goal
 

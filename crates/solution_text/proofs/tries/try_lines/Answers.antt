@@ -1,6 +1,5 @@
 use Rattle.std.proofs.Common.{◌++◌, ◌∙◌, ap, subst, string_bytes}
-use Rattle.std.proofs.lemmas.List.{take_all}
-use Rattle.solution_text.specs.Text.{AreTexts, IsTryText}
+use Rattle.solution_text.proofs.Common.{take_all, AreTexts, IsTryText}
 use Rattle.solution_text.proofs.Texts.{AreTexts-more}
 use Rattle.solution_text.proofs.tries.try_lines.Goals as goal
 

@@ -1,8 +1,5 @@
 use Rattle.std.proofs.Common.{All, subst, sym, arith, string_bytes}
-use Rattle.std.proofs.lemmas.Result.{IfOk-weaker}
-use Rattle.rules.specs.Moves.{IsLawful}
-use Rattle.solutions.specs.Lines.{IsBestLine}
-use Rattle.solution_text.specs.Text.{IsLineText, AreDualsText}
+use Rattle.solution_text.proofs.Common.{IfOk-weaker, IsLawful, IsBestLine, IsLineText, AreDualsText}
 use Rattle.solution_text.proofs.BestLine.{continuations_lawful, tells_at}
 use Rattle.solution_text.proofs.variations.variation_text.Goals as goal
 

@@ -1,7 +1,5 @@
 use Rattle.std.proofs.Common.{◌++◌, ◌∙◌, ap, subst, sym, string_bytes}
-use Rattle.std.proofs.lemmas.List.{take_all}
-use Rattle.solutions.specs.Solutions.{IsVariation}
-use Rattle.solution_text.specs.Text.{AreTexts, IsVariationText}
+use Rattle.solution_text.proofs.Common.{take_all, IsVariation, AreTexts, IsVariationText}
 use Rattle.solution_text.proofs.Texts.{AreTexts-more}
 use Rattle.solution_text.proofs.variations.variations_text.Goals as goal
 

@@ -1,7 +1,5 @@
 use Rattle.std.proofs.Common.{All, length, ◌++◌, ◌∙◌, ap, subst, sym, string_bytes}
-use Rattle.std.proofs.lemmas.Result.{IfOk-weaker}
-use Rattle.solutions.specs.Solutions.{IsKeyPlay}
-use Rattle.solution_text.specs.Text.{AreTexts, IsKeyText, headline}
+use Rattle.solution_text.proofs.Common.{IfOk-weaker, IsKeyPlay, AreTexts, IsKeyText, headline}
 use Rattle.solution_text.proofs.Asked.{where_asked}
 use Rattle.solution_text.proofs.whole.solution_text.Goals as goal
 

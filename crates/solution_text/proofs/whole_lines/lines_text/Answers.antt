@@ -1,11 +1,5 @@
 use Rattle.std.proofs.Common.{length, get_or, sym, ap, subst, ◌∙◌, string_bytes}
-use Rattle.std.proofs.lemmas.List.Elements.{Contains-get_or}
-use Rattle.rules.specs.declared.goal.Goal.{Goal}
-use Rattle.problems.specs.Answer.{IsFewest}
-use Rattle.solutions.specs.Lines.{ListsContinuations}
-use Rattle.solution_text.specs.Text.{headline}
-use Rattle.solution_text.specs.WholeText.{IsWholeSolution}
-use Rattle.solution_text.specs.Telling.{TellsKeys}
+use Rattle.solution_text.proofs.Common.{Contains-get_or, Goal, IsFewest, ListsContinuations, headline, IsWholeSolution, TellsKeys}
 use Rattle.solution_text.proofs.Played.{whole_told}
 use Rattle.solution_text.proofs.whole_lines.lines_text.Goals as goal
 

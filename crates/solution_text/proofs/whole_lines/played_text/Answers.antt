@@ -1,10 +1,6 @@
 use Rattle.std.proofs.Common.{ℕ, sym, subst}
-use Rattle.rules.specs.declared.goal.Goal.{Goal}
-use Rattle.rules.specs.Squares.{Ply}
-use Rattle.rules.specs.Moves.{IsLawful}
+use Rattle.solution_text.proofs.Common.{Goal, Ply, IsLawful, IsMet, key_reaches, key_meets}
 use Rattle.rules.specs.Forces.{IsReached}
-use Rattle.solutions.specs.Lines.{IsMet}
-use Rattle.solutions.proofs.Forcing.{key_reaches, key_meets}
 use Rattle.solution_text.proofs.whole_lines.played_text.Goals as goal
 
 pub play_text-requires-clause-over : goal.play_text-requires-clause-over

@@ -1,6 +1,5 @@
 use Rattle.std.proofs.Common.{◌≡◌, ◌==◌, true, false, length, ℕ, Bool, sym, subst, ◌∙◌, string_bytes}
-use Rattle.board.specs.Board.{PlainBoard}
-use Rattle.solution_text.specs.Telling.{TellsReplies, TellsSetPlay}
+use Rattle.solution_text.proofs.Common.{PlainBoard, TellsReplies, TellsSetPlay}
 use Rattle.solution_text.proofs.Played.{set_play_empty, set_play_told, set_play_unsound}
 use Rattle.solution_text.proofs.whole_lines.whole_set_play.Goals as goal
 

@@ -1,8 +1,5 @@
 use Rattle.std.proofs.Common.{Bool, Some, All, sym, subst, string_bytes}
-use Rattle.rules.specs.declared.goal.Goal.{Goal}
-use Rattle.solutions.specs.Solutions.{IsTry, ListsTries}
-use Rattle.solution_text.specs.Text.{AreTriesText}
-use Rattle.solution_text.specs.Telling.{TellsTries}
+use Rattle.solution_text.proofs.Common.{Goal, IsTry, ListsTries, AreTriesText, TellsTries}
 use Rattle.solution_text.proofs.whole_lines.whole_tries.Goals as goal
 
 pub tries_text-requires : goal.tries_text-requires

@@ -1,7 +1,5 @@
 use Rattle.std.proofs.Common.{◌<◌, length, arith, sym, ◌∙◌}
-use Rattle.std.proofs.lemmas.Bool.{false≢true}
-use Rattle.problems.specs.Answer.{Wins}
-use Rattle.problems.proofs.Jobs.{move_at, got_at}
+use Rattle.solutions.proofs.Common.{false≢true, Wins, move_at, got_at}
 use Rattle.solutions.proofs.Lists.{pick_one, pick_skip, pick_all, job_wins}
 use Rattle.solutions.proofs.continuing.continuations_of.Goals as goal
 use Rattle.solutions.proofs.continuing.continuations_of.Goals.{then-wins+in_ok-push, else-wins}

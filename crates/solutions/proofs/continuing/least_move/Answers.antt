@@ -1,10 +1,5 @@
 use Rattle.std.proofs.Common.{sym, subst, ◌∙◌}
-use Rattle.board.specs.Board.{PlainBoard}
-use Rattle.rules.specs.declared.goal.Goal.{Goal}
-use Rattle.problems.specs.Answer.{IsFewest, IsLeastWin}
-use Rattle.problems.proofs.Winning.{none_forced}
-use Rattle.problems.specs.Roots.{EndsRound}
-use Rattle.problems.proofs.Jobs.{none_moves, least_move, move_at}
+use Rattle.solutions.proofs.Common.{PlainBoard, Goal, IsFewest, IsLeastWin, none_forced, EndsRound, none_moves, least_move, move_at}
 use Rattle.solutions.proofs.continuing.least_move.Goals as goal
 
 pub unreachable-requires : goal.unreachable-requires

@@ -1,8 +1,6 @@
 use Rattle.std.proofs.Common.{sym, ◌∙◌, ◌∷◌, [], ◌-◌, arith}
-use Rattle.std.proofs.lemmas.Bool.{false≢true}
+use Rattle.solutions.proofs.Common.{false≢true, Ply, IsLawful}
 use Rattle.std.proofs.lemmas.Result.{on_ok_weaker}
-use Rattle.rules.specs.Squares.{Ply}
-use Rattle.rules.specs.Moves.{IsLawful}
 use Rattle.solutions.proofs.Forcing.{key_reaches, key_plies, key_meets, some_lasts, three_plies, lasting_here, two_more}
 use Rattle.solutions.proofs.lines.+lines.Goals as goal
 

@@ -1,8 +1,5 @@
 use Rattle.std.proofs.Common.{sym, subst, ◌∙◌, ◌-◌, ◌↔◌, ℕ, IsTrue}
-use Rattle.std.proofs.lemmas.Bool.{false≢true}
-use Rattle.rules.specs.Order.{ListsLawful}
-use Rattle.problems.proofs.Jobs.{lawful_job}
-use Rattle.solutions.specs.Lines.{IsMet, Lasts}
+use Rattle.solutions.proofs.Common.{false≢true, ListsLawful, lawful_job, IsMet, Lasts}
 use Rattle.solutions.proofs.Lists.{all_more, each_lawful, first_least}
 use Rattle.solutions.proofs.Forcing.{lasts_by, met_before}
 use Rattle.solutions.proofs.lines.longest_reply.Goals as goal

@@ -1,10 +1,7 @@
 use Rattle.std.proofs.Common.{◌≡◌, List, Option, sym, ap, subst, ◌∙◌}
-use Rattle.board.specs.declared.game.Game.{Game}
+use Rattle.solutions.proofs.Common.{Game, other_side, PlainBoard, board_of, IsPosition, passed}
 use Rattle.board.specs.declared.game.Unit.{Unit as Man}
-use Rattle.board.specs.Games.{other_side}
-use Rattle.board.specs.Board.{PlainBoard, board_of, IsPosition}
 use Rattle.rules.specs.Reach.{IsSound}
-use Rattle.solutions.specs.Solutions.{passed}
 use Rattle.solutions.proofs.passing.passed.Goals as goal
 
 pub unreachable-requires : goal.unreachable-requires

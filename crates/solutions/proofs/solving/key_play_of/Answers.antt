@@ -1,6 +1,5 @@
 use Rattle.std.proofs.Common.{ℕ, ◌-◌, subst}
-use Rattle.searcher.proofs.Halts.{err_halts}
-use Rattle.solutions.specs.Solutions.{AreThreats, ListsVariations}
+use Rattle.solutions.proofs.Common.{err_halts, AreThreats, ListsVariations}
 use Rattle.solutions.proofs.Forcing.{key_reaches, key_meets}
 use Rattle.solutions.proofs.Variations.{all_replies}
 use Rattle.solutions.proofs.solving.key_play_of.Goals as goal

@@ -1,6 +1,5 @@
 use Rattle.std.proofs.Common.{sym, subst}
-use Rattle.searcher.proofs.Halts.{err_halts}
-use Rattle.solutions.specs.Lines.{ListsContinuations}
+use Rattle.solutions.proofs.Common.{err_halts, ListsContinuations}
 use Rattle.solutions.proofs.Plays.{play_none, play_one, play_all}
 use Rattle.solutions.proofs.solving.key_plays_of.Goals as goal
 

@@ -1,7 +1,5 @@
 use Rattle.std.proofs.Common.{ℕ, Bool, Some, sym, subst}
-use Rattle.board.specs.Board.{PlainBoard}
-use Rattle.searcher.proofs.Halts.{err_halts}
-use Rattle.solutions.specs.Solutions.{IsWhereAsked, IsSetPlay, ListsVariations}
+use Rattle.solutions.proofs.Common.{PlainBoard, err_halts, IsWhereAsked, IsSetPlay, ListsVariations}
 use Rattle.solutions.proofs.solving.set_play_of.Goals as goal
 
 pub returns-in_default-clause-play : goal.returns-in_default-clause-play

@@ -1,6 +1,4 @@
-use Rattle.rules.proofs.Forcing.{same_side-self}
-use Rattle.searcher.proofs.Halts.{err_halts}
-use Rattle.trees.proofs.Forcing.{some_ply}
+use Rattle.solutions.proofs.Common.{same_side-self, err_halts, some_ply}
 use Rattle.solutions.proofs.solving.solution_of.Goals as goal
 
 pub key_plays_of-requires-clause-plies : goal.key_plays_of-requires-clause-plies

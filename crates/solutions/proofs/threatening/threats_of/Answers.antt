@@ -1,13 +1,5 @@
 use Rattle.std.proofs.Common.{◌≤◌, sym, subst, ◌∙◌, arith}
-use Rattle.std.proofs.lemmas.Bool.{false≢true}
-use Rattle.board.specs.Board.{PlainBoard}
-use Rattle.rules.specs.declared.goal.Goal.{Goal}
-use Rattle.rules.proofs.Forcing.{same_side-self}
-use Rattle.problems.specs.Answer.{IsFewest, ForcesNothing}
-use Rattle.searcher.proofs.Halts.{err_halts}
-use Rattle.trees.proofs.Forcing.{some_ply, not_reached}
-use Rattle.solutions.specs.Lines.{ListsContinuations}
-use Rattle.solutions.specs.Solutions.{passed}
+use Rattle.solutions.proofs.Common.{false≢true, PlainBoard, Goal, same_side-self, IsFewest, ForcesNothing, err_halts, some_ply, not_reached, ListsContinuations, passed}
 use Rattle.solutions.proofs.Forcing.{mate_found, nothing_found, carried}
 use Rattle.solutions.proofs.threatening.threats_of.Goals as goal
 

@@ -1,7 +1,5 @@
 use Rattle.std.proofs.Common.{sym, subst, ◌∙◌}
-use Rattle.std.proofs.lemmas.Bool.{false≢true}
-use Rattle.rules.specs.Order.{ListsLawful}
-use Rattle.problems.proofs.Jobs.{lawful_job}
+use Rattle.solutions.proofs.Common.{false≢true, ListsLawful, lawful_job}
 use Rattle.solutions.proofs.Tries.{refute_skip, refute_first, refute_second, refute_all}
 use Rattle.solutions.proofs.trying.refutation_of.Goals as goal
 

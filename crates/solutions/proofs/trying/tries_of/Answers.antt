@@ -1,9 +1,5 @@
 use Rattle.std.proofs.Common.{ℕ, ◌≤◌, sym, subst, arith, MatchOption}
-use Rattle.rules.specs.Squares.{Ply}
-use Rattle.rules.specs.Order.{ListsLawful}
-use Rattle.problems.proofs.Jobs.{lawful_job}
-use Rattle.decision.proofs.Options.{none_at, some_at}
-use Rattle.solutions.specs.Solutions.{RefutesAlone}
+use Rattle.solutions.proofs.Common.{Ply, ListsLawful, lawful_job, none_at, some_at, RefutesAlone}
 use Rattle.solutions.proofs.Tries.{no_tries, try_one, try_skip, try_all}
 use Rattle.solutions.proofs.trying.tries_of.Goals as goal
 use Rattle.solutions.proofs.trying.tries_of.Goals.{in-Some-found+in_ok-push, in_default-found}

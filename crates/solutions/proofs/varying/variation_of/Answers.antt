@@ -1,7 +1,5 @@
 use Rattle.std.proofs.Common.{arith}
-use Rattle.rules.proofs.Forcing.{same_side-self}
-use Rattle.searcher.proofs.Halts.{err_halts}
-use Rattle.trees.proofs.Forcing.{some_ply}
+use Rattle.solutions.proofs.Common.{same_side-self, err_halts, some_ply}
 use Rattle.solutions.proofs.Forcing.{mate_found, nothing_found}
 use Rattle.solutions.proofs.varying.variation_of.Goals as goal
 

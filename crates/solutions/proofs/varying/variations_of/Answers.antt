@@ -1,12 +1,5 @@
 use Rattle.std.proofs.Common.{ℕ, ◌≤◌, sym, subst}
-use Rattle.board.specs.Board.{PlainBoard}
-use Rattle.rules.specs.declared.goal.Goal.{Goal}
-use Rattle.rules.specs.Order.{ListsLawful}
-use Rattle.problems.proofs.Jobs.{lawful_job}
-use Rattle.searcher.proofs.Halts.{err_halts}
-use Rattle.problems.specs.Answer.{ForcesNothing}
-use Rattle.decision.proofs.Options.{none_at, some_at}
-use Rattle.solutions.specs.Solutions.{TellsVariation}
+use Rattle.solutions.proofs.Common.{PlainBoard, Goal, ListsLawful, lawful_job, err_halts, ForcesNothing, none_at, some_at, TellsVariation}
 use Rattle.solutions.proofs.Variations.{vary_one, vary_skip, vary_all}
 use Rattle.solutions.proofs.varying.variations_of.Goals as goal
 use Rattle.solutions.proofs.varying.variations_of.Goals.{in-Some+in_ok-push, in_default}

@@ -1,13 +1,5 @@
 use Rattle.std.proofs.Common.{◌≡◌, ◌≤◌, ◌+◌, ◌∙◌, ℕ, List, Bool, Some, None, true, false, length, ap, arith, refl, sym, subst}
-use Rattle.std.proofs.lemmas.Option.{slice_get_within}
-use Rattle.board.specs.Board.{PlainBoard}
-use Rattle.rules.specs.declared.goal.Goal.{Goal}
-use Rattle.certificates.specs.declared.claim.Claim.{Claim}
-use Rattle.verifying.specs.declared.part.Part.{Part}
-use Rattle.verifying.specs.declared.words.Word.{Word}
-use Rattle.verifying.specs.Certificate.{IsNoLine, IsSomeYesLine}
-use Rattle.verifying.specs.Reading.{IsLineAt, IsLineOf, ReadsWords, behind_yes, part_behind}
-use Rattle.verifying.specs.Yielding.{FindsOnly, YieldsOnly}
+use Rattle.verifying.proofs.Common.{slice_get_within, PlainBoard, Goal, Claim, Part, Word, IsNoLine, IsSomeYesLine, IsLineAt, IsLineOf, ReadsWords, behind_yes, part_behind, FindsOnly, YieldsOnly}
 use Rattle.verifying.proofs.Making.{finds_behind, nothing_behind, yields_none}
 use Rattle.verifying.proofs.checker.shown.Goals as goal
 

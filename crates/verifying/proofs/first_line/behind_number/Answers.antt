@@ -1,7 +1,5 @@
 use Rattle.std.proofs.Common.{◌≢◌, ◌≡◌, ◌/◌, ◌%◌, ◌+◌, ◌++◌, ◌∷◌, [], ℕ, List, MatchOption, arith, subst, sym}
-use Rattle.std.proofs.lemmas.Bool.Decides.{Decides-eqb}
-use Rattle.std.proofs.lemmas.Fmt.{decimal_digit}
-use Rattle.std.proofs.lemmas.Slice.Eq.{strip_prefix_is}
+use Rattle.verifying.proofs.Common.{Decides-eqb, decimal_digit, strip_prefix_is}
 use Rattle.verifying.proofs.OneAnswer.{high_decimal}
 use Rattle.verifying.proofs.first_line.behind_number.Goals as goal
 

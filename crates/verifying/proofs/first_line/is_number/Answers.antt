@@ -1,8 +1,5 @@
 use Rattle.std.proofs.Common.{◌≡◌, ◌++◌, ◌∙◌, [], ℕ, List, ap, eq-eqb, length, sym}
-use Rattle.std.proofs.lemmas.Bool.{false≢true}
-use Rattle.std.proofs.lemmas.Bool.Decides.{Decides-eqb}
-use Rattle.std.proofs.lemmas.List.{append-nil, append_cancel_left, nil_from_length}
-use Rattle.std.specs.Fmt.{decimal}
+use Rattle.verifying.proofs.Common.{false≢true, Decides-eqb, append-nil, append_cancel_left, nil_from_length, decimal}
 use Rattle.verifying.proofs.first_line.is_number.Goals as goal
 
 pub returns-in-None : goal.returns-in-None

@@ -1,10 +1,5 @@
 use Rattle.std.proofs.Common.{◌≡◌, ◌≢◌, ◌++◌, ◌∷◌, ◌∙◌, ◌/◌, [], List, ℕ, ap, arith, sym}
-use Rattle.std.proofs.lemmas.Bool.Decides.{Decides-eqb}
-use Rattle.std.proofs.lemmas.List.{append_cancel_left}
-use Rattle.std.proofs.lemmas.Option.{MatchOption-at_none, MatchOption-at_some}
-use Rattle.std.proofs.lemmas.Slice.Eq.{strip_prefix_is}
-use Rattle.std.specs.Fmt.{decimal}
-use Rattle.rules.specs.MoveText.{move_text}
+use Rattle.verifying.proofs.Common.{Decides-eqb, append_cancel_left, MatchOption-at_none, MatchOption-at_some, strip_prefix_is, decimal, move_text}
 use Rattle.verifying.proofs.OneAnswer.{same_cons}
 use Rattle.verifying.proofs.first_line.mate_in.Goals as goal
 

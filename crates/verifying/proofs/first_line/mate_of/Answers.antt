@@ -1,10 +1,6 @@
 use Rattle.std.proofs.Common.{◌≢◌, ◌++◌, ◌∷◌, arith}
 use borrow.Author.Count.{below_more}
-use Rattle.std.specs.Fmt.{decimal}
-use Rattle.rules.specs.MoveText.{move_text}
-use Rattle.rules.specs.Squares.{Ply}
-use Rattle.certificates.specs.Answers.{IsOdd}
-use Rattle.verifying.specs.FirstLine.{HasName}
+use Rattle.verifying.proofs.Common.{decimal, move_text, Ply, IsOdd, HasName}
 use Rattle.verifying.proofs.first_line.mate_of.Goals as goal
 
 pub loop-plies-init : goal.loop-plies-init

@@ -1,9 +1,5 @@
 use Rattle.std.proofs.Common.{◌≢◌, ◌<◌, ◌++◌, ◌∷◌, ℕ}
-use Rattle.std.specs.Fmt.{decimal}
-use Rattle.rules.specs.MoveText.{move_text}
-use Rattle.rules.specs.Squares.{Ply}
-use Rattle.certificates.specs.Answers.{IsOdd}
-use Rattle.verifying.specs.FirstLine.{HasName}
+use Rattle.verifying.proofs.Common.{decimal, move_text, Ply, IsOdd, HasName}
 use Rattle.verifying.proofs.first_line.mate_of.Given as goal
 
 -- the text is of no mate in fewer plies

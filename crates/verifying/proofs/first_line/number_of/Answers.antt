@@ -1,7 +1,6 @@
 use Rattle.std.proofs.Common.{◌≢◌, ◌∙◌, ◌<◌, arith, sym}
 use borrow.Author.Count.{below_more}
-use Rattle.std.proofs.lemmas.Bool.{false≢true}
-use Rattle.std.specs.Fmt.{decimal}
+use Rattle.verifying.proofs.Common.{false≢true, decimal}
 use Rattle.verifying.proofs.first_line.number_of.Goals as goal
 
 pub loop-number-init : goal.loop-number-init

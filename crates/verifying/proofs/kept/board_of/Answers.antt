@@ -1,9 +1,5 @@
 use Rattle.std.proofs.Common.{◌≡◌, ℕ, List, Option, Some, None, IfNone, IsSome, refl, sym, ◌∙◌}
-use Rattle.board.specs.declared.game.Game.{Game}
-use Rattle.board.specs.declared.game.Side.{Side}
-use Rattle.board.specs.Board.{PlainBoard, IsPosition}
-use Rattle.moves.specs.Words.{Spells, unpacked}
-use Rattle.moves.proofs.Packing.{units_in-at, within_36, one_spelled}
+use Rattle.verifying.proofs.Common.{Game, Side, PlainBoard, IsPosition, Spells, unpacked, units_in-at, within_36, one_spelled}
 use Rattle.verifying.proofs.kept.board_of.Goals as goal
 
 -- words spell their board

@@ -1,14 +1,5 @@
 use Rattle.std.proofs.Common.{All, List, ◌∙◌, arith, false, length, refl, subst, sym}
-use Rattle.std.proofs.lemmas.Bool.{false≢true}
-use Rattle.std.proofs.lemmas.Bool.Decides.{Decides-eqb}
-use Rattle.std.proofs.lemmas.List.{take_all}
-use Rattle.std.proofs.lemmas.List.Elements.{All-contains}
-use Rattle.board.specs.Games.{other_side}
-use Rattle.rules.specs.Order.{ListsLawful}
-use Rattle.rules.specs.Squares.{Ply}
-use Rattle.problems.specs.Questions.{question}
-use Rattle.problems.specs.Tried.{IsPassed}
-use Rattle.problems.proofs.Tried.{ended_answer, gone_answer, none_listed, not_empty, now_answer, passed_next, some_listed}
+use Rattle.verifying.proofs.Common.{false≢true, Decides-eqb, take_all, All-contains, other_side, ListsLawful, Ply, question, IsPassed, ended_answer, gone_answer, none_listed, not_empty, now_answer, passed_next, some_listed}
 use Rattle.verifying.proofs.Failing.{listed_item}
 use Rattle.verifying.proofs.Leaves.{for_other, other_turn, reached_now}
 use Rattle.verifying.proofs.leaf.loses_in_two.Goals as goal

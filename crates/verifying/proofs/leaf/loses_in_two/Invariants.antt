@@ -1,7 +1,5 @@
 use Rattle.std.proofs.Common.{All, false, take}
-use Rattle.board.specs.Games.{other_side}
-use Rattle.problems.specs.Questions.{question}
-use Rattle.problems.specs.Tried.{IsPassed}
+use Rattle.verifying.proofs.Common.{other_side, question, IsPassed}
 use Rattle.verifying.proofs.leaf.loses_in_two.Given as goal
 
 -- each move so far loses

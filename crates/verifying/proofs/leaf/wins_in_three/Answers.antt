@@ -1,11 +1,5 @@
 use Rattle.std.proofs.Common.{All, ◌∙◌, arith, refl, subst, sym, true}
-use Rattle.std.proofs.lemmas.Bool.{false≢true}
-use Rattle.std.proofs.lemmas.List.{take_all}
-use Rattle.rules.specs.Order.{ListsLawful}
-use Rattle.rules.proofs.Forcing.{same_side-self}
-use Rattle.problems.specs.Questions.{question}
-use Rattle.problems.specs.Tried.{IsPassed}
-use Rattle.problems.proofs.Tried.{ended_answer, lost, passed_next}
+use Rattle.verifying.proofs.Common.{false≢true, take_all, ListsLawful, same_side-self, question, IsPassed, ended_answer, lost, passed_next}
 use Rattle.verifying.proofs.Failing.{listed_item}
 use Rattle.verifying.proofs.Leaves.{for_mover}
 use Rattle.verifying.proofs.leaf.wins_in_three.Goals as goal

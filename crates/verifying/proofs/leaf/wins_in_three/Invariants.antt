@@ -1,6 +1,5 @@
 use Rattle.std.proofs.Common.{All, take, true}
-use Rattle.problems.specs.Questions.{question}
-use Rattle.problems.specs.Tried.{IsPassed}
+use Rattle.verifying.proofs.Common.{question, IsPassed}
 use Rattle.verifying.proofs.leaf.wins_in_three.Given as goal
 
 -- none of the moves so far wins

@@ -1,9 +1,5 @@
 use Rattle.std.proofs.Common.{◌∙◌, refl, sym, subst, arith, true, false, length, ap}
-use Rattle.std.proofs.lemmas.Bool.Decides.{Decides-eqb}
-use Rattle.std.proofs.lemmas.List.{nil_from_length}
-use Rattle.problems.proofs.Tried.{not_empty}
-use Rattle.verifying.specs.Certificate.{FailsBecause, ShowFailures}
-use Rattle.verifying.specs.Yielding.{YieldsOnly}
+use Rattle.verifying.proofs.Common.{Decides-eqb, nil_from_length, not_empty, FailsBecause, ShowFailures, YieldsOnly}
 use Rattle.verifying.proofs.Failing.{lawful_item}
 use Rattle.verifying.proofs.Grown.{reason_grows}
 use Rattle.verifying.proofs.Making.{because, more_plies, no_ply, one_ply, all_left, none_left, not_each, one_less, one_untold}

@@ -1,6 +1,5 @@
 use Rattle.std.proofs.Common.{◌≡◌, length}
-use Rattle.verifying.specs.Reading.{AreApart}
-use Rattle.verifying.specs.Certificate.{FailsBecause}
+use Rattle.verifying.proofs.Common.{AreApart, FailsBecause}
 use Rattle.verifying.proofs.Making.{IsLeft}
 use Rattle.verifying.proofs.no_claims.all_fail.Given as goal
 

@@ -1,8 +1,5 @@
 use Rattle.std.proofs.Common.{subst, sym, not, false}
-use Rattle.std.proofs.lemmas.Result.{IfOk-weaker}
-use Rattle.verifying.specs.declared.words.Word.{Word}
-use Rattle.verifying.specs.Certificate.{TellsFailure}
-use Rattle.verifying.specs.Yielding.{YieldsOnly}
+use Rattle.verifying.proofs.Common.{IfOk-weaker, Word, TellsFailure, YieldsOnly}
 use Rattle.verifying.proofs.Failing.{lawful_at}
 use Rattle.verifying.proofs.Making.{stalemated, not_stalemated, no_reply_there, escapes, no_sign}
 use Rattle.verifying.proofs.no_claims.fails.Goals as goal

@@ -1,12 +1,5 @@
 use Rattle.std.proofs.Common.{All, refl, sym, ◌∙◌, subst}
-use Rattle.std.proofs.lemmas.Bool.{false≢true}
-use Rattle.std.proofs.lemmas.List.{take_all}
-use Rattle.std.proofs.lemmas.List.Elements.{All-get_or}
-use Rattle.rules.specs.Squares.{Ply}
-use Rattle.rules.specs.Moves.{IsMove}
-use Rattle.rules.specs.Forces.{IsReached}
-use Rattle.rules.proofs.Keeps.{one_after}
-use Rattle.verifying.specs.Certificate.{ReachesNothing}
+use Rattle.verifying.proofs.Common.{false≢true, take_all, All-get_or, Ply, IsMove, IsReached, one_after, ReachesNothing}
 use Rattle.verifying.proofs.Failing.{lawful_item, all_more}
 use Rattle.verifying.proofs.no_claims.none_reaches.Goals as goal
 

@@ -1,6 +1,5 @@
 use Rattle.std.proofs.Common.{◌-◌, ◌∙◌, List, [], ap, arith, sym}
-use Rattle.certificates.specs.declared.claim.Claim.{Claim}
-use Rattle.verifying.specs.Certificate.{with_claim}
+use Rattle.verifying.proofs.Common.{Claim, with_claim}
 use Rattle.verifying.proofs.Making.{if_less, if_not_less}
 use Rattle.verifying.proofs.steps.begin_fewer.Goals as goal
 

@@ -1,12 +1,5 @@
 use Rattle.std.proofs.Common.{◌≡◌, ◌∙◌, ◌<◌, List, ap, arith, get_or, length, subst, sym, take}
-use Rattle.std.proofs.lemmas.Result.{IfOk-weaker}
-use Rattle.board.specs.Board.{PlainBoard}
-use Rattle.rules.specs.Moves.{IsLawful}
-use Rattle.rules.specs.Order.{ListsLawful}
-use Rattle.rules.specs.Squares.{Ply}
-use Rattle.certificates.specs.declared.claim.Claim.{Claim}
-use Rattle.verifying.specs.Certificate.{IsLesserLine, ShowFailures}
-use Rattle.verifying.specs.Yielding.{YieldsOnly}
+use Rattle.verifying.proofs.Common.{IfOk-weaker, PlainBoard, IsLawful, ListsLawful, Ply, Claim, IsLesserLine, ShowFailures, YieldsOnly}
 use Rattle.verifying.proofs.Failing.{front_lawful}
 use Rattle.verifying.proofs.Making.{lesser_fail, none_lesser}
 use Rattle.std.proofs.Common.{All}

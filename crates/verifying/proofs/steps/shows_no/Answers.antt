@@ -1,12 +1,5 @@
 use Rattle.std.proofs.Common.{◌≡◌, ◌∙◌, List, Some, slice_get, subst, sym}
-use Rattle.std.proofs.lemmas.Option.{same_Some}
-use Rattle.std.proofs.lemmas.Result.{IfOk-weaker}
-use Rattle.rules.specs.Squares.{Ply}
-use Rattle.rules.specs.Order.{ListsLawful}
-use Rattle.wintree.proofs.Listings.{one_list}
-use Rattle.certificates.specs.declared.claim.Claim.{Claim}
-use Rattle.verifying.specs.Certificate.{ShowFailures, IsNoLine}
-use Rattle.verifying.specs.Yielding.{YieldsOnly}
+use Rattle.verifying.proofs.Common.{same_Some, IfOk-weaker, Ply, ListsLawful, one_list, Claim, ShowFailures, IsNoLine, YieldsOnly}
 use Rattle.verifying.proofs.Failing.{all_lawful}
 use Rattle.verifying.proofs.Making.{yields_by}
 use Rattle.verifying.proofs.steps.shows_no.Goals as goal

@@ -1,12 +1,5 @@
 use Rattle.std.proofs.Common.{◌≡◌, ◌∙◌, ℕ, List, [], Option, None, Some, ap, slice_get, subst, sym}
-use Rattle.std.proofs.lemmas.Option.{same_Some}
-use Rattle.board.specs.Board.{PlainBoard}
-use Rattle.rules.specs.declared.goal.Goal.{Goal}
-use Rattle.rules.specs.Squares.{Ply}
-use Rattle.certificates.specs.declared.claim.Claim.{Claim}
-use Rattle.verifying.specs.declared.words.Word.{Word}
-use Rattle.verifying.specs.Certificate.{IsYesLine, with_claim}
-use Rattle.verifying.specs.Yielding.{FindsOnly}
+use Rattle.verifying.proofs.Common.{same_Some, PlainBoard, Goal, Ply, Claim, Word, IsYesLine, with_claim, FindsOnly}
 use Rattle.verifying.proofs.Making.{not_found, this_found}
 use Rattle.verifying.proofs.steps.shows_win.Goals as goal
 

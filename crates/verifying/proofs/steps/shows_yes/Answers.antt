@@ -1,9 +1,5 @@
 use Rattle.std.proofs.Common.{◌≡◌, ◌∙◌, List, Some, slice_get, subst, sym}
-use Rattle.std.proofs.lemmas.Option.{same_Some}
-use Rattle.rules.specs.Squares.{Ply}
-use Rattle.certificates.specs.declared.claim.Claim.{Claim}
-use Rattle.verifying.specs.Certificate.{IsYesLine, IsSomeYesLine}
-use Rattle.verifying.specs.Yielding.{YieldsOnly}
+use Rattle.verifying.proofs.Common.{same_Some, Ply, Claim, IsYesLine, IsSomeYesLine, YieldsOnly}
 use Rattle.verifying.proofs.Making.{any_found, yields_by}
 use Rattle.verifying.proofs.steps.shows_yes.Goals as goal
 

@@ -1,6 +1,5 @@
 use Rattle.std.proofs.Common.{◌≡◌, Some, ap}
-use Rattle.verifying.specs.declared.fault.Fault.TheVariants.{NoMemory, ReadFailed}
-use Rattle.verifying.specs.Certificate.{IsCertificate, IsRefusedWith}
+use Rattle.verifying.proofs.Common.{NoMemory, ReadFailed, IsCertificate, IsRefusedWith}
 use Rattle.verifying.proofs.Inputs.{ok_of_known, err_of_known}
 use Rattle.verifying.proofs.whole.verify.Goals as goal
 

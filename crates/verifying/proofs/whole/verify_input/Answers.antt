@@ -1,7 +1,5 @@
 use Rattle.std.proofs.Common.{Bool, List, ◌∷◌, ◌++◌, [], ℕ, true, false, refl, sym, subst, arith}
-use Rattle.std.proofs.lemmas.Result.{IfOk-from_err}
-use Rattle.devices.specs.Lines.{left_of}
-use Rattle.devices.specs.Within.{ReadsText}
+use Rattle.verifying.proofs.Common.{IfOk-from_err, left_of, ReadsText}
 use Rattle.verifying.proofs.Inputs.{any_told, ended_answered, ended_certified, ended_refused, ended_told, line_refused, more_gone, none_failed, none_gone, not_read, unread_refused}
 use Rattle.verifying.proofs.whole.verify_input.Goals as goal
 

@@ -1,6 +1,5 @@
 use Rattle.std.proofs.Common.{sym, ◌∙◌, get_or, eq-eqb}
-use Rattle.std.proofs.lemmas.Bool.{false≢true}
-use Rattle.std.proofs.lemmas.List.{get_or_default}
+use Rattle.verifying.proofs.Common.{false≢true, get_or_default}
 use Rattle.verifying.proofs.Spelling.{no_such_words, no_last_word}
 use Rattle.verifying.proofs.words.read_words.Goals as goal
 

@@ -1,6 +1,5 @@
 use Rattle.std.proofs.Common.{List, refl, get_or, ap, ◌∙◌, arith, true, false}
-use Rattle.rules.specs.Squares.{Ply}
-use Rattle.verifying.specs.Certificate.{MeetsReply}
+use Rattle.verifying.proofs.Common.{Ply, MeetsReply}
 use Rattle.verifying.proofs.Failing.{listed_item}
 use Rattle.verifying.proofs.Grown.{reply_grows}
 use Rattle.verifying.proofs.Making.{each_met, met_by, all_left, none_left, not_each, one_less, one_untold}

@@ -1,6 +1,5 @@
 use Rattle.std.proofs.Common.{◌≡◌, length}
-use Rattle.verifying.specs.Reading.{AreApart}
-use Rattle.verifying.specs.Certificate.{MeetsReply}
+use Rattle.verifying.proofs.Common.{AreApart, MeetsReply}
 use Rattle.verifying.proofs.Making.{IsLeft}
 use Rattle.verifying.proofs.yes_claims.all_met.Given as goal
 

@@ -1,10 +1,5 @@
 use Rattle.std.proofs.Common.{◌≡◌, ◌↔◌, IsTrue, false, min, sym, subst, arith}
-use Rattle.std.proofs.lemmas.Result.{IfOk-weaker}
-use Rattle.rules.specs.Forces.{Forces}
-use Rattle.certificates.specs.Claims.{ClaimsSoFew}
-use Rattle.verifying.specs.declared.words.Word.{Word}
-use Rattle.verifying.specs.Certificate.{Meets}
-use Rattle.verifying.specs.Yielding.{YieldsOnly}
+use Rattle.verifying.proofs.Common.{IfOk-weaker, Forces, ClaimsSoFew, Word, Meets, YieldsOnly}
 use Rattle.verifying.proofs.Making.{yields_if, yields_none}
 use Rattle.verifying.proofs.yes_claims.meets.Goals as goal
 

@@ -1,10 +1,5 @@
 use Rattle.std.proofs.Common.{ap, arith, length, sym, subst, ◌∙◌}
-use Rattle.std.proofs.lemmas.Bool.Decides.{Decides-eqb}
-use Rattle.std.proofs.lemmas.List.{nil_from_length}
-use Rattle.std.proofs.lemmas.Result.{IfOk-weaker}
-use Rattle.problems.proofs.Tried.{not_empty}
-use Rattle.verifying.specs.Certificate.{ShowWin}
-use Rattle.verifying.specs.Yielding.{YieldsOnly}
+use Rattle.verifying.proofs.Common.{Decides-eqb, nil_from_length, IfOk-weaker, not_empty, ShowWin, YieldsOnly}
 use Rattle.verifying.proofs.Making.{at_the_end, behind_the_end, few_plies, replies_met}
 use Rattle.verifying.proofs.yes_claims.wins_after.Goals as goal
 

@@ -1,8 +1,6 @@
 -- Each exit and each turn of the reader, by what it has read.
 use Rattle.std.proofs.Common.{◌+◌, ◌≤◌, sym, ◌∙◌, subst, refl, arith, add-one}
-use Rattle.std.proofs.lemmas.Result.{err_from_is_err_and}
-use Rattle.wintree.specs.declared.tree.End.TheVariants.{Mate, Stale}
-use Rattle.wintree.specs.Ahead.{Stands, AreRepliesAhead, ReadsReplies}
+use Rattle.wintree.proofs.Common.{err_from_is_err_and, Mate, Stale, Stands, AreRepliesAhead, ReadsReplies}
 use Rattle.wintree.proofs.Lists.{some_more, plans_more, room_more}
 use Rattle.wintree.proofs.Options.{equal, unequal, equals, differs}
 use Rattle.wintree.proofs.Reader.{no_attack, no_reply, no_end, read_end, read_brace, brace_too_deep, read_node, no_colon, read_colon, no_comma, read_comma, read_close, more_spans, last_spans}

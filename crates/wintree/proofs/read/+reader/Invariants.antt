@@ -1,6 +1,5 @@
 use Rattle.std.proofs.Common.{◌-◌, ◌*◌, ◌+◌, ◌≤◌, length, All}
-use Rattle.wintree.specs.Plan.{depth, ArePlansIn}
-use Rattle.wintree.specs.Ahead.{Stands, AreRepliesAhead, Spans, listed_text}
+use Rattle.wintree.proofs.Common.{depth, ArePlansIn, Stands, AreRepliesAhead, Spans, listed_text}
 use Rattle.wintree.proofs.read.+reader.Given as goal
 
 abbrev pub decreases-tree_at : goal.decreases-tree_at

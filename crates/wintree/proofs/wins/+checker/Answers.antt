@@ -1,8 +1,5 @@
 use Rattle.std.proofs.Common.{◌≡◌, ◌<◌, length, sym, ◌∙◌, ap, subst, arith, refl, SomeIff}
-use Rattle.rules.specs.Order.{ListsLawful}
-use Rattle.wintree.specs.Plan.{ends, depth, plan_of}
-use Rattle.wintree.specs.View.{plan_after}
-use Rattle.wintree.specs.Wins.{Wins, height}
+use Rattle.wintree.proofs.Common.{ListsLawful, ends, depth, plan_of, plan_after, Wins, height}
 use Rattle.wintree.proofs.Lists.{opened, depth-plan_of}
 use Rattle.wintree.proofs.Listings.{lawful_at}
 use Rattle.wintree.proofs.Heights.{height_limit, height-plan_of, highest_more, depth_of_item}

@@ -1,6 +1,5 @@
 use Rattle.std.proofs.Common.{◌≡◌, ◌↔◌, ◌+◌, ◌*◌, max, length, drop}
-use Rattle.wintree.specs.Plan.{depth, deepest_in}
-use Rattle.wintree.specs.Answered.{AreAnswered, highest_in}
+use Rattle.wintree.proofs.Common.{depth, deepest_in, AreAnswered, highest_in}
 use Rattle.wintree.proofs.wins.+checker.Given as goal
 
 abbrev pub decreases-height_if_won : goal.decreases-height_if_won

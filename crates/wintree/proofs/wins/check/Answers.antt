@@ -1,9 +1,5 @@
 use Rattle.std.proofs.Common.{ℕ, Option, None, Some, IfSome, SomeIff, subst, sym}
-use Rattle.board.specs.Board.{PlainBoard}
-use Rattle.rules.specs.declared.goal.Goal.{Goal}
-use Rattle.rules.specs.Forces.{Forces}
-use Rattle.wintree.specs.Plan.{Plan}
-use Rattle.wintree.specs.Wins.{Wins, height}
+use Rattle.wintree.proofs.Common.{PlainBoard, Goal, Forces, Plan, Wins, height}
 use Rattle.wintree.proofs.Forced.{forced_for_mover}
 use Rattle.wintree.proofs.wins.check.Goals as goal
 

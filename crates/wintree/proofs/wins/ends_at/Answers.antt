@@ -1,6 +1,5 @@
 use Rattle.std.proofs.Common.{◌↔◌, IsTrue, subst}
-use Rattle.std.proofs.lemmas.Bool.{false≢true}
-use Rattle.rules.specs.Reach.{IsInCheck}
+use Rattle.wintree.proofs.Common.{false≢true, IsInCheck}
 use Rattle.wintree.proofs.Endings.{goes_on, ends_mated, ends_stale}
 use Rattle.wintree.proofs.wins.ends_at.Goals as goal
 

@@ -1,10 +1,6 @@
 -- What was written is the text of the plan that the fields mean.
 use Rattle.std.proofs.Common.{◌++◌, sym, ◌∙◌, ap, subst, append_assoc, string_bytes}
-use Rattle.std.proofs.lemmas.List.{drop_all}
-use Rattle.rules.specs.MoveText.{move_text}
-use Rattle.wintree.specs.Text.{text}
-use Rattle.wintree.specs.View.{plan_after, HasReplies}
-use Rattle.wintree.specs.Ahead.{closed_text}
+use Rattle.wintree.proofs.Common.{drop_all, move_text, text, plan_after, HasReplies, closed_text}
 use Rattle.wintree.proofs.Tails.{text-plan_of}
 use Rattle.wintree.proofs.written.+push_tree.Goals as goal
 

@@ -1,5 +1,4 @@
-use Rattle.std.proofs.lemmas.Bool.Decides.{same_from_decides}
-use Rattle.entry.specs.Preference.{mate_prefers}
+use Rattle.entry.proofs.Common.{same_from_decides, mate_prefers}
 use Rattle.entry.proofs.Preferred.{mate_decides}
 use Rattle.entry.proofs.lore.MateLoreLore.prefers.Goals as goal
 

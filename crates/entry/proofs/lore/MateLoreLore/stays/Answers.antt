@@ -1,6 +1,5 @@
 use Rattle.std.proofs.Common.{◌≡◌, false, sym, subst, ◌∙◌, inl, inr}
-use Rattle.std.proofs.lemmas.Bool.Decides.{same_from_decides}
-use Rattle.entry.specs.Preference.{mate_prefers, zeros_give_way}
+use Rattle.entry.proofs.Common.{same_from_decides, mate_prefers, zeros_give_way}
 use Rattle.entry.proofs.Preferred.{mate_decides}
 use Rattle.entry.proofs.lore.MateLoreLore.stays.Goals as goal
 

@@ -30,7 +30,7 @@ use Rattle.core.proofs.option.Made.{Some-of, none_of}
 use Rattle.std.proofs.raw_atomic.Walks.{proved_at, leaves}
 use Rattle.linked_list_allocator.proofs.Walks.{slot_at, then_runs}
 use Rattle.linked_list_allocator.proofs.Values.{sized_val, sized_own, sized_made}
-use Rattle.lent_memory.specs.Ownership.{IsMemorySize, units_of}
+use Rattle.lent_memory.specs.Ownership.{IsMemorySize, blocks_type}
 use Rattle.lent_memory.specs.contracts.memory.Memory as memory
 use Rattle.lent_memory.specs.contracts.memory.Memory.taken.{ended, clauses}
 use Rattle.lent_memory.specs.contracts.memory.Memory.taken.Key.{name as #self}
@@ -58,7 +58,7 @@ taken_spec 𝓤 𝓛 𝓜 𝓡 wired A L g d dd met md =
     let h = a.0.now in
     let at = a.0.ref_ptr in
     let n = a.1.0 in
-    let τ : Ty = units_of n in
+    let τ : Ty = blocks_type n in
     let y = at_takes Y 𝓛 𝓜.mem 𝓡.returns κ q at h n 16 τ in
     let Out : RattleType = type_at En₀.signature.result z.0.0 in
     let Asked : Type 0 = IsMemorySize n in

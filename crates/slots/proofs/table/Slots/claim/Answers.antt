@@ -1,6 +1,5 @@
 use Rattle.std.proofs.Common.{arith, refl, sym, ap, subst, ◌∙◌}
-use Rattle.atomic_table.specs.Seated.{TableId}
-use Rattle.slots.specs.Steps.{IsBusy}
+use Rattle.slots.proofs.Common.{TableId, IsBusy}
 use Rattle.slots.proofs.ClaimSteps.{claims}
 use Rattle.slots.proofs.table.Slots.claim.Goals as goal
 

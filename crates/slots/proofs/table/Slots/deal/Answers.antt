@@ -1,11 +1,5 @@
 use Rattle.std.proofs.Common.{ℕ, ◌+◌, ◌*◌, List, [], ◌∷◌, length, sym, ap, ◌∙◌, subst, arith}
-use Rattle.std.proofs.lemmas.List.{length-replicate, length-append}
-use Rattle.atomic_table.specs.declared.shared.Seat.{Seat}
-use Rattle.slots.specs.declared.views.Note.{Note}
-use Rattle.slots.specs.declared.views.View.{View}
-use Rattle.slots.specs.Rule.{blank}
-use Rattle.atomic_table.specs.Seated.{TableId}
-use Rattle.slots.specs.Promise.{AllNew, slots_of}
+use Rattle.slots.proofs.Common.{length-replicate, length-append, Seat, Note, View, blank, TableId, AllNew, slots_of}
 use Rattle.slots.proofs.Dealing.{deals, all_new_push, all_new_none, all_seated, new_seat}
 use Rattle.slots.proofs.table.Slots.deal.Goals as goal
 

@@ -1,6 +1,5 @@
 use Rattle.std.proofs.Common.{ap, sym, ◌∙◌, arith}
-use Rattle.atomic_table.specs.Table.{Me}
-use Rattle.slots.specs.declared.views.View.{View}
+use Rattle.slots.proofs.Common.{Me, View}
 use Rattle.slots.proofs.Dealing.{tells, told_seat}
 use Rattle.slots.proofs.table.Slots.join.Goals as goal
 

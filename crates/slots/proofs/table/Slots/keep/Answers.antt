@@ -1,6 +1,5 @@
 use Rattle.std.proofs.Common.{arith, sym, ap, subst, ◌∙◌}
-use Rattle.atomic_table.specs.Seated.{TableId}
-use Rattle.slots.specs.Steps.{IsBusy}
+use Rattle.slots.proofs.Common.{TableId, IsBusy}
 use Rattle.slots.proofs.ReadSteps.{looks_store}
 use Rattle.slots.proofs.table.Slots.keep.Goals as goal
 

@@ -1,6 +1,5 @@
 use Rattle.std.proofs.Common.{arith, sym, ap, subst, ◌∙◌}
-use Rattle.atomic_table.specs.Seated.{TableId}
-use Rattle.slots.specs.Steps.{IsBusy, IsProbeReply}
+use Rattle.slots.proofs.Common.{TableId, IsBusy, IsProbeReply}
 use Rattle.slots.proofs.ReadSteps.{looks_probe}
 use Rattle.slots.proofs.table.Slots.look.Goals as goal
 

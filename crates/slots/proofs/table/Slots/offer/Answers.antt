@@ -1,6 +1,5 @@
 use Rattle.std.proofs.Common.{arith, sym, ap, subst, ◌∙◌}
-use Rattle.atomic_table.specs.Seated.{TableId}
-use Rattle.slots.specs.Steps.{IsBusy, IsWorn}
+use Rattle.slots.proofs.Common.{TableId, IsBusy, IsWorn}
 use Rattle.slots.proofs.GateSteps.{offers}
 use Rattle.slots.proofs.table.Slots.offer.Goals as goal
 

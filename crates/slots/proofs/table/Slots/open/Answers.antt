@@ -1,7 +1,5 @@
 use Rattle.std.proofs.Common.{◌≡◌, ℕ, List, [], replicate, ◌*◌, sym, subst, rules}
-use Rattle.atomic_table.specs.Table.{opening}
-use Rattle.slots.specs.Rule.{TableHolds, dealer}
-use Rattle.slots.specs.Promise.{way_of}
+use Rattle.slots.proofs.Common.{opening, TableHolds, dealer, way_of}
 use Rattle.slots.proofs.Dealing.{opens}
 use Rattle.slots.proofs.table.Slots.open.Goals as goal
 

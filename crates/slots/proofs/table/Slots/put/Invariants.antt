@@ -1,5 +1,4 @@
-use Rattle.slots.specs.declared.calls.Act.TheVariants.{Offered}
-use Rattle.slots.specs.declared.calls.Store.TheVariants.{Stored, Busy}
+use Rattle.slots.proofs.Common.{Offered, Stored, Busy}
 use Rattle.slots.proofs.table.Slots.put.Given as goal
 
 abbrev pub ghosts-claim : goal.ghosts-claim

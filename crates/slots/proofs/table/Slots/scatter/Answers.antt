@@ -1,7 +1,5 @@
 use Rattle.std.proofs.Common.{refl, ap, ◌∙◌, [], ◌∷◌}
-use Rattle.slots.specs.declared.views.View.{View}
-use Rattle.slots.specs.declared.views.Half.TheVariants.{Writing}
-use Rattle.slots.specs.Steps.{halfway}
+use Rattle.slots.proofs.Common.{View, Writing, halfway}
 use Rattle.slots.proofs.Along.{along_first, along_next}
 use Rattle.slots.proofs.table.Slots.scatter.Goals as goal
 

@@ -1,5 +1,4 @@
-use Rattle.slots.specs.declared.calls.Act.TheVariants.{Offered}
-use Rattle.slots.specs.declared.calls.Store.TheVariants.{Kept, Busy, Worn}
+use Rattle.slots.proofs.Common.{Offered, Kept, Busy, Worn}
 use Rattle.slots.proofs.table.Slots.store_with.Given as goal
 
 abbrev pub ghosts-offer : goal.ghosts-offer

@@ -1,6 +1,5 @@
 use Rattle.std.proofs.Common.{arith, ap, length}
-use Rattle.std.proofs.lemmas.Grind.{common_steps}
-use Rattle.verifying.specs.Reading.{answer_of}
+use Rattle.verifying.proofs.Common.{common_steps, answer_of}
 use Rattle.verifying.proofs.Refused.{end_proved, end_wrong, no_read}
 use Rattle.verifying.proofs.checker.Checker.ended.Goals as goal
 

@@ -1,6 +1,5 @@
 use Rattle.std.proofs.Common.{◌∙◌, ap, sym}
-use Rattle.std.proofs.lemmas.Result.{IfOk-weaker}
-use Rattle.verifying.specs.Words.{line_text}
+use Rattle.verifying.proofs.Common.{IfOk-weaker, words_line}
 use Rattle.verifying.proofs.Refused.{answer_found, no_answer_found, no_words_found, words_found}
 use Rattle.verifying.proofs.checker.Checker.part_behind.Goals as goal
 
@@ -24,4 +23,4 @@ pub returns-clause-reads : goal.returns-clause-reads
 returns-clause-reads g c =
     let it = c.args.self.now in
     IfOk-weaker c.shown.result _ _ (λ found h. words_found it.goal it.board c.args.line.now it.part it.claims c.shown.new.claims found c.as_slice-words.result.now c.in_default.not-First
-    (c.in_ok-read_words.ensures.read c.if-not-branch.false ∙ ap line_text (sym c.as_slice-words.ensures.value)) c.requires.short h) c.shown.ensures
+    (c.in_ok-read_words.ensures.read c.if-not-branch.false ∙ ap words_line (sym c.as_slice-words.ensures.value)) c.requires.short h) c.shown.ensures

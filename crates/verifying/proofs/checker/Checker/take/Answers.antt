@@ -1,6 +1,5 @@
 use Rattle.std.proofs.Common.{ℕ, ◌+◌, ◌∷◌, refl, ap, arith}
-use Rattle.verifying.specs.declared.fault.Fault.TheVariants.{TooLong}
-use Rattle.verifying.specs.Reading.{answer_of}
+use Rattle.verifying.proofs.Common.{TooLong, answer_of}
 use Rattle.verifying.proofs.Refused.{line_long, line_taken, line_wrong, no_read}
 use Rattle.verifying.proofs.checker.Checker.take.Goals as goal
 

@@ -1,6 +1,5 @@
 use Rattle.std.proofs.Common.{◌∙◌, rules, List, subst, sym}
-use Rattle.certificates.specs.declared.claim.Claim.{Claim}
-use Rattle.verifying.specs.Index.{IsFoundIn}
+use Rattle.verifying.proofs.Common.{Claim, IsFoundIn}
 use Rattle.verifying.proofs.claims.Claims.find.Goals as goal
 
 pub returns : goal.returns

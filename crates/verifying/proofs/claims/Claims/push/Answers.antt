@@ -1,6 +1,5 @@
 use Rattle.std.proofs.Common.{◌≡◌, ◌∷◌, [], ◌++◌, ℕ, List, Contains, rules, subst, sym}
-use Rattle.certificates.specs.declared.claim.Claim.{Claim}
-use Rattle.verifying.specs.Index.{IsFoundIn, IsIndexOf}
+use Rattle.verifying.proofs.Common.{Claim, IsFoundIn, IsIndexOf}
 use Rattle.verifying.proofs.Index.{first_claim, entered}
 use Rattle.verifying.proofs.claims.Claims.push.Goals as goal
 

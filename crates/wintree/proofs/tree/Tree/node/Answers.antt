@@ -1,7 +1,6 @@
 -- The list of replies is what the type keeps.
 use Rattle.std.proofs.Common.{◌+◌, sym, ◌∙◌, ap, subst, arith}
-use Rattle.wintree.specs.Plan.{deepest_in, ArePlansIn}
-use Rattle.wintree.specs.View.{KeepsPlan}
+use Rattle.wintree.proofs.Common.{deepest_in, ArePlansIn, KeepsPlan}
 use Rattle.wintree.proofs.Lists.{kept_node}
 use Rattle.wintree.proofs.tree.Tree.node.Goals as goal
 
