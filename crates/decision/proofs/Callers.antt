@@ -1,30 +1,79 @@
 -- A caller that goes on.
-use Rattle.std.proofs.Common.{◌≡◌, ℕ, ◌++◌, refl, ◌∙◌, subst}
+use Rattle.std.proofs.Common.{◌≡◌, ℕ, List, ◌∷◌, [], ◌++◌, refl, sym, ap, ◌∙◌, subst}
 use Rattle.atomic_table.specs.Seated.{TableId}
-use Rattle.slots.specs.Promise.{slots_of, number}
+use Rattle.atomic_table.specs.declared.shared.Seat.{Seat}
+use Rattle.slots.specs.declared.views.View.{View}
+use Rattle.slots.specs.declared.calls.Call.{Call}
+use Rattle.slots.specs.declared.calls.Act.{Act}
+use Rattle.slots.specs.Machine.{call}
+use Rattle.slots.specs.Steps.{HitFits}
+use Rattle.slots.specs.Promise.{slots_of, number, IsSeatOf, Called}
+use Rattle.entry.specs.Keys.{key_words}
+use Rattle.entry.specs.Truth.{IsTruePacking}
 use Rattle.decision.specs.declared.caller.Caller.{Caller}
-use Rattle.decision.specs.Calls.{Continues}
-use Rattle.decision.specs.Callers.{GoesOn, adds}
-use Rattle.decision.proofs.Calls.{continues_none, continues_more, added_more}
+use Rattle.decision.specs.Calls.{mate_way, added, Continues}
+use Rattle.decision.specs.Callers.{GoesOn, OnAdded, MakesCall, StaysLed}
+use Rattle.decision.proofs.Calls.{continues_none, continues_more, added_more, one_added, one_history, one_continues}
 
--- the later calls, over the table of the first
-pub calls_next : {A : Type 0} (a b c : Caller A) → GoesOn a b → GoesOn b c → Continues a.slots.now b.seat.now c.seat.now
-calls_next a b c p q = subst (λ (t : TableId). Continues t b.seat.now c.seat.now) p.table q.calls
-
-pub goes_none : {A : Type 0} (a : Caller A) → GoesOn a a
+goes_none : {A : Type 0} (a : Caller A) → GoesOn a a
 goes_none a = record { table = refl; reference = refl; calls = continues_none a.slots.now a.seat.now a.belongs }
 
-pub goes_more : {A : Type 0} (a b c : Caller A) → GoesOn a b → GoesOn b c → GoesOn a c
-goes_more a b c p q = record {
+pub goes_more : {A : Type 0} {a b c : Caller A} → GoesOn a b → GoesOn b c → GoesOn a c
+goes_more {A} {a} {b} {c} p q = record {
   table = q.table ∙ p.table;
   reference = q.reference ∙ p.reference;
-  calls = continues_more a.slots.now a.seat.now b.seat.now c.seat.now p.calls (calls_next a b c p q);
+  calls = continues_more a.slots.now a.seat.now b.seat.now c.seat.now p.calls (subst (λ (t : TableId). Continues t b.seat.now c.seat.now) p.table q.calls);
 }
 
-pub adds_more : {A : Type 0} (a b c : Caller A) → GoesOn a b → GoesOn b c → adds a c ≡ adds a b ++ adds b c
-adds_more a b c p q = added_more a.seat.now b.seat.now c.seat.now p.calls.grew q.calls.grew
+-- what holds of its seat at the end, holds of the seat that it was lent
+pub at_end : {A : Type 0} {a b : Caller A} {x : Seat ℕ View} (P : Seat ℕ View → Type 0) → GoesOn a b → (a.seat.ghost_name ≡ b.seat.ghost_name → x ≡ b.seat.now) → P b.seat.now → P x
+at_end P goes same h = subst P (sym (same (sym goes.reference))) h
 
--- the names that the caller had before
-pub named_before : {A : Type 0} (a b : Caller A) → GoesOn a b → (P : ℕ → ℕ → Type 0) → P (slots_of b.slots.now) (number b.seat.now) → P (slots_of a.slots.now) (number a.seat.now)
-named_before a b ab P p =
-    subst (P (slots_of a.slots.now)) ab.calls.number (subst (λ (t : TableId). P (slots_of t) (number b.seat.now)) ab.table p)
+-- one call
+pub makes_call : {A : Type 0} {a b : Caller A} {slot : ℕ} {act : Act} → b.slots.now ≡ a.slots.now → b.seat.ghost_name ≡ a.seat.ghost_name → IsSeatOf a.slots.now b.seat.now × (b.seat.now.id ≡ a.seat.now.id)
+    → Called mate_way slot act a.seat.now b.seat.now → HitFits key_words IsTruePacking act → MakesCall slot act a b
+makes_call {A} {a} {b} {slot} {act} table reference seat called hit = record {
+  goes_on = record { table = table; reference = reference; calls = one_continues a.slots.now slot act a.seat.now b.seat.now seat.0 seat.1 called hit };
+  history = one_history slot act a.seat.now b.seat.now called;
+  one = one_added slot act a.seat.now b.seat.now called;
+  hit = hit;
+}
+
+-- two calls in turn
+pub two_added : {A : Type 0} {a b c : Caller A} {slot slot' : ℕ} {act act' : Act} → MakesCall slot act a b → MakesCall slot' act' b c
+    → added a.seat.now c.seat.now ≡ call slot (number a.seat.now) act ∷ call slot' (number a.seat.now) act' ∷ []
+two_added {A} {a} {b} {c} {slot} {slot'} {act} {act'} p q =
+    added_more a.seat.now b.seat.now c.seat.now p.goes_on.calls.grew q.goes_on.calls.grew ∙ (λ i. p.one i ++ (q.one ∙ ap (λ n. call slot' n act' ∷ []) p.goes_on.calls.number) i)
+
+-- ---- what holds of the calls that were added
+
+-- it holds as others follow, where it stays so
+pub on_added : {A : Type 0} (P : ℕ → ℕ → List Call → Type 0) {a b c : Caller A} → GoesOn a b → GoesOn b c → ((slots number : ℕ) (xs ys : List Call) → P slots number xs → P slots number (xs ++ ys)) → OnAdded P a b → OnAdded P a c
+on_added {A} P {a} {b} {c} ab bc stays p =
+    subst (P (slots_of a.slots.now) (number a.seat.now)) (sym (added_more a.seat.now b.seat.now c.seat.now ab.calls.grew bc.calls.grew))
+    (stays (slots_of a.slots.now) (number a.seat.now) (added a.seat.now b.seat.now) (added b.seat.now c.seat.now) p)
+
+-- and as others come before
+pub on_later : {A : Type 0} (P : ℕ → ℕ → List Call → Type 0) {a b c : Caller A} → GoesOn a b → GoesOn b c → ((slots number : ℕ) (xs ys : List Call) → P slots number ys → P slots number (xs ++ ys)) → OnAdded P b c → OnAdded P a c
+on_later {A} P {a} {b} {c} ab bc stays p =
+    let later = added b.seat.now c.seat.now in
+    let named = subst (λ n. P (slots_of a.slots.now) n later) ab.calls.number (subst (λ (t : TableId). P (slots_of t) (number b.seat.now) later) ab.table p) in
+    subst (P (slots_of a.slots.now) (number a.seat.now)) (sym (added_more a.seat.now b.seat.now c.seat.now ab.calls.grew bc.calls.grew))
+    (stays (slots_of a.slots.now) (number a.seat.now) (added a.seat.now b.seat.now) later named)
+
+-- ---- what leads a search
+
+pub led_more : {S A : Type 0} {stays : S → S → Type 0} {a b c : Caller A} {n m k : ℕ} {x y z : S} → ((x y z : S) → stays x y → stays y z → stays x z) → StaysLed stays a b n m x y → StaysLed stays b c m k y z → StaysLed stays a c n k x z
+led_more {S} {A} {stays} {a} {b} {c} {n} {m} {k} {x} {y} {z} on p q = record { caller = goes_more p.caller q.caller; reference = q.reference ∙ p.reference; stop = on x y z p.stop q.stop }
+
+pub led_then : {S A : Type 0} {stays : S → S → Type 0} {a b c : Caller A} {n m : ℕ} {x y : S} → StaysLed stays a b n m x y → GoesOn b c → StaysLed stays a c n m x y
+led_then p q = record { caller = goes_more p.caller q; reference = p.reference; stop = p.stop }
+
+pub then_led : {S A : Type 0} {stays : S → S → Type 0} {a b c : Caller A} {n m : ℕ} {x y : S} → GoesOn a b → StaysLed stays b c n m x y → StaysLed stays a c n m x y
+then_led p q = record { caller = goes_more p q.caller; reference = q.reference; stop = q.stop }
+
+pub led_still : {S A : Type 0} {stays : S → S → Type 0} {a b : Caller A} {n : ℕ} {x : S} → ((x : S) → stays x x) → GoesOn a b → StaysLed stays a b n n x x
+led_still {S} {A} {stays} {a} {b} {n} {x} still p = record { caller = p; reference = refl; stop = still x }
+
+pub led_by : {S A : Type 0} {stays : S → S → Type 0} (a : Caller A) {n : ℕ} {x y : S} → stays x y → StaysLed stays a a n n x y
+led_by a h = record { caller = goes_none a; reference = refl; stop = h }

@@ -1,7 +1,7 @@
 -- The calls that a seat adds.
 use Rattle.std.proofs.Common.{◌≡◌, ℕ, List, [], ◌∷◌, ◌++◌, length, drop, refl, sym, ap, ◌∙◌, subst, arith, append_assoc, append-nil}
 use Rattle.std.proofs.Math.Seq.{drop-append_seam}
-use Rattle.std.proofs.lemmas.List.Elements.{All-append}
+use Rattle.std.proofs.lemmas.List.Elements.{All-append, All-cons, All-nil}
 use Rattle.atomic_table.specs.Seated.{TableId}
 use Rattle.atomic_table.specs.declared.shared.Seat.{Seat}
 use Rattle.slots.specs.declared.views.View.{View}
@@ -13,14 +13,13 @@ use Rattle.slots.specs.Promise.{number, all_seen, all_mine, IsSeatOf, Called, Gr
 use Rattle.slots.proofs.Grows.{grew_none, grew_by, grew_more}
 use Rattle.entry.specs.Keys.{key_words}
 use Rattle.entry.specs.Truth.{IsTruePacking}
-use Rattle.decision.proofs.Slots.{all_one}
 use Rattle.decision.specs.Calls.{mate_way, added, AreHitsTrue, KnowsCalls, Continues}
 
 -- what a seat has added, by its calls after and before
-pub added_is : (a b : Seat ℕ View) (calls : List Call) → all_mine b ≡ all_mine a ++ calls → added a b ≡ calls
+added_is : (a b : Seat ℕ View) (calls : List Call) → all_mine b ≡ all_mine a ++ calls → added a b ≡ calls
 added_is a b calls e = ap (drop (length (all_mine a))) e ∙ drop-append_seam (all_mine a) calls
 
-pub added_grew : (a b : Seat ℕ View) (g : Grew a b) → added a b ≡ g.more
+added_grew : (a b : Seat ℕ View) (g : Grew a b) → added a b ≡ g.more
 added_grew a b g = added_is a b g.more g.mine
 
 -- calls that follow on calls are added behind them
@@ -44,7 +43,7 @@ one_continues t slot act a b seat id d hit = record {
   id = id;
   number = d.same;
   grew = grew_by mate_way slot act a b d;
-  hits = subst AreHitsTrue (sym (one_added slot act a b d)) (all_one (λ c. HitFits key_words IsTruePacking c.act) (call slot (number a) act) hit);
+  hits = subst AreHitsTrue (sym (one_added slot act a b d)) (All-cons (λ c. HitFits key_words IsTruePacking c.act) (call slot (number a) act) [] hit (All-nil (λ c. HitFits key_words IsTruePacking c.act)));
   history = λ _. one_history slot act a b d;
 }
 

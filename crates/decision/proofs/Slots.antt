@@ -1,5 +1,5 @@
 -- Calls at two slots.
-use Rattle.std.proofs.Common.{◌≢◌, ℕ, ◌+◌, List, [], ◌∷◌, ◌++◌, All, refl, sym, ap, ◌∙◌, arith, append_assoc, zero, suc}
+use Rattle.std.proofs.Common.{◌≢◌, ℕ, ◌+◌, List, [], ◌∷◌, ◌++◌, refl, sym, ap, ◌∙◌, arith, append_assoc}
 use Rattle.slots.specs.declared.calls.Call.{Call}
 use Rattle.slots.specs.declared.calls.Act.{Act}
 use Rattle.slots.specs.Machine.{part, call}
@@ -33,8 +33,3 @@ next_apart slot e = omega (arith, e)
 
 pub apart_next : (slot : ℕ) → slot ≢ slot + 1
 apart_next slot e = omega (arith, e)
-
--- what holds of one call
-pub all_one : (P : Call → Type 0) (c : Call) → P c → All P (c ∷ [])
-all_one P c h zero d lt = h
-all_one P c h (suc k) d lt = absurd (omega arith)

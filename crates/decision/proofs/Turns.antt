@@ -13,10 +13,10 @@ use Rattle.laws.proofs.Squares.{back_of, turned_on_board, turned_back}
 use Rattle.laws.proofs.Forced.{Forces-turned, Forces-back}
 use Rattle.decision.specs.declared.turning.Turning.{Turning}
 use Rattle.problems.specs.declared.question.Question.{Question}
-use Rattle.problems.specs.Questions.{question, IsForced}
-use Rattle.decision.specs.Turned.{way_of, IsTurnedWell, HaveOneAnswer, AnswersAfter}
+use Rattle.problems.specs.Questions.{question, IsForced, LeadsTo}
+use Rattle.decision.specs.Turned.{way_of, IsTurnedWell, HaveOneAnswer}
 use Rattle.problems.specs.Tried.{Goes, IsAsSaid, IsPassed, IsCut}
-use Rattle.problems.proofs.Tried.{passed_next}
+use Rattle.problems.proofs.Tried.{passed_after, cut_after}
 use Rattle.moves.proofs.Packing.{within_36, replicate_none}
 
 -- the units of the squares below n stand where their squares come to lie, and none past the board
@@ -115,10 +115,10 @@ ends_as true P Q same q = same.1 q
 ends_as false P Q same none = λ p. none (same.0 p)
 
 -- one move more that ended nothing
-pub passed_turned : (q : Question) (n : ℕ) (own : Bool) (ms : List Ply) (i : ℕ) (m : Ply) (other : Question) → i < length ms → m ≡ get_or ms i m → AnswersAfter q m other → All (IsPassed q n own) (take i ms) → Goes own (IsForced other n)
-    → All (IsPassed q n own) (take (i + 1) ms)
-passed_turned q n own ms i m other lt is a before goes = passed_next q n own ms i m a.0 lt is a.1 before (goes_as own _ _ (a.2 n) goes)
+pub passed_turned : (q : Question) (n : ℕ) (own : Bool) (ms : List Ply) (i : ℕ) (m : Ply) (other image : Question) → i < length ms → m ≡ get_or ms i m → LeadsTo q m other → HaveOneAnswer other image → All (IsPassed q n own) (take i ms)
+    → Goes own (IsForced image n) → All (IsPassed q n own) (take (i + 1) ms)
+passed_turned q n own ms i m other image lt is leads same before goes = passed_after q n own ms i m other lt is leads before (goes_as own _ _ (same n) goes)
 
 -- a move that ends it
-pub cut_turned : (q : Question) (n : ℕ) (own : Bool) (m : Ply) (other : Question) → AnswersAfter q m other → IsAsSaid own (IsForced other n) → IsCut q n own
-cut_turned q n own m other a ends = (m, a.0, a.1, ends_as own _ _ (a.2 n) ends)
+pub cut_turned : (q : Question) (n : ℕ) (own : Bool) (m : Ply) (other image : Question) → LeadsTo q m other → HaveOneAnswer other image → IsAsSaid own (IsForced image n) → IsCut q n own
+cut_turned q n own m other image leads same ends = cut_after q n own m other leads (ends_as own _ _ (same n) ends)

@@ -63,9 +63,7 @@ abbrev pub IsTrueHit : Probe → Type 0
 IsTrueHit (Hit words) = IsTruePacking words
 IsTrueHit _ = Unit {0}
 
--- what a reply tells: the interval of a hit, and nothing else
-abbrev pub Tells : Probe → Option Bounds → Type 0
-Tells (Hit words) (Some i) = (e : Entry) × Packing e words × (i ≡ e.interval)
-Tells (Hit words) None = ⊥
-Tells _ (Some i) = ⊥
-Tells _ None = Unit {0}
+-- what a reply tells: the interval of a hit, and else nothing
+abbrev pub Tells : Probe → Bounds → Type 0
+Tells (Hit words) i = (e : Entry) × Packing e words × (i ≡ e.interval)
+Tells _ i = i ≡ bounds_of 0 None

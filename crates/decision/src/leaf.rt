@@ -1,5 +1,5 @@
 //! The last three plies, with no table and no key.
-ghost use Rattle.std.specs.Prelude.{◌≡◌, ◌≤◌, ◌↔◌, IsTrue, IfSome, true, false};
+ghost use Rattle.std.specs.Prelude.{◌≡◌, ◌≤◌, ◌↔◌, IsTrue, true, false};
 ghost use Rattle.rules.specs.Forces.{IsReached};
 ghost use Rattle.problems.specs.Questions.{IsForced};
 ghost use Rattle.problems.specs.Tried.{is_own};
@@ -51,33 +51,23 @@ fn refutes(memory: &mut Memory, q: &Question, m: Move) -> bool
     !wins_at_once(memory, &next)
 }
 
-/// One of the replies that refuted last, if it does again: where it does, no list is made.
-fn remembered_refutation(memory: &mut Memory, q: &Question) -> Option<Move>
-    requires { is_own q.now ≡ false }
-    ensures { IfSome result (λ _. IsForced q.now 2 → ⊥) }
-{
-    for reply in memory.replies() {
-        let Some(m) = reply else {
-            continue;
-        };
-        if refutes(memory, q, m) {
-            return Some(m);
-        }
-    }
-    None
-}
-
-/// Whether one of the replies that refuted last keeps the attacker, who isn't to move, from reaching the goal by its next move.
+/// Whether one of the replies that refuted last keeps the attacker, who isn't to move, from reaching the goal by its next move: where it
+/// does, no list is made.
 fn is_refuted_again(memory: &mut Memory, q: &Question) -> bool
     requires { is_own q.now ≡ false }
     ensures { IsTrue result → IsForced q.now 2 → ⊥ }
 {
     memory.count();
-    let Some(m) = remembered_refutation(memory, q) else {
-        return false;
-    };
-    memory.remember_reply(m);
-    true
+    for reply in memory.replies() {
+        let Some(m) = reply else {
+            continue;
+        };
+        if refutes(memory, q, m) {
+            memory.remember_reply(m);
+            return true;
+        }
+    }
+    false
 }
 
 /// Whether each move of the defender, who is to move and has one, lets the attacker reach the goal by its next, by the list of them.
@@ -150,18 +140,6 @@ fn own_short_leaf(memory: &mut Memory, q: &Question, n: u8) -> bool
     wins_at_once(memory, q)
 }
 
-/// The answer for at most three plies, with the attacker to move.
-fn own_leaf(memory: &mut Memory, rooms: &mut Rooms, q: &Question, n: u8) -> bool
-    requires plies { n ≤ 3 }
-    requires own { is_own q.now ≡ true }
-    ensures { IsTrue result ↔ IsForced q.now n }
-{
-    if n < 3 {
-        return own_short_leaf(memory, q, n);
-    }
-    wins_in_three(memory, rooms, q)
-}
-
 /// The answer for at most three plies.
 pub(crate) fn leaf(memory: &mut Memory, rooms: &mut Rooms, q: &Question, n: u8) -> bool
     requires { n ≤ 3 }
@@ -169,7 +147,10 @@ pub(crate) fn leaf(memory: &mut Memory, rooms: &mut Rooms, q: &Question, n: u8) 
 {
     let own = q.is_own_turn();
     if own {
-        return own_leaf(memory, rooms, q, n);
+        if n < 3 {
+            return own_short_leaf(memory, q, n);
+        }
+        return wins_in_three(memory, rooms, q);
     }
     if n < 2 {
         return answer_now(q);

@@ -1,4 +1,4 @@
-use Rattle.std.proofs.Common.{◌+◌, ◌*◌, ◌-◌, take, All}
+use Rattle.std.proofs.Common.{◌+◌, ◌*◌, ◌-◌, ◌≤◌, take, All}
 use Rattle.decision.specs.Callers.{Searches}
 use Rattle.decision.specs.Questions.{IsKnownOf}
 use Rattle.problems.specs.Tried.{IsPassed}
@@ -15,9 +15,6 @@ decreases-search_in_rounds g l = 7 * l.n + 4
 
 abbrev pub decreases-search : goal.decreases-search
 decreases-search g l = 7 * l.n + 3
-
-abbrev pub decreases-search_few : goal.decreases-search_few
-decreases-search_few g l = 7 * l.n + 2
 
 abbrev pub decreases-search_many : goal.decreases-search_many
 decreases-search_many g l = 7 * l.n + 2
@@ -37,12 +34,13 @@ invariant-try_below-loop-m g l =
     }
 
 -- what is known stays right, round by round
-abbrev pub invariant-search_in_rounds-loop-plies : goal.invariant-search_in_rounds-loop-plies
-invariant-search_in_rounds-loop-plies g l =
+abbrev pub invariant-search_in_rounds-loop-yes : goal.invariant-search_in_rounds-loop-yes
+invariant-search_in_rounds-loop-yes g l =
     record {
       goes_on : Searches g.S.Stop.stays l.fn.caller l.caller l.fn.lead l.lead;
       known : IsKnownOf l.q l.known;
+      plies : l.plies ≤ l.n;
     }
 
-abbrev pub decreases-search_in_rounds-loop-plies : goal.decreases-search_in_rounds-loop-plies
-decreases-search_in_rounds-loop-plies g l = l.n - l.plies
+abbrev pub decreases-search_in_rounds-loop-yes : goal.decreases-search_in_rounds-loop-yes
+decreases-search_in_rounds-loop-yes g l = l.n - l.plies
