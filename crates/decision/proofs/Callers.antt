@@ -1,19 +1,21 @@
 -- A caller that goes on.
 use Rattle.std.proofs.Common.{◌≡◌, ℕ, List, ◌∷◌, [], ◌++◌, refl, sym, ap, ◌∙◌, subst}
+use Rattle.std.proofs.lemmas.List.Elements.{All-cons, All-nil}
 use Rattle.atomic_table.specs.Seated.{TableId}
 use Rattle.atomic_table.specs.declared.shared.Seat.{Seat}
 use Rattle.slots.specs.declared.views.View.{View}
 use Rattle.slots.specs.declared.calls.Call.{Call}
 use Rattle.slots.specs.declared.calls.Act.{Act}
-use Rattle.slots.specs.Machine.{call}
+use Rattle.slots.specs.Machine.{calls_by, call}
 use Rattle.slots.specs.Steps.{HitFits}
-use Rattle.slots.specs.Promise.{slots_of, number, IsSeatOf, Called}
+use Rattle.slots.specs.Promise.{slots_of, number, all_seen, all_mine, IsSeatOf, Called}
+use Rattle.slots.proofs.Grows.{grew_by}
 use Rattle.entry.specs.Keys.{key_words}
 use Rattle.entry.specs.Truth.{IsTruePacking}
 use Rattle.decision.specs.declared.caller.Caller.{Caller}
-use Rattle.decision.specs.Calls.{mate_way, added, Continues}
+use Rattle.decision.specs.Calls.{mate_way, added, AreHitsTrue, KnowsCalls, Continues}
 use Rattle.decision.specs.Callers.{GoesOn, OnAdded, MakesCall, StaysLed}
-use Rattle.decision.proofs.Calls.{continues_none, continues_more, added_more, one_added, one_history, one_continues}
+use Rattle.decision.proofs.Calls.{continues_none, continues_more, added_is, added_more}
 
 goes_none : {A : Type 0} (a : Caller A) → GoesOn a a
 goes_none a = record { table = refl; reference = refl; calls = continues_none a.slots.now a.seat.now a.belongs }
@@ -33,11 +35,28 @@ at_end P goes same h = subst P (sym (same (sym goes.reference))) h
 pub makes_call : {A : Type 0} {a b : Caller A} {slot : ℕ} {act : Act} → b.slots.now ≡ a.slots.now → b.seat.ghost_name ≡ a.seat.ghost_name → IsSeatOf a.slots.now b.seat.now × (b.seat.now.id ≡ a.seat.now.id)
     → Called mate_way slot act a.seat.now b.seat.now → HitFits key_words IsTruePacking act → MakesCall slot act a b
 makes_call {A} {a} {b} {slot} {act} table reference seat called hit = record {
-  goes_on = record { table = table; reference = reference; calls = one_continues a.slots.now slot act a.seat.now b.seat.now seat.0 seat.1 called hit };
-  history = one_history slot act a.seat.now b.seat.now called;
-  one = one_added slot act a.seat.now b.seat.now called;
+  goes_on = record {
+    table = table;
+    reference = reference;
+    calls = record {
+      seat = seat.0;
+      id = seat.1;
+      number = called.same;
+      grew = grew_by mate_way slot act a.seat.now b.seat.now called;
+      hits = subst AreHitsTrue (sym one) (All-cons (λ c. HitFits key_words IsTruePacking c.act) (call slot (number a.seat.now) act) [] hit (All-nil (λ c. HitFits key_words IsTruePacking c.act)));
+      history = λ _. history;
+    };
+  };
+  history = history;
+  one = one;
   hit = hit;
 }
+  where
+    one : added a.seat.now b.seat.now ≡ call slot (number a.seat.now) act ∷ []
+    one = added_is a.seat.now b.seat.now (call slot (number a.seat.now) act ∷ []) called.whole.own
+
+    history : KnowsCalls b.seat.now
+    history = record { legal = called.whole.legal; once = subst (λ n. calls_by n (all_seen b.seat.now) ≡ all_mine b.seat.now) (sym called.same) called.whole.once }
 
 -- two calls in turn
 pub two_added : {A : Type 0} {a b c : Caller A} {slot slot' : ℕ} {act act' : Act} → MakesCall slot act a b → MakesCall slot' act' b c

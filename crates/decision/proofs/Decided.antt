@@ -13,7 +13,7 @@ use Rattle.decision.specs.declared.caller.Caller.{Caller}
 use Rattle.decision.specs.Callers.{GoesOn, OnAdded}
 use Rattle.problems.specs.declared.question.Question.{Question}
 use Rattle.problems.specs.Questions.{question, IsForced}
-use Rattle.decision.specs.Questions.{entry_for, entry_words, key_for, first_slot, RepliesThat, Settles, said, IsMetWith}
+use Rattle.decision.specs.Questions.{entry_for, entry_words, key_for, first_slot, Settles, said, IsMetWith}
 use Rattle.decision.specs.Decisions.{Asks, OffersBoth, StoresAnswer, AsksBelow, IsDecided}
 use Rattle.decision.specs.Decisions.Asks.{first_decides, one_slot, second_decides, neither_decides}
 use Rattle.decision.specs.Below.{HasAsked, OffersKnown, IsFound}
@@ -86,14 +86,14 @@ decided_found {A} {a} {b} {c} bc q n reply d near silent found =
     }
 
 -- a reply that decides
-pub decided_at_once : {A : Type 0} {a b : Caller A} (q : Question) (n : ℕ) (answer : Bool) (reply : Probe) → HasAsked (key_for q) (first_slot (key_for q) (slots_of a.slots.now)) n reply a b → (IsTrue answer ↔ IsForced q n) → RepliesThat reply n answer
+pub decided_at_once : {A : Type 0} {a b : Caller A} (q : Question) (n : ℕ) (answer : Bool) (reply : Probe) → HasAsked (key_for q) (first_slot (key_for q) (slots_of a.slots.now)) n reply a b → (IsTrue answer ↔ IsForced q n) → Settles reply n
     → OnAdded (λ slots number. IsDecided q slots n number (record { yes = answer; expanded = 0; first = reply })) a b
-decided_at_once q n answer reply near right says = record {
+decided_at_once q n answer reply near right settles = record {
   answer = right;
   decides = record {
     asked = near.asked;
     at_once = λ _. (refl, near.probes);
-    searched = λ silent. absurd (silent (answer, says));
+    searched = λ silent. absurd (silent settles);
     stored = λ lt. absurd (omega (arith, lt));
   };
   below = λ lt. absurd (omega (arith, lt));

@@ -1,6 +1,6 @@
 -- What replies say.
 use Rattle.std.proofs.Common.{◌≡◌, ℕ, ◌≤◌, ◌-◌, ◌↔◌, IsTrue, Bool, true, false, List, max, Option, Some, None, refl, sym, ap, ◌∙◌, subst, arith}
-use Rattle.std.specs.Option.{IfSome, MatchOption}
+use Rattle.std.specs.Option.{IfSome, MatchOption, is_some}
 use Rattle.std.proofs.lemmas.Bool.{false≢true}
 use Rattle.board.specs.Board.{IsPosition}
 use Rattle.rules.specs.Forces.{Forces}
@@ -47,10 +47,20 @@ replies_of Vacant i n answer t s = nothing_says n answer (subst (λ (j : Bounds)
 replies_of Other i n answer t s = nothing_says n answer (subst (λ (j : Bounds). Says j n answer) t s)
 replies_of Busy i n answer t s = nothing_says n answer (subst (λ (j : Bounds). Says j n answer) t s)
 
--- what a reply tells decides n where the reply does
-pub settles_by : (reply : Probe) (i : Bounds) (n : ℕ) (found : Option Bool) → Tells reply i → MatchOption found ((answer : Bool) → Says i n answer → ⊥) (λ answer. Says i n answer) → MatchOption found (Settles reply n → ⊥) (λ answer. RepliesThat reply n answer)
-settles_by reply i n None t none = λ s. none s.0 (says_of reply i n s.0 t s.1)
-settles_by reply i n (Some answer) t s = replies_of reply i n answer t s
+-- so what a reply tells decides n where the reply does
+pub settled_by : (reply : Probe) (i : Bounds) (n : ℕ) (answer : Bool) → Tells reply i → Says i n answer → Settles reply n
+settled_by reply i n answer t s = (answer, replies_of reply i n answer t s)
+
+pub unsettled_by : (reply : Probe) (i : Bounds) (n : ℕ) → Tells reply i → ((answer : Bool) → Says i n answer → ⊥) → Settles reply n → ⊥
+unsettled_by reply i n t none s = none s.0 (says_of reply i n s.0 t s.1)
+
+pub if_decided : (reply : Probe) (i : Bounds) (n : ℕ) (found : Option Bool) → Tells reply i → MatchOption found ((answer : Bool) → Says i n answer → ⊥) (λ answer. Says i n answer) → is_some found ≡ true → Settles reply n
+if_decided reply i n None t h is = cc
+if_decided reply i n (Some answer) t h is = settled_by reply i n answer t h
+
+pub if_undecided : (reply : Probe) (i : Bounds) (n : ℕ) (found : Option Bool) → Tells reply i → MatchOption found ((answer : Bool) → Says i n answer → ⊥) (λ answer. Says i n answer) → is_some found ≡ false → Settles reply n → ⊥
+if_undecided reply i n None t h is = unsettled_by reply i n t h
+if_undecided reply i n (Some answer) t h is = cc
 
 meeting_nothing : (s i : Bounds) → i ≡ bounds_of 0 None → meeting s i ≡ s
 meeting_nothing s i e = ap (meeting s) e ∙ (λ k. bounds_of (low k) (high s.upto k))
@@ -103,14 +113,6 @@ known_is_right q i right n true s = (λ e. ends_in i.upto n s right.upto, λ f. 
     ends_in None n by f = absurd by
     ends_in (Some m) n by f = raise (asked_for q) (n - m) m n (omega (arith, by)) f
 known_is_right q i right n false s = (λ e. absurd (false≢true e), λ f. absurd (right.below n s f))
-
--- a reply that decides n is right
-pub reply_is_right : (q : Question) → IsPosition q.position → (reply : Probe) → HitFits key_words IsTruePacking (Asked (key_for q) reply) → (n : ℕ) (answer : Bool) → RepliesThat reply n answer
-    → IsTrue answer ↔ IsForced q n
-reply_is_right q position (Hit words) h n answer r = known_is_right q r.0.interval (told_is_right q position (Hit words) h r.0.interval (r.0, r.1, refl)) n answer r.2
-reply_is_right q position Vacant h n answer r = absurd r
-reply_is_right q position Other h n answer r = absurd r
-reply_is_right q position Busy h n answer r = absurd r
 
 -- what is forced within fewer plies is forced within more
 pub forced_later : (q : Question) (k n : ℕ) → k ≤ n → IsForced q k → IsForced q n

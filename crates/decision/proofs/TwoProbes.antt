@@ -22,14 +22,6 @@ use Rattle.decision.proofs.Callers.{goes_more, two_added}
 use Rattle.decision.proofs.Replies.{whole_of}
 use Rattle.decision.proofs.Slots.{begins_on, begins_one, begins_after, ends_one, ends_behind, ends_before, apart_next, next_apart}
 
-pub unsettled_by : (reply : Probe) (n : ℕ) (found : Option Bool) (r : Bool) → MatchOption found (Settles reply n → ⊥) (λ answer. RepliesThat reply n answer) → r ≡ is_some found → r ≡ false → Settles reply n → ⊥
-unsettled_by reply n None r h e f = h
-unsettled_by reply n (Some answer) r h e f = cc
-
-pub settled_by : (reply : Probe) (n : ℕ) (found : Option Bool) (r : Bool) → MatchOption found (Settles reply n → ⊥) (λ answer. RepliesThat reply n answer) → r ≡ is_some found → r ≡ true → Settles reply n
-settled_by reply n None r h e f = cc
-settled_by reply n (Some answer) r h e f = (answer, h)
-
 -- one probe alone
 module _ {A : Type 0} {a b : Caller A} (key : List ℕ) (slot n : ℕ) (reply : Probe) (p : MakesCall slot (Asked key reply) a b) where
   once : List Call

@@ -3,7 +3,7 @@ ghost use Rattle.std.specs.Prelude.{◌≡◌, ◌<◌, Bool, MatchOption};
 ghost use Rattle.board.specs.Board.{IsPosition};
 ghost use Rattle.slots.specs.Promise.{slots_of};
 ghost use Rattle.decision.specs.Callers.{GoesOn, OnAdded};
-ghost use Rattle.decision.specs.Questions.{key_for, first_slot, RepliesThat, Settles, Says, IsTrueHit, Tells, IsKnownOf};
+ghost use Rattle.decision.specs.Questions.{key_for, first_slot, Says, IsTrueHit, Tells, IsKnownOf};
 ghost use Rattle.decision.specs.Decisions.{IsAsked};
 ghost use Rattle.decision.specs.Below.{HasAsked};
 
@@ -60,14 +60,6 @@ pub(crate) fn decided(interval: Interval, n: u8) -> Option<bool>
     }
 }
 
-/// What the reply says of n plies, if it decides them.
-pub(crate) fn settled(reply: Probe, n: u8) -> Option<bool>
-    requires { IsTrueHit reply }
-    ensures { MatchOption result (Settles reply n → ⊥) (λ answer. RepliesThat reply n answer) }
-{
-    decided(told(reply), n)
-}
-
 /// Asks the first slot, and then the second, if the table has it, where the first reply doesn't decide n plies. The reply is
 /// the one that decides them, or else the first slot's.
 fn ask<A: Allocator>(caller: &mut Caller<'_, A>, key: [u64; 3], slot: usize, n: u8) -> Probe
@@ -76,14 +68,14 @@ fn ask<A: Allocator>(caller: &mut Caller<'_, A>, key: [u64; 3], slot: usize, n: 
 {
     let count = caller.slots.len();
     let reply = caller.probe(slot, key);
-    if settled(reply, n).is_some() {
+    if decided(told(reply), n).is_some() {
         return reply;
     }
     if count <= slot + 1 {
         return reply;
     }
     let second = caller.probe(slot + 1, key);
-    if settled(second, n).is_some() {
+    if decided(told(second), n).is_some() {
         second
     } else {
         reply

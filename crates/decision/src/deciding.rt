@@ -16,7 +16,7 @@ ghost use Rattle.decision.specs.Questions.{key_for, IsKnownOf};
 ghost use Rattle.decision.specs.Below.{IsFound};
 ghost use Rattle.decision.specs.Decisions.{Decides, AsksBelow, IsDecided};
 
-use crate::asking::{ask_near, decided, look_far, settled, told};
+use crate::asking::{ask_near, decided, look_far, told};
 use crate::caller::Caller;
 use crate::decision::Decision;
 use crate::first::try_moves;
@@ -133,7 +133,7 @@ fn decide_with<S: Stop, A: Allocator>(
         (λ d. OnAdded (λ slots number. IsDecided q.now slots n number d) caller.old caller.new) }
 {
     let reply = ask_near(caller, q, n);
-    match settled(reply, n) {
+    match decided(told(reply), n) {
         Some(yes) => Some(Decision {
             yes,
             expanded: 0,
@@ -151,7 +151,7 @@ fn decide_alone<A: Allocator>(caller: &mut Caller<'_, A>, q: &Question, n: u8) -
     ensures decided { OnAdded (λ slots number. IsDecided q.now slots n number result) caller.old caller.new }
 {
     let reply = ask_near(caller, q, n);
-    match settled(reply, n) {
+    match decided(told(reply), n) {
         Some(yes) => Decision {
             yes,
             expanded: 0,

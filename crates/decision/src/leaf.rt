@@ -128,34 +128,22 @@ fn wins_in_three(memory: &mut Memory, rooms: &mut Rooms, q: &Question) -> bool
     false
 }
 
-/// The answer for at most two plies, with the attacker to move.
-fn own_short_leaf(memory: &mut Memory, q: &Question, n: u8) -> bool
-    requires plies { n ≤ 2 }
-    requires own { is_own q.now ≡ true }
-    ensures { IsTrue result ↔ IsForced q.now n }
-{
-    if n == 0 {
-        return answer_now(q);
-    }
-    wins_at_once(memory, q)
-}
-
 /// The answer for at most three plies.
 pub(crate) fn leaf(memory: &mut Memory, rooms: &mut Rooms, q: &Question, n: u8) -> bool
     requires { n ≤ 3 }
     ensures { IsTrue result ↔ IsForced q.now n }
 {
-    let own = q.is_own_turn();
-    if own {
-        if n < 3 {
-            return own_short_leaf(memory, q, n);
-        }
-        return wins_in_three(memory, rooms, q);
-    }
     if n < 2 {
-        return answer_now(q);
+        return short_leaf(memory, q, n);
     }
-    loses_in_two(memory, &mut rooms.replies, q)
+    let own = q.is_own_turn();
+    if !own {
+        return loses_in_two(memory, &mut rooms.replies, q);
+    }
+    if n < 3 {
+        return short_leaf(memory, q, n);
+    }
+    wins_in_three(memory, rooms, q)
 }
 
 /// The answer for at most two plies, with no room for lists: the one of the replies is made where all are needed.
@@ -163,11 +151,14 @@ pub(crate) fn short_leaf(memory: &mut Memory, q: &Question, n: u8) -> bool
     requires { n ≤ 2 }
     ensures { IsTrue result ↔ IsForced q.now n }
 {
+    if n == 0 {
+        return answer_now(q);
+    }
     let own = q.is_own_turn();
     if own {
-        return own_short_leaf(memory, q, n);
+        return wins_at_once(memory, q);
     }
-    if n < 2 {
+    if n == 1 {
         return answer_now(q);
     }
     if is_refuted_again(memory, q) {
