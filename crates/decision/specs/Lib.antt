@@ -7,4 +7,3 @@ pub mod Turned
 -- inside
 pub mod Callers
 pub mod Below
-pub mod Orders

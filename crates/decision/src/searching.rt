@@ -58,33 +58,6 @@ fn known_below<A: Allocator>(
     None
 }
 
-/// The answer for n plies by trying the moves, which are all, in turn, until one ends the search. The table is asked of each position
-/// below, turned about.
-#[cycle(searching)]
-fn try_below<S: Stop, A: Allocator>(
-    caller: &mut Caller<'_, A>,
-    lead: &mut Lead<'_, S>,
-    q: &Question,
-    n: u8,
-    moves: &[Move],
-) -> Option<bool>
-    requires plies { (0 < n) × (n ≤ 63) }
-    requires lists { ListsAll q.now.position moves.now }
-    requires some { 0 < length moves.now }
-    ensures goes_on { Searches S.stays caller.old caller.new lead.old lead.new }
-    ensures answer { MatchOption result (S.told lead.new.scout.now.stop) (λ yes. IsTrue yes ↔ IsForced q.now n) }
-{
-    let own = q.is_own_turn();
-    for m in moves {
-        let yes = visit(caller, lead, &image(q.after(*m)), n - 1)?;
-        if yes == own {
-            lead.scout.memory.remember(*m, n, own);
-            return Some(own);
-        }
-    }
-    Some(!own)
-}
-
 /// A list of the moves.
 fn copied<const CAP: usize>(moves: &[Move]) -> ArrayVec<Move, CAP>
     requires { length moves.now ≤ CAP }
@@ -97,7 +70,8 @@ fn copied<const CAP: usize>(moves: &[Move]) -> ArrayVec<Move, CAP>
     list
 }
 
-/// The answer for n plies by the positions after the moves, which are all.
+/// The answer for n plies by the positions after the moves, which are all: they are tried in turn, until one ends the search. The table is
+/// asked of each position below, turned about.
 #[cycle(searching)]
 fn search_listed<S: Stop, A: Allocator>(
     caller: &mut Caller<'_, A>,
@@ -115,7 +89,15 @@ fn search_listed<S: Stop, A: Allocator>(
     if let Some(yes) = known_below(caller, q, n, moves) {
         return Some(yes);
     }
-    try_below(caller, lead, q, n, moves)
+    let own = q.is_own_turn();
+    for m in moves {
+        let yes = visit(caller, lead, &image(q.after(*m)), n - 1)?;
+        if yes == own {
+            lead.scout.memory.remember(*m, n, own);
+            return Some(own);
+        }
+    }
+    Some(!own)
 }
 
 /// The answer by the moves in the room for them, where they are many.

@@ -38,8 +38,8 @@ search_listed-known_below-requires-clause-lawful g t c = all_listed c.args.q.now
 pub search_listed-returns-in-Some-clause-goes_on : goal.search_listed-returns-in-Some-clause-goes_on
 search_listed-returns-in-Some-clause-goes_on g t c = led_still g.met.S.Stop.stays_at_once c.known_below.ensures.goes_on
 
-pub search_listed-returns-clause-goes_on : goal.search_listed-returns-clause-goes_on
-search_listed-returns-clause-goes_on g t c = then_led c.known_below.ensures.goes_on c.try_below.ensures.goes_on
+pub search_listed-loop-m-init : goal.search_listed-loop-m-init
+search_listed-loop-m-init g t c = record { goes_on = led_still g.met.S.Stop.stays_at_once c.known_below.ensures.goes_on; passed = λ k d lt. absurd (omega (arith, lt)) }
 
 pub search_in_rounds-returns-in_err-yes-clause-goes_on : goal.search_in_rounds-returns-in_err-yes-clause-goes_on
 search_in_rounds-returns-in_err-yes-clause-goes_on g t c = led_more g.met.S.Stop.stays_on c.loop-yes.invariant.goes_on c.search.ensures.goes_on
@@ -63,31 +63,31 @@ search_in_rounds-loop-yes-preserved g t c = record {
   plies = omega arith;
 }
 
-pub try_below-after-requires : goal.try_below-after-requires
-try_below-after-requires g t c = (c.requires.lists c.m-item.result).0 (c.loop-m.m-index, c.loop-m-test.true, sym c.m-item.is)
+pub search_listed-after-requires : goal.search_listed-after-requires
+search_listed-after-requires g t c = (c.requires.lists c.m-item.result).0 (c.loop-m.m-index, c.loop-m-test.true, sym c.m-item.is)
 
-pub try_below-returns-in_err-yes-clause-goes_on : goal.try_below-returns-in_err-yes-clause-goes_on
-try_below-returns-in_err-yes-clause-goes_on g t c = led_more g.met.S.Stop.stays_on c.loop-m.invariant.goes_on c.visit.ensures.goes_on
+pub search_listed-returns-in_err-yes-clause-goes_on : goal.search_listed-returns-in_err-yes-clause-goes_on
+search_listed-returns-in_err-yes-clause-goes_on g t c = led_more g.met.S.Stop.stays_on c.loop-m.invariant.goes_on c.visit.ensures.goes_on
 
-pub try_below-returns-then-yes-own-clause-goes_on : goal.try_below-returns-then-yes-own-clause-goes_on
-try_below-returns-then-yes-own-clause-goes_on g t c = led_more g.met.S.Stop.stays_on c.loop-m.invariant.goes_on c.visit.ensures.goes_on
+pub search_listed-returns-then-yes-own-clause-goes_on : goal.search_listed-returns-then-yes-own-clause-goes_on
+search_listed-returns-then-yes-own-clause-goes_on g t c = led_more g.met.S.Stop.stays_on c.loop-m.invariant.goes_on c.visit.ensures.goes_on
 
-pub try_below-returns-then-yes-own-clause-answer : goal.try_below-returns-then-yes-own-clause-answer
-try_below-returns-then-yes-own-clause-answer g t c =
-    ends_it c.args.q.now c.args.n c.is_own_turn-own.result c.is_own_turn-own.ensures c.requires.plies.0
+pub search_listed-returns-then-yes-own-clause-answer : goal.search_listed-returns-then-yes-own-clause-answer
+search_listed-returns-then-yes-own-clause-answer g t c =
+    ends_it c.args.q.now c.args.n c.is_own_turn-own.result c.is_own_turn-own.ensures (let plies = c.requires.plies.0 in omega arith)
     (cut_turned c.args.q.now (c.args.n - 1) c.is_own_turn-own.result c.m-item.result c.after.result c.image.result c.after.ensures c.image.ensures
     (ends_by c.is_own_turn-own.result c.in_ok-yes.yes _ c.in_ok-yes.ensures.answer (beq_same _ _ c.if-yes-own.true)))
 
-pub try_below-loop-m-preserved : goal.try_below-loop-m-preserved
-try_below-loop-m-preserved g t c = record {
+pub search_listed-loop-m-preserved : goal.search_listed-loop-m-preserved
+search_listed-loop-m-preserved g t c = record {
   goes_on = led_more g.met.S.Stop.stays_on c.loop-m.invariant.goes_on c.visit.ensures.goes_on;
   passed = passed_turned c.args.q.now (c.args.n - 1) c.is_own_turn-own.result c.args.moves.now c.loop-m.m-index c.m-item.result c.after.result c.image.result c.loop-m-test.true c.m-item.is c.after.ensures c.image.ensures c.loop-m.invariant.passed
       (goes_by c.is_own_turn-own.result c.in_ok-yes.yes _ c.in_ok-yes.ensures.answer (beq_apart _ _ c.if-yes-own.false));
 }
 
-pub try_below-returns-clause-answer : goal.try_below-returns-clause-answer
-try_below-returns-clause-answer g t c =
-    none_ends c.args.q.now c.args.n c.is_own_turn-own.result c.is_own_turn-own.ensures c.requires.plies.0 c.args.moves.now c.requires.lists c.requires.some c.loop-m.m-index c.loop-m-test.false c.loop-m.invariant.passed
+pub search_listed-returns-clause-answer : goal.search_listed-returns-clause-answer
+search_listed-returns-clause-answer g t c =
+    none_ends c.args.q.now c.args.n c.is_own_turn-own.result c.is_own_turn-own.ensures (let plies = c.requires.plies.0 in omega arith) c.args.moves.now c.requires.lists c.requires.some c.loop-m.m-index c.loop-m-test.false c.loop-m.invariant.passed
 
 pub visit-returns-in-Some-clause-answer : goal.visit-returns-in-Some-clause-answer
 visit-returns-in-Some-clause-answer g t c = known_is_right c.args.q.now c.look_far-known.result c.look_far-known.ensures.right c.args.n c.in-Some.yes c.in-Some.ensures
