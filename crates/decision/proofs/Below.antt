@@ -15,10 +15,9 @@ use Rattle.decision.specs.declared.caller.Caller.{Caller}
 use Rattle.problems.specs.declared.question.Question.{Question}
 use Rattle.problems.specs.Questions.{question, IsForced, LeadsTo}
 use Rattle.decision.specs.Calls.{added}
-use Rattle.decision.specs.Callers.{GoesOn, OnAdded}
+use Rattle.decision.specs.Callers.{GoesOn, OnAdded, IsAskedAfter}
 use Rattle.decision.specs.Decisions.{IsAsked, RestsOnOne}
 use Rattle.problems.specs.Tried.{ListsAll, is_own, IsPassed, IsCut}
-use Rattle.decision.specs.Below.{IsAskedAfter}
 use Rattle.board.proofs.RankText.{on_true as on_own, on_false as on_other}
 use Rattle.problems.proofs.Tried.{ended_answer, gone_answer, some_listed, All-listed}
 use Rattle.decision.proofs.Callers.{on_added, on_later}

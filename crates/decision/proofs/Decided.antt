@@ -10,15 +10,14 @@ use Rattle.slots.specs.Promise.{slots_of}
 use Rattle.entry.specs.Bounds.{Bounds}
 use Rattle.decision.specs.declared.decision.Decision.{Decision}
 use Rattle.decision.specs.declared.caller.Caller.{Caller}
-use Rattle.decision.specs.Callers.{GoesOn, OnAdded}
+use Rattle.decision.specs.Callers.{GoesOn, OnAdded, HasAsked, OffersKnown, IsFound}
 use Rattle.problems.specs.declared.question.Question.{Question}
 use Rattle.problems.specs.Questions.{question, IsForced}
 use Rattle.decision.specs.Questions.{entry_for, entry_words, key_for, first_slot, Settles, said, IsMetWith}
 use Rattle.decision.specs.Decisions.{Asks, OffersBoth, StoresAnswer, AsksBelow, IsDecided}
 use Rattle.decision.specs.Decisions.Asks.{first_decides, one_slot, second_decides, neither_decides}
-use Rattle.decision.specs.Below.{HasAsked, OffersKnown, IsFound}
 use Rattle.decision.proofs.Callers.{on_added, on_later}
-use Rattle.decision.proofs.Slots.{begins_on, ends_behind}
+use Rattle.decision.proofs.TwoProbes.{begins_on, ends_behind}
 use Rattle.decision.proofs.Below.{asked_on, asked_behind}
 
 -- what was asked first stays first as calls follow

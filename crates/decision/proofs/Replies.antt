@@ -5,7 +5,7 @@ use Rattle.std.proofs.lemmas.Bool.{false≢true}
 use Rattle.board.specs.Board.{IsPosition}
 use Rattle.rules.specs.Forces.{Forces}
 use Rattle.slots.specs.declared.calls.Probe.{Probe}
-use Rattle.slots.specs.declared.calls.Probe.TheVariants.{Hit, Vacant, Other, Busy}
+use Rattle.slots.specs.declared.calls.Probe.TheVariants.{Hit}
 use Rattle.slots.specs.declared.calls.Act.TheVariants.{Asked}
 use Rattle.slots.specs.Steps.{HitFits}
 use Rattle.entry.specs.declared.entries.Entry.{Entry}
@@ -16,16 +16,15 @@ use Rattle.entry.specs.Truth.{IsRight, IsTruePacking}
 use Rattle.entry.proofs.Questions.{one_entry}
 use Rattle.entry.proofs.Truths.{nothing_right, hit_right, yes_right, no_right, raise}
 use Rattle.problems.specs.declared.question.Question.{Question}
+use Rattle.decision.specs.Callers.{IsReplyTo}
 use Rattle.decision.specs.Turned.{HaveOneAnswer}
 use Rattle.problems.specs.Questions.{IsForced}
 use Rattle.decision.specs.Questions.{IsKnownOf, entry_for, entry_words, key_for, EndsBy, Says, RepliesThat, Settles, said, IsMetWith, IsTrueHit, Tells}
 
 -- a hit with the key is whole
-pub whole_of : (key : List ℕ) (reply : Probe) → HitFits key_words IsTruePacking (Asked key reply) → IsTrueHit reply
+whole_of : (key : List ℕ) (reply : Probe) → HitFits key_words IsTruePacking (Asked key reply) → IsTrueHit reply
 whole_of key (Hit words) h = h.1
-whole_of key Vacant h = tt
-whole_of key Other h = tt
-whole_of key Busy h = tt
+whole_of key _ h = tt
 
 -- ---- what a reply tells
 
@@ -36,16 +35,12 @@ nothing_says n false s = omega (arith, s)
 -- what a hit says, its one interval says
 says_of : (reply : Probe) (i : Bounds) (n : ℕ) (answer : Bool) → Tells reply i → RepliesThat reply n answer → Says i n answer
 says_of (Hit words) i n answer t r = subst (λ (j : Bounds). Says j n answer) (ap (λ (e : Entry). e.interval) (one_entry r.0 t.0 words r.1 t.1) ∙ sym t.2) r.2
-says_of Vacant i n answer t r = absurd r
-says_of Other i n answer t r = absurd r
-says_of Busy i n answer t r = absurd r
+says_of _ i n answer t r = absurd r
 
 -- and what it says, the hit says
 replies_of : (reply : Probe) (i : Bounds) (n : ℕ) (answer : Bool) → Tells reply i → Says i n answer → RepliesThat reply n answer
 replies_of (Hit words) i n answer t s = (t.0, t.1, subst (λ (j : Bounds). Says j n answer) t.2 s)
-replies_of Vacant i n answer t s = nothing_says n answer (subst (λ (j : Bounds). Says j n answer) t s)
-replies_of Other i n answer t s = nothing_says n answer (subst (λ (j : Bounds). Says j n answer) t s)
-replies_of Busy i n answer t s = nothing_says n answer (subst (λ (j : Bounds). Says j n answer) t s)
+replies_of _ i n answer t s = nothing_says n answer (subst (λ (j : Bounds). Says j n answer) t s)
 
 -- so what a reply tells decides n where the reply does
 pub settled_by : (reply : Probe) (i : Bounds) (n : ℕ) (answer : Bool) → Tells reply i → Says i n answer → Settles reply n
@@ -75,9 +70,7 @@ meeting_nothing s i e = ap (meeting s) e ∙ (λ k. bounds_of (low k) (high s.up
 -- an interval is met with what the reply tells
 pub met_with : (reply : Probe) (s i : Bounds) → Tells reply i → IsMetWith reply s (meeting s i)
 met_with (Hit words) s i t = (t.0, t.1, ap (meeting s) t.2)
-met_with Vacant s i t = meeting_nothing s i t
-met_with Other s i t = meeting_nothing s i t
-met_with Busy s i t = meeting_nothing s i t
+met_with _ s i t = meeting_nothing s i t
 
 -- ---- what is right of a question
 
@@ -96,9 +89,10 @@ packed_question q position = record {
 pub told_is_right : (q : Question) → IsPosition q.position → (reply : Probe) → HitFits key_words IsTruePacking (Asked (key_for q) reply) → (i : Bounds) → Tells reply i → IsKnownOf q i
 told_is_right q position (Hit words) h i t =
     subst (IsRight (asked_for q)) (sym t.2) (hit_right (asked_for q) t.0 words (entry_words (asked_for q)) (packed_question q position) h.1 h.0 t.1).1
-told_is_right q position Vacant h i t = subst (IsRight (asked_for q)) (sym t) (nothing_right (asked_for q))
-told_is_right q position Other h i t = subst (IsRight (asked_for q)) (sym t) (nothing_right (asked_for q))
-told_is_right q position Busy h i t = subst (IsRight (asked_for q)) (sym t) (nothing_right (asked_for q))
+told_is_right q position _ h i t = subst (IsRight (asked_for q)) (sym t) (nothing_right (asked_for q))
+
+pub reply_to : (q : Question) → IsPosition q.position → (reply : Probe) → HitFits key_words IsTruePacking (Asked (key_for q) reply) → IsReplyTo q reply
+reply_to q position reply hit = record { whole = whole_of (key_for q) reply hit; right = told_is_right q position reply hit }
 
 -- an answer is right of it
 pub said_is_right : (q : Question) (n : ℕ) (answer : Bool) → (IsTrue answer ↔ Forces q.goal q.attacker q.position n) → IsRight (asked_for q) (said answer n)

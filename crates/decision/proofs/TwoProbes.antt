@@ -1,26 +1,51 @@
 -- What a probe of one slot or of both adds, and a store in both.
-use Rattle.std.proofs.Common.{◌≡◌, ℕ, zero, ◌+◌, ◌<◌, ◌≤◌, Bool, true, false, List, [], ◌∷◌, All, Contains, Option, Some, None, refl, sym, subst, arith}
+use Rattle.std.proofs.Common.{◌≡◌, ◌≢◌, ℕ, zero, ◌+◌, ◌<◌, ◌≤◌, List, [], ◌∷◌, ◌++◌, All, Contains, cond, refl, sym, ap, ◌∙◌, subst, arith, append_assoc, eq-eqb, ne_eqb}
 use Rattle.std.specs.Option.{is_some, MatchOption}
 use Rattle.std.proofs.lemmas.List.Elements.{All-cons, All-nil}
 use Rattle.slots.specs.declared.calls.Call.{Call}
+use Rattle.slots.specs.declared.calls.Act.{Act}
 use Rattle.slots.specs.declared.calls.Act.TheVariants.{Asked, Offered}
 use Rattle.slots.specs.declared.calls.Probe.{Probe}
 use Rattle.slots.specs.declared.calls.Store.{Store}
-use Rattle.slots.specs.Machine.{call}
+use Rattle.slots.specs.Machine.{part, call}
 use Rattle.slots.specs.Steps.{HitFits}
+use Rattle.slots.proofs.Histories.{part-own, part-other, part-append}
 use Rattle.slots.specs.Promise.{number, slots_of}
 use Rattle.entry.specs.Keys.{key_words}
 use Rattle.entry.specs.Truth.{IsTruePacking}
 use Rattle.decision.specs.declared.caller.Caller.{Caller}
-use Rattle.decision.specs.Calls.{added, BeginsWith, KnowsCalls}
-use Rattle.decision.specs.Callers.{GoesOn, OnAdded, MakesCall}
-use Rattle.decision.specs.Below.{HasAsked}
+use Rattle.decision.specs.Calls.{added, BeginsWith, EndsWith, KnowsCalls}
+use Rattle.decision.specs.Callers.{GoesOn, OnAdded, MakesCall, HasAsked}
 use Rattle.decision.specs.Questions.{Settles, RepliesThat}
 use Rattle.decision.specs.Decisions.{Asks, IsProbeOf, OffersBoth}
 use Rattle.decision.specs.Decisions.Asks.{first_decides, one_slot, second_decides, neither_decides}
 use Rattle.decision.proofs.Callers.{goes_more, two_added}
-use Rattle.decision.proofs.Replies.{whole_of}
-use Rattle.decision.proofs.Slots.{begins_here, begins_past, ends_one, ends_behind, ends_before}
+
+-- ---- calls at two slots
+
+-- the first call at a slot stays the first
+pub begins_on : (slot number : ℕ) (act : Act) (xs ys : List Call) → BeginsWith slot number act xs → BeginsWith slot number act (xs ++ ys)
+begins_on slot number act xs ys b = (b.0 ++ part slot ys, part-append slot xs ys ∙ ap (λ (l : List Call). l ++ part slot ys) b.1)
+
+-- a call is the first at its slot, and of no other slot
+pub begins_here : (slot number : ℕ) (act : Act) (ys : List Call) → BeginsWith slot number act (call slot number act ∷ ys)
+begins_here slot number act ys = (part slot ys, ap (λ b. cond b (call slot number act ∷ part slot ys) (part slot ys)) (eq-eqb slot slot refl))
+
+pub begins_past : (slot number : ℕ) (act : Act) (c : Call) (ys : List Call) → c.slot ≢ slot → BeginsWith slot number act ys → BeginsWith slot number act (c ∷ ys)
+begins_past slot number act c ys apart b = (b.0, ap (λ r. cond r (c ∷ part slot ys) (part slot ys)) (ne_eqb c.slot slot apart) ∙ b.1)
+
+-- the last call at a slot, behind others
+pub ends_behind : (slot number : ℕ) (act : Act) (xs ys : List Call) → EndsWith slot number act ys → EndsWith slot number act (xs ++ ys)
+ends_behind slot number act xs ys e = (part slot xs ++ e.0, part-append slot xs ys ∙ (ap (λ (l : List Call). part slot xs ++ l) e.1 ∙ sym (append_assoc (part slot xs) e.0 (call slot number act ∷ []))))
+
+pub ends_one : (slot number : ℕ) (act : Act) → EndsWith slot number act (call slot number act ∷ [])
+ends_one slot number act = ([], part-own slot [] (call slot number act) refl)
+
+-- a call at another slot changes nothing here
+pub ends_before : (slot number : ℕ) (act : Act) (xs : List Call) (c : Call) → c.slot ≢ slot → EndsWith slot number act xs → EndsWith slot number act (xs ++ c ∷ [])
+ends_before slot number act xs c apart e = (e.0, part-other slot xs c apart ∙ e.1)
+
+-- ---- probes and stores
 
 -- the first call, and what follows on it
 module _ {A : Type 0} {a b : Caller A} (key : List ℕ) (slot n : ℕ) (reply counts : Probe) (more : List Call) (goes : GoesOn a b) (knows : KnowsCalls b.seat.now) (made : added a.seat.now b.seat.now ≡ call slot (number a.seat.now) (Asked key reply) ∷ more)
@@ -33,7 +58,6 @@ module _ {A : Type 0} {a b : Caller A} (key : List ℕ) (slot n : ℕ) (reply co
     asked = subst (Asks key slot (slots_of a.slots.now) n (number a.seat.now) counts) (sym made) asks;
     probes = subst (All (IsProbeOf key)) (sym made) (All-cons (IsProbeOf key) (call slot (number a.seat.now) (Asked key reply)) more (reply, refl) probes);
     hit = hit;
-    whole = whole_of key counts hit;
   }
 
 -- one probe alone

@@ -1,11 +1,9 @@
 //! Asking the table, and what its replies say.
 ghost use Rattle.std.specs.Prelude.{◌≡◌, ◌<◌, Bool, MatchOption};
-ghost use Rattle.board.specs.Board.{IsPosition};
 ghost use Rattle.slots.specs.Promise.{slots_of};
-ghost use Rattle.decision.specs.Callers.{GoesOn, OnAdded};
+ghost use Rattle.decision.specs.Callers.{GoesOn, OnAdded, HasAsked, IsReplyTo};
 ghost use Rattle.decision.specs.Questions.{key_for, first_slot, Says, IsTrueHit, Tells, IsKnownOf};
 ghost use Rattle.decision.specs.Decisions.{IsAsked};
-ghost use Rattle.decision.specs.Below.{HasAsked};
 
 use crate::caller::Caller;
 use crate::image::{NOTHING, image, table_key};
@@ -86,7 +84,7 @@ fn ask<A: Allocator>(caller: &mut Caller<'_, A>, key: [u64; 3], slot: usize, n: 
 pub(crate) fn ask_near<A: Allocator>(caller: &mut Caller<'_, A>, q: &Question, n: u8) -> Probe
     ensures asked { HasAsked (key_for q.now) (first_slot (key_for q.now) (slots_of caller.old.slots.now)) n result
         caller.old caller.new }
-    ensures position { IsPosition q.now.position }
+    ensures reply { IsReplyTo q.now result }
 {
     let key = table_key(q);
     let slot = first_slot(caller.slots, key);

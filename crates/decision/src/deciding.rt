@@ -3,17 +3,11 @@ ghost use Rattle.std.specs.Prelude.{◌≡◌, ◌<◌, ◌≤◌, ◌↔◌, Is
 ghost use Rattle.rules.specs.Squares.{Ply};
 ghost use Rattle.rules.specs.Moves.{IsLawful};
 ghost use Rattle.rules.specs.Forces.{Forces};
-ghost use Rattle.board.specs.Board.{IsPosition};
 ghost use Rattle.slots.specs.Promise.{slots_of, number, IsSeatOf};
-ghost use Rattle.slots.specs.Steps.{HitFits};
-ghost use Rattle.slots.specs.declared.calls.Act.TheVariants.{Asked};
-ghost use Rattle.entry.specs.Keys.{key_words};
-ghost use Rattle.entry.specs.Truth.{IsTruePacking};
 ghost use Rattle.decision.specs.Calls.{added, Continues, KnowsCalls};
-ghost use Rattle.decision.specs.Callers.{GoesOn, OnAdded, Searches};
+ghost use Rattle.decision.specs.Callers.{GoesOn, OnAdded, IsFound, IsReplyTo, Searches};
 ghost use Rattle.problems.specs.Questions.{question, IsForced};
-ghost use Rattle.decision.specs.Questions.{key_for, IsKnownOf};
-ghost use Rattle.decision.specs.Below.{IsFound};
+ghost use Rattle.decision.specs.Questions.{IsKnownOf};
 ghost use Rattle.decision.specs.Decisions.{Decides, AsksBelow, IsDecided};
 
 use crate::asking::{ask_near, decided, look_far, told};
@@ -55,7 +49,7 @@ fn search_given<S: Stop, A: Allocator>(
     }
     let mut moves = ArrayVec::new();
     order_into(&lead.scout.memory, q, n, &mut lead.rooms.costed, &mut moves);
-    if moves.is_empty() {
+    if moves.len() == 0 {
         return Some(answer_now(q));
     }
     try_moves(caller, lead, q, n, moves.as_slice())
@@ -71,9 +65,8 @@ fn search_and_keep<S: Stop, A: Allocator>(
     n: u8,
     reply: Probe,
 ) -> Option<Decision>
-    requires position { IsPosition q.now.position }
     requires plies { n ≤ 63 }
-    requires hit { HitFits key_words IsTruePacking (Asked (key_for q.now) reply) }
+    requires reply { IsReplyTo q.now reply }
     ensures goes_on { GoesOn caller.old caller.new }
     ensures stop { S.stays scout.old.stop scout.new.stop }
     ensures found { MatchOption result (S.told scout.new.stop)
@@ -102,9 +95,8 @@ fn search_and_keep_alone<A: Allocator>(
     n: u8,
     reply: Probe,
 ) -> Decision
-    requires position { IsPosition q.now.position }
     requires plies { n ≤ 63 }
-    requires hit { HitFits key_words IsTruePacking (Asked (key_for q.now) reply) }
+    requires reply { IsReplyTo q.now reply }
     ensures goes_on { GoesOn caller.old caller.new }
     ensures found { OnAdded (λ slots number. IsFound q.now slots n number reply result) caller.old caller.new }
 {

@@ -25,11 +25,7 @@ pub(crate) fn image(q: Question) -> Question
     let Some(position) = turned(&q.position, turning) else {
         return q;
     };
-    Question {
-        position,
-        attacker: q.attacker,
-        goal: q.goal,
-    }
+    Question { position, ..q }
 }
 
 /// The key by which the table is asked.

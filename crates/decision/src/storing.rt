@@ -3,11 +3,10 @@ ghost use Rattle.std.specs.Prelude.{◌≡◌, ◌<◌, ◌≤◌, ◌↔◌, Is
 ghost use Rattle.slots.specs.Promise.{slots_of};
 ghost use Rattle.entry.specs.Bounds.{meeting};
 ghost use Rattle.entry.specs.Truth.{IsTruePacking};
-ghost use Rattle.decision.specs.Callers.{GoesOn, OnAdded};
+ghost use Rattle.decision.specs.Callers.{GoesOn, OnAdded, OffersKnown};
 ghost use Rattle.decision.specs.Questions.{said, IsKnownOf};
 ghost use Rattle.problems.specs.Questions.{IsForced};
 ghost use Rattle.decision.specs.Decisions.{OffersBoth};
-ghost use Rattle.decision.specs.Below.{OffersKnown};
 
 use crate::asking::{far_slot, first_slot};
 use crate::caller::Caller;

@@ -1,25 +1,23 @@
 use Rattle.std.proofs.Common.{sym, subst}
-use Rattle.decision.specs.Questions.{IsKnownOf}
 use Rattle.decision.specs.Decisions.{IsAsked}
+use Rattle.decision.specs.Questions.{IsKnownOf}
 use Rattle.decision.proofs.Callers.{goes_more, on_added}
-use Rattle.decision.proofs.Replies.{told_is_right, known_back}
+use Rattle.decision.proofs.Replies.{known_back}
 use Rattle.decision.proofs.Below.{asked_on}
 use Rattle.decision.proofs.asking.look.Goals as goal
 
 pub returns-then-is_some-clause-right : goal.returns-then-is_some-clause-right
-returns-then-is_some-clause-right g c = let near = c.ask_near.ensures in told_is_right c.args.q.now near.position c.ask_near.result near.asked.hit c.told-near.result c.told-near.ensures
+returns-then-is_some-clause-right g c = c.ask_near.ensures.reply.right c.told-near.result c.told-near.ensures
 
 pub meet-requires : goal.meet-requires
 meet-requires g c =
-    let near = c.ask_near.ensures in
-    c.interval_laws.ensures.consistent _ c.told-near.result c.look_far-far.result (told_is_right c.args.q.now near.position c.ask_near.result near.asked.hit c.told-near.result c.told-near.ensures)
+    c.interval_laws.ensures.consistent _ c.told-near.result c.look_far-far.result (c.ask_near.ensures.reply.right c.told-near.result c.told-near.ensures)
     (known_back c.args.q.now c.copied.result c.image.result c.look_far-far.result c.copied.ensures c.image.ensures c.look_far-far.ensures.right)
 
 pub returns-clause-right : goal.returns-clause-right
 returns-clause-right g c =
-    let near = c.ask_near.ensures in
     subst (IsKnownOf c.args.q.now) (sym c.meet.ensures)
-    (c.interval_laws.ensures.right _ c.told-near.result c.look_far-far.result (told_is_right c.args.q.now near.position c.ask_near.result near.asked.hit c.told-near.result c.told-near.ensures)
+    (c.interval_laws.ensures.right _ c.told-near.result c.look_far-far.result (c.ask_near.ensures.reply.right c.told-near.result c.told-near.ensures)
     (known_back c.args.q.now c.copied.result c.image.result c.look_far-far.result c.copied.ensures c.image.ensures c.look_far-far.ensures.right))
 
 pub returns-clause-goes_on : goal.returns-clause-goes_on

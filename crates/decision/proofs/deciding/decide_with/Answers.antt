@@ -1,5 +1,5 @@
 use Rattle.decision.proofs.Callers.{goes_more}
-use Rattle.decision.proofs.Replies.{told_is_right, known_is_right, settled_by, unsettled_by}
+use Rattle.decision.proofs.Replies.{known_is_right, settled_by, unsettled_by}
 use Rattle.decision.proofs.Decided.{decided_at_once, decided_found}
 use Rattle.decision.proofs.Options.{some_weaker}
 use Rattle.decision.proofs.deciding.decide_with.Goals as goal
@@ -8,8 +8,11 @@ pub returns-in-Some-clause-decided : goal.returns-in-Some-clause-decided
 returns-in-Some-clause-decided g c =
     let near = c.ask_near-reply.ensures in
     decided_at_once c.args.q.now c.args.n c.in-Some.yes c.ask_near-reply.result near.asked
-    (known_is_right c.args.q.now c.told.result (told_is_right c.args.q.now near.position c.ask_near-reply.result near.asked.hit c.told.result c.told.ensures) c.args.n c.in-Some.yes c.in-Some.ensures)
+    (known_is_right c.args.q.now c.told.result (near.reply.right c.told.result c.told.ensures) c.args.n c.in-Some.yes c.in-Some.ensures)
     (settled_by c.ask_near-reply.result c.told.result c.args.n c.in-Some.yes c.told.ensures c.in-Some.ensures)
+
+pub returns-in-Some-clause-stop : goal.returns-in-Some-clause-stop
+returns-in-Some-clause-stop g c = g.met.S.Stop.stays_at_once _
 
 pub returns-in-None-clause-goes_on : goal.returns-in-None-clause-goes_on
 returns-in-None-clause-goes_on g c = goes_more c.ask_near-reply.ensures.asked.goes_on c.search_and_keep.ensures.goes_on

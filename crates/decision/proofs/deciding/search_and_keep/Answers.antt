@@ -2,15 +2,12 @@ use Rattle.std.proofs.Common.{arith, sym, subst}
 use Rattle.entry.specs.Bounds.{Bounds}
 use Rattle.decision.specs.Questions.{said, IsMetWith}
 use Rattle.decision.proofs.Callers.{goes_more}
-use Rattle.decision.proofs.Replies.{whole_of, told_is_right, met_with}
+use Rattle.decision.proofs.Replies.{met_with}
 use Rattle.decision.proofs.Decided.{found_by}
 use Rattle.decision.proofs.deciding.search_and_keep.Goals as goal
 
-pub told-requires : goal.told-requires
-told-requires g c = whole_of _ _ c.requires.hit
-
 pub known_with-requires-clause-known : goal.known_with-requires-clause-known
-known_with-requires-clause-known g c = told_is_right c.args.q.now c.requires.position c.args.reply c.requires.hit c.told.result c.told.ensures
+known_with-requires-clause-known g c = c.requires.reply.right c.told.result c.told.ensures
 
 pub returns-clause-goes_on : goal.returns-clause-goes_on
 returns-clause-goes_on g c = goes_more c.search_given.ensures.goes_on.caller c.keep.ensures.goes_on

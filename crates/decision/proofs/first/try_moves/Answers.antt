@@ -2,7 +2,7 @@ use Rattle.std.proofs.Common.{◌-◌, All, sym, subst}
 use Rattle.std.proofs.lemmas.List.{take_all}
 use Rattle.slots.specs.Promise.{slots_of, number}
 use Rattle.decision.specs.Calls.{added}
-use Rattle.decision.specs.Below.{IsAskedAfter}
+use Rattle.decision.specs.Callers.{IsAskedAfter}
 use Rattle.problems.proofs.Tried.{passed_after, cut_after, goes_by, ends_by, beq_same, beq_apart, All-listed}
 use Rattle.decision.proofs.Callers.{led_more}
 use Rattle.decision.proofs.Below.{ends_it, none_ends, rests, rests_not, asked_later, asked_next}

@@ -1,9 +1,8 @@
 use Rattle.std.proofs.Common.{◌-◌, take, All}
 use Rattle.slots.specs.Promise.{slots_of, number}
 use Rattle.decision.specs.Calls.{added}
-use Rattle.decision.specs.Callers.{Searches}
+use Rattle.decision.specs.Callers.{Searches, IsAskedAfter}
 use Rattle.problems.specs.Tried.{IsPassed}
-use Rattle.decision.specs.Below.{IsAskedAfter}
 use Rattle.decision.proofs.first.try_moves.Given as goal
 
 -- the moves so far ended nothing, and the table was asked of the position after each

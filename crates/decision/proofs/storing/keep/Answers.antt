@@ -1,10 +1,9 @@
 use Rattle.std.proofs.Common.{ℕ, List, sym, ap, ◌∙◌, subst}
 use Rattle.slots.specs.Promise.{slots_of}
-use Rattle.decision.specs.Callers.{OnAdded}
+use Rattle.decision.specs.Callers.{OnAdded, OffersKnown}
 use Rattle.problems.specs.declared.question.Question.{Question}
 use Rattle.decision.specs.Questions.{key_for, first_slot, IsKnownOf}
 use Rattle.decision.specs.Decisions.{OffersBoth}
-use Rattle.decision.specs.Below.{OffersKnown}
 use Rattle.decision.proofs.Callers.{goes_more, on_later}
 use Rattle.decision.proofs.Replies.{known_as}
 use Rattle.decision.proofs.Decided.{known_behind}
