@@ -19,12 +19,7 @@ use Rattle.problems.specs.declared.question.Question.{Question}
 use Rattle.decision.specs.Callers.{IsReplyTo}
 use Rattle.decision.specs.Turned.{HaveOneAnswer}
 use Rattle.problems.specs.Questions.{IsForced}
-use Rattle.decision.specs.Questions.{IsKnownOf, entry_for, entry_words, key_for, EndsBy, Says, RepliesThat, Settles, said, IsMetWith, IsTrueHit, Tells}
-
--- a hit with the key is whole
-whole_of : (key : List ℕ) (reply : Probe) → HitFits key_words IsTruePacking (Asked key reply) → IsTrueHit reply
-whole_of key (Hit words) h = h.1
-whole_of key _ h = tt
+use Rattle.decision.specs.Questions.{IsKnownOf, entry_for, entry_words, key_for, EndsBy, Says, RepliesThat, Settles, said, IsMetWith, Tells}
 
 -- ---- what a reply tells
 
@@ -32,26 +27,18 @@ nothing_says : (n : ℕ) (answer : Bool) → Says (bounds_of 0 None) n answer �
 nothing_says n true s = s
 nothing_says n false s = omega (arith, s)
 
--- what a hit says, its one interval says
-says_of : (reply : Probe) (i : Bounds) (n : ℕ) (answer : Bool) → Tells reply i → RepliesThat reply n answer → Says i n answer
-says_of (Hit words) i n answer t r = subst (λ (j : Bounds). Says j n answer) (ap (λ (e : Entry). e.interval) (one_entry r.0 t.0 words r.1 t.1) ∙ sym t.2) r.2
-says_of _ i n answer t r = absurd r
-
--- and what it says, the hit says
-replies_of : (reply : Probe) (i : Bounds) (n : ℕ) (answer : Bool) → Tells reply i → Says i n answer → RepliesThat reply n answer
-replies_of (Hit words) i n answer t s = (t.0, t.1, subst (λ (j : Bounds). Says j n answer) t.2 s)
-replies_of _ i n answer t s = nothing_says n answer (subst (λ (j : Bounds). Says j n answer) t s)
-
--- so what a reply tells decides n where the reply does
-pub settled_by : (reply : Probe) (i : Bounds) (n : ℕ) (answer : Bool) → Tells reply i → Says i n answer → Settles reply n
-settled_by reply i n answer t s = (answer, replies_of reply i n answer t s)
+-- what a reply tells decides n where the reply does
+pub settled_by : (key : List ℕ) (reply : Probe) (i : Bounds) (n : ℕ) (answer : Bool) → HitFits key_words IsTruePacking (Asked key reply) → Tells reply i → Says i n answer → Settles reply n
+settled_by key (Hit words) i n answer h t s = (answer, (h.1.entry, h.1.packing, subst (λ (j : Bounds). Says j n answer) (t h.1.entry h.1.packing) s))
+settled_by key _ i n answer h t s = absurd (nothing_says n answer (subst (λ (j : Bounds). Says j n answer) t s))
 
 pub unsettled_by : (reply : Probe) (i : Bounds) (n : ℕ) → Tells reply i → ((answer : Bool) → Says i n answer → ⊥) → Settles reply n → ⊥
-unsettled_by reply i n t none s = none s.0 (says_of reply i n s.0 t s.1)
+unsettled_by (Hit words) i n t none s = none s.0 (subst (λ (j : Bounds). Says j n s.0) (sym (t s.1.0 s.1.1)) s.1.2)
+unsettled_by _ i n t none s = s.1
 
-pub if_decided : (reply : Probe) (i : Bounds) (n : ℕ) (found : Option Bool) → Tells reply i → MatchOption found ((answer : Bool) → Says i n answer → ⊥) (λ answer. Says i n answer) → is_some found ≡ true → Settles reply n
-if_decided reply i n None t h is = cc
-if_decided reply i n (Some answer) t h is = settled_by reply i n answer t h
+pub if_decided : (key : List ℕ) (reply : Probe) (i : Bounds) (n : ℕ) (found : Option Bool) → HitFits key_words IsTruePacking (Asked key reply) → Tells reply i → MatchOption found ((answer : Bool) → Says i n answer → ⊥) (λ answer. Says i n answer) → is_some found ≡ true → Settles reply n
+if_decided key reply i n None h t found is = cc
+if_decided key reply i n (Some answer) h t found is = settled_by key reply i n answer h t found
 
 pub if_undecided : (reply : Probe) (i : Bounds) (n : ℕ) (found : Option Bool) → Tells reply i → MatchOption found ((answer : Bool) → Says i n answer → ⊥) (λ answer. Says i n answer) → is_some found ≡ false → Settles reply n → ⊥
 if_undecided reply i n None t h is = unsettled_by reply i n t h
@@ -68,9 +55,9 @@ meeting_nothing s i e = ap (meeting s) e ∙ (λ k. bounds_of (low k) (high s.up
     high (Some n) = refl
 
 -- an interval is met with what the reply tells
-pub met_with : (reply : Probe) (s i : Bounds) → Tells reply i → IsMetWith reply s (meeting s i)
-met_with (Hit words) s i t = (t.0, t.1, ap (meeting s) t.2)
-met_with _ s i t = meeting_nothing s i t
+pub met_with : (key : List ℕ) (reply : Probe) (s i : Bounds) → HitFits key_words IsTruePacking (Asked key reply) → Tells reply i → IsMetWith reply s (meeting s i)
+met_with key (Hit words) s i h t = (h.1.entry, h.1.packing, ap (meeting s) (t h.1.entry h.1.packing))
+met_with key _ s i h t = meeting_nothing s i t
 
 -- ---- what is right of a question
 
@@ -88,11 +75,11 @@ packed_question q position = record {
 -- what the reply to its key tells is right of the question
 pub told_is_right : (q : Question) → IsPosition q.position → (reply : Probe) → HitFits key_words IsTruePacking (Asked (key_for q) reply) → (i : Bounds) → Tells reply i → IsKnownOf q i
 told_is_right q position (Hit words) h i t =
-    subst (IsRight (asked_for q)) (sym t.2) (hit_right (asked_for q) t.0 words (entry_words (asked_for q)) (packed_question q position) h.1 h.0 t.1).1
+    subst (IsRight (asked_for q)) (sym (t h.1.entry h.1.packing)) (hit_right (asked_for q) h.1.entry words (entry_words (asked_for q)) (packed_question q position) h.1 h.0 h.1.packing).1
 told_is_right q position _ h i t = subst (IsRight (asked_for q)) (sym t) (nothing_right (asked_for q))
 
 pub reply_to : (q : Question) → IsPosition q.position → (reply : Probe) → HitFits key_words IsTruePacking (Asked (key_for q) reply) → IsReplyTo q reply
-reply_to q position reply hit = record { whole = whole_of (key_for q) reply hit; right = told_is_right q position reply hit }
+reply_to q position reply hit = record { hit = hit; right = told_is_right q position reply hit }
 
 -- an answer is right of it
 pub said_is_right : (q : Question) (n : ℕ) (answer : Bool) → (IsTrue answer ↔ Forces q.goal q.attacker q.position n) → IsRight (asked_for q) (said answer n)

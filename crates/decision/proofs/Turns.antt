@@ -33,25 +33,22 @@ turned_none t b = record { long = refl; done = λ s on less. absurd (omega (arit
 
 -- one square more
 module _ (t : Way) (b : PlainBoard) (units : List (Option Man)) (n : ℕ) (s : Place) (o : Option Man) (on : IsOnBoard b.game s) (number : square_number b.game s ≡ n) (stands : o ≡ unit_at b s) (c : IsTurnedUpTo t b units n) where
-  to : ℕ
+  abbrev to : ℕ
   to = square_number b.game (turned_place b.game t s)
 
   to_within : to < squares_of b.game
-  unfolding to
   to_within = number_within b.game (turned_place b.game t s) (turned_on_board b.game t s on)
 
   to_fits : to < length units
   to_fits = let less = within_36 b.game to to_within in omega (arith, less, c.long)
 
   apart : (x : Place) → IsOnBoard b.game x → square_number b.game x ≢ n → square_number b.game (turned_place b.game t x) ≢ to
-  unfolding to
   apart x on_x other same =
       let image = same_number b.game (turned_place b.game t x) (turned_place b.game t s) (turned_on_board b.game t x on_x) (turned_on_board b.game t s on) same in
       let back : x ≡ s = sym (turned_back b.game t x on_x) ∙ ap (turned_place b.game (back_of t)) image ∙ turned_back b.game t s on in
       other (ap (square_number b.game) back ∙ number)
 
   here : get_or (set units to o) (square_number b.game (turned_place b.game t s)) None ≡ unit_at b s
-  unfolding to
   here = get_or-set_same units to o None to_fits ∙ stands
 
   done : (x : Place) → IsOnBoard b.game x → square_number b.game x < n + 1 → get_or (set units to o) (square_number b.game (turned_place b.game t x)) None ≡ unit_at b x
@@ -68,7 +65,6 @@ module _ (t : Way) (b : PlainBoard) (units : List (Option Man)) (n : ℕ) (s : P
   }
 
   pub turned_more : (at : ℕ) → at ≡ square_number b.game (turned_place b.game t s) → IsTurnedUpTo t b (set units at o) (n + 1)
-  unfolding to
   turned_more at is = subst (λ k. IsTurnedUpTo t b (set units k o) (n + 1)) (sym is) placed
 
 -- where no side is exchanged, a unit stays as it is

@@ -19,7 +19,7 @@ use Rattle.decision.specs.declared.caller.Caller.{Caller}
 use Rattle.decision.specs.declared.lead.Lead.{Lead}
 use Rattle.decision.specs.declared.decision.Decision.{Decision}
 use Rattle.decision.specs.Calls.{added, Continues, KnowsCalls}
-use Rattle.decision.specs.Questions.{entry_for, entry_words, key_for, first_slot, IsTrueHit, Tells, IsKnownOf}
+use Rattle.decision.specs.Questions.{entry_for, entry_words, key_for, first_slot, Tells, IsKnownOf}
 use Rattle.decision.specs.Decisions.{Asks, IsProbeOf, OffersBoth, IsAsked, AsksBelow, StoresAnswer}
 
 -- the same caller, later: its table and its seat are the same, and its seat continues
@@ -60,7 +60,7 @@ pub record HasAsked {A : Type 0} (key : List ℕ) (slot n : ℕ) (reply : Probe)
 
 -- the reply is one to the question's key: what it tells is right of the question
 pub record IsReplyTo (q : Question) (reply : Probe) : Type 0 where
-  pub whole : IsTrueHit reply
+  pub hit : HitFits key_words IsTruePacking (Asked (key_for q) reply)
   pub right : (i : Bounds) → Tells reply i → IsKnownOf q i
 
 -- what is known of the question is offered last, in its own slots

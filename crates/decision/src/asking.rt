@@ -2,7 +2,7 @@
 ghost use Rattle.std.specs.Prelude.{◌≡◌, ◌<◌, Bool, MatchOption};
 ghost use Rattle.slots.specs.Promise.{slots_of};
 ghost use Rattle.decision.specs.Callers.{GoesOn, OnAdded, HasAsked, IsReplyTo};
-ghost use Rattle.decision.specs.Questions.{key_for, first_slot, Says, IsTrueHit, Tells, IsKnownOf};
+ghost use Rattle.decision.specs.Questions.{key_for, first_slot, Says, Tells, IsKnownOf};
 ghost use Rattle.decision.specs.Decisions.{IsAsked};
 
 use crate::caller::Caller;
@@ -35,7 +35,6 @@ pub(crate) fn far_slot<A: Allocator>(slots: &Slots<MateLore, A>, key: [u64; 3]) 
 
 /// What the reply tells: the interval of a hit, and else nothing.
 pub(crate) fn told(reply: Probe) -> Interval
-    requires { IsTrueHit reply }
     ensures { Tells reply result }
 {
     match reply {

@@ -1,6 +1,6 @@
 use Rattle.decision.proofs.Callers.{goes_more}
 use Rattle.decision.proofs.Replies.{known_is_right, settled_by, unsettled_by}
-use Rattle.decision.proofs.Decided.{decided_at_once, decided_found}
+use Rattle.decision.proofs.Below.{decided_at_once, decided_found}
 use Rattle.decision.proofs.deciding.decide_alone.Goals as goal
 
 pub returns-in-Some-clause-decided : goal.returns-in-Some-clause-decided
@@ -8,7 +8,7 @@ returns-in-Some-clause-decided g c =
     let near = c.ask_near-reply.ensures in
     decided_at_once c.args.q.now c.args.n c.in-Some.yes c.ask_near-reply.result near.asked
     (known_is_right c.args.q.now c.told.result (near.reply.right c.told.result c.told.ensures) c.args.n c.in-Some.yes c.in-Some.ensures)
-    (settled_by c.ask_near-reply.result c.told.result c.args.n c.in-Some.yes c.told.ensures c.in-Some.ensures)
+    (settled_by _ c.ask_near-reply.result c.told.result c.args.n c.in-Some.yes near.reply.hit c.told.ensures c.in-Some.ensures)
 
 pub returns-in-None-clause-goes_on : goal.returns-in-None-clause-goes_on
 returns-in-None-clause-goes_on g c = goes_more c.ask_near-reply.ensures.asked.goes_on c.search_and_keep_alone.ensures.goes_on

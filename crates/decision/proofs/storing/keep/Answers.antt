@@ -6,7 +6,7 @@ use Rattle.decision.specs.Questions.{key_for, first_slot, IsKnownOf}
 use Rattle.decision.specs.Decisions.{OffersBoth}
 use Rattle.decision.proofs.Callers.{goes_more, on_later}
 use Rattle.decision.proofs.Replies.{known_as}
-use Rattle.decision.proofs.Decided.{known_behind}
+use Rattle.decision.proofs.Below.{known_behind}
 use Rattle.decision.proofs.storing.keep.Goals as goal
 
 pub keep_far-requires : goal.keep_far-requires

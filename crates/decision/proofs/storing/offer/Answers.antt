@@ -1,5 +1,4 @@
-use Rattle.decision.proofs.Callers.{goes_more}
-use Rattle.decision.proofs.TwoProbes.{offers_two}
+use Rattle.decision.proofs.Callers.{goes_more, offers_two}
 use Rattle.decision.proofs.storing.offer.Goals as goal
 
 pub returns-then-slot-count-clause-goes_on : goal.returns-then-slot-count-clause-goes_on
