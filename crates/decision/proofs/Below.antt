@@ -14,7 +14,6 @@ use Rattle.slots.specs.Promise.{slots_of, number}
 use Rattle.decision.specs.declared.caller.Caller.{Caller}
 use Rattle.problems.specs.declared.question.Question.{Question}
 use Rattle.problems.specs.Questions.{question, IsForced, LeadsTo}
-use Rattle.decision.specs.Calls.{added}
 use Rattle.decision.specs.Callers.{GoesOn, OnAdded, IsAskedAfter, HasAsked, OffersKnown, IsFound}
 use Rattle.decision.specs.Decisions.{IsAsked, RestsOnOne, Asks, OffersBoth, StoresAnswer, AsksBelow, IsDecided}
 use Rattle.problems.specs.Tried.{ListsAll, is_own, IsPassed, IsCut}
@@ -67,14 +66,14 @@ module _ {A : Type 0} {a b c : Caller A} (ab : GoesOn a b) (bc : GoesOn b c) (q 
   asked_later = subst (λ (o : Question). OnAdded (IsAsked o) a c) l.2 (on_later (IsAsked other) ab bc (asked_behind other) asked)
 
   -- and so of the positions after one move more
-  pub asked_next : (ms : List Ply) (i : ℕ) → i < length ms → m ≡ get_or ms i m → All (IsAskedAfter q (slots_of a.slots.now) (number a.seat.now) (added a.seat.now b.seat.now)) (take i ms)
-      → All (IsAskedAfter q (slots_of a.slots.now) (number a.seat.now) (added a.seat.now c.seat.now)) (take (i + 1) ms)
+  pub asked_next : (ms : List Ply) (i : ℕ) → i < length ms → m ≡ get_or ms i m → All (IsAskedAfter q a b) (take i ms)
+      → All (IsAskedAfter q a c) (take (i + 1) ms)
   asked_next ms i lt is before =
-      All-more (IsAskedAfter q (slots_of a.slots.now) (number a.seat.now) (added a.seat.now c.seat.now)) ms i m lt
+      All-more (IsAskedAfter q a c) ms i m lt
       (λ k d small x move. on_added (IsAsked (question x q.attacker q.goal)) ab bc (asked_on (question x q.attacker q.goal)) (before k d small x move))
-      (subst (IsAskedAfter q (slots_of a.slots.now) (number a.seat.now) (added a.seat.now c.seat.now)) is last)
+      (subst (IsAskedAfter q a c) is last)
     where
-      last : IsAskedAfter q (slots_of a.slots.now) (number a.seat.now) (added a.seat.now c.seat.now) m
+      last : IsAskedAfter q a c m
       last x move = subst (λ (z : PlainBoard). OnAdded (IsAsked (question z q.attacker q.goal)) a c) (one_after q.position m l.0 x l.1 move) asked_later
 
 -- ---- lists of moves in another order

@@ -16,12 +16,11 @@ use Rattle.decision.specs.declared.caller.Caller.{Caller}
 use Rattle.decision.specs.Calls.{mate_way, added, AreHitsTrue, KnowsCalls, Continues, BeginsWith, EndsWith}
 use Rattle.decision.specs.Callers.{GoesOn, OnAdded, MakesCall, StaysLed, HasAsked}
 use Rattle.decision.proofs.Calls.{continues_none, continues_more, added_is, added_more}
-use Rattle.std.specs.Option.{is_some, MatchOption}
 use Rattle.slots.specs.declared.calls.Act.TheVariants.{Asked, Offered}
 use Rattle.slots.specs.declared.calls.Probe.{Probe}
 use Rattle.slots.specs.declared.calls.Store.{Store}
 use Rattle.slots.proofs.Histories.{part-own, part-other, part-append}
-use Rattle.decision.specs.Questions.{Settles, RepliesThat}
+use Rattle.decision.specs.Questions.{Settles}
 use Rattle.decision.specs.Decisions.{Asks, IsProbeOf, OffersBoth}
 use Rattle.decision.specs.Decisions.Asks.{first_decides, one_slot, second_decides, neither_decides}
 

@@ -1,19 +1,17 @@
 -- The calls that a seat adds.
-use Rattle.std.proofs.Common.{◌≡◌, ℕ, List, [], ◌∷◌, ◌++◌, length, drop, refl, sym, ap, ◌∙◌, subst, arith, append_assoc, append-nil}
+use Rattle.std.proofs.Common.{◌≡◌, ℕ, List, [], ◌++◌, length, drop, refl, sym, ap, ◌∙◌, subst, arith, append_assoc, append-nil}
 use Rattle.std.proofs.Math.Seq.{drop-append_seam}
-use Rattle.std.proofs.lemmas.List.Elements.{All-append, All-cons, All-nil}
+use Rattle.std.proofs.lemmas.List.Elements.{All-append}
 use Rattle.atomic_table.specs.Seated.{TableId}
 use Rattle.atomic_table.specs.declared.shared.Seat.{Seat}
 use Rattle.slots.specs.declared.views.View.{View}
 use Rattle.slots.specs.declared.calls.Call.{Call}
-use Rattle.slots.specs.declared.calls.Act.{Act}
-use Rattle.slots.specs.Machine.{calls_by, call}
 use Rattle.slots.specs.Steps.{HitFits}
-use Rattle.slots.specs.Promise.{number, all_seen, all_mine, IsSeatOf, Called, Grew}
-use Rattle.slots.proofs.Grows.{grew_none, grew_by, grew_more}
+use Rattle.slots.specs.Promise.{all_mine, IsSeatOf, Grew}
+use Rattle.slots.proofs.Grows.{grew_none, grew_more}
 use Rattle.entry.specs.Keys.{key_words}
 use Rattle.entry.specs.Truth.{IsTruePacking}
-use Rattle.decision.specs.Calls.{mate_way, added, AreHitsTrue, KnowsCalls, Continues}
+use Rattle.decision.specs.Calls.{added, AreHitsTrue, Continues}
 
 -- what a seat has added, by its calls after and before
 pub added_is : (a b : Seat ℕ View) (calls : List Call) → all_mine b ≡ all_mine a ++ calls → added a b ≡ calls

@@ -13,13 +13,12 @@ use Rattle.entry.specs.Bounds.{Bounds, bounds_of, least, meeting}
 use Rattle.entry.specs.Packing.{Packing}
 use Rattle.entry.specs.Keys.{key_words}
 use Rattle.entry.specs.Truth.{IsRight, IsTruePacking}
-use Rattle.entry.proofs.Questions.{one_entry}
 use Rattle.entry.proofs.Truths.{nothing_right, hit_right, yes_right, no_right, raise}
 use Rattle.problems.specs.declared.question.Question.{Question}
 use Rattle.decision.specs.Callers.{IsReplyTo}
 use Rattle.decision.specs.Turned.{HaveOneAnswer}
 use Rattle.problems.specs.Questions.{IsForced}
-use Rattle.decision.specs.Questions.{IsKnownOf, entry_for, entry_words, key_for, EndsBy, Says, RepliesThat, Settles, said, IsMetWith, Tells}
+use Rattle.decision.specs.Questions.{IsKnownOf, entry_for, entry_words, key_for, EndsBy, Says, Settles, said, IsMetWith, Tells}
 
 -- ---- what a reply tells
 

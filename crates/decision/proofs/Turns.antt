@@ -1,22 +1,20 @@
 -- Boards that are turned about, unit by unit, and what is forced on them.
-use Rattle.std.proofs.Common.{◌≡◌, ◌≢◌, ℕ, ◌+◌, ◌<◌, ◌≤◌, inl, inr, refl, sym, ap, subst, ◌∙◌, arith, List, length, get_or, set, replicate, Option, Some, None, take, All, ◌↔◌, Bool, true, false}
+use Rattle.std.proofs.Common.{◌≡◌, ◌≢◌, ℕ, ◌+◌, ◌<◌, ◌≤◌, inl, inr, refl, sym, ap, subst, ◌∙◌, arith, List, length, get_or, set, replicate, Option, Some, None}
 use Rattle.std.specs.Option.{IfSome}
 use Rattle.std.proofs.lemmas.Bool.{cases_eq}
 use Rattle.std.proofs.lemmas.List.{get_or-set_same, get_or-set_other, length-set}
 use Rattle.board.specs.declared.game.Unit.{Unit as Man}
 use Rattle.board.specs.Games.{squares_of}
 use Rattle.board.specs.Board.{PlainBoard, board_of, unit_on, IsPosition, MayStandOn}
-use Rattle.rules.specs.Squares.{Place, IsOnBoard, square_number, unit_at, Ply}
+use Rattle.rules.specs.Squares.{Place, IsOnBoard, square_number, unit_at}
 use Rattle.rules.proofs.Listed.{same_number, number_within}
 use Rattle.laws.specs.Turnings.{Turning as Way, turned_place, turned_units, IsTurned}
 use Rattle.laws.proofs.Squares.{back_of, turned_on_board, turned_back}
 use Rattle.laws.proofs.Forced.{Forces-turned, Forces-back}
 use Rattle.decision.specs.declared.turning.Turning.{Turning}
 use Rattle.problems.specs.declared.question.Question.{Question}
-use Rattle.problems.specs.Questions.{question, IsForced, LeadsTo}
+use Rattle.problems.specs.Questions.{question}
 use Rattle.decision.specs.Turned.{way_of, IsTurnedWell, HaveOneAnswer}
-use Rattle.problems.specs.Tried.{Goes, IsAsSaid, IsPassed, IsCut}
-use Rattle.problems.proofs.Tried.{passed_after, cut_after}
 use Rattle.moves.proofs.Packing.{within_36, replicate_none}
 
 -- the units of the squares below n stand where their squares come to lie, and none past the board
@@ -90,31 +88,9 @@ turned_whole t b units n is all c = record {
   past = λ k far. c.past k far ∙ sym (ap (turned_units (way_of t)) (no_unit b is k far));
 }
 
--- ---- which boards may be turned
-
--- ---- what is forced
-
+-- what is forced
 pub one_answer : (t : Turning) (q : Question) (b : PlainBoard) → IsTurnedWell t q.position b → HaveOneAnswer q (question b q.attacker q.goal)
 one_answer t q b well = λ n. (
   Forces-turned n (way_of t) q.goal q.attacker q.position b well.turned well.may,
   Forces-back n (way_of t) q.goal q.attacker q.position b well.turned well.may,
 )
-
--- ---- the moves that were tried, by the answers of turned positions
-
-goes_as : (own : Bool) (P Q : Type 0) → (P ↔ Q) → Goes own Q → Goes own P
-goes_as true P Q same none = λ p. none (same.0 p)
-goes_as false P Q same q = same.1 q
-
-ends_as : (own : Bool) (P Q : Type 0) → (P ↔ Q) → IsAsSaid own Q → IsAsSaid own P
-ends_as true P Q same q = same.1 q
-ends_as false P Q same none = λ p. none (same.0 p)
-
--- one move more that ended nothing
-pub passed_turned : (q : Question) (n : ℕ) (own : Bool) (ms : List Ply) (i : ℕ) (m : Ply) (other image : Question) → i < length ms → m ≡ get_or ms i m → LeadsTo q m other → HaveOneAnswer other image → All (IsPassed q n own) (take i ms)
-    → Goes own (IsForced image n) → All (IsPassed q n own) (take (i + 1) ms)
-passed_turned q n own ms i m other image lt is leads same before goes = passed_after q n own ms i m other lt is leads before (goes_as own _ _ (same n) goes)
-
--- a move that ends it
-pub cut_turned : (q : Question) (n : ℕ) (own : Bool) (m : Ply) (other image : Question) → LeadsTo q m other → HaveOneAnswer other image → IsAsSaid own (IsForced image n) → IsCut q n own
-cut_turned q n own m other image leads same ends = cut_after q n own m other leads (ends_as own _ _ (same n) ends)

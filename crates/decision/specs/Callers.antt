@@ -68,8 +68,8 @@ abbrev pub OffersKnown : Question → Bounds → ℕ → ℕ → List Call → T
 OffersKnown q known slots number calls = OffersBoth (first_slot (key_for q) slots) slots number (entry_words (entry_for q known)) calls
 
 -- the table was asked of the position after the move
-abbrev pub IsAskedAfter : Question → ℕ → ℕ → List Call → Ply → Type 0
-IsAskedAfter q slots number calls m = (b : PlainBoard) → IsMove q.position m b → IsAsked (question b q.attacker q.goal) slots number calls
+abbrev pub IsAskedAfter : {A : Type 0} → Question → Caller A → Caller A → Ply → Type 0
+IsAskedAfter q before after m = (b : PlainBoard) → IsMove q.position m b → OnAdded (IsAsked (question b q.attacker q.goal)) before after
 
 -- what a search found where the table's reply decided nothing: the answer, by the positions below, which is stored last
 pub record IsFound (q : Question) (slots n number : ℕ) (reply : Probe) (d : Decision) (calls : List Call) : Type 0 where

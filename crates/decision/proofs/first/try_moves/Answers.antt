@@ -1,7 +1,5 @@
 use Rattle.std.proofs.Common.{◌-◌, All, sym, subst}
 use Rattle.std.proofs.lemmas.List.{take_all}
-use Rattle.slots.specs.Promise.{slots_of, number}
-use Rattle.decision.specs.Calls.{added}
 use Rattle.decision.specs.Callers.{IsAskedAfter}
 use Rattle.problems.proofs.Tried.{passed_after, cut_after, goes_by, ends_by, beq_same, beq_apart, All-listed}
 use Rattle.decision.proofs.Callers.{led_more}
@@ -48,7 +46,7 @@ returns-clause-answer g c =
 
 pub returns-clause-below : goal.returns-clause-below
 returns-clause-below g c =
-    let IsSo = IsAskedAfter c.args.q.now (slots_of c.args.caller.now.slots.now) (number c.args.caller.now.seat.now) (added c.args.caller.now.seat.now c.loop-m.caller.seat.now) in
+    let IsSo = IsAskedAfter c.args.q.now c.args.caller.now c.loop-m.caller in
     record {
       some = λ r. absurd (rests_not c.args.q.now c.is_own_turn-own.result c.is_own_turn-own.ensures r);
       every = λ _ m b move. All-listed c.args.q.now.position c.args.moves.now c.requires.lists IsSo (subst (All IsSo) (take_all c.loop-m.m-index c.args.moves.now c.loop-m-test.false) c.loop-m.invariant.asked) m (b, move) b move;

@@ -1,6 +1,5 @@
-use Rattle.std.proofs.Common.{◌↔◌, IsTrue, false, arith, sym, ◌∙◌, subst}
+use Rattle.std.proofs.Common.{false, arith, sym, ◌∙◌}
 use Rattle.std.proofs.lemmas.Bool.{false≢true}
-use Rattle.problems.specs.Questions.{IsForced}
 use Rattle.problems.proofs.LastPlies.{own_two_of, other_one_of, other_three_of}
 use Rattle.decision.proofs.leaf.short_leaf.Goals as goal
 

@@ -1,12 +1,11 @@
-use Rattle.std.proofs.Common.{◌-◌, ◌<◌, ◌≡◌, ◌↔◌, IsTrue, List, length, sym, ◌∙◌, subst, arith}
+use Rattle.std.proofs.Common.{refl, ◌-◌, ◌<◌, ◌≡◌, ◌↔◌, IsTrue, List, length, sym, ◌∙◌, subst, arith}
 use Rattle.rules.specs.Squares.{Ply}
 use Rattle.problems.specs.Questions.{IsForced}
 use Rattle.problems.specs.Tried.{ListsAll}
-use Rattle.problems.proofs.Tried.{none_listed, all_listed, now_for, goes_by, ends_by, beq_same, beq_apart}
+use Rattle.problems.proofs.Tried.{none_listed, all_listed, now_for, passed_after, cut_after, goes_by, ends_by, beq_same, beq_apart}
 use Rattle.decision.proofs.Callers.{led_more, led_then, then_led, led_still, led_by}
-use Rattle.decision.proofs.Replies.{known_is_right, forced_later}
+use Rattle.decision.proofs.Replies.{known_is_right, answer_as, forced_later}
 use Rattle.decision.proofs.Below.{ends_it, none_ends}
-use Rattle.decision.proofs.Turns.{passed_turned, cut_turned}
 use Rattle.decision.proofs.searching.+searching.Goals as goal
 use Rattle.decision.proofs.searching.+searching.Goals.{search_in_rounds-then-yes-via-then-yes, search_in_rounds-then-yes-via-else-yes+then-plies-n}
 
@@ -74,16 +73,18 @@ search_listed-returns-then-yes-own-clause-goes_on g t c = led_more g.met.S.Stop.
 
 pub search_listed-returns-then-yes-own-clause-answer : goal.search_listed-returns-then-yes-own-clause-answer
 search_listed-returns-then-yes-own-clause-answer g t c =
+    let answer = answer_as c.after.result c.after.result c.image.result (c.args.n - 1) c.in_ok-yes.yes refl c.image.ensures c.in_ok-yes.ensures.answer in
     ends_it c.args.q.now c.args.n c.is_own_turn-own.result c.is_own_turn-own.ensures (let plies = c.requires.plies.0 in omega arith)
-    (cut_turned c.args.q.now (c.args.n - 1) c.is_own_turn-own.result c.m-item.result c.after.result c.image.result c.after.ensures c.image.ensures
-    (ends_by c.is_own_turn-own.result c.in_ok-yes.yes _ c.in_ok-yes.ensures.answer (beq_same _ _ c.if-yes-own.true)))
+    (cut_after c.args.q.now (c.args.n - 1) c.is_own_turn-own.result c.m-item.result c.after.result c.after.ensures (ends_by c.is_own_turn-own.result c.in_ok-yes.yes _ answer (beq_same _ _ c.if-yes-own.true)))
 
 pub search_listed-loop-m-preserved : goal.search_listed-loop-m-preserved
-search_listed-loop-m-preserved g t c = record {
-  goes_on = led_more g.met.S.Stop.stays_on c.loop-m.invariant.goes_on c.visit.ensures.goes_on;
-  passed = passed_turned c.args.q.now (c.args.n - 1) c.is_own_turn-own.result c.args.moves.now c.loop-m.m-index c.m-item.result c.after.result c.image.result c.loop-m-test.true c.m-item.is c.after.ensures c.image.ensures c.loop-m.invariant.passed
-      (goes_by c.is_own_turn-own.result c.in_ok-yes.yes _ c.in_ok-yes.ensures.answer (beq_apart _ _ c.if-yes-own.false));
-}
+search_listed-loop-m-preserved g t c =
+    let answer = answer_as c.after.result c.after.result c.image.result (c.args.n - 1) c.in_ok-yes.yes refl c.image.ensures c.in_ok-yes.ensures.answer in
+    record {
+      goes_on = led_more g.met.S.Stop.stays_on c.loop-m.invariant.goes_on c.visit.ensures.goes_on;
+      passed = passed_after c.args.q.now (c.args.n - 1) c.is_own_turn-own.result c.args.moves.now c.loop-m.m-index c.m-item.result c.after.result c.loop-m-test.true c.m-item.is c.after.ensures c.loop-m.invariant.passed
+          (goes_by c.is_own_turn-own.result c.in_ok-yes.yes _ answer (beq_apart _ _ c.if-yes-own.false));
+    }
 
 pub search_listed-returns-clause-answer : goal.search_listed-returns-clause-answer
 search_listed-returns-clause-answer g t c =

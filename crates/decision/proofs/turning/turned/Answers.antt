@@ -1,4 +1,3 @@
-use Rattle.board.specs.Board.{IsPosition}
 use Rattle.laws.proofs.Positions.{IsPosition-turned}
 use Rattle.decision.specs.Turned.{way_of}
 use Rattle.decision.proofs.turning.turned.Goals as goal

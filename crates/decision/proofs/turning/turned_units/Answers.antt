@@ -1,7 +1,5 @@
-use Rattle.std.proofs.Common.{◌≡◌, sym, ap, subst, ◌∙◌, arith}
-use Rattle.board.specs.Games.{squares_of}
+use Rattle.std.proofs.Common.{sym, ap, subst, ◌∙◌, arith}
 use Rattle.rules.specs.Squares.{IsOnBoard, square_number}
-use Rattle.laws.specs.Turnings.{turned_place}
 use Rattle.laws.proofs.Squares.{turned_on_board}
 use Rattle.decision.specs.Turned.{way_of}
 use Rattle.decision.proofs.Turns.{turned_none, turned_more, turned_whole}
