@@ -72,13 +72,13 @@ packed_question q position = record {
 }
 
 -- what the reply to its key tells is right of the question
-pub told_is_right : (q : Question) → IsPosition q.position → (reply : Probe) → HitFits key_words IsTruePacking (Asked (key_for q) reply) → (i : Bounds) → Tells reply i → IsKnownOf q i
-told_is_right q position (Hit words) h i t =
-    subst (IsRight (asked_for q)) (sym (t h.1.entry h.1.packing)) (hit_right (asked_for q) h.1.entry words (entry_words (asked_for q)) (packed_question q position) h.1 h.0 h.1.packing).1
-told_is_right q position _ h i t = subst (IsRight (asked_for q)) (sym t) (nothing_right (asked_for q))
+pub told_is_right : (q : Question) → IsPosition q.position → (key : List ℕ) → key ≡ key_for q → (reply : Probe) → HitFits key_words IsTruePacking (Asked key reply) → (i : Bounds) → Tells reply i → IsKnownOf q i
+told_is_right q position key is (Hit words) h i t =
+    subst (IsRight (asked_for q)) (sym (t h.1.entry h.1.packing)) (hit_right (asked_for q) h.1.entry words (entry_words (asked_for q)) (packed_question q position) h.1 (h.0 ∙ is) h.1.packing).1
+told_is_right q position key is _ h i t = subst (IsRight (asked_for q)) (sym t) (nothing_right (asked_for q))
 
-pub reply_to : (q : Question) → IsPosition q.position → (reply : Probe) → HitFits key_words IsTruePacking (Asked (key_for q) reply) → IsReplyTo q reply
-reply_to q position reply hit = record { hit = hit; right = told_is_right q position reply hit }
+pub reply_to : (q : Question) → IsPosition q.position → (key : List ℕ) → key ≡ key_for q → (reply : Probe) → HitFits key_words IsTruePacking (Asked key reply) → IsReplyTo q reply
+reply_to q position key is reply hit = record { key = key; hit = hit; right = told_is_right q position key is reply hit }
 
 -- an answer is right of it
 pub said_is_right : (q : Question) (n : ℕ) (answer : Bool) → (IsTrue answer ↔ Forces q.goal q.attacker q.position n) → IsRight (asked_for q) (said answer n)

@@ -10,11 +10,8 @@ use Rattle.rules.specs.Squares.{Place, IsOnBoard, square_number, unit_at}
 use Rattle.rules.proofs.Listed.{same_number, number_within}
 use Rattle.laws.specs.Turnings.{Turning as Way, turned_place, turned_units, IsTurned}
 use Rattle.laws.proofs.Squares.{back_of, turned_on_board, turned_back}
-use Rattle.laws.proofs.Forced.{Forces-turned, Forces-back}
 use Rattle.decision.specs.declared.turning.Turning.{Turning}
-use Rattle.problems.specs.declared.question.Question.{Question}
-use Rattle.problems.specs.Questions.{question}
-use Rattle.decision.specs.Turned.{way_of, IsTurnedWell, HaveOneAnswer}
+use Rattle.decision.specs.Turned.{way_of}
 use Rattle.moves.proofs.Packing.{within_36, replicate_none}
 
 -- the units of the squares below n stand where their squares come to lie, and none past the board
@@ -87,10 +84,3 @@ turned_whole t b units n is all c = record {
   units = λ s on. c.done s on (subst (λ k. square_number b.game s < k) (sym all) (number_within b.game s on)) ∙ sym (same_units t (unit_at b s));
   past = λ k far. c.past k far ∙ sym (ap (turned_units (way_of t)) (no_unit b is k far));
 }
-
--- what is forced
-pub one_answer : (t : Turning) (q : Question) (b : PlainBoard) → IsTurnedWell t q.position b → HaveOneAnswer q (question b q.attacker q.goal)
-one_answer t q b well = λ n. (
-  Forces-turned n (way_of t) q.goal q.attacker q.position b well.turned well.may,
-  Forces-back n (way_of t) q.goal q.attacker q.position b well.turned well.may,
-)

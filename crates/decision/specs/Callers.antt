@@ -60,7 +60,8 @@ pub record HasAsked {A : Type 0} (key : List ℕ) (slot n : ℕ) (reply : Probe)
 
 -- the reply is one to the question's key: what it tells is right of the question
 pub record IsReplyTo (q : Question) (reply : Probe) : Type 0 where
-  pub hit : HitFits key_words IsTruePacking (Asked (key_for q) reply)
+  pub key : List ℕ
+  pub hit : HitFits key_words IsTruePacking (Asked key reply)
   pub right : (i : Bounds) → Tells reply i → IsKnownOf q i
 
 -- what is known of the question is offered last, in its own slots

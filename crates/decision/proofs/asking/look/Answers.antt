@@ -1,6 +1,4 @@
-use Rattle.std.proofs.Common.{sym, subst}
 use Rattle.decision.specs.Decisions.{IsAsked}
-use Rattle.decision.specs.Questions.{IsKnownOf}
 use Rattle.decision.proofs.Callers.{goes_more, on_added}
 use Rattle.decision.proofs.Replies.{known_back}
 use Rattle.decision.proofs.Below.{asked_on}
@@ -16,7 +14,7 @@ meet-requires g c =
 
 pub returns-clause-right : goal.returns-clause-right
 returns-clause-right g c =
-    subst (IsKnownOf c.args.q.now) (sym c.meet.ensures)
+    rw c.meet.ensures
     (c.interval_laws.ensures.right _ c.told-near.result c.look_far-far.result (c.ask_near.ensures.reply.right c.told-near.result c.told-near.ensures)
     (known_back c.args.q.now c.copied.result c.image.result c.look_far-far.result c.copied.ensures c.image.ensures c.look_far-far.ensures.right))
 
