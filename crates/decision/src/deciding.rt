@@ -49,7 +49,7 @@ fn search_given<S: Stop, A: Allocator>(
     }
     let mut moves = ArrayVec::new();
     order_into(&lead.scout.memory, q, n, &mut lead.rooms.costed, &mut moves);
-    if moves.len() == 0 {
+    if moves.is_empty() {
         return Some(answer_now(q));
     }
     try_moves(caller, lead, q, n, moves.as_slice())
