@@ -1,52 +1,29 @@
 -- The calls that a seat adds.
-use Rattle.std.proofs.Common.{◌≡◌, ℕ, List, [], ◌∷◌, ◌++◌, length, drop, refl, sym, ap, ◌∙◌, subst, arith, append_assoc, append-nil}
+use Rattle.std.proofs.Common.{◌≡◌, ℕ, List, [], ◌++◌, length, drop, refl, sym, ap, ◌∙◌, subst, arith, append_assoc, append-nil}
 use Rattle.std.proofs.Math.Seq.{drop-append_seam}
 use Rattle.std.proofs.lemmas.List.Elements.{All-append}
 use Rattle.atomic_table.specs.Seated.{TableId}
 use Rattle.atomic_table.specs.declared.shared.Seat.{Seat}
 use Rattle.slots.specs.declared.views.View.{View}
 use Rattle.slots.specs.declared.calls.Call.{Call}
-use Rattle.slots.specs.declared.calls.Act.{Act}
-use Rattle.slots.specs.Machine.{calls_by, call}
 use Rattle.slots.specs.Steps.{HitFits}
-use Rattle.slots.specs.Promise.{number, all_seen, all_mine, IsSeatOf, Called, Grew}
-use Rattle.slots.proofs.Grows.{grew_none, grew_by, grew_more}
+use Rattle.slots.specs.Promise.{all_mine, IsSeatOf, Grew}
+use Rattle.slots.proofs.Grows.{grew_none, grew_more}
 use Rattle.entry.specs.Keys.{key_words}
 use Rattle.entry.specs.Truth.{IsTruePacking}
-use Rattle.decision.proofs.Slots.{all_one}
-use Rattle.decision.specs.Calls.{mate_way, added, AreHitsTrue, KnowsCalls, Continues}
+use Rattle.decision.specs.Calls.{added, AreHitsTrue, Continues}
 
 -- what a seat has added, by its calls after and before
 pub added_is : (a b : Seat ℕ View) (calls : List Call) → all_mine b ≡ all_mine a ++ calls → added a b ≡ calls
 added_is a b calls e = ap (drop (length (all_mine a))) e ∙ drop-append_seam (all_mine a) calls
 
-pub added_grew : (a b : Seat ℕ View) (g : Grew a b) → added a b ≡ g.more
+added_grew : (a b : Seat ℕ View) (g : Grew a b) → added a b ≡ g.more
 added_grew a b g = added_is a b g.more g.mine
 
 -- calls that follow on calls are added behind them
 pub added_more : (a b c : Seat ℕ View) → Grew a b → Grew b c → added a c ≡ added a b ++ added b c
 added_more a b c g h =
     added_is a c (g.more ++ h.more) (h.mine ∙ (ap (λ (l : List Call). l ++ h.more) g.mine ∙ append_assoc (all_mine a) g.more h.more)) ∙ sym (λ i. added_grew a b g i ++ added_grew b c h i)
-
--- one call
-pub one_added : (slot : ℕ) (act : Act) (a b : Seat ℕ View) → Called mate_way slot act a b → added a b ≡ call slot (number a) act ∷ []
-one_added slot act a b d = added_is a b (call slot (number a) act ∷ []) d.whole.own
-
-pub one_history : (slot : ℕ) (act : Act) (a b : Seat ℕ View) → Called mate_way slot act a b → KnowsCalls b
-one_history slot act a b d = record {
-  legal = d.whole.legal;
-  once = subst (λ n. calls_by n (all_seen b) ≡ all_mine b) (sym d.same) d.whole.once;
-}
-
-pub one_continues : (t : TableId) (slot : ℕ) (act : Act) (a b : Seat ℕ View) → IsSeatOf t b → b.id ≡ a.id → Called mate_way slot act a b → HitFits key_words IsTruePacking act → Continues t a b
-one_continues t slot act a b seat id d hit = record {
-  seat = seat;
-  id = id;
-  number = d.same;
-  grew = grew_by mate_way slot act a b d;
-  hits = subst AreHitsTrue (sym (one_added slot act a b d)) (all_one (λ c. HitFits key_words IsTruePacking c.act) (call slot (number a) act) hit);
-  history = λ _. one_history slot act a b d;
-}
 
 -- no call
 pub continues_none : (t : TableId) (a : Seat ℕ View) → IsSeatOf t a → Continues t a a

@@ -1,22 +1,17 @@
 -- Boards that are turned about, unit by unit, and what is forced on them.
-use Rattle.std.proofs.Common.{◌≡◌, ◌≢◌, ℕ, ◌+◌, ◌<◌, ◌≤◌, inl, inr, refl, sym, ap, subst, ◌∙◌, arith, List, length, get_or, set, replicate, Option, Some, None, take, All, ◌↔◌, Bool, true, false}
+use Rattle.std.proofs.Common.{◌≡◌, ◌≢◌, ℕ, ◌+◌, ◌<◌, ◌≤◌, inl, inr, refl, sym, ap, subst, ◌∙◌, arith, List, length, get_or, set, replicate, Option, Some, None}
 use Rattle.std.specs.Option.{IfSome}
 use Rattle.std.proofs.lemmas.Bool.{cases_eq}
 use Rattle.std.proofs.lemmas.List.{get_or-set_same, get_or-set_other, length-set}
 use Rattle.board.specs.declared.game.Unit.{Unit as Man}
 use Rattle.board.specs.Games.{squares_of}
 use Rattle.board.specs.Board.{PlainBoard, board_of, unit_on, IsPosition, MayStandOn}
-use Rattle.rules.specs.Squares.{Place, IsOnBoard, square_number, unit_at, Ply}
+use Rattle.rules.specs.Squares.{Place, IsOnBoard, square_number, unit_at}
 use Rattle.rules.proofs.Listed.{same_number, number_within}
 use Rattle.laws.specs.Turnings.{Turning as Way, turned_place, turned_units, IsTurned}
 use Rattle.laws.proofs.Squares.{back_of, turned_on_board, turned_back}
-use Rattle.laws.proofs.Forced.{Forces-turned, Forces-back}
 use Rattle.decision.specs.declared.turning.Turning.{Turning}
-use Rattle.problems.specs.declared.question.Question.{Question}
-use Rattle.problems.specs.Questions.{question, IsForced}
-use Rattle.decision.specs.Turned.{way_of, IsTurnedWell, HaveOneAnswer, AnswersAfter}
-use Rattle.problems.specs.Tried.{Goes, IsAsSaid, IsPassed, IsCut}
-use Rattle.problems.proofs.Tried.{passed_next}
+use Rattle.decision.specs.Turned.{way_of}
 use Rattle.moves.proofs.Packing.{within_36, replicate_none}
 
 -- the units of the squares below n stand where their squares come to lie, and none past the board
@@ -33,25 +28,22 @@ turned_none t b = record { long = refl; done = λ s on less. absurd (omega (arit
 
 -- one square more
 module _ (t : Way) (b : PlainBoard) (units : List (Option Man)) (n : ℕ) (s : Place) (o : Option Man) (on : IsOnBoard b.game s) (number : square_number b.game s ≡ n) (stands : o ≡ unit_at b s) (c : IsTurnedUpTo t b units n) where
-  to : ℕ
+  abbrev to : ℕ
   to = square_number b.game (turned_place b.game t s)
 
   to_within : to < squares_of b.game
-  unfolding to
   to_within = number_within b.game (turned_place b.game t s) (turned_on_board b.game t s on)
 
   to_fits : to < length units
   to_fits = let less = within_36 b.game to to_within in omega (arith, less, c.long)
 
   apart : (x : Place) → IsOnBoard b.game x → square_number b.game x ≢ n → square_number b.game (turned_place b.game t x) ≢ to
-  unfolding to
   apart x on_x other same =
       let image = same_number b.game (turned_place b.game t x) (turned_place b.game t s) (turned_on_board b.game t x on_x) (turned_on_board b.game t s on) same in
       let back : x ≡ s = sym (turned_back b.game t x on_x) ∙ ap (turned_place b.game (back_of t)) image ∙ turned_back b.game t s on in
       other (ap (square_number b.game) back ∙ number)
 
   here : get_or (set units to o) (square_number b.game (turned_place b.game t s)) None ≡ unit_at b s
-  unfolding to
   here = get_or-set_same units to o None to_fits ∙ stands
 
   done : (x : Place) → IsOnBoard b.game x → square_number b.game x < n + 1 → get_or (set units to o) (square_number b.game (turned_place b.game t x)) None ≡ unit_at b x
@@ -68,7 +60,6 @@ module _ (t : Way) (b : PlainBoard) (units : List (Option Man)) (n : ℕ) (s : P
   }
 
   pub turned_more : (at : ℕ) → at ≡ square_number b.game (turned_place b.game t s) → IsTurnedUpTo t b (set units at o) (n + 1)
-  unfolding to
   turned_more at is = subst (λ k. IsTurnedUpTo t b (set units k o) (n + 1)) (sym is) placed
 
 -- where no side is exchanged, a unit stays as it is
@@ -93,32 +84,3 @@ turned_whole t b units n is all c = record {
   units = λ s on. c.done s on (subst (λ k. square_number b.game s < k) (sym all) (number_within b.game s on)) ∙ sym (same_units t (unit_at b s));
   past = λ k far. c.past k far ∙ sym (ap (turned_units (way_of t)) (no_unit b is k far));
 }
-
--- ---- which boards may be turned
-
--- ---- what is forced
-
-pub one_answer : (t : Turning) (q : Question) (b : PlainBoard) → IsTurnedWell t q.position b → HaveOneAnswer q (question b q.attacker q.goal)
-one_answer t q b well = λ n. (
-  Forces-turned n (way_of t) q.goal q.attacker q.position b well.turned well.may,
-  Forces-back n (way_of t) q.goal q.attacker q.position b well.turned well.may,
-)
-
--- ---- the moves that were tried, by the answers of turned positions
-
-goes_as : (own : Bool) (P Q : Type 0) → (P ↔ Q) → Goes own Q → Goes own P
-goes_as true P Q same none = λ p. none (same.0 p)
-goes_as false P Q same q = same.1 q
-
-ends_as : (own : Bool) (P Q : Type 0) → (P ↔ Q) → IsAsSaid own Q → IsAsSaid own P
-ends_as true P Q same q = same.1 q
-ends_as false P Q same none = λ p. none (same.0 p)
-
--- one move more that ended nothing
-pub passed_turned : (q : Question) (n : ℕ) (own : Bool) (ms : List Ply) (i : ℕ) (m : Ply) (other : Question) → i < length ms → m ≡ get_or ms i m → AnswersAfter q m other → All (IsPassed q n own) (take i ms) → Goes own (IsForced other n)
-    → All (IsPassed q n own) (take (i + 1) ms)
-passed_turned q n own ms i m other lt is a before goes = passed_next q n own ms i m a.0 lt is a.1 before (goes_as own _ _ (a.2 n) goes)
-
--- a move that ends it
-pub cut_turned : (q : Question) (n : ℕ) (own : Bool) (m : Ply) (other : Question) → AnswersAfter q m other → IsAsSaid own (IsForced other n) → IsCut q n own
-cut_turned q n own m other a ends = (m, a.0, a.1, ends_as own _ _ (a.2 n) ends)

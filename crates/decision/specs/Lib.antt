@@ -6,5 +6,3 @@ pub mod Memories
 pub mod Turned
 -- inside
 pub mod Callers
-pub mod Below
-pub mod Orders

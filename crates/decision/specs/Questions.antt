@@ -6,7 +6,7 @@ use Rattle.entry.specs.declared.entries.Entry.{Entry}
 use Rattle.entry.specs.Bounds.{Bounds, bounds_of, meeting}
 use Rattle.entry.specs.Packing.{Packing, entry_of, first_word, second_word, third_word}
 use Rattle.entry.specs.Keys.{key_words, slot_number}
-use Rattle.entry.specs.Truth.{IsRight, IsTruePacking}
+use Rattle.entry.specs.Truth.{IsRight}
 use Rattle.problems.specs.declared.question.Question.{Question}
 
 -- the entry that gives the question this interval
@@ -58,14 +58,7 @@ abbrev pub IsMetWith : Probe → Bounds → Bounds → Type 0
 IsMetWith (Hit words) i met = (e : Entry) × Packing e words × (met ≡ meeting i e.interval)
 IsMetWith _ i met = met ≡ i
 
--- the words of a hit are a true entry's
-abbrev pub IsTrueHit : Probe → Type 0
-IsTrueHit (Hit words) = IsTruePacking words
-IsTrueHit _ = Unit {0}
-
--- what a reply tells: the interval of a hit, and nothing else
-abbrev pub Tells : Probe → Option Bounds → Type 0
-Tells (Hit words) (Some i) = (e : Entry) × Packing e words × (i ≡ e.interval)
-Tells (Hit words) None = ⊥
-Tells _ (Some i) = ⊥
-Tells _ None = Unit {0}
+-- what a reply tells: the interval of a hit, and else nothing
+abbrev pub Tells : Probe → Bounds → Type 0
+Tells (Hit words) i = (e : Entry) → Packing e words → i ≡ e.interval
+Tells _ i = i ≡ bounds_of 0 None

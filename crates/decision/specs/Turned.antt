@@ -1,12 +1,10 @@
 -- Questions of boards that are turned about.
 use Rattle.std.specs.Prelude.{ℕ, ◌↔◌, false}
 use Rattle.board.specs.Board.{PlainBoard}
-use Rattle.rules.specs.Squares.{Ply}
-use Rattle.rules.specs.Moves.{IsMove}
 use Rattle.laws.specs.Turnings.{Turning as Way, IsTurned, MayTurn}
 use Rattle.decision.specs.declared.turning.Turning.{Turning}
 use Rattle.problems.specs.declared.question.Question.{Question}
-use Rattle.problems.specs.Questions.{question, IsForced}
+use Rattle.problems.specs.Questions.{IsForced}
 
 -- the turning, with the sides as they are
 abbrev pub way_of : Turning → Way
@@ -20,7 +18,3 @@ pub record IsTurnedWell (t : Turning) (b c : PlainBoard) : Type 0 where
 -- the two questions have the same answer for each number of plies
 abbrev pub HaveOneAnswer : Question → Question → Type 0
 HaveOneAnswer q other = (n : ℕ) → IsForced q n ↔ IsForced other n
-
--- the other question has the answer of the position after the move
-abbrev pub AnswersAfter : Question → Ply → Question → Type 0
-AnswersAfter q m other = (b : PlainBoard) × IsMove q.position m b × HaveOneAnswer (question b q.attacker q.goal) other

@@ -1,15 +1,9 @@
 //! Asking the table, and what its replies say.
-ghost use Rattle.std.specs.Prelude.{◌≡◌, ◌<◌, ◌≤◌, ◌+◌, Bool, All, MatchOption};
-ghost use Rattle.board.specs.Board.{IsPosition};
-ghost use Rattle.slots.specs.Promise.{slots_of, number};
-ghost use Rattle.slots.specs.Steps.{HitFits};
-ghost use Rattle.slots.specs.declared.calls.Act.TheVariants.{Asked};
-ghost use Rattle.entry.specs.Keys.{key_words};
-ghost use Rattle.entry.specs.Truth.{IsTruePacking};
-ghost use Rattle.decision.specs.Calls.{KnowsCalls};
-ghost use Rattle.decision.specs.Callers.{GoesOn, adds};
-ghost use Rattle.decision.specs.Questions.{key_for, first_slot, RepliesThat, Settles, Says, IsTrueHit, Tells, IsKnownOf};
-ghost use Rattle.decision.specs.Decisions.{Asks, IsAsked, IsProbeOf};
+ghost use Rattle.std.specs.Prelude.{◌≡◌, ◌<◌, Bool, MatchOption};
+ghost use Rattle.slots.specs.Promise.{slots_of};
+ghost use Rattle.decision.specs.Callers.{GoesOn, OnAdded, HasAsked, IsReplyTo};
+ghost use Rattle.decision.specs.Questions.{key_for, first_slot, Says, Tells, IsKnownOf};
+ghost use Rattle.decision.specs.Decisions.{IsAsked};
 
 use crate::caller::Caller;
 use crate::image::{NOTHING, image, table_key};
@@ -39,14 +33,13 @@ pub(crate) fn far_slot<A: Allocator>(slots: &Slots<MateLore, A>, key: [u64; 3]) 
     number as usize % slots.len() / 2 * 2
 }
 
-/// The interval of a hit.
-pub(crate) fn known(reply: Probe) -> Option<Interval>
-    requires { IsTrueHit reply }
+/// What the reply tells: the interval of a hit, and else nothing.
+pub(crate) fn told(reply: Probe) -> Interval
     ensures { Tells reply result }
 {
     match reply {
-        Probe::Hit(words) => interval_of(words),
-        _ => None,
+        Probe::Hit(words) => interval_of(words).unwrap_or(NOTHING),
+        _ => NOTHING,
     }
 }
 
@@ -64,95 +57,52 @@ pub(crate) fn decided(interval: Interval, n: u8) -> Option<bool>
     }
 }
 
-/// What the reply says of n plies, if it decides them.
-pub(crate) fn settled(reply: Probe, n: u8) -> Option<bool>
-    requires { IsTrueHit reply }
-    ensures { MatchOption result (Settles reply n → ⊥) (λ answer. RepliesThat reply n answer) }
-{
-    decided(known(reply)?, n)
-}
-
 /// Asks the first slot, and then the second, if the table has it, where the first reply doesn't decide n plies. The reply is
 /// the one that decides them, or else the first slot's.
-pub(crate) fn ask<A: Allocator>(
-    caller: &mut Caller<'_, A>,
-    key: [u64; 3],
-    slot: usize,
-    n: u8,
-) -> Probe
+fn ask<A: Allocator>(caller: &mut Caller<'_, A>, key: [u64; 3], slot: usize, n: u8) -> Probe
     requires slot { slot < slots_of caller.old.slots.now }
-    ensures goes_on { GoesOn caller.old caller.new }
-    ensures history { KnowsCalls caller.new.seat.now }
-    ensures asked { Asks key slot (slots_of caller.old.slots.now) n (number caller.old.seat.now) result
-        (adds caller.old caller.new) }
-    ensures probes { All (IsProbeOf key) (adds caller.old caller.new) }
-    ensures hit { HitFits key_words IsTruePacking (Asked key result) }
+    ensures { HasAsked key slot n result caller.old caller.new }
 {
     let count = caller.slots.len();
     let reply = caller.probe(slot, key);
-    if settled(reply, n).is_some() {
+    if decided(told(reply), n).is_some() {
         return reply;
     }
     if count <= slot + 1 {
         return reply;
     }
     let second = caller.probe(slot + 1, key);
-    if settled(second, n).is_some() {
+    if decided(told(second), n).is_some() {
         second
     } else {
         reply
     }
 }
 
-/// What the reply to its key says of the question.
-fn told(q: &Question, reply: Probe) -> Interval
-    requires position { IsPosition q.now.position }
-    requires hit { HitFits key_words IsTruePacking (Asked (key_for q.now) reply) }
-    ensures { IsKnownOf q.now result }
-{
-    match known(reply) {
-        Some(interval) => interval,
-        None => NOTHING,
-    }
-}
-
 /// Asks the question's own two slots, as `ask` does.
 pub(crate) fn ask_near<A: Allocator>(caller: &mut Caller<'_, A>, q: &Question, n: u8) -> Probe
-    ensures goes_on { GoesOn caller.old caller.new }
-    ensures history { KnowsCalls caller.new.seat.now }
-    ensures asked { Asks (key_for q.now) (first_slot (key_for q.now) (slots_of caller.old.slots.now))
-        (slots_of caller.old.slots.now) n (number caller.old.seat.now) result (adds caller.old caller.new) }
-    ensures probes { All (IsProbeOf (key_for q.now)) (adds caller.old caller.new) }
-    ensures hit { HitFits key_words IsTruePacking (Asked (key_for q.now) result) }
-    ensures position { IsPosition q.now.position }
+    ensures asked { HasAsked (key_for q.now) (first_slot (key_for q.now) (slots_of caller.old.slots.now)) n result
+        caller.old caller.new }
+    ensures reply { IsReplyTo q.now result }
 {
     let key = table_key(q);
     let slot = first_slot(caller.slots, key);
     ask(caller, key, slot, n)
 }
 
-/// What the table knows of the question: its own two slots are asked, and the far slots where these don't decide n plies.
+/// What the table knows of the question: its own two slots are asked, and its image's far slots where these don't decide n plies.
 pub(crate) fn look<A: Allocator>(caller: &mut Caller<'_, A>, q: &Question, n: u8) -> Interval
     ensures goes_on { GoesOn caller.old caller.new }
-    ensures asked { IsAsked q.now (slots_of caller.old.slots.now) (number caller.old.seat.now)
-        (adds caller.old caller.new) }
+    ensures asked { OnAdded (IsAsked q.now) caller.old caller.new }
     ensures right { IsKnownOf q.now result }
 {
-    let near = ask_near(caller, q, n);
-    if settled(near, n).is_some() {
-        return told(q, near);
+    let near = told(ask_near(caller, q, n));
+    if decided(near, n).is_some() {
+        return near;
     }
-    let far = look_turned(caller, q, n);
+    let far = look_far(caller, &image(q.copied()), n);
     interval_laws();
-    meet(told(q, near), far)
-}
-
-/// What the table knows of the question's image, in the far slots: the same is known of the question.
-fn look_turned<A: Allocator>(caller: &mut Caller<'_, A>, q: &Question, n: u8) -> Interval
-    ensures goes_on { GoesOn caller.old caller.new }
-    ensures right { IsKnownOf q.now result }
-{
-    look_far(caller, &image(q), n)
+    meet(near, far)
 }
 
 /// What the table knows of the question, which is turned, in the far slots: no others stand there.
@@ -162,6 +112,5 @@ pub(crate) fn look_far<A: Allocator>(caller: &mut Caller<'_, A>, q: &Question, n
 {
     let key = table_key(q);
     let slot = far_slot(caller.slots, key);
-    let reply = ask(caller, key, slot, n);
-    told(q, reply)
+    told(ask(caller, key, slot, n))
 }

@@ -14,23 +14,16 @@ pub(crate) struct Caller<'a, A: Allocator> {
 }
 
 impl<A: Allocator> Caller<'_, A> {
-    ghost use Rattle.std.specs.Prelude.{◌≡◌, ◌<◌, [], ◌∷◌};
-    ghost use Rattle.slots.specs.Machine.{call};
-    ghost use Rattle.slots.specs.Promise.{slots_of, number};
-    ghost use Rattle.slots.specs.Steps.{HitFits};
+    ghost use Rattle.std.specs.Prelude.{◌<◌};
+    ghost use Rattle.slots.specs.Promise.{slots_of};
     ghost use Rattle.slots.specs.declared.calls.Act.TheVariants.{Asked, Offered};
-    ghost use Rattle.entry.specs.Keys.{key_words};
     ghost use Rattle.entry.specs.Truth.{IsTruePacking};
-    ghost use Rattle.decision.specs.Calls.{KnowsCalls};
-    ghost use Rattle.decision.specs.Callers.{GoesOn, adds};
+    ghost use Rattle.decision.specs.Callers.{MakesCall};
 
     /// Asks a slot for the key.
     pub(crate) fn probe(&mut self, slot: usize, key: [u64; 3]) -> Probe
         requires slot { slot < slots_of self.old.slots.now }
-        ensures goes_on { GoesOn self.old self.new }
-        ensures history { KnowsCalls self.new.seat.now }
-        ensures one { adds self.old self.new ≡ call slot (number self.old.seat.now) (Asked key result) ∷ [] }
-        ensures hit { HitFits key_words IsTruePacking (Asked key result) }
+        ensures { MakesCall slot (Asked key result) self.old self.new }
     {
         self.slots.probe(self.seat, slot, key)
     }
@@ -39,9 +32,7 @@ impl<A: Allocator> Caller<'_, A> {
     pub(crate) fn store(&mut self, slot: usize, words: [u64; 3]) -> Store
         requires slot { slot < slots_of self.old.slots.now }
         requires holds { IsTruePacking words }
-        ensures goes_on { GoesOn self.old self.new }
-        ensures history { KnowsCalls self.new.seat.now }
-        ensures one { adds self.old self.new ≡ call slot (number self.old.seat.now) (Offered words result) ∷ [] }
+        ensures { MakesCall slot (Offered words result) self.old self.new }
     {
         self.slots.store(self.seat, slot, words)
     }

@@ -3,20 +3,14 @@ ghost use Rattle.std.specs.Prelude.{◌≡◌, ◌<◌, ◌≤◌, ◌↔◌, Is
 ghost use Rattle.rules.specs.Squares.{Ply};
 ghost use Rattle.rules.specs.Moves.{IsLawful};
 ghost use Rattle.rules.specs.Forces.{Forces};
-ghost use Rattle.board.specs.Board.{IsPosition};
 ghost use Rattle.slots.specs.Promise.{slots_of, number, IsSeatOf};
-ghost use Rattle.slots.specs.Steps.{HitFits};
-ghost use Rattle.slots.specs.declared.calls.Act.TheVariants.{Asked};
-ghost use Rattle.entry.specs.Keys.{key_words};
-ghost use Rattle.entry.specs.Truth.{IsTruePacking};
 ghost use Rattle.decision.specs.Calls.{added, Continues, KnowsCalls};
-ghost use Rattle.decision.specs.Callers.{adds, GoesOn, Searches};
+ghost use Rattle.decision.specs.Callers.{GoesOn, OnAdded, IsFound, IsReplyTo, Searches};
 ghost use Rattle.problems.specs.Questions.{question, IsForced};
-ghost use Rattle.decision.specs.Questions.{key_for, IsKnownOf};
-ghost use Rattle.decision.specs.Below.{IsFound};
+ghost use Rattle.decision.specs.Questions.{IsKnownOf};
 ghost use Rattle.decision.specs.Decisions.{Decides, AsksBelow, IsDecided};
 
-use crate::asking::{ask_near, decided, look_far, settled};
+use crate::asking::{ask_near, decided, look_far, told};
 use crate::caller::Caller;
 use crate::decision::Decision;
 use crate::first::try_moves;
@@ -27,7 +21,7 @@ use crate::memory::Memory;
 use crate::order::order_into;
 use crate::scout::{Never, Scout, Stop};
 use crate::searching::search_from;
-use crate::storing::{keep, known_after};
+use crate::storing::{keep, known_with};
 use arrayvec::ArrayVec;
 use board::{Position, Side};
 use entry::{Interval, MateLore};
@@ -47,7 +41,8 @@ fn search_given<S: Stop, A: Allocator>(
     ensures goes_on { Searches S.stays caller.old caller.new lead.old lead.new }
     ensures answer { MatchOption result (S.told lead.new.scout.now.stop) (λ yes. IsTrue yes ↔ IsForced q.now n) }
     ensures below { IfSome result
-        (λ yes. 0 < n → ((m : Ply) × IsLawful q.now.position m) → AsksBelow q.now (slots_of caller.old.slots.now) (number caller.old.seat.now) yes (adds caller.old caller.new)) }
+        (λ yes. 0 < n → ((m : Ply) × IsLawful q.now.position m)
+        → OnAdded (λ slots number. AsksBelow q.now slots number yes) caller.old caller.new) }
 {
     if n == 0 {
         return Some(answer_now(q));
@@ -70,13 +65,12 @@ fn search_and_keep<S: Stop, A: Allocator>(
     n: u8,
     reply: Probe,
 ) -> Option<Decision>
-    requires position { IsPosition q.now.position }
     requires plies { n ≤ 63 }
-    requires hit { HitFits key_words IsTruePacking (Asked (key_for q.now) reply) }
+    requires reply { IsReplyTo q.now reply }
     ensures goes_on { GoesOn caller.old caller.new }
     ensures stop { S.stays scout.old.stop scout.new.stop }
     ensures found { MatchOption result (S.told scout.new.stop)
-        (λ d. IsFound q.now (slots_of caller.old.slots.now) n (number caller.old.seat.now) reply d (adds caller.old caller.new)) }
+        (λ d. OnAdded (λ slots number. IsFound q.now slots n number reply d) caller.old caller.new) }
 {
     let mut lead = Lead {
         scout,
@@ -85,7 +79,7 @@ fn search_and_keep<S: Stop, A: Allocator>(
     lead.scout.memory.expanded = 0;
     let yes = search_given(caller, &mut lead, q, n)?;
     let expanded = lead.scout.memory.expanded.saturating_add(1);
-    keep(caller, q, known_after(q, n, yes, reply));
+    keep(caller, q, known_with(q, n, yes, told(reply)));
     Some(Decision {
         yes,
         expanded,
@@ -101,12 +95,10 @@ fn search_and_keep_alone<A: Allocator>(
     n: u8,
     reply: Probe,
 ) -> Decision
-    requires position { IsPosition q.now.position }
     requires plies { n ≤ 63 }
-    requires hit { HitFits key_words IsTruePacking (Asked (key_for q.now) reply) }
+    requires reply { IsReplyTo q.now reply }
     ensures goes_on { GoesOn caller.old caller.new }
-    ensures found { IsFound q.now (slots_of caller.old.slots.now) n (number caller.old.seat.now) reply result
-        (adds caller.old caller.new) }
+    ensures found { OnAdded (λ slots number. IsFound q.now slots n number reply result) caller.old caller.new }
 {
     let mut scout = Scout {
         stop: Never,
@@ -129,11 +121,11 @@ fn decide_with<S: Stop, A: Allocator>(
     ensures goes_on { GoesOn caller.old caller.new }
     ensures stop { S.stays scout.old.stop scout.new.stop }
     ensures history { KnowsCalls caller.new.seat.now }
-    ensures decided { MatchOption result (S.told scout.new.stop) (λ d. IsDecided q.now
-        (slots_of caller.old.slots.now) n (number caller.old.seat.now) d (adds caller.old caller.new)) }
+    ensures decided { MatchOption result (S.told scout.new.stop)
+        (λ d. OnAdded (λ slots number. IsDecided q.now slots n number d) caller.old caller.new) }
 {
     let reply = ask_near(caller, q, n);
-    match settled(reply, n) {
+    match decided(told(reply), n) {
         Some(yes) => Some(Decision {
             yes,
             expanded: 0,
@@ -148,11 +140,10 @@ fn decide_alone<A: Allocator>(caller: &mut Caller<'_, A>, q: &Question, n: u8) -
     requires { n ≤ 63 }
     ensures goes_on { GoesOn caller.old caller.new }
     ensures history { KnowsCalls caller.new.seat.now }
-    ensures decided { IsDecided q.now (slots_of caller.old.slots.now) n (number caller.old.seat.now) result
-        (adds caller.old caller.new) }
+    ensures decided { OnAdded (λ slots number. IsDecided q.now slots n number result) caller.old caller.new }
 {
     let reply = ask_near(caller, q, n);
-    match settled(reply, n) {
+    match decided(told(reply), n) {
         Some(yes) => Decision {
             yes,
             expanded: 0,
@@ -226,25 +217,6 @@ fn search_on<S: Stop, A: Allocator>(
     search_from(caller, &mut lead, q, n, known)
 }
 
-/// The answer alone, as the far slots have it, or else by a search, or `None` where that was told to stop.
-fn ask_until<S: Stop, A: Allocator>(
-    caller: &mut Caller<'_, A>,
-    scout: &mut Scout<S>,
-    q: &Question,
-    n: u8,
-) -> Option<bool>
-    requires { n ≤ 63 }
-    ensures goes_on { GoesOn caller.old caller.new }
-    ensures stop { S.stays scout.old.stop scout.new.stop }
-    ensures answer { MatchOption result (S.told scout.new.stop) (λ yes. IsTrue yes ↔ IsForced q.now n) }
-{
-    let known = look_far(caller, q, n);
-    match decided(known, n) {
-        Some(yes) => Some(yes),
-        None => search_on(caller, scout, q, n, known),
-    }
-}
-
 /// Up to so many plies the answer alone is found sooner than the table is asked.
 const UNASKED: u8 = 2;
 
@@ -267,7 +239,12 @@ pub fn is_forced_until<S: Stop, A: Allocator>(
         return Some(short_leaf(&mut scout.memory, q, n));
     }
     let mut caller = Caller { slots, seat };
-    ask_until(&mut caller, scout, &image(q), n)
+    let image = image(q.copied());
+    let known = look_far(&mut caller, &image, n);
+    match decided(known, n) {
+        Some(yes) => Some(yes),
+        None => search_on(&mut caller, scout, &image, n, known),
+    }
 }
 
 /// `is_forced_until`, where nothing stops it. Who asks often keeps a memory, and asks that one.

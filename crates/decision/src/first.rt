@@ -1,12 +1,9 @@
 //! The first level below the given position: the table is asked of each position as it stands, in its own slots too.
-ghost use Rattle.std.specs.Prelude.{◌≡◌, ◌<◌, ◌≤◌, ◌↔◌, IsTrue, IfSome, All, MatchOption};
-ghost use Rattle.rules.specs.Moves.{IsLawful};
-ghost use Rattle.slots.specs.Promise.{slots_of, number};
-ghost use Rattle.decision.specs.Callers.{adds, Searches};
+ghost use Rattle.std.specs.Prelude.{◌<◌, ◌≤◌, ◌↔◌, IsTrue, IfSome, MatchOption, length};
+ghost use Rattle.decision.specs.Callers.{OnAdded, Searches};
 ghost use Rattle.problems.specs.Questions.{IsForced};
-ghost use Rattle.problems.specs.Tried.{TellsOfTried};
-ghost use Rattle.decision.specs.Below.{Asked};
-ghost use Rattle.decision.specs.Decisions.{IsAsked};
+ghost use Rattle.problems.specs.Tried.{ListsAll};
+ghost use Rattle.decision.specs.Decisions.{IsAsked, AsksBelow};
 
 use crate::asking::{decided, look};
 use crate::caller::Caller;
@@ -27,8 +24,7 @@ fn visit_child<S: Stop, A: Allocator>(
 ) -> Option<bool>
     requires { n ≤ 63 }
     ensures goes_on { Searches S.stays caller.old caller.new lead.old lead.new }
-    ensures asked { IsAsked q.now (slots_of caller.old.slots.now) (number caller.old.seat.now)
-        (adds caller.old caller.new) }
+    ensures asked { OnAdded (IsAsked q.now) caller.old caller.new }
     ensures answer { MatchOption result (S.told lead.new.scout.now.stop) (λ yes. IsTrue yes ↔ IsForced q.now n) }
 {
     let known = look(caller, q, n);
@@ -40,7 +36,8 @@ fn visit_child<S: Stop, A: Allocator>(
     Some(found.yes)
 }
 
-/// Tries the moves in turn, until one ends the search. The table is asked of each position below, as it stands.
+/// The answer for n plies by trying the moves, which are all, in turn, until one ends the search. The table is asked of each position
+/// below, as it stands.
 pub(crate) fn try_moves<S: Stop, A: Allocator>(
     caller: &mut Caller<'_, A>,
     lead: &mut Lead<'_, S>,
@@ -49,11 +46,12 @@ pub(crate) fn try_moves<S: Stop, A: Allocator>(
     moves: &[Move],
 ) -> Option<bool>
     requires plies { (0 < n) × (n ≤ 63) }
-    requires lawful { All (IsLawful q.now.position) moves.now }
+    requires lists { ListsAll q.now.position moves.now }
+    requires some { 0 < length moves.now }
     ensures goes_on { Searches S.stays caller.old caller.new lead.old lead.new }
-    ensures tells { MatchOption result (S.told lead.new.scout.now.stop) (TellsOfTried q.now n moves.now) }
-    ensures asked { IfSome result
-        (λ yes. Asked q.now (slots_of caller.old.slots.now) (number caller.old.seat.now) moves.now yes (adds caller.old caller.new)) }
+    ensures answer { MatchOption result (S.told lead.new.scout.now.stop) (λ yes. IsTrue yes ↔ IsForced q.now n) }
+    ensures below { IfSome result
+        (λ yes. OnAdded (λ slots number. AsksBelow q.now slots number yes) caller.old caller.new) }
 {
     let own = q.is_own_turn();
     for m in moves {

@@ -1,14 +1,11 @@
 //! A question's image: the same of the position turned about, and the key by which the table is asked of it.
 ghost use Rattle.std.specs.Prelude.{◌≡◌};
 ghost use Rattle.board.specs.Board.{IsPosition};
-ghost use Rattle.rules.specs.Moves.{IsLawful};
-ghost use Rattle.entry.specs.Bounds.{Bounds};
-ghost use Rattle.decision.specs.Questions.{key_for, IsKnownOf};
-ghost use Rattle.decision.specs.Turned.{HaveOneAnswer, AnswersAfter};
+ghost use Rattle.decision.specs.Questions.{key_for};
+ghost use Rattle.decision.specs.Turned.{HaveOneAnswer};
 
 use crate::turning::{least, turned};
 use entry::{Interval, key_of, pack_board};
-use moves::Move;
 use problems::Question;
 
 /// Nothing is known.
@@ -17,8 +14,8 @@ pub(crate) const NOTHING: Interval = Interval {
     upto: None,
 };
 
-/// The same of the position turned about, so that the kings stand on the least squares.
-fn turned_about(q: Question) -> Question
+/// The question's image: the same of the position turned about, so that the kings stand on the least squares.
+pub(crate) fn image(q: Question) -> Question
     ensures { HaveOneAnswer q result }
 {
     let turning = least(&q.position, q.attacker);
@@ -28,28 +25,7 @@ fn turned_about(q: Question) -> Question
     let Some(position) = turned(&q.position, turning) else {
         return q;
     };
-    Question {
-        position,
-        attacker: q.attacker,
-        goal: q.goal,
-    }
-}
-
-/// The question's image. What is known of the one is known of the other.
-pub(crate) fn image(q: &Question) -> Question
-    ensures answer { HaveOneAnswer q.now result }
-    ensures onto { (i : Bounds) → IsKnownOf q.now i → IsKnownOf result i }
-    ensures back { (i : Bounds) → IsKnownOf result i → IsKnownOf q.now i }
-{
-    turned_about(q.copied())
-}
-
-/// The image of the question after a lawful move.
-pub(crate) fn image_after(q: &Question, m: Move) -> Question
-    requires { IsLawful q.now.position m }
-    ensures { AnswersAfter q.now m result }
-{
-    turned_about(q.after(m))
+    Question { position, ..q }
 }
 
 /// The key by which the table is asked.

@@ -1,5 +1,5 @@
 //! The last three plies, with no table and no key.
-ghost use Rattle.std.specs.Prelude.{◌≡◌, ◌≤◌, ◌↔◌, IsTrue, IfSome, true, false};
+ghost use Rattle.std.specs.Prelude.{◌≡◌, ◌≤◌, ◌↔◌, IsTrue, true, false};
 ghost use Rattle.rules.specs.Forces.{IsReached};
 ghost use Rattle.problems.specs.Questions.{IsForced};
 ghost use Rattle.problems.specs.Tried.{is_own};
@@ -51,33 +51,23 @@ fn refutes(memory: &mut Memory, q: &Question, m: Move) -> bool
     !wins_at_once(memory, &next)
 }
 
-/// One of the replies that refuted last, if it does again: where it does, no list is made.
-fn remembered_refutation(memory: &mut Memory, q: &Question) -> Option<Move>
-    requires { is_own q.now ≡ false }
-    ensures { IfSome result (λ _. IsForced q.now 2 → ⊥) }
-{
-    for reply in memory.replies() {
-        let Some(m) = reply else {
-            continue;
-        };
-        if refutes(memory, q, m) {
-            return Some(m);
-        }
-    }
-    None
-}
-
-/// Whether one of the replies that refuted last keeps the attacker, who isn't to move, from reaching the goal by its next move.
+/// Whether one of the replies that refuted last keeps the attacker, who isn't to move, from reaching the goal by its next move: where it
+/// does, no list is made.
 fn is_refuted_again(memory: &mut Memory, q: &Question) -> bool
     requires { is_own q.now ≡ false }
     ensures { IsTrue result → IsForced q.now 2 → ⊥ }
 {
     memory.count();
-    let Some(m) = remembered_refutation(memory, q) else {
-        return false;
-    };
-    memory.remember_reply(m);
-    true
+    for reply in memory.replies() {
+        let Some(m) = reply else {
+            continue;
+        };
+        if refutes(memory, q, m) {
+            memory.remember_reply(m);
+            return true;
+        }
+    }
+    false
 }
 
 /// Whether each move of the defender, who is to move and has one, lets the attacker reach the goal by its next, by the list of them.
@@ -138,43 +128,22 @@ fn wins_in_three(memory: &mut Memory, rooms: &mut Rooms, q: &Question) -> bool
     false
 }
 
-/// The answer for at most two plies, with the attacker to move.
-fn own_short_leaf(memory: &mut Memory, q: &Question, n: u8) -> bool
-    requires plies { n ≤ 2 }
-    requires own { is_own q.now ≡ true }
-    ensures { IsTrue result ↔ IsForced q.now n }
-{
-    if n == 0 {
-        return answer_now(q);
-    }
-    wins_at_once(memory, q)
-}
-
-/// The answer for at most three plies, with the attacker to move.
-fn own_leaf(memory: &mut Memory, rooms: &mut Rooms, q: &Question, n: u8) -> bool
-    requires plies { n ≤ 3 }
-    requires own { is_own q.now ≡ true }
-    ensures { IsTrue result ↔ IsForced q.now n }
-{
-    if n < 3 {
-        return own_short_leaf(memory, q, n);
-    }
-    wins_in_three(memory, rooms, q)
-}
-
 /// The answer for at most three plies.
 pub(crate) fn leaf(memory: &mut Memory, rooms: &mut Rooms, q: &Question, n: u8) -> bool
     requires { n ≤ 3 }
     ensures { IsTrue result ↔ IsForced q.now n }
 {
-    let own = q.is_own_turn();
-    if own {
-        return own_leaf(memory, rooms, q, n);
-    }
     if n < 2 {
-        return answer_now(q);
+        return short_leaf(memory, q, n);
     }
-    loses_in_two(memory, &mut rooms.replies, q)
+    let own = q.is_own_turn();
+    if !own {
+        return loses_in_two(memory, &mut rooms.replies, q);
+    }
+    if n < 3 {
+        return short_leaf(memory, q, n);
+    }
+    wins_in_three(memory, rooms, q)
 }
 
 /// The answer for at most two plies, with no room for lists: the one of the replies is made where all are needed.
@@ -182,11 +151,14 @@ pub(crate) fn short_leaf(memory: &mut Memory, q: &Question, n: u8) -> bool
     requires { n ≤ 2 }
     ensures { IsTrue result ↔ IsForced q.now n }
 {
+    if n == 0 {
+        return answer_now(q);
+    }
     let own = q.is_own_turn();
     if own {
-        return own_short_leaf(memory, q, n);
+        return wins_at_once(memory, q);
     }
-    if n < 2 {
+    if n == 1 {
         return answer_now(q);
     }
     if is_refuted_again(memory, q) {

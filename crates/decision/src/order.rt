@@ -3,7 +3,6 @@ ghost use Rattle.std.specs.Prelude.{◌≡◌, ◌<◌, ◌≤◌, [], ◌++◌,
 ghost use Rattle.std.specs.List.Sorted.{IsPermutation};
 ghost use Rattle.rules.specs.Moves.{IsLawful};
 ghost use Rattle.problems.specs.Tried.{ListsAll};
-ghost use Rattle.decision.specs.Orders.{moves_of};
 
 use crate::memory::Memory;
 use arrayvec::ArrayVec;
@@ -121,7 +120,7 @@ fn cost_all(
 )
     requires lawful { All (IsLawful q.now.position) moves.now }
     requires room { length moves.now ≤ 512 }
-    ensures { moves_of costed.new.items ≡ moves.now }
+    ensures { map (λ it. it.m) costed.new.items ≡ moves.now }
 {
     costed.clear();
     for i in 0..moves.len() {
@@ -134,7 +133,7 @@ fn cost_all(
 /// Puts the moves into the list in place of what it held, without their costs.
 fn put_moves(costed: &[Costed], moves: &mut ArrayVec<Move, 512>)
     requires { length costed.now ≤ 512 }
-    ensures { moves.new.items ≡ moves_of costed.now }
+    ensures { moves.new.items ≡ map (λ it. it.m) costed.now }
 {
     moves.clear();
     for it in costed {

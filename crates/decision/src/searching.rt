@@ -1,16 +1,16 @@
 //! The search below the first level. The table is asked of each position but those of the last plies, in the far slots alone; positions
 //! that are images of one another are searched as one.
-ghost use Rattle.std.specs.Prelude.{◌≡◌, ◌<◌, ◌≤◌, ◌-◌, ◌↔◌, IsTrue, All, MatchOption, length};
+ghost use Rattle.std.specs.Prelude.{◌≡◌, ◌<◌, ◌≤◌, ◌↔◌, IsTrue, IfSome, All, MatchOption, length};
 ghost use Rattle.arrayvec.specs.ArrayVec.{array_vec_len};
 ghost use Rattle.rules.specs.Moves.{IsLawful};
 ghost use Rattle.decision.specs.Callers.{GoesOn, Searches};
 ghost use Rattle.problems.specs.Questions.{IsForced};
 ghost use Rattle.decision.specs.Questions.{IsKnownOf};
-ghost use Rattle.problems.specs.Tried.{is_own, IsCut, TellsOfTried, ListsAll};
+ghost use Rattle.problems.specs.Tried.{ListsAll};
 
 use crate::asking::{decided, look_far};
 use crate::caller::Caller;
-use crate::image::image_after;
+use crate::image::image;
 use crate::lead::Lead;
 use crate::leaf::{answer_now, leaf};
 use crate::scout::Stop;
@@ -30,52 +30,32 @@ const LOOKED_FROM: u8 = 6;
 /// From so many plies on an attacker's position is searched round by round.
 const ROUNDS_FROM: u8 = 11;
 
-/// Whether the table knows of a position below that ends the search: on the attacker's turn one that wins, on the defender's
-/// one that escapes.
-fn is_cut<A: Allocator>(caller: &mut Caller<'_, A>, q: &Question, n: u8, moves: &[Move]) -> bool
-    requires plies { (0 < n) × (n ≤ 63) }
-    requires lawful { All (IsLawful q.now.position) moves.now }
-    ensures goes_on { GoesOn caller.old caller.new }
-    ensures cut { IsTrue result → IsCut q.now (n - 1) (is_own q.now) }
-{
-    if n < LOOKED_FROM {
-        return false;
-    }
-    let own = q.is_own_turn();
-    for m in moves {
-        let below = image_after(q, *m);
-        let known = look_far(caller, &below, n - 1);
-        match decided(known, n - 1) {
-            Some(yes) if yes == own => return true,
-            _ => {}
-        }
-    }
-    false
-}
-
-/// Tries the moves in turn, until one ends the search. The table is asked of each position below, turned about.
-#[cycle(searching)]
-fn try_below<S: Stop, A: Allocator>(
+/// The answer for n plies, where the table knows of a position below that ends the search: on the attacker's turn one that wins, on the
+/// defender's one that escapes.
+fn known_below<A: Allocator>(
     caller: &mut Caller<'_, A>,
-    lead: &mut Lead<'_, S>,
     q: &Question,
     n: u8,
     moves: &[Move],
 ) -> Option<bool>
     requires plies { (0 < n) × (n ≤ 63) }
     requires lawful { All (IsLawful q.now.position) moves.now }
-    ensures goes_on { Searches S.stays caller.old caller.new lead.old lead.new }
-    ensures tells { MatchOption result (S.told lead.new.scout.now.stop) (TellsOfTried q.now n moves.now) }
+    ensures goes_on { GoesOn caller.old caller.new }
+    ensures answer { IfSome result (λ yes. IsTrue yes ↔ IsForced q.now n) }
 {
+    if n < LOOKED_FROM {
+        return None;
+    }
     let own = q.is_own_turn();
     for m in moves {
-        let yes = visit(caller, lead, &image_after(q, *m), n - 1)?;
-        if yes == own {
-            lead.scout.memory.remember(*m, n, own);
-            return Some(own);
+        let below = image(q.after(*m));
+        let known = look_far(caller, &below, n - 1);
+        match decided(known, n - 1) {
+            Some(yes) if yes == own => return Some(own),
+            _ => {}
         }
     }
-    Some(!own)
+    None
 }
 
 /// A list of the moves.
@@ -90,7 +70,8 @@ fn copied<const CAP: usize>(moves: &[Move]) -> ArrayVec<Move, CAP>
     list
 }
 
-/// The answer for n plies by the positions after the moves, which are all.
+/// The answer for n plies by the positions after the moves, which are all: they are tried in turn, until one ends the search. The table is
+/// asked of each position below, turned about.
 #[cycle(searching)]
 fn search_listed<S: Stop, A: Allocator>(
     caller: &mut Caller<'_, A>,
@@ -105,32 +86,21 @@ fn search_listed<S: Stop, A: Allocator>(
     ensures goes_on { Searches S.stays caller.old caller.new lead.old lead.new }
     ensures answer { MatchOption result (S.told lead.new.scout.now.stop) (λ yes. IsTrue yes ↔ IsForced q.now n) }
 {
-    if is_cut(caller, q, n, moves) {
-        return Some(q.is_own_turn());
+    if let Some(yes) = known_below(caller, q, n, moves) {
+        return Some(yes);
     }
-    try_below(caller, lead, q, n, moves)
+    let own = q.is_own_turn();
+    for m in moves {
+        let yes = visit(caller, lead, &image(q.after(*m)), n - 1)?;
+        if yes == own {
+            lead.scout.memory.remember(*m, n, own);
+            return Some(own);
+        }
+    }
+    Some(!own)
 }
 
-/// The answer by the moves in the room for them, where they are few. A longer list takes longer to clear.
-#[cycle(searching)]
-fn search_few<S: Stop, A: Allocator>(
-    caller: &mut Caller<'_, A>,
-    lead: &mut Lead<'_, S>,
-    q: &Question,
-    n: u8,
-) -> Option<bool>
-    requires plies { (3 < n) × (n ≤ 63) }
-    requires lists { ListsAll q.now.position lead.old.rooms.moves.items }
-    requires some { 0 < array_vec_len lead.old.rooms.moves }
-    requires few { array_vec_len lead.old.rooms.moves ≤ 64 }
-    ensures goes_on { Searches S.stays caller.old caller.new lead.old lead.new }
-    ensures answer { MatchOption result (S.told lead.new.scout.now.stop) (λ yes. IsTrue yes ↔ IsForced q.now n) }
-{
-    let few = copied::<64>(lead.rooms.moves.as_slice());
-    search_listed(caller, lead, q, n, few.as_slice())
-}
-
-/// The answer by the moves in the room for them.
+/// The answer by the moves in the room for them, where they are many.
 #[cycle(searching)]
 #[inline(never)]
 fn search_many<S: Stop, A: Allocator>(
@@ -173,11 +143,12 @@ fn search<S: Stop, A: Allocator>(
     if count == 0 {
         return Some(answer_now(q));
     }
-    if count <= 64 {
-        search_few(caller, lead, q, n)
-    } else {
-        search_many(caller, lead, q, n)
+    if count > 64 {
+        return search_many(caller, lead, q, n);
     }
+    // A longer list takes longer to clear.
+    let few = copied::<64>(lead.rooms.moves.as_slice());
+    search_listed(caller, lead, q, n, few.as_slice())
 }
 
 /// The answer for some plies, and what is known with it.
@@ -205,17 +176,14 @@ pub(crate) fn search_in_rounds<S: Stop, A: Allocator>(
 {
     let mut known = known;
     let mut plies = first_round(q, n, known);
-    while plies < n {
+    loop {
         let yes = search(caller, lead, q, plies)?;
         known = known_with(q, plies, yes, known);
-        if yes {
+        if yes || plies == n {
             return Some(Outcome { yes, known });
         }
-        plies += 2;
+        plies = (plies + 2).min(n);
     }
-    let yes = search(caller, lead, q, n)?;
-    let known = known_with(q, n, yes, known);
-    Some(Outcome { yes, known })
 }
 
 /// The plies of the first round.

@@ -1,14 +1,9 @@
-use Rattle.std.proofs.Common.{subst}
-use Rattle.problems.specs.declared.question.Question.{Question}
-use Rattle.decision.specs.Turned.{HaveOneAnswer}
-use Rattle.decision.proofs.Replies.{known_as, known_back}
+use Rattle.laws.proofs.Forced.{Forces-turned, Forces-back}
+use Rattle.decision.specs.Turned.{way_of}
 use Rattle.decision.proofs.image.image.Goals as goal
 
-pub returns-clause-answer : goal.returns-clause-answer
-returns-clause-answer c = subst (λ (q : Question). HaveOneAnswer q c.turned_about.result) c.copied.ensures c.turned_about.ensures
-
-pub returns-clause-onto : goal.returns-clause-onto
-returns-clause-onto c = λ i. known_as c.args.q.now c.turned_about.result i (subst (λ (q : Question). HaveOneAnswer q c.turned_about.result) c.copied.ensures c.turned_about.ensures)
-
-pub returns-clause-back : goal.returns-clause-back
-returns-clause-back c = λ i. known_back c.args.q.now c.turned_about.result i (subst (λ (q : Question). HaveOneAnswer q c.turned_about.result) c.copied.ensures c.turned_about.ensures)
+pub returns : goal.returns
+returns c = let t = way_of c.least-turning.result in let q = c.args.q in let well = c.in-Some.ensures in λ n. (
+  Forces-turned n t q.goal q.attacker q.position c.in-Some.position well.turned well.may,
+  Forces-back n t q.goal q.attacker q.position c.in-Some.position well.turned well.may,
+)

@@ -1,9 +1,10 @@
-use Rattle.std.proofs.Common.{All, sym, ◌∙◌, subst, arith, false, length}
+use Rattle.std.proofs.Common.{◌<◌, List, sym, ◌∙◌, subst, arith, false, length}
 use Rattle.std.proofs.lemmas.Bool.{false≢true}
 use Rattle.std.proofs.lemmas.Bool.Decides.{Decides-eqb}
-use Rattle.std.proofs.lemmas.List.{take_all}
-use Rattle.problems.specs.Tried.{ListsAll, IsPassed}
-use Rattle.problems.proofs.Tried.{ended_answer, gone_answer, none_listed, some_listed, not_empty, passes_other, passed_after, cut_after, All-listed}
+use Rattle.rules.specs.Squares.{Ply}
+use Rattle.problems.specs.Tried.{ListsAll}
+use Rattle.problems.proofs.Tried.{none_listed, not_empty, passes_other, passed_after, cut_after}
+use Rattle.decision.proofs.Below.{ends_it, none_ends}
 use Rattle.problems.proofs.LastPlies.{other_stuck}
 use Rattle.decision.proofs.leaf.loses_by_all.Goals as goal
 
@@ -22,8 +23,7 @@ returns-then-is_empty c =
 
 pub returns-then-not-wins_at_once : goal.returns-then-not-wins_at_once
 returns-then-not-wins_at_once c =
-    let w = cut_after c.args.q.now 1 false c.m-item.result c.after.result c.after.ensures (λ f. false≢true (sym c.if-not-wins_at_once.true ∙ c.wins_at_once.ensures.1 f)) in
-    ended_answer c.args.q.now 2 false (sym c.requires) (omega arith) w.0 w.1 w.2 w.3
+    ends_it c.args.q.now 2 false (sym c.requires) (omega arith) (cut_after c.args.q.now 1 false c.m-item.result c.after.result c.after.ensures (λ f. false≢true (sym c.if-not-wins_at_once.true ∙ c.wins_at_once.ensures.1 f)))
 
 pub loop-m-preserved : goal.loop-m-preserved
 loop-m-preserved c =
@@ -32,7 +32,5 @@ loop-m-preserved c =
 
 pub returns : goal.returns
 returns c =
-    gone_answer c.args.q.now 2 false (sym c.requires) (omega arith)
-    (some_listed c.args.q.now.position c.list_lawful.new.moves.items c.list_lawful.ensures.exact (not_empty (length c.list_lawful.new.moves.items) c.if-is_empty.ensures))
-    (All-listed c.args.q.now.position c.as_slice-m-items.result.now (subst (ListsAll c.args.q.now.position) (sym c.as_slice-m-items.ensures.value) c.list_lawful.ensures.exact) (IsPassed c.args.q.now 1 false)
-    (subst (All (IsPassed c.args.q.now 1 false)) (take_all c.loop-m.m-index c.as_slice-m-items.result.now c.loop-m-test.false) c.loop-m.invariant))
+    none_ends c.args.q.now 2 false (sym c.requires) (omega arith) c.as_slice-m-items.result.now (subst (ListsAll c.args.q.now.position) (sym c.as_slice-m-items.ensures.value) c.list_lawful.ensures.exact)
+    (subst (λ (l : List Ply). 0 < length l) (sym c.as_slice-m-items.ensures.value) (not_empty (length c.list_lawful.new.moves.items) c.if-is_empty.ensures)) c.loop-m.m-index c.loop-m-test.false c.loop-m.invariant

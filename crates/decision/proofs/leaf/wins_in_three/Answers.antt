@@ -2,7 +2,8 @@ use Rattle.std.proofs.Common.{All, sym, ◌∙◌, subst, arith, true}
 use Rattle.std.proofs.lemmas.Bool.{false≢true}
 use Rattle.std.proofs.lemmas.List.{take_all}
 use Rattle.problems.specs.Tried.{ListsAll, IsPassed}
-use Rattle.problems.proofs.Tried.{ended_answer, passes_own, passed_after, cut_after, lost}
+use Rattle.problems.proofs.Tried.{passes_own, passed_after, cut_after, lost}
+use Rattle.decision.proofs.Below.{ends_it}
 use Rattle.decision.proofs.leaf.wins_in_three.Goals as goal
 
 pub after-requires : goal.after-requires
@@ -14,8 +15,7 @@ loses_in_two-requires c = passes_own c.args.q.now c.after.result c.m-item.result
 
 pub returns-then-loses_in_two : goal.returns-then-loses_in_two
 returns-then-loses_in_two c =
-    let w = cut_after c.args.q.now 2 true c.m-item.result c.after.result c.after.ensures (c.loses_in_two.ensures.0 c.if-loses_in_two.true) in
-    ended_answer c.args.q.now 3 true (sym c.requires) (omega arith) w.0 w.1 w.2 w.3
+    ends_it c.args.q.now 3 true (sym c.requires) (omega arith) (cut_after c.args.q.now 2 true c.m-item.result c.after.result c.after.ensures (c.loses_in_two.ensures.0 c.if-loses_in_two.true))
 
 pub loop-m-preserved : goal.loop-m-preserved
 loop-m-preserved c =

@@ -1,7 +1,7 @@
-use Rattle.std.proofs.Common.{◌≡◌, take}
-use Rattle.decision.specs.Orders.{moves_of}
+use Rattle.std.proofs.Common.{◌≡◌, take, map}
+use Rattle.decision.specs.declared.order.Costed.{Costed}
 use Rattle.decision.proofs.order.cost_all.Given as goal
 
 -- the moves so far stand in the list
 abbrev pub invariant-loop-i : goal.invariant-loop-i
-invariant-loop-i l = moves_of l.costed.items ≡ take l.i l.moves
+invariant-loop-i l = map (λ (it : Costed). it.m) l.costed.items ≡ take l.i l.moves

@@ -1,20 +1,10 @@
-use Rattle.std.proofs.Common.{sym, subst}
-use Rattle.decision.specs.Questions.{IsKnownOf, Says}
-use Rattle.decision.proofs.Replies.{said_is_right, says_on}
-use Rattle.entry.specs.Bounds.{meeting}
+use Rattle.decision.proofs.Replies.{said_is_right}
 use Rattle.decision.proofs.storing.known_with.Goals as goal
 
 pub meet-requires : goal.meet-requires
-meet-requires c =
-    c.interval_laws.ensures.consistent _ c.said.result c.args.known
-    (subst (IsKnownOf c.args.q.now) (sym c.said.ensures) (said_is_right c.args.q.now c.args.n c.args.yes c.requires.answer)) c.requires.known
+meet-requires c = c.interval_laws.ensures.consistent _ c.said.result c.args.known (rw c.said.ensures (said_is_right c.args.q.now c.args.n c.args.yes c.requires.answer)) c.requires.known
 
 pub returns-clause-right : goal.returns-clause-right
 returns-clause-right c =
-    subst (IsKnownOf c.args.q.now) (sym c.meet.ensures)
-    (c.interval_laws.ensures.right _ c.said.result c.args.known (subst (IsKnownOf c.args.q.now) (sym c.said.ensures) (said_is_right c.args.q.now c.args.n c.args.yes c.requires.answer)) c.requires.known)
-
-pub returns-clause-says : goal.returns-clause-says
-returns-clause-says c =
-    subst (λ i. Says i c.args.n c.args.yes) (sym c.meet.ensures)
-    (subst (λ i. Says (meeting i c.args.known) c.args.n c.args.yes) (sym c.said.ensures) (says_on c.args.n c.args.yes c.args.known))
+    rw c.meet.ensures
+    (c.interval_laws.ensures.right _ c.said.result c.args.known (rw c.said.ensures (said_is_right c.args.q.now c.args.n c.args.yes c.requires.answer)) c.requires.known)

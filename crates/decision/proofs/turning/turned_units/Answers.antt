@@ -1,7 +1,5 @@
-use Rattle.std.proofs.Common.{◌≡◌, sym, ap, subst, ◌∙◌, arith}
-use Rattle.board.specs.Games.{squares_of}
+use Rattle.std.proofs.Common.{sym, ap, subst, ◌∙◌, arith}
 use Rattle.rules.specs.Squares.{IsOnBoard, square_number}
-use Rattle.laws.specs.Turnings.{turned_place}
 use Rattle.laws.proofs.Squares.{turned_on_board}
 use Rattle.decision.specs.Turned.{way_of}
 use Rattle.decision.proofs.Turns.{turned_none, turned_more, turned_whole}
@@ -19,18 +17,13 @@ bounds-units-number c = let less = within_36 c.game-game.result c.number.result 
 
 pub loop-number-preserved : goal.loop-number-preserved
 loop-number-preserved c =
-    let b = c.args.board.now in
-    let s = c.of_number-square.result in
     let game = c.game-game.ensures.value in
-    let on : IsOnBoard b.game s = subst (λ g. IsOnBoard g s) game c.of_number-square.ensures.on_board in
-    let number : square_number b.game s ≡ c.loop-number.number = ap (λ g. square_number g s) (sym game) ∙ c.of_number-square.ensures.number in
-    let at : c.number.result ≡ square_number b.game (turned_place b.game (way_of c.args.turning) s) =
-    subst (λ g. c.number.result ≡ square_number g (turned_place g (way_of c.args.turning) s)) game (c.number.ensures.value ∙ ap (square_number c.game-game.result) c.place-place.ensures) in
-    turned_more (way_of c.args.turning) b c.loop-number.units c.loop-number.number s c.unit_at.result on number c.unit_at.ensures c.loop-number.invariant c.number.result at
+    let on = rw game at c.of_number-square.ensures.on_board in
+    let number = rw game at c.of_number-square.ensures.number in
+    let at = rw game at (c.number.ensures.value ∙ ap (square_number c.game-game.result) c.place-place.ensures) in
+    turned_more (way_of c.args.turning) c.args.board.now c.loop-number.units c.loop-number.number c.of_number-square.result c.unit_at.result on number c.unit_at.ensures c.loop-number.invariant c.number.result at
 
 pub returns : goal.returns
 returns c =
-    let b = c.args.board.now in
-    let game = c.game-game.ensures.value in
-    let end : c.squares-number-end.result ≡ squares_of b.game = c.squares-number-end.ensures ∙ ap squares_of game in
-    turned_whole c.args.turning b c.loop-number.units c.loop-number.number c.game-game.ensures.position (omega (arith, end, c.loop-number-test.false)) c.loop-number.invariant
+    let end = rw c.game-game.ensures.value at c.squares-number-end.ensures in
+    turned_whole c.args.turning c.args.board.now c.loop-number.units c.loop-number.number c.game-game.ensures.position (omega (arith, end, c.loop-number-test.false)) c.loop-number.invariant
