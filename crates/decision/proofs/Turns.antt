@@ -11,7 +11,7 @@ use Rattle.rules.proofs.Listed.{same_number, number_within}
 use Rattle.laws.specs.Turnings.{Turning as Way, turned_place, turned_units, IsTurned}
 use Rattle.laws.proofs.Squares.{back_of, turned_on_board, turned_back}
 use Rattle.decision.specs.declared.turning.Turning.{Turning}
-use Rattle.decision.specs.Turned.{way_of}
+use Rattle.decision.specs.Turned.{turn_of}
 use Rattle.moves.proofs.Packing.{within_36, replicate_none}
 
 -- the units of the squares below n stand where their squares come to lie, and none past the board
@@ -63,7 +63,7 @@ module _ (t : Way) (b : PlainBoard) (units : List (Option Man)) (n : ℕ) (s : P
   turned_more at is = subst (λ k. IsTurnedUpTo t b (set units k o) (n + 1)) (sym is) placed
 
 -- where no side is exchanged, a unit stays as it is
-same_units : (t : Turning) (o : Option Man) → turned_units (way_of t) o ≡ o
+same_units : (t : Turning) (o : Option Man) → turned_units (turn_of t) o ≡ o
 same_units t None = refl
 same_units t (Some u) = refl
 
@@ -75,12 +75,12 @@ no_unit b is n far = by_unit (unit_on b n) (is.squares n)
     by_unit (Some u) h = absurd (let on = h.on_board in omega (arith, far, on))
 
 -- all squares
-pub turned_whole : (t : Turning) (b : PlainBoard) (units : List (Option Man)) (n : ℕ) → IsPosition b → n ≡ squares_of b.game → IsTurnedUpTo (way_of t) b units n → IsTurned (way_of t) b (board_of b.game b.mover units)
+pub turned_whole : (t : Turning) (b : PlainBoard) (units : List (Option Man)) (n : ℕ) → IsPosition b → n ≡ squares_of b.game → IsTurnedUpTo (turn_of t) b units n → IsTurned (turn_of t) b (board_of b.game b.mover units)
 turned_whole t b units n is all c = record {
   game = refl;
   mover = refl;
   places = is.places;
   turned_places = c.long;
   units = λ s on. c.done s on (subst (λ k. square_number b.game s < k) (sym all) (number_within b.game s on)) ∙ sym (same_units t (unit_at b s));
-  past = λ k far. c.past k far ∙ sym (ap (turned_units (way_of t)) (no_unit b is k far));
+  past = λ k far. c.past k far ∙ sym (ap (turned_units (turn_of t)) (no_unit b is k far));
 }

@@ -4,7 +4,7 @@ ghost use Rattle.board.specs.Board.{board_of};
 ghost use Rattle.board.specs.Games.{width_of};
 ghost use Rattle.rules.specs.Squares.{IsOnBoard};
 ghost use Rattle.laws.specs.Turnings.{mirrored, turned_place, IsTurned, MayTurn};
-ghost use Rattle.decision.specs.Turned.{way_of, IsTurnedWell};
+ghost use Rattle.decision.specs.Turned.{turn_of, IsTurnedWell};
 
 use board::{Game, Side, Unit};
 use moves::{Board, Square};
@@ -34,7 +34,7 @@ impl Turning {
     /// Where a square comes to lie.
     fn place(self, game: Game, square: Square) -> Square
         requires { IsOnBoard game square }
-        ensures { result ≡ turned_place game (way_of self) square }
+        ensures { result ≡ turned_place game (turn_of self) square }
     {
         let width = game.width();
         let file = mirrored(self.left_right, width, square.file);
@@ -52,7 +52,7 @@ impl Turning {
 
 /// The units of the board, each where its square comes to lie.
 fn turned_units(board: &Board, turning: Turning) -> [Option<Unit>; 36]
-    ensures { IsTurned (way_of turning) board.now (board_of board.now.game board.now.mover result) }
+    ensures { IsTurned (turn_of turning) board.now (board_of board.now.game board.now.mover result) }
 {
     let game = board.game();
     let mut units = [None; 36];
@@ -66,7 +66,7 @@ fn turned_units(board: &Board, turning: Turning) -> [Option<Unit>; 36]
 
 /// Whether the board may be turned so: pawns, if it has any, go ahead as before.
 fn may_turn(board: &Board, turning: Turning) -> bool
-    ensures { IsTrue result ↔ MayTurn (way_of turning) board.now }
+    ensures { IsTrue result ↔ MayTurn (turn_of turning) board.now }
 {
     if turning.top_bottom || turning.diagonal {
         return !board.has_pawn();
@@ -76,7 +76,7 @@ fn may_turn(board: &Board, turning: Turning) -> bool
 
 /// The board turned about, or `None` where its pawns would go another way.
 pub fn turned(board: &Board, turning: Turning) -> Option<Board>
-    ensures { MatchOption result (MayTurn (way_of turning) board.now → ⊥) (IsTurnedWell turning board.now) }
+    ensures { MatchOption result (MayTurn (turn_of turning) board.now → ⊥) (IsTurnedWell turning board.now) }
 {
     if !may_turn(board, turning) {
         return None;
