@@ -1,30 +1,8 @@
 -- What a side reaches with its next move.
 use Rattle.std.proofs.Common.{◌≡◌, ◌≢◌, ℕ, ◌<◌, ◌≤◌, ◌↔◌, IsTrue, Bool, true, false, not, inl, inr, refl, sym, ◌∙◌, ap, subst, arith, get_or, Option, Some, None}
-use Rattle.std.proofs.lemmas.Bool.{false≢true}
-use Rattle.std.proofs.lemmas.Option.{same_Some}
-use Rattle.std.proofs.lemmas.Bool.{cases_lt}
-use Rattle.board.specs.declared.game.Kind.{Kind}
-use Rattle.board.specs.declared.game.Kind.TheVariants.{King, Queen, Rook, Bishop, Knight, Pawn}
-use Rattle.board.specs.declared.game.Side.{Side}
-use Rattle.board.specs.declared.game.Side.TheVariants.{White, Black}
-use Rattle.board.specs.declared.game.Unit.{Unit as Man}
-use Rattle.board.specs.declared.step.Mode.{Mode}
-use Rattle.board.specs.declared.step.Mode.TheVariants.{Move, Capture, Both}
-use Rattle.board.specs.Games.{is_same_side, other_side}
-use Rattle.board.specs.Board.{PlainBoard}
-use Rattle.rules.specs.declared.goal.Goal.{Goal}
+use Rattle.moves.proofs.Common.{false≢true, same_Some, cases_lt, Kind, King, Queen, Rook, Bishop, Knight, Pawn, Side, White, Black, Man, Mode, Move, Capture, Both, is_same_side, other_side, PlainBoard, Goal, Place, Ply, IsOnBoard, unit_at, Allows, Reaches, IsInCheck, Promotes, IsSomeKing, IsPseudoLegal, IsMove, IsLawful, IsMated, after, promotion_number, PROMOTIONS, IsReached, Forces, Attains, IsNamed, HasParts-lawful, promotes_to, to_own, to_other, same_side-self, turn-own}
 use Rattle.rules.specs.declared.goal.Goal.TheVariants.{Mate, MateOrStale}
-use Rattle.rules.specs.Squares.{Place, Ply, IsOnBoard, unit_at}
-use Rattle.rules.specs.Reach.{Allows, Reaches, IsInCheck}
-use Rattle.rules.specs.Moves.{Promotes, IsSomeKing, IsPseudoLegal, IsMove, IsLawful, IsMated, after}
-use Rattle.rules.specs.Order.{promotion_number}
-use Rattle.rules.specs.declared.list.TheConstants.{PROMOTIONS}
-use Rattle.rules.specs.Forces.{IsReached, Forces}
-use Rattle.moves.specs.Checking.{Attains}
-use Rattle.moves.specs.Safe.{IsNamed}
 use Rattle.moves.proofs.Kings.{check_from}
-use Rattle.rules.proofs.Lists.{HasParts-lawful, promotes_to}
-use Rattle.rules.proofs.Forcing.{to_own, to_other, same_side-self, turn-own}
 use Rattle.board.proofs.RankText.{on_true as on_own, on_false as on_other}
 
 -- ---- the goal, by check and by whether a move is lawful

@@ -1,26 +1,6 @@
 -- The units that attack a cell, by the sets.
 use Rattle.std.proofs.Common.{◌≡◌, ℕ, ◌<◌, ◌^◌, arith, sym, ap, subst, ◌∙◌, ◌↔◌, ◌⊎◌, inl, inr, true, Option, Some, None}
-use Rattle.std.specs.Int.RustNames.{bit_and, bit_or}
-use Rattle.std.proofs.lemmas.Bool.{cases_eq}
-use Rattle.std.proofs.lemmas.Option.{same_Some}
-use Rattle.board.specs.declared.game.Side.{Side}
-use Rattle.board.specs.declared.game.Kind.{Kind}
-use Rattle.board.specs.declared.game.Kind.TheVariants.{King, Queen, Rook, Bishop, Knight, Pawn}
-use Rattle.board.specs.declared.game.Unit.{Unit as Man}
-use Rattle.board.specs.declared.step.Step.{Step}
-use Rattle.board.specs.Denotation.{terms_of, Denotes}
-use Rattle.board.specs.Games.{other_side}
-use Rattle.board.specs.Board.{PlainBoard, is_of_side, IsPosition}
-use Rattle.moves.specs.declared.sets.Class.{Class}
-use Rattle.moves.specs.declared.sets.Class.TheVariants.{Crowned, Straight, Slanted, Horsed, Foot}
-use Rattle.rules.specs.Squares.{unit_at}
-use Rattle.rules.specs.Reach.{AttacksFrom, IsAttacked, IsInCheck}
-use Rattle.cells.specs.Mailbox.{cell_of, place_in, IsCell}
-use Rattle.moves.specs.Looking.{Aims, AreAttacked}
-use Rattle.cells.specs.CellSets.{Has}
-use Rattle.moves.specs.Sets.{IsOf, Holds}
-use Rattle.cells.proofs.CellNumbers.{IsCell-cell_of, place_in-cell_of}
-use Rattle.cells.proofs.Masks.{Has-and, Has-or, Has-four, Has-zero, lowest-has}
+use Rattle.moves.proofs.Common.{bit_and, bit_or, cases_eq, same_Some, Side, Kind, King, Queen, Rook, Bishop, Knight, Pawn, Man, Step, terms_of, Denotes, other_side, PlainBoard, is_of_side, IsPosition, Class, Crowned, Straight, Slanted, Horsed, Foot, unit_at, AttacksFrom, IsAttacked, IsInCheck, cell_of, place_in, IsCell, Aims, AreAttacked, Has, IsOf, Holds, IsCell-cell_of, place_in-cell_of, Has-and, Has-or, Has-four, Has-zero, lowest-has}
 use Rattle.moves.proofs.Guarding.{own_unit_side, is_own}
 use Rattle.moves.proofs.Kings.{king_of, check_at}
 use Rattle.moves.proofs.Looking.{Aims-attacked, attacks_back}

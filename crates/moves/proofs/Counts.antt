@@ -1,27 +1,8 @@
 -- How many lawful moves there are, by the cells to which they lead.
 use Rattle.std.proofs.Common.{◌≡◌, ℕ, ◌+◌, ◌*◌, ◌/◌, ◌%◌, ◌^◌, ◌<◌, ◌≤◌, zero, suc, refl, sym, ap, subst, ◌∙◌, ◌↔◌, inl, inr, arith, List, [], ◌∷◌, ◌++◌, length, get_or, length-append, Option, Some, None, IsSome, IfSome, count_ones}
-use Rattle.std.specs.Int.{bit_at}
+use Rattle.moves.proofs.Common.{bit_at, ones_le_self, bit_at-lt, bit_at_lowest, bit_at-suc, cases_eq, All-get_or, Game, LosAlamos, Gardner, Kind, Queen, Rook, Bishop, Knight, Man, PlainBoard, Place, Ply, IsOnBoard, square_number, unit_at, Promotes, IsPromotion, IsLawful, promotion_number, ply_number, ListsBelow, place_in, IsCell, Has, IsNamed, HasSafe, IsEach, promotions_of, cell_small, IsNumbered, ListsBelow-push, ListsBelow-skip, ListsBelow-promoted}
 use Rattle.std.specs.Int.Count.{ones_step}
-use Rattle.std.proofs.lemmas.Nat.{ones_le_self}
-use Rattle.std.proofs.lemmas.Nat.Bits.{bit_at-lt, bit_at_lowest, bit_at-suc}
-use Rattle.std.proofs.lemmas.Bool.{cases_eq}
-use Rattle.std.proofs.lemmas.List.Elements.{All-get_or}
-use Rattle.board.specs.declared.game.Game.{Game}
-use Rattle.board.specs.declared.game.Game.TheVariants.{LosAlamos, Gardner}
-use Rattle.board.specs.declared.game.Kind.{Kind}
-use Rattle.board.specs.declared.game.Kind.TheVariants.{Queen, Rook, Bishop, Knight}
-use Rattle.board.specs.declared.game.Unit.{Unit as Man}
-use Rattle.board.specs.Board.{PlainBoard}
-use Rattle.rules.specs.Squares.{Place, Ply, IsOnBoard, square_number, unit_at}
-use Rattle.rules.specs.Moves.{Promotes, IsPromotion, IsLawful}
-use Rattle.rules.specs.Order.{promotion_number}
-use Rattle.rules.specs.Listing.{ply_number, ListsBelow}
-use Rattle.cells.specs.Mailbox.{place_in, IsCell}
-use Rattle.cells.specs.CellSets.{Has}
-use Rattle.moves.specs.Safe.{IsNamed, HasSafe, IsEach, promotions_of}
-use Rattle.cells.proofs.CellNumbers.{cell_small}
 use Rattle.moves.proofs.Guarding.{promotes_well}
-use Rattle.rules.proofs.Lists.{IsNumbered, ListsBelow-push, ListsBelow-skip, ListsBelow-promoted}
 use Rattle.moves.proofs.Walking.{IsWalked, Jumps, walked_start, walked_end, next_holds, walked_more}
 use Rattle.moves.proofs.Scanning.{skip, skip_rest}
 

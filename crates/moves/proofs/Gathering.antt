@@ -1,26 +1,7 @@
 -- The mover's units, one after another: their moves as a list, and how many they are.
 use Rattle.std.proofs.Common.{◌≡◌, ◌≢◌, ℕ, ◌+◌, ◌*◌, ◌<◌, ◌≤◌, ◌↔◌, refl, ap, subst, ◌∙◌, arith, true, cond, None, Option, List, [], take, length}
-use Rattle.std.specs.List.{count_by}
-use Rattle.std.proofs.lemmas.List.{take-take}
-use Rattle.std.proofs.lemmas.List.Sums.{count_by_more_yes, sum_by-take-le}
-use Rattle.board.specs.declared.game.Game.{Game}
-use Rattle.board.specs.declared.game.Game.TheVariants.{LosAlamos, Gardner}
-use Rattle.board.specs.declared.game.Unit.{Unit as Man}
-use Rattle.board.specs.Games.{most_units, squares_of}
-use Rattle.board.specs.Board.{PlainBoard, is_of_side, IsPosition}
-use Rattle.rules.specs.Squares.{Ply, square_number, unit_at}
-use Rattle.rules.specs.Moves.{IsLawful}
-use Rattle.rules.specs.Order.{ListsLawful}
-use Rattle.rules.specs.Listing.{ListsBelow, ListsFrom}
-use Rattle.cells.specs.Mailbox.{cell_of, place_in, IsCell}
-use Rattle.cells.specs.CellSets.{Has}
+use Rattle.moves.proofs.Common.{count_by, take-take, count_by_more_yes, sum_by-take-le, Game, LosAlamos, Gardner, Man, most_units, squares_of, PlainBoard, is_of_side, IsPosition, Ply, square_number, unit_at, IsLawful, ListsLawful, ListsBelow, ListsFrom, cell_of, place_in, IsCell, Has, CountsFrom, IsCell-cell_of, place_in-cell_of, Has-zero, number_within, IsNumbered-lawful, HasParts-lawful, ListsBelow-nil, ListsBelow-jump, ListsLawful-from, own_from, squares_36}
 use Rattle.moves.specs.Counting.{CountsLawful}
-use Rattle.moves.specs.Safe.{CountsFrom}
-use Rattle.cells.proofs.CellNumbers.{IsCell-cell_of, place_in-cell_of}
-use Rattle.cells.proofs.Masks.{Has-zero}
-use Rattle.rules.proofs.Listed.{number_within}
-use Rattle.rules.proofs.Lists.{IsNumbered-lawful, HasParts-lawful, ListsBelow-nil, ListsBelow-jump, ListsLawful-from, own_from}
-use Rattle.rules.proofs.Room.{squares_36}
 use Rattle.moves.proofs.Counts.{few_below}
 use Rattle.moves.proofs.Walking.{IsWalked, Jumps, walked_start, walked_end, next, next_holds, walked_more}
 

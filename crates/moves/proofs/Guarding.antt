@@ -1,24 +1,6 @@
 -- The mover's king, and the moves that keep it safe.
 use Rattle.std.proofs.Common.{◌≡◌, ℕ, ◌+◌, ◌/◌, ◌%◌, ◌<◌, ◌≤◌, zero, suc, refl, sym, ap, subst, ◌∙◌, arith, ◌↔◌, IsTrue, Bool, true, false, not, List, length, get_or, take, Option, Some, None, IsSome, IfSome, unwrap_or, count_by}
-use Rattle.std.proofs.lemmas.Bool.{false≢true, and_parts, false_from_ne_true}
-use Rattle.std.proofs.lemmas.List.{take_all}
-use Rattle.std.proofs.lemmas.List.Sums.{count_by_more_no}
-use Rattle.std.proofs.lemmas.Option.{same_Some}
-use Rattle.board.specs.declared.game.Game.{Game}
-use Rattle.board.specs.declared.game.Game.TheVariants.{LosAlamos, Gardner}
-use Rattle.board.specs.declared.game.Side.{Side}
-use Rattle.board.specs.declared.game.Side.TheVariants.{White, Black}
-use Rattle.board.specs.declared.game.Kind.{Kind}
-use Rattle.board.specs.declared.game.Kind.TheVariants.{King, Queen, Rook, Bishop, Knight, Pawn}
-use Rattle.board.specs.declared.game.Unit.{Unit as Man}
-use Rattle.board.specs.Games.{squares_of, is_same_side}
-use Rattle.board.specs.Board.{PlainBoard, unit_on, is_king, is_king_of, is_of_side, IsPosition, MayStandOn}
-use Rattle.rules.specs.Squares.{Place, Ply, IsOnBoard, square_number, unit_at}
-use Rattle.rules.specs.Reach.{IsInCheck}
-use Rattle.rules.specs.Moves.{Promotes, IsPromotion, IsSomeKing, IsPseudoLegal, IsLawful, after}
-use Rattle.cells.specs.Mailbox.{cell_of, place_in, IsCell}
-use Rattle.cells.proofs.CellNumbers.{IsCell-cell_of, place_in-cell_of}
-use Rattle.rules.proofs.Forcing.{same_side-self}
+use Rattle.moves.proofs.Common.{false≢true, and_parts, false_from_ne_true, take_all, count_by_more_no, same_Some, Game, LosAlamos, Gardner, Side, White, Black, Kind, King, Queen, Rook, Bishop, Knight, Pawn, Man, squares_of, is_same_side, PlainBoard, unit_on, is_king, is_king_of, is_of_side, IsPosition, MayStandOn, Place, Ply, IsOnBoard, square_number, unit_at, IsInCheck, Promotes, IsPromotion, IsSomeKing, IsPseudoLegal, IsLawful, after, cell_of, place_in, IsCell, IsCell-cell_of, place_in-cell_of, same_side-self}
 use Rattle.moves.proofs.Laying.{unit_at-to, unit_at-other}
 use Rattle.moves.proofs.Kings.{king_of}
 

@@ -1,16 +1,6 @@
 -- The cell of a side's king, as the two sets that have it alone.
 use Rattle.std.proofs.Common.{refl, ◌≡◌, ℕ, ◌↔◌, true, Some, sym, ap, ◌∙◌}
-use Rattle.std.specs.Int.RustNames.{bit_and}
-use Rattle.board.specs.declared.game.Side.{Side}
-use Rattle.board.specs.declared.game.Kind.TheVariants.{King}
-use Rattle.board.specs.declared.game.Unit.{Unit as Man}
-use Rattle.board.specs.Board.{PlainBoard, is_of_side}
-use Rattle.rules.specs.Squares.{unit_at}
-use Rattle.cells.specs.Mailbox.{place_in, IsCell}
-use Rattle.cells.specs.CellSets.{Has}
-use Rattle.cells.proofs.Masks.{Has-and}
-use Rattle.moves.specs.declared.sets.Class.TheVariants.{Crowned}
-use Rattle.moves.specs.Sets.{Holds}
+use Rattle.moves.proofs.Common.{bit_and, Side, King, Man, PlainBoard, is_of_side, unit_at, place_in, IsCell, Has, Has-and, Crowned, Holds}
 use Rattle.moves.proofs.Kings.{king_of}
 use Rattle.moves.proofs.Guarding.{is_own, own_unit_side}
 

@@ -1,26 +1,10 @@
 -- A king steps into check exactly where the square is attacked already, if no rider comes there through the king's square.
 use Rattle.std.proofs.Common.{◌≡◌, ◌+◌, ◌<◌, refl, sym, ap, ◌∙◌, arith, inl, inr, IsTrue, ◌↔◌, Bool, true, false, not, Some}
-use Rattle.std.specs.Int.RustNames.{unsigned_abs}
-use Rattle.std.proofs.lemmas.Bool.{false≢true}
-use Rattle.std.proofs.lemmas.Option.{same_Some}
-use Rattle.board.specs.declared.game.Side.{Side}
-use Rattle.board.specs.declared.game.Kind.TheVariants.{King}
-use Rattle.board.specs.declared.game.Unit.{Unit as Man}
-use Rattle.board.specs.declared.step.Step.{Step}
-use Rattle.board.specs.Denotation.{terms_of}
-use Rattle.board.specs.Games.{other_side}
-use Rattle.board.specs.Board.{PlainBoard, IsPosition}
+use Rattle.moves.proofs.Common.{unsigned_abs, false≢true, same_Some, Side, King, Man, Step, terms_of, other_side, PlainBoard, IsPosition, Place, Ply, IsOnBoard, unit_at, Leads, IsAttacked, IsInCheck, once, again, IsPseudoLegal, after, room_of, room_of-step, to_on_board, IsPosition-after, own_or_other, IsPinned}
 use Rattle.board.proofs.Leaps.{goes_somewhere}
-use Rattle.rules.specs.Squares.{Place, Ply, IsOnBoard, unit_at}
-use Rattle.rules.specs.Reach.{Leads, IsAttacked, IsInCheck}
-use Rattle.rules.specs.Reach.Leads.{once, again}
-use Rattle.rules.specs.Moves.{IsPseudoLegal, after}
-use Rattle.rules.proofs.Rides.{room_of, room_of-step}
-use Rattle.rules.proofs.Keeps.{to_on_board, IsPosition-after, no_own as own_or_other}
 use Rattle.moves.proofs.Laying.{unit_at-from, unit_at-other}
 use Rattle.moves.proofs.Kings.{king_of, check_at, check_from}
 use Rattle.moves.proofs.Guarding.{king_moved}
-use Rattle.moves.specs.Pinned.{IsPinned}
 use Rattle.moves.proofs.Pins.{place_cases, foe_attacks}
 
 -- a walk ends where there is less room

@@ -1,18 +1,6 @@
 -- A move on a board: what stands on each square after it.
 use Rattle.std.proofs.Common.{◌≡◌, ℕ, ◌*◌, ◌<◌, ◌∙◌, arith, length, set, Some, None}
-use Rattle.std.proofs.lemmas.List.{get_or-set_same, get_or-set_other, length-set}
-use Rattle.board.specs.declared.game.Game.{Game}
-use Rattle.board.specs.declared.game.Game.TheVariants.{LosAlamos, Gardner}
-use Rattle.board.specs.declared.game.Unit.{Unit as Man}
-use Rattle.board.specs.Games.{width_of}
-use Rattle.board.specs.Board.{PlainBoard}
-use Rattle.rules.specs.Squares.{Place, IsOnBoard, square_number, unit_at}
-use Rattle.board.specs.Board.{IsPosition}
-use Rattle.rules.specs.Squares.{Ply}
-use Rattle.rules.specs.Moves.{IsPseudoLegal, placed, after}
-use Rattle.rules.proofs.Keeps.{to_on_board, other_square}
-use Rattle.rules.proofs.Listed.{same_number}
-use Rattle.cells.proofs.CellNumbers.{small_squares}
+use Rattle.moves.proofs.Common.{get_or-set_same, get_or-set_other, length-set, Game, LosAlamos, Gardner, Man, width_of, PlainBoard, Place, IsOnBoard, square_number, unit_at, IsPosition, Ply, IsPseudoLegal, placed, after, to_on_board, other_square, same_number, small_squares}
 
 -- ---- a move
 

@@ -1,28 +1,7 @@
 -- A walk read backwards: what attacks a square is what a unit of the same kind would take from there.
 use Rattle.std.proofs.Common.{◌≡◌, ℕ, ℤ, pos, negsuc, neg_ℤ, zero, suc, refl, sym, ap, subst, ◌∙◌, arith, true, Some, None, Option, IfSome, List}
-use Rattle.std.specs.Int.RustNames.{unsigned_abs}
-use Rattle.std.proofs.lemmas.Int.{ints}
-use Rattle.std.proofs.lemmas.Option.{same_Some}
-use Rattle.board.specs.declared.game.Side.{Side}
-use Rattle.board.specs.declared.game.Side.TheVariants.{White, Black}
-use Rattle.board.specs.declared.game.Kind.{Kind}
-use Rattle.board.specs.declared.game.Kind.TheVariants.{King}
-use Rattle.board.specs.declared.game.Unit.{Unit as Man}
-use Rattle.board.specs.declared.step.Mode.{Mode}
-use Rattle.board.specs.declared.step.Mode.TheVariants.{Move, Capture, Both}
-use Rattle.board.specs.declared.step.Step.{Step}
-use Rattle.board.specs.declared.terms.Atom.{Atom}
-use Rattle.board.specs.declared.terms.Atom.TheVariants.{Wazir, Ferz}
+use Rattle.moves.proofs.Common.{unsigned_abs, ints, same_Some, Side, White, Black, Kind, King, Man, Mode, Move, Capture, Both, Step, Atom, Wazir, Ferz, Term, IsAtomLeap, Denotes, terms_of, other_side, IsPlayed, Game, PlainBoard, IsPosition, MayStandOn, Place, IsOnBoard, square_number, unit_at, ahead_of, IsStep, Leads, Allows, AttacksFrom, once, again, Aims}
 use Rattle.board.specs.declared.terms.Atom.TheVariants as atom
-use Rattle.board.specs.declared.terms.Term.{Term}
-use Rattle.board.specs.Denotation.{IsAtomLeap, Denotes, terms_of}
-use Rattle.board.specs.Games.{other_side, IsPlayed}
-use Rattle.board.specs.declared.game.Game.{Game}
-use Rattle.board.specs.Board.{PlainBoard, IsPosition, MayStandOn}
-use Rattle.rules.specs.Squares.{Place, IsOnBoard, square_number, unit_at}
-use Rattle.rules.specs.Reach.{ahead_of, IsStep, Leads, Allows, AttacksFrom}
-use Rattle.rules.specs.Reach.Leads.{once, again}
-use Rattle.moves.specs.Looking.{Aims}
 
 pub other_twice : (side : Side) → other_side (other_side side) ≡ side
 other_twice White = refl

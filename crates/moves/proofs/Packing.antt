@@ -1,15 +1,7 @@
 -- What words stand for, and what a move does to them.
 use Rattle.std.proofs.Common.{◌≡◌, ◌≢◌, ℕ, ◌+◌, ◌%◌, ◌<◌, ◌≤◌, zero, suc, refl, sym, ap, subst, ◌∙◌, arith, ◌⊎◌, inl, inr, List, length, get_or, set, IfSome, Option, Some, None, replicate}
-use Rattle.std.specs.Int.RustNames.{bit_xor}
-use Rattle.std.proofs.lemmas.Bool.{cases_eq, cases_lt}
-use Rattle.std.proofs.lemmas.List.{get_or-set_same, get_or-set_other, length-set}
+use Rattle.moves.proofs.Common.{bit_xor, cases_eq, cases_lt, get_or-set_same, get_or-set_other, length-set, Game, LosAlamos, Gardner, Man, squares_of, other_side, PlainBoard, unit_on, board_of, IsPosition, MayStandOn, digit, man_of, word_of, place_of, code_on, flags_of, game_of, game_of_flags, mover_of_flags, units_in, unpacked, Spells, IsUnused, IsPacked, IsFlags}
 use Rattle.std.proofs.lemmas.List.FromFn.{get_or-map-range_with_len, length-map-range_with_len, fill_by_all}
-use Rattle.board.specs.declared.game.Game.{Game}
-use Rattle.board.specs.declared.game.Game.TheVariants.{LosAlamos, Gardner}
-use Rattle.board.specs.declared.game.Unit.{Unit as Man}
-use Rattle.board.specs.Games.{squares_of, other_side}
-use Rattle.board.specs.Board.{PlainBoard, unit_on, board_of, IsPosition, MayStandOn}
-use Rattle.moves.specs.Words.{digit, man_of, word_of, place_of, code_on, flags_of, game_of, game_of_flags, mover_of_flags, units_in, unpacked, Spells, IsUnused, IsPacked, IsFlags}
 
 pub within_36 : (g : Game) (n : ℕ) → n < squares_of g → n < 36
 within_36 LosAlamos n h = omega (arith, h)

@@ -1,24 +1,7 @@
 -- What is pinned is seen from the king along a way.
 use Rattle.std.proofs.Common.{◌≡◌, ℕ, refl, sym, ap, subst, ◌∙◌, arith, ◌↔◌, inl, inr, true, false, Bool, Some, None, Contains}
-use Rattle.std.specs.Int.RustNames.{bit_and, bit_or}
-use Rattle.std.proofs.lemmas.Bool.{cases_order, false≢true}
-use Rattle.board.specs.declared.game.Side.{Side}
-use Rattle.board.specs.Games.{other_side}
-use Rattle.board.specs.Board.{PlainBoard, is_of_side}
-use Rattle.moves.specs.declared.sets.Class.TheVariants.{Straight, Slanted}
-use Rattle.cells.specs.declared.tables.Way.{Way}
-use Rattle.cells.specs.declared.tables.Way.TheVariants.{North, South, East, West, NorthEast, SouthWest, NorthWest, SouthEast}
-use Rattle.cells.specs.declared.tables.TheConstants.{WAYS}
-use Rattle.rules.specs.Squares.{unit_at}
-use Rattle.rules.specs.Reach.{Leads}
-use Rattle.cells.specs.Mailbox.{cell_of, place_in, IsCell}
-use Rattle.moves.specs.Pinned.{IsPinned}
-use Rattle.moves.specs.Sets.{Holds}
-use Rattle.cells.specs.CellSets.{Has}
-use Rattle.cells.specs.Ways.{Rides, rises}
-use Rattle.cells.proofs.CellNumbers.{IsCell-cell_of, place_in-cell_of}
+use Rattle.moves.proofs.Common.{bit_and, bit_or, cases_order, false≢true, Side, other_side, PlainBoard, is_of_side, Straight, Slanted, Way, North, South, East, West, NorthEast, SouthWest, NorthWest, SouthEast, WAYS, unit_at, Leads, cell_of, place_in, IsCell, IsPinned, Holds, Has, Rides, rises, IsCell-cell_of, place_in-cell_of, Has-and, Has-or}
 use Rattle.moves.proofs.Looking.{both_back}
-use Rattle.cells.proofs.Masks.{Has-and, Has-or}
 use Rattle.moves.proofs.Guarding.{is_own}
 use Rattle.moves.proofs.Riding.{IsSooner, Rides-clear, Rides-leads}
 use Rattle.moves.proofs.Seeing.{rides_as}

@@ -1,39 +1,6 @@
 -- What a unit reaches is what it sees, but for its own units, and a pawn's step.
 use Rattle.std.proofs.Common.{◌≡◌, ℕ, ◌^◌, ◌<◌, ◌≤◌, w64, zero, suc, refl, sym, ap, subst, ◌∙◌, arith, ◌↔◌, ◌⊎◌, inl, inr, Bool, true, false, ℤ, pos, ◌<ℤ◌, Option, Some, None}
-use Rattle.std.specs.List.{list_all}
-use Rattle.std.specs.Int.{bit_not}
-use Rattle.std.specs.Int.RustNames.{unsigned_abs, bit_and, bit_or}
-use Rattle.std.proofs.lemmas.Int.{ints}
-use Rattle.std.proofs.lemmas.Bool.{false≢true}
-use Rattle.std.proofs.lemmas.List.Sums.{AllPass-from_list_all}
-use Rattle.std.proofs.lemmas.List.Elements.{All-contains}
-use Rattle.board.specs.declared.game.Side.{Side}
-use Rattle.board.specs.declared.game.Side.TheVariants.{White, Black}
-use Rattle.board.specs.declared.game.Kind.{Kind}
-use Rattle.board.specs.declared.game.Kind.TheVariants.{King, Queen, Rook, Bishop, Knight, Pawn}
-use Rattle.board.specs.declared.game.Unit.{Unit as Man}
-use Rattle.board.specs.declared.step.Mode.{Mode}
-use Rattle.board.specs.declared.step.Mode.TheVariants.{Move, Capture, Both}
-use Rattle.board.specs.declared.step.Step.{Step}
-use Rattle.board.specs.declared.terms.Atom.TheVariants.{Wazir}
-use Rattle.board.specs.declared.terms.Term.{Term}
-use Rattle.board.specs.Denotation.{IsAtomLeap, terms_of, Denotes}
-use Rattle.board.specs.Games.{other_side, IsPlayed}
-use Rattle.board.specs.Board.{PlainBoard, is_of_side}
-use Rattle.rules.specs.Squares.{unit_at}
-use Rattle.rules.specs.Reach.{ahead_of, IsShift, IsStep, Allows, Reaches}
-use Rattle.rules.specs.Reach.Leads.{once}
-use Rattle.cells.specs.StepTables.{table_of}
-use Rattle.cells.specs.Mailbox.{place_in, IsAway, IsCell}
-use Rattle.moves.specs.Looking.{Aims}
-use Rattle.cells.specs.CellSets.{Has}
-use Rattle.moves.specs.Targets.{IsTarget}
-use Rattle.cells.specs.Ways.{IsNext, ahead_way}
-use Rattle.cells.proofs.CellNumbers.{shift_in}
-use Rattle.cells.proofs.TableTests.{table_of-exact}
-use Rattle.cells.proofs.Masks.{Has-and, Has-or, Has-minus}
-use Rattle.cells.proofs.OnRays.{next_of, next-is, is-next}
-use Rattle.rules.proofs.Keeps.{Leads-single_step as single}
+use Rattle.moves.proofs.Common.{list_all, bit_not, unsigned_abs, bit_and, bit_or, ints, false≢true, AllPass-from_list_all, All-contains, Side, White, Black, Kind, King, Queen, Rook, Bishop, Knight, Pawn, Man, Mode, Move, Capture, Both, Step, Wazir, Term, IsAtomLeap, terms_of, Denotes, other_side, IsPlayed, PlainBoard, is_of_side, unit_at, ahead_of, IsShift, IsStep, Allows, Reaches, once, table_of, place_in, IsAway, IsCell, Aims, Has, IsTarget, IsNext, ahead_way, shift_in, table_of-exact, Has-and, Has-or, Has-minus, next_of, next-is, is-next, single_step as single}
 use Rattle.moves.proofs.Guarding.{own_unit_side, is_own}
 use Rattle.moves.proofs.Seeing.{zero_of}
 

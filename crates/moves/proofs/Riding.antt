@@ -1,25 +1,9 @@
 -- A rider's way: a ray up to the first unit on it, and the same as its denotation's.
 use Rattle.std.proofs.Common.{◌≡◌, ℕ, ◌<◌, ◌≤◌, refl, sym, ap, subst, ◌∙◌, arith, ◌↔◌, Bool, true, false, None}
-use Rattle.std.specs.Int.RustNames.{unsigned_abs}
-use Rattle.std.proofs.lemmas.Int.{ints}
-use Rattle.board.specs.declared.game.Game.{Game}
-use Rattle.board.specs.declared.game.Side.{Side}
-use Rattle.board.specs.declared.step.Step.{Step}
-use Rattle.board.specs.Board.{PlainBoard}
-use Rattle.cells.specs.declared.tables.Way.{Way}
-use Rattle.cells.specs.declared.tables.Way.TheVariants.{North, South, East, West, NorthEast, SouthWest, NorthWest, SouthEast}
-use Rattle.rules.specs.Squares.{Place, IsOnBoard, unit_at}
-use Rattle.rules.specs.Reach.{ahead_of, IsShift, IsStep, Leads}
-use Rattle.rules.specs.Reach.Leads.{once as lead, again as lead_on}
-use Rattle.cells.specs.Mailbox.{cell_of, place_in, IsCell}
-use Rattle.cells.specs.Ways.{files_of, ranks_of, IsNext, IsOnRay, Rides, rises}
+use Rattle.moves.proofs.Common.{unsigned_abs, ints, Game, Side, Step, PlainBoard, Way, North, South, East, West, NorthEast, SouthWest, NorthWest, SouthEast, Place, IsOnBoard, unit_at, ahead_of, IsShift, IsStep, Leads, once as lead, again as lead_on, cell_of, place_in, IsCell, files_of, ranks_of, IsNext, IsOnRay, Rides, rises, shift_in, IsCell-cell_of, place_in-cell_of, cell_of-place_in, cell_small, Has-and, Has, bit_and}
 use Rattle.cells.specs.Ways.IsOnRay.{next, beyond}
 use Rattle.cells.specs.Ways.Rides.{once, again}
-use Rattle.cells.proofs.CellNumbers.{shift_in, IsCell-cell_of, place_in-cell_of, cell_of-place_in, cell_small}
-use Rattle.cells.proofs.Masks.{Has-and}
 use Rattle.moves.proofs.Shown.{none_from}
-use Rattle.cells.specs.CellSets.{Has}
-use Rattle.std.specs.Int.RustNames.{bit_and}
 
 -- the cell j lies on the way before k
 abbrev pub IsSooner : Bool → ℕ → ℕ → Type 0

@@ -1,34 +1,9 @@
 -- Whether a move is lawful doesn't depend on what a pawn becomes.
 use Rattle.std.proofs.Common.{◌≡◌, ℕ, ◌+◌, ◌^◌, ◌<◌, arith, refl, sym, ap, subst, ◌∙◌, ◌⊎◌, ◌↔◌, inl, inr, Option, Some, None, IsSome, false}
-use Rattle.std.proofs.lemmas.Option.{same_Some}
-use Rattle.std.proofs.lemmas.Bool.{cases_eq, false≢true}
-use Rattle.board.specs.declared.game.Game.{Game}
-use Rattle.board.specs.declared.game.Game.TheVariants.{LosAlamos, Gardner}
-use Rattle.board.specs.declared.game.Side.{Side}
-use Rattle.board.specs.declared.game.Side.TheVariants.{White, Black}
-use Rattle.board.specs.declared.game.Kind.{Kind}
-use Rattle.board.specs.declared.game.Kind.TheVariants.{King, Queen, Rook, Bishop, Knight, Pawn}
-use Rattle.board.specs.declared.game.Unit.{Unit as Man}
-use Rattle.board.specs.declared.step.Step.{Step}
-use Rattle.board.specs.Games.{width_of, other_side}
-use Rattle.board.specs.Board.{PlainBoard, IsPosition}
-use Rattle.rules.specs.Squares.{Place, Ply, IsOnBoard, unit_at}
-use Rattle.rules.specs.Reach.{Leads, Reaches, IsAttacked, IsInCheck}
-use Rattle.rules.specs.Reach.Leads.{once, again}
-use Rattle.rules.specs.Moves.{IsLastRank, IsPromotion, Promotes, IsSomeKing, IsPseudoLegal, IsLawful, placed, after}
-use Rattle.cells.specs.Mailbox.{cell_of, place_in}
-use Rattle.cells.specs.CellSets.{Has}
-use Rattle.moves.specs.Targets.{IsTarget}
-use Rattle.moves.specs.Pinned.{IsPinned}
-use Rattle.moves.specs.Sets.{StandsAs}
-use Rattle.moves.specs.declared.sets.Class.TheVariants.{Crowned}
-use Rattle.moves.specs.Safe.{IsNamed, HasSafe, IsCalm}
-use Rattle.cells.proofs.CellNumbers.{place_in-cell_of}
+use Rattle.moves.proofs.Common.{same_Some, cases_eq, false≢true, Game, LosAlamos, Gardner, Side, White, Black, Kind, King, Queen, Rook, Bishop, Knight, Pawn, Man, Step, width_of, other_side, PlainBoard, IsPosition, Place, Ply, IsOnBoard, unit_at, Leads, Reaches, IsAttacked, IsInCheck, once, again, IsLastRank, IsPromotion, Promotes, IsSomeKing, IsPseudoLegal, IsLawful, placed, after, cell_of, place_in, Has, IsTarget, IsPinned, StandsAs, Crowned, IsNamed, HasSafe, IsCalm, place_in-cell_of, lowest-has, IsRankAhead, to_on_board, own_or_other}
 use Rattle.moves.proofs.Guarding.{promotes_well}
 use Rattle.moves.proofs.KingSteps.{attacked_then, steps_safely}
-use Rattle.cells.proofs.Masks.{lowest-has}
 use Rattle.moves.proofs.Laying.{unit_at-to, unit_at-from, unit_at-other}
-use Rattle.rules.proofs.Keeps.{IsRankAhead, to_on_board, no_own as own_or_other}
 use Rattle.moves.proofs.Kings.{king_of, check_from}
 use Rattle.moves.proofs.Shadows.{pinned_attacks}
 use Rattle.moves.proofs.Pins.{place_cases, promotes_no_king, no_unit, stays_safe}

@@ -1,19 +1,6 @@
 -- The list of a unit's moves as its safe cells are read from the lowest on.
 use Rattle.std.proofs.Common.{◌≡◌, ◌≢◌, ℕ, ◌+◌, ◌-◌, ◌*◌, ◌<◌, ◌≤◌, zero, suc, refl, ap, subst, arith, ◌↔◌, List}
-use Rattle.board.specs.declared.game.Kind.TheVariants.{Pawn}
-use Rattle.board.specs.declared.game.Unit.{Unit as Man}
-use Rattle.board.specs.Games.{squares_of}
-use Rattle.board.specs.Board.{PlainBoard}
-use Rattle.rules.specs.Squares.{Place, Ply, IsOnBoard, square_number}
-use Rattle.rules.specs.Listing.{ListsBelow}
-use Rattle.cells.specs.Mailbox.{cell_of, place_in, IsCell}
-use Rattle.cells.specs.CellSets.{Has}
-use Rattle.moves.specs.Safe.{HasSafe}
-use Rattle.cells.proofs.CellNumbers.{place_in-cell_of}
-use Rattle.cells.proofs.Masks.{Has-zero}
-use Rattle.rules.proofs.Listed.{same_number, number_within}
-use Rattle.rules.proofs.Lists.{ListsBelow-jump, ListsBelow-all_to, IsNumbered-lawful, HasParts-lawful}
-use Rattle.rules.proofs.Room.{share, share-more, share-most, share-step, squares_36}
+use Rattle.moves.proofs.Common.{Pawn, Man, squares_of, PlainBoard, Place, Ply, IsOnBoard, square_number, ListsBelow, cell_of, place_in, IsCell, Has, HasSafe, place_in-cell_of, Has-zero, same_number, number_within, ListsBelow-jump, ListsBelow-all_to, IsNumbered-lawful, HasParts-lawful, share, share-more, share-most, share-step, squares_36}
 use Rattle.moves.proofs.Walking.{IsWalked, Jumps, walked_start, walked_end, next, next_holds, walked_more}
 
 -- the moves to the squares numbered below n are listed, so many more than before

@@ -1,33 +1,6 @@
 -- What a unit sees, by ways and leaps, is what its denotation says.
 use Rattle.std.proofs.Common.{◌≡◌, ℕ, ◌≤◌, zero, suc, refl, sym, ap, subst, ◌∙◌, arith, ◌↔◌, ◌⊎◌, inl, inr, Bool, true, false, ◌&&◌, not, leb, ℤ, pos, negsuc, neg_ℤ}
-use Rattle.std.specs.List.{list_all}
-use Rattle.std.specs.Int.RustNames.{unsigned_abs}
-use Rattle.std.proofs.lemmas.Int.{ints}
-use Rattle.std.proofs.lemmas.Bool.{false≢true, not-true, and_parts, leb-true}
-use Rattle.std.proofs.lemmas.List.Sums.{AllPass-from_list_all}
-use Rattle.std.proofs.lemmas.List.Elements.{All-contains}
-use Rattle.board.specs.declared.game.Side.{Side}
-use Rattle.board.specs.declared.game.Side.TheVariants.{White, Black}
-use Rattle.board.specs.declared.game.Kind.{Kind}
-use Rattle.board.specs.declared.game.Kind.TheVariants.{King, Queen, Rook, Bishop, Knight, Pawn}
-use Rattle.board.specs.declared.step.Mode.TheVariants.{Move, Both}
-use Rattle.board.specs.declared.step.Step.{Step}
-use Rattle.board.specs.declared.terms.Atom.TheVariants.{Wazir, Ferz}
-use Rattle.board.specs.Denotation.{IsAtomLeap, IsTermStep, doubled, terms_of, Denotes}
-use Rattle.board.specs.Board.{PlainBoard}
-use Rattle.cells.specs.declared.tables.Way.{Way}
-use Rattle.cells.specs.declared.tables.Way.TheVariants.{North, South, East, West, NorthEast, SouthWest, NorthWest, SouthEast}
-use Rattle.rules.specs.Squares.{Place}
-use Rattle.rules.specs.Reach.{ahead_of, IsStep, Leads}
-use Rattle.rules.specs.Reach.Leads.{once, again}
-use Rattle.cells.specs.StepTables.{table_of}
-use Rattle.cells.specs.Mailbox.{place_in, IsCell}
-use Rattle.moves.specs.Looking.{Aims}
-use Rattle.cells.specs.Leaps.{IsLeapt}
-use Rattle.moves.specs.Sets.{RidesStraight, RidesSlanted}
-use Rattle.cells.specs.Ways.{files_of, ranks_of, Rides}
-use Rattle.cells.proofs.CellNumbers.{shift_in}
-use Rattle.cells.proofs.TableTests.{table_of-exact}
+use Rattle.moves.proofs.Common.{list_all, unsigned_abs, ints, false≢true, not-true, and_parts, leb-true, AllPass-from_list_all, All-contains, Side, White, Black, Kind, King, Queen, Rook, Bishop, Knight, Pawn, Move, Both, Step, Wazir, Ferz, IsAtomLeap, IsTermStep, doubled, terms_of, Denotes, PlainBoard, Way, North, South, East, West, NorthEast, SouthWest, NorthWest, SouthEast, Place, ahead_of, IsStep, Leads, once, again, table_of, place_in, IsCell, Aims, IsLeapt, RidesStraight, RidesSlanted, files_of, ranks_of, Rides, shift_in, table_of-exact}
 use Rattle.moves.proofs.Riding.{Goes, cell-rides, Leads-rides, Rides-leads}
 
 -- ---- a rider's steps and its ways

@@ -1,27 +1,7 @@
 -- Where a rider comes through a king's square.
 use Rattle.std.proofs.Common.{◌≡◌, ℕ, sym, ap, subst, ◌∙◌, ◌⊎◌, inl, inr, Some}
-use Rattle.std.proofs.lemmas.Bool.{false≢true}
-use Rattle.board.specs.declared.game.Game.{Game}
-use Rattle.board.specs.declared.game.Side.{Side}
-use Rattle.board.specs.declared.game.Kind.TheVariants.{King}
-use Rattle.board.specs.declared.game.Unit.{Unit as Man}
-use Rattle.board.specs.Games.{other_side}
-use Rattle.board.specs.Board.{PlainBoard, IsPosition}
-use Rattle.cells.specs.declared.tables.Way.{Way}
-use Rattle.cells.specs.declared.tables.Way.TheVariants.{North, South, East, West, NorthEast, SouthWest, NorthWest, SouthEast}
-use Rattle.rules.specs.Squares.{Place, IsOnBoard, unit_at}
-use Rattle.rules.specs.Reach.{Leads, AttacksFrom}
-use Rattle.cells.specs.Mailbox.{cell_of, place_in, IsCell}
-use Rattle.cells.specs.CellSets.{Has}
-use Rattle.cells.specs.Ways.{IsOnRay, IsOnStraight, IsOnSlanted}
-use Rattle.std.specs.Int.RustNames.{bit_and, bit_or}
-use Rattle.cells.proofs.Masks.{Has-and, Has-or}
-use Rattle.cells.proofs.CellNumbers.{IsCell-cell_of, place_in-cell_of}
+use Rattle.moves.proofs.Common.{false≢true, Game, Side, King, Man, other_side, PlainBoard, IsPosition, Way, North, South, East, West, NorthEast, SouthWest, NorthWest, SouthEast, Place, IsOnBoard, unit_at, Leads, AttacksFrom, cell_of, place_in, IsCell, Has, IsOnRay, IsOnStraight, IsOnSlanted, bit_and, bit_or, Has-and, Has-or, IsCell-cell_of, place_in-cell_of, Straight, Slanted, Guards, Checkers, IsPinned, StandsAs, Holds}
 use Rattle.moves.specs.declared.board_list.Guard.{Guard}
-use Rattle.moves.specs.declared.sets.Class.TheVariants.{Straight, Slanted}
-use Rattle.moves.specs.Guard.{Guards, Checkers}
-use Rattle.moves.specs.Pinned.{IsPinned}
-use Rattle.moves.specs.Sets.{StandsAs, Holds}
 use Rattle.moves.proofs.Kings.{one_king}
 use Rattle.moves.proofs.Looking.{attacks_on}
 use Rattle.moves.proofs.Riding.{Rides-leads, rides-ray, ray-beyond}

@@ -1,30 +1,12 @@
 -- What the sets of a board show, and what a move does to them.
 use Rattle.std.proofs.Common.{◌≡◌, ℕ, ◌^◌, ◌<◌, ◌+◌, ◌*◌, ◌%◌, w64, IsTrue, refl, sym, ap, subst, ◌∙◌, arith, ◌↔◌, ◌⊎◌, inl, inr, Bool, true, Option, Some, None}
-use Rattle.std.specs.Int.{bit_not}
-use Rattle.std.specs.Int.RustNames.{bit_and, bit_or}
-use Rattle.std.proofs.lemmas.Bool.{cases_eq, false≢true}
-use Rattle.std.proofs.lemmas.Option.{same_Some}
-use Rattle.board.specs.declared.game.Side.{Side}
+use Rattle.moves.proofs.Common.{bit_not, bit_and, bit_or, cases_eq, false≢true, same_Some, Side, Man, squares_of, PlainBoard, unit_on, is_of_side, IsPosition, Class, Crowned, Straight, Slanted, Horsed, Foot, Sets, Place, Ply, IsOnBoard, square_number, unit_at, IsPseudoLegal, placed, after, cell_of, place_in, IsCell, Has, IsOf, StandsAs, Holds, Shows, HasMoved, AreMoved, AreAdded, HasNone, IsCell-cell_of, place_in-cell_of, cell_of-place_in, to_on_board, same_number, number_within, Has-or, Has-zero, Has-clear, Has-minus, and_fits}
 use Rattle.board.specs.declared.game.Side.TheVariants as side
-use Rattle.board.specs.declared.game.Unit.{Unit as Man}
-use Rattle.board.specs.Games.{squares_of}
-use Rattle.board.specs.Board.{PlainBoard, unit_on, is_of_side, IsPosition}
-use Rattle.moves.specs.declared.sets.Class.{Class}
-use Rattle.moves.specs.declared.sets.Class.TheVariants.{White, Black, Crowned, Straight, Slanted, Horsed, Foot}
-use Rattle.moves.specs.declared.sets.Sets.{Sets}
-use Rattle.rules.specs.Squares.{Place, Ply, IsOnBoard, square_number, unit_at}
-use Rattle.rules.specs.Moves.{IsPseudoLegal, placed, after}
-use Rattle.cells.specs.Mailbox.{cell_of, place_in, IsCell}
-use Rattle.cells.specs.CellSets.{Has}
-use Rattle.moves.specs.Sets.{IsOf, StandsAs, Holds, Shows, HasMoved, AreMoved, AreAdded, HasNone}
-use Rattle.cells.proofs.CellNumbers.{IsCell-cell_of, place_in-cell_of, cell_of-place_in}
+use Rattle.moves.specs.declared.sets.Class.TheVariants.{White, Black}
 use Rattle.cells.proofs.Reached.{same_cell}
-use Rattle.rules.proofs.Keeps.{to_on_board}
 use Rattle.moves.proofs.Guarding.{own_unit_side, is_own}
 use Rattle.moves.proofs.Pins.{no_unit}
 use Rattle.moves.proofs.Laying.{unit_at-to, unit_at-from, unit_at-other}
-use Rattle.rules.proofs.Listed.{same_number, number_within}
-use Rattle.cells.proofs.Masks.{Has-or, Has-zero, Has-clear, Has-minus, and_fits}
 
 -- ---- units of a side
 

@@ -1,20 +1,6 @@
 -- The cells that a side attacks, by the sets of its units.
 use Rattle.std.proofs.Common.{◌≡◌, ℕ, sym, subst, ◌↔◌, inl, inr, true}
-use Rattle.std.specs.Int.RustNames.{bit_and, bit_or}
-use Rattle.board.specs.declared.game.Side.{Side}
-use Rattle.board.specs.declared.game.Kind.{Kind}
-use Rattle.board.specs.declared.game.Kind.TheVariants.{King, Rook, Bishop, Knight, Pawn}
-use Rattle.board.specs.Games.{other_side}
-use Rattle.board.specs.Board.{PlainBoard, is_of_side, IsPosition}
-use Rattle.rules.specs.Squares.{unit_at}
-use Rattle.rules.specs.Reach.{AttacksFrom, IsAttacked}
-use Rattle.cells.specs.Mailbox.{cell_of, place_in, IsCell}
-use Rattle.cells.specs.CellSets.{Has}
-use Rattle.cells.proofs.CellNumbers.{IsCell-cell_of, place_in-cell_of}
-use Rattle.cells.proofs.Masks.{Has-and}
-use Rattle.moves.specs.declared.sets.Class.TheVariants.{Crowned, Straight, Slanted, Horsed, Foot}
-use Rattle.moves.specs.Looking.{Aims, IsSwept}
-use Rattle.moves.specs.Sets.{Holds}
+use Rattle.moves.proofs.Common.{bit_and, bit_or, Side, Kind, King, Rook, Bishop, Knight, Pawn, other_side, PlainBoard, is_of_side, IsPosition, unit_at, AttacksFrom, IsAttacked, cell_of, place_in, IsCell, Has, IsCell-cell_of, place_in-cell_of, Has-and, Crowned, Straight, Slanted, Horsed, Foot, Aims, IsSwept, Holds}
 use Rattle.moves.proofs.Attacking.{Struck, InFive, in_five, Has-five}
 use Rattle.moves.proofs.Looking.{other_twice, Aims-back}
 

@@ -1,12 +1,5 @@
 use Rattle.std.proofs.Common.{rules, ◌≡◌, ℕ, ◌↔◌, IsTrue, Bool, true, false, refl, sym, subst, inl, inr}
-use Rattle.std.proofs.lemmas.Bool.{cases_Bool}
-use Rattle.board.specs.Board.{is_of_side}
-use Rattle.rules.specs.Squares.{Ply, unit_at}
-use Rattle.rules.specs.Moves.{IsLawful}
-use Rattle.cells.specs.Mailbox.{cell_of, place_in, IsCell}
-use Rattle.cells.specs.CellSets.{Has}
-use Rattle.cells.proofs.CellNumbers.{place_in-cell_of}
-use Rattle.rules.proofs.Lists.{IsNumbered-lawful}
+use Rattle.moves.proofs.Common.{cases_Bool, is_of_side, Ply, unit_at, IsLawful, cell_of, place_in, IsCell, Has, place_in-cell_of, IsNumbered-lawful}
 use Rattle.moves.proofs.Gathering.{IsOwn, own_left}
 use Rattle.moves.proofs.any_move.has_move.Goals as goal
 

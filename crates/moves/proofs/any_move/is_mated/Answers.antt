@@ -1,5 +1,5 @@
 use Rattle.std.proofs.Common.{not, sym, ap, ◌∙◌}
-use Rattle.std.proofs.lemmas.Bool.{false≢true}
+use Rattle.moves.proofs.Common.{false≢true}
 use Rattle.moves.proofs.Attacking.{unattacked}
 use Rattle.moves.proofs.AtOnce.{mated_exactly}
 use Rattle.moves.proofs.any_move.is_mated.Goals as goal

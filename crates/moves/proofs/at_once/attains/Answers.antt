@@ -1,10 +1,5 @@
 use Rattle.std.proofs.Common.{◌≡◌, ◌↔◌, IsSome, IfSome, sym, subst, ◌∙◌}
-use Rattle.std.proofs.lemmas.Bool.{false≢true}
-use Rattle.board.specs.Board.{PlainBoard}
-use Rattle.rules.specs.Reach.{IsInCheck}
-use Rattle.rules.specs.Moves.{Promotes, IsPromotion, IsLawful, after}
-use Rattle.rules.specs.Forces.{IsReached}
-use Rattle.rules.proofs.Keeps.{one_after}
+use Rattle.moves.proofs.Common.{false≢true, PlainBoard, IsInCheck, Promotes, IsPromotion, IsLawful, after, IsReached, one_after}
 use Rattle.moves.proofs.AtOnce.{move_by, no_move_at}
 use Rattle.moves.proofs.Guarding.{promotes_well, not_attacked_safe}
 use Rattle.moves.proofs.at_once.attains.Goals as goal

@@ -1,10 +1,5 @@
 use Rattle.std.proofs.Common.{◌∙◌, MatchOption, sym, ap, subst}
-use Rattle.board.specs.Games.{other_side}
-use Rattle.moves.specs.Guard.{Guards}
-use Rattle.rules.specs.Reach.{IsInCheck}
-use Rattle.std.proofs.lemmas.Bool.{false≢true}
-use Rattle.rules.specs.Squares.{unit_at}
-use Rattle.cells.specs.Mailbox.{place_in}
+use Rattle.moves.proofs.Common.{other_side, Guards, IsInCheck, false≢true, unit_at, place_in}
 use Rattle.moves.proofs.SafeCells.{lawful_calm, lawful_named}
 use Rattle.moves.proofs.AtOnce.{pseudo_by, pseudo_of}
 use Rattle.moves.proofs.at_once.is_open.Goals as goal

@@ -1,14 +1,5 @@
 use Rattle.std.proofs.Common.{◌≡◌, ℕ, ◌↔◌, true, subst}
-use Rattle.std.specs.Int.RustNames.{bit_and}
-use Rattle.board.specs.declared.game.Kind.{Kind}
-use Rattle.board.specs.declared.game.Kind.TheVariants.{King, Rook, Bishop, Knight, Pawn}
-use Rattle.board.specs.declared.game.Side.{Side}
-use Rattle.board.specs.Games.{other_side}
-use Rattle.board.specs.Board.{PlainBoard, is_of_side}
-use Rattle.rules.specs.Squares.{unit_at}
-use Rattle.cells.specs.Mailbox.{place_in, IsCell}
-use Rattle.cells.specs.CellSets.{Has}
-use Rattle.moves.specs.Looking.{IsSwept}
+use Rattle.moves.proofs.Common.{bit_and, Kind, King, Rook, Bishop, Knight, Pawn, Side, other_side, PlainBoard, is_of_side, unit_at, place_in, IsCell, Has, IsSwept}
 use Rattle.moves.proofs.Sweeping.{attacked-are, foes_in}
 use Rattle.moves.proofs.attacked.attacked.Goals as goal
 

@@ -1,6 +1,5 @@
-use Rattle.cells.specs.Mailbox.{place_in}
-use Rattle.cells.proofs.Masks.{Has-or}
 use Rattle.std.proofs.Common.{inl, inr}
+use Rattle.moves.proofs.Common.{place_in, Has-or}
 use Rattle.moves.proofs.SafeCells.{some_crowned, crowned_king}
 use Rattle.moves.proofs.attacked.calm_steps.Goals as goal
 

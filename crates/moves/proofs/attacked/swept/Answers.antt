@@ -1,9 +1,5 @@
 use Rattle.std.proofs.Common.{ℕ, subst, inl, inr}
-use Rattle.std.proofs.lemmas.Bool.{cases_eq}
-use Rattle.cells.specs.Mailbox.{place_in}
-use Rattle.cells.specs.CellSets.{Has}
-use Rattle.cells.proofs.Masks.{Has-or, Has-zero}
-use Rattle.moves.specs.Looking.{Aims}
+use Rattle.moves.proofs.Common.{cases_eq, place_in, Has, Has-or, Has-zero, Aims}
 use Rattle.moves.proofs.attacked.swept.Goals as goal
 
 pub units-init : goal.units-init

@@ -1,7 +1,5 @@
 use Rattle.std.proofs.Common.{◌⊎◌, ℕ}
-use Rattle.cells.specs.Mailbox.{place_in, IsCell}
-use Rattle.cells.specs.CellSets.{Has}
-use Rattle.moves.specs.Looking.{Aims, IsSwept}
+use Rattle.moves.proofs.Common.{place_in, IsCell, Has, Aims, IsSwept}
 use Rattle.moves.proofs.attacked.swept.Given as given
 
 -- what units of cells that aren't left would take on is in the set, and nothing else

@@ -1,9 +1,5 @@
 use Rattle.std.proofs.Common.{◌↔◌, ℕ, refl, sym, subst}
-use Rattle.std.proofs.lemmas.Bool.{false≢true}
-use Rattle.board.specs.Games.{other_side}
-use Rattle.rules.specs.Reach.{AttacksFrom}
-use Rattle.cells.specs.Mailbox.{place_in, IsCell}
-use Rattle.cells.specs.CellSets.{Has}
+use Rattle.moves.proofs.Common.{false≢true, other_side, AttacksFrom, place_in, IsCell, Has}
 use Rattle.moves.proofs.Blocking.{HasBlocks-all}
 use Rattle.moves.proofs.Kings.{check_from}
 use Rattle.moves.proofs.Attacking.{some_checkers}

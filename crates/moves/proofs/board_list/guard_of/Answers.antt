@@ -1,7 +1,5 @@
 use Rattle.std.proofs.Common.{sym, subst, ◌∙◌}
-use Rattle.std.proofs.lemmas.Bool.{false≢true}
-use Rattle.cells.specs.Mailbox.{place_in}
-use Rattle.moves.specs.Pinned.{IsPinned}
+use Rattle.moves.proofs.Common.{false≢true, place_in, IsPinned}
 use Rattle.moves.proofs.Kings.{check_from}
 use Rattle.moves.proofs.Blocking.{HasBlocks-all}
 use Rattle.moves.proofs.Attacking.{unattacked}

@@ -1,8 +1,5 @@
 use Rattle.std.proofs.Common.{rules, ◌≡◌, ℕ, ◌↔◌, true, sym, subst, []}
-use Rattle.board.specs.Board.{is_of_side}
-use Rattle.rules.specs.Squares.{unit_at}
-use Rattle.cells.specs.Mailbox.{place_in, IsCell}
-use Rattle.cells.specs.CellSets.{Has}
+use Rattle.moves.proofs.Common.{is_of_side, unit_at, place_in, IsCell, Has}
 use Rattle.moves.proofs.Gathering.{IsOwn, IsGathered, gathered_start, gathered_end, gathered_next, gathered_lists, gathered_more}
 use Rattle.moves.proofs.board_list.list_lawful.Goals as goal
 

@@ -1,12 +1,6 @@
 use Rattle.std.proofs.Common.{◌≡◌, ◌↔◌, IsSome, IfSome, ℕ, ◌+◌, ◌*◌, ◌<◌, get_or, None, refl, subst, sym, ap, ◌∙◌, arith, add_assoc}
-use Rattle.std.proofs.lemmas.Bool.{false≢true}
-use Rattle.rules.specs.declared.list.TheConstants.{PROMOTIONS}
-use Rattle.rules.specs.Squares.{Ply, square_number}
-use Rattle.rules.specs.Moves.{Promotes, IsPromotion, IsLawful}
+use Rattle.moves.proofs.Common.{false≢true, PROMOTIONS, Ply, square_number, Promotes, IsPromotion, IsLawful, promotion_number, ply_number, IsNumbered, numbered_promotion, ListsBelow-skip, ListsBelow-push, ListsBelow-promoted, first_promotion}
 use Rattle.moves.proofs.Guarding.{promotes_well}
-use Rattle.rules.specs.Order.{promotion_number}
-use Rattle.rules.specs.Listing.{ply_number}
-use Rattle.rules.proofs.Lists.{IsNumbered, numbered_promotion, ListsBelow-skip, ListsBelow-push, ListsBelow-promoted, first_promotion}
 use Rattle.moves.proofs.board_list.push_to.Goals as goal
 use Rattle.moves.proofs.board_list.push_to.Goals.{then-is_promoted_well, else-is_promoted_well}
 

@@ -1,10 +1,5 @@
 use Rattle.std.proofs.Common.{rules, ◌≡◌, ◌+◌, ◌∙◌, sym, ap, subst, ◌↔◌}
-use Rattle.std.proofs.lemmas.Bool.{eqb-true, eq-eqb}
-use Rattle.board.specs.declared.game.Kind.TheVariants.{Pawn}
-use Rattle.board.specs.Games.{width_of}
-use Rattle.rules.specs.Squares.{Place, unit_at}
-use Rattle.rules.specs.Moves.{IsLastRank}
-use Rattle.rules.proofs.Keeps.{pawn_ahead}
+use Rattle.moves.proofs.Common.{eqb-true, eq-eqb, Pawn, width_of, Place, unit_at, IsLastRank, pawn_ahead}
 use Rattle.moves.proofs.SafeCells.{IsBeforeLast, last_next}
 use Rattle.moves.proofs.checks.may_promote.Goals as goal
 

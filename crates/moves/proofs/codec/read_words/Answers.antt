@@ -1,10 +1,5 @@
 use Rattle.std.proofs.Common.{◌≡◌, ◌<◌, ◌∙◌, ℕ, List, Option, Some, None, sym, ap, subst, arith, IfSome, IfNone}
-use Rattle.board.specs.declared.game.Game.{Game}
-use Rattle.board.specs.declared.game.Side.{Side}
-use Rattle.board.specs.declared.game.Unit.{Unit as Man}
-use Rattle.board.specs.Games.{squares_of}
-use Rattle.board.specs.Board.{PlainBoard, board_of, IsPosition}
-use Rattle.moves.specs.Words.{man_of, code_on, Spells}
+use Rattle.moves.proofs.Common.{Game, Side, Man, squares_of, PlainBoard, board_of, IsPosition, man_of, code_on, Spells}
 use Rattle.moves.proofs.Packing.{IsRead, IsRead-start, IsRead-more, IsRead-whole, within_36}
 use Rattle.moves.proofs.codec.read_words.Goals as goal
 

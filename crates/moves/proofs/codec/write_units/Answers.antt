@@ -1,6 +1,5 @@
 use Rattle.std.proofs.Common.{◌≡◌, ◌+◌, sym, subst, ◌∙◌, arith}
-use Rattle.board.specs.Games.{squares_of}
-use Rattle.board.specs.Board.{board_of}
+use Rattle.moves.proofs.Common.{squares_of, board_of}
 use Rattle.moves.proofs.Packing.{IsPut, IsFilled, IsFilled-more, IsFilled-none, none_where, IsPacked-of, unpacked_of}
 use Rattle.moves.proofs.codec.write_units.Goals as goal
 use Rattle.moves.proofs.codec.write_units.Goals.{in-Some, in_default}

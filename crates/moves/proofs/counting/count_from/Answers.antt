@@ -1,7 +1,5 @@
 use Rattle.std.proofs.Common.{◌≡◌, ◌*◌, ◌≤◌, sym, subst, arith, Some, count_ones, rules}
-use Rattle.rules.specs.Squares.{unit_at}
-use Rattle.rules.specs.Reach.{Reaches}
-use Rattle.cells.specs.Mailbox.{place_in}
+use Rattle.moves.proofs.Common.{unit_at, Reaches, place_in}
 use Rattle.moves.proofs.Counts.{counted_all, few_ones, product_most}
 use Rattle.moves.proofs.counting.count_from.Goals as goal
 

@@ -1,8 +1,5 @@
 use Rattle.std.proofs.Common.{◌≡◌, ℕ, ◌↔◌, true, subst, arith}
-use Rattle.board.specs.Board.{is_of_side}
-use Rattle.rules.specs.Squares.{unit_at}
-use Rattle.cells.specs.Mailbox.{place_in, IsCell}
-use Rattle.cells.specs.CellSets.{Has}
+use Rattle.moves.proofs.Common.{is_of_side, unit_at, place_in, IsCell, Has}
 use Rattle.moves.proofs.Gathering.{IsOwn, tallied_start, tallied_end, tallied_next, tallied_few, tallied_more}
 use Rattle.moves.proofs.counting.count_lawful.Goals as goal
 

@@ -1,12 +1,5 @@
 use Rattle.std.proofs.Common.{◌≡◌, ℕ, ◌↔◌, true, inl, inr, sym, subst}
-use Rattle.std.specs.Int.RustNames.{bit_and, bit_or}
-use Rattle.board.specs.Games.{other_side}
-use Rattle.board.specs.Board.{is_of_side}
-use Rattle.rules.specs.Squares.{unit_at}
-use Rattle.cells.specs.Mailbox.{place_in, IsCell}
-use Rattle.cells.specs.CellSets.{Has}
-use Rattle.cells.specs.Ways.{IsOnStraight, IsOnSlanted}
-use Rattle.cells.proofs.Masks.{Has-and, Has-or, Has-zero}
+use Rattle.moves.proofs.Common.{bit_and, bit_or, other_side, is_of_side, unit_at, place_in, IsCell, Has, IsOnStraight, IsOnSlanted, Has-and, Has-or, Has-zero}
 use Rattle.moves.proofs.Pinning.{pins-along}
 use Rattle.moves.proofs.Riding.{rides-ray}
 use Rattle.moves.proofs.Shadows.{on_lines}

@@ -1,9 +1,5 @@
 use Rattle.std.proofs.Common.{◌≡◌, ℕ, ◌↔◌, true, subst}
-use Rattle.board.specs.Games.{other_side}
-use Rattle.board.specs.Board.{is_of_side}
-use Rattle.rules.specs.Squares.{unit_at}
-use Rattle.cells.specs.Mailbox.{place_in, IsCell}
-use Rattle.cells.specs.CellSets.{Has}
+use Rattle.moves.proofs.Common.{other_side, is_of_side, unit_at, place_in, IsCell, Has}
 use Rattle.moves.proofs.Attacking.{attackers-are}
 use Rattle.moves.proofs.look.attackers.Goals as goal
 

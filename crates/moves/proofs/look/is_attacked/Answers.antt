@@ -1,14 +1,5 @@
 use Rattle.std.proofs.Common.{◌≡◌, ℕ, ◌↔◌, true, refl, subst}
-use Rattle.std.specs.Int.RustNames.{bit_or}
-use Rattle.board.specs.declared.game.Kind.TheVariants.{King, Rook, Bishop, Knight, Pawn}
-use Rattle.board.specs.declared.game.Side.{Side}
-use Rattle.board.specs.Games.{other_side}
-use Rattle.board.specs.Board.{PlainBoard, is_of_side}
-use Rattle.rules.specs.Squares.{unit_at}
-use Rattle.cells.specs.Mailbox.{place_in, IsCell}
-use Rattle.cells.specs.CellSets.{Has}
-use Rattle.cells.proofs.Masks.{not-zero}
-use Rattle.moves.specs.declared.sets.Class.TheVariants.{Crowned, Straight, Slanted, Horsed, Foot}
+use Rattle.moves.proofs.Common.{bit_or, King, Rook, Bishop, Knight, Pawn, Side, other_side, PlainBoard, is_of_side, unit_at, place_in, IsCell, Has, not-zero, Crowned, Straight, Slanted, Horsed, Foot}
 use Rattle.moves.proofs.Attacking.{attackers-are, none-attacks, struck-attacks, line_too, slant_too, kind_too}
 use Rattle.moves.proofs.look.is_attacked.Goals as goal
 

@@ -1,5 +1,4 @@
-use Rattle.std.proofs.lemmas.Bool.{false≢true}
-use Rattle.cells.specs.Mailbox.{place_in}
+use Rattle.moves.proofs.Common.{false≢true, place_in}
 use Rattle.moves.proofs.Kings.{check_at, check_from, no_check}
 use Rattle.moves.proofs.look.is_checked.Goals as goal
 

@@ -1,6 +1,5 @@
 use Rattle.std.proofs.Common.{subst}
-use Rattle.cells.specs.CellSets.{Has}
-use Rattle.cells.proofs.Masks.{Has-zero}
+use Rattle.moves.proofs.Common.{Has, Has-zero}
 use Rattle.moves.proofs.KingCells.{king_in, has_king}
 use Rattle.moves.proofs.look.king_cell.Goals as goal
 

@@ -1,13 +1,5 @@
 use Rattle.std.proofs.Common.{ℕ, inl, inr, subst, sym}
-use Rattle.board.specs.declared.game.Kind.TheVariants.{King, Knight, Pawn}
-use Rattle.board.specs.Board.{PlainBoard}
-use Rattle.cells.specs.declared.tables.Way.TheVariants.{North, South, East, West, NorthEast, SouthWest, NorthWest, SouthEast}
-use Rattle.cells.specs.Mailbox.{place_in, IsCell}
-use Rattle.cells.specs.Ways.{IsOnStraight, IsOnSlanted}
-use Rattle.cells.specs.Leaps.{IsLeapt}
-use Rattle.cells.proofs.Masks.{Has-or}
-use Rattle.moves.specs.Looking.{Aims}
-use Rattle.moves.specs.Sets.{RidesStraight, RidesSlanted}
+use Rattle.moves.proofs.Common.{King, Knight, Pawn, PlainBoard, North, South, East, West, NorthEast, SouthWest, NorthWest, SouthEast, place_in, IsCell, IsOnStraight, IsOnSlanted, IsLeapt, Has-or, Aims, RidesStraight, RidesSlanted}
 use Rattle.moves.proofs.Riding.{rides-ray}
 use Rattle.moves.proofs.Seeing.{Sees-rook, Sees-bishop, Sees-queen, Sees-leaper, king_leaps_all, knight_leaps_all, pawn_leaps_all}
 use Rattle.moves.proofs.look.open_lines.Goals as goal

@@ -1,7 +1,5 @@
-use Rattle.cells.proofs.Masks.{Has-and, Has-zero}
 use Rattle.std.proofs.Common.{sym, subst}
-use Rattle.cells.specs.CellSets.{Has}
-use Rattle.cells.specs.Mailbox.{IsCell}
+use Rattle.moves.proofs.Common.{Has-and, Has-zero, Has, IsCell}
 use Rattle.moves.proofs.look.struck.Goals as goal
 
 pub returns-then-among-open_lines-eq0 : goal.returns-then-among-open_lines-eq0

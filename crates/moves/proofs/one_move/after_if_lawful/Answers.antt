@@ -1,17 +1,5 @@
 use Rattle.std.proofs.Common.{rules, ◌≡◌, ◌↔◌, ℕ, Some, sym, ap, subst, ◌∙◌, IsSome, IfSome}
-use Rattle.std.proofs.lemmas.Bool.{false≢true}
-use Rattle.board.specs.declared.game.Unit.{Unit as Man}
-use Rattle.board.specs.Board.{PlainBoard}
-use Rattle.rules.specs.Squares.{Ply, IsOnBoard, unit_at}
-use Rattle.rules.specs.Reach.{IsInCheck}
-use Rattle.rules.specs.Moves.{Promotes, IsPromotion, IsSomeKing, IsPseudoLegal, after}
-use Rattle.cells.specs.Mailbox.{cell_of, place_in}
-use Rattle.cells.specs.CellSets.{Has}
-use Rattle.cells.proofs.CellNumbers.{place_in-cell_of}
-use Rattle.rules.proofs.Keeps.{to_on_board}
-use Rattle.moves.specs.Sets.{Holds}
-use Rattle.moves.specs.Targets.{IsTarget}
-use Rattle.moves.specs.declared.sets.Class.TheVariants.{Crowned}
+use Rattle.moves.proofs.Common.{false≢true, Man, PlainBoard, Ply, IsOnBoard, unit_at, IsInCheck, Promotes, IsPromotion, IsSomeKing, IsPseudoLegal, after, cell_of, place_in, Has, place_in-cell_of, to_on_board, Holds, IsTarget, Crowned}
 use Rattle.moves.proofs.AtOnce.{pseudo_by, move_by}
 use Rattle.moves.proofs.Checking.{IsTarget-move}
 use Rattle.moves.proofs.Guarding.{promotes_well}

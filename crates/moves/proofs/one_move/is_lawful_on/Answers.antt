@@ -1,7 +1,6 @@
 use Rattle.std.proofs.Common.{◌↔◌, IsTrue, Option, Some, None, MatchOption, refl, sym, subst}
-use Rattle.std.proofs.lemmas.Bool.{false≢true}
+use Rattle.moves.proofs.Common.{false≢true, IsLawful}
 use Rattle.std.specs.Option.{is_some}
-use Rattle.rules.specs.Moves.{IsLawful}
 use Rattle.moves.proofs.one_move.is_lawful_on.Goals as goal
 
 some_if : {X : Type 0} (A : X → Type 0) (L : Type 0) (o : Option X) → MatchOption o (L → ⊥) A → ((x : X) → A x → L) → IsTrue (is_some o) ↔ L

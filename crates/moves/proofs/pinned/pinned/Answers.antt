@@ -1,16 +1,5 @@
 use Rattle.std.proofs.Common.{◌≡◌, ℕ, ◌↔◌, All, take, true, inl, inr, sym, subst, arith}
-use Rattle.std.specs.Int.RustNames.{bit_and, bit_or}
-use Rattle.std.proofs.lemmas.List.{take_all}
-use Rattle.std.proofs.lemmas.List.Elements.{All-more, All-contains}
-use Rattle.board.specs.Games.{other_side}
-use Rattle.board.specs.Board.{is_of_side}
-use Rattle.cells.specs.declared.tables.Way.{Way}
-use Rattle.cells.specs.declared.tables.TheConstants.{WAYS}
-use Rattle.rules.specs.Squares.{unit_at}
-use Rattle.cells.specs.Mailbox.{place_in, IsCell}
-use Rattle.cells.specs.CellSets.{Has}
-use Rattle.cells.specs.Ways.{IsOnStraight, IsOnSlanted}
-use Rattle.cells.proofs.Masks.{Has-and, Has-or, Has-zero}
+use Rattle.moves.proofs.Common.{bit_and, bit_or, take_all, All-more, All-contains, other_side, is_of_side, Way, WAYS, unit_at, place_in, IsCell, Has, IsOnStraight, IsOnSlanted, Has-and, Has-or, Has-zero}
 use Rattle.moves.proofs.Riding.{rides-ray, ray-beyond}
 use Rattle.moves.proofs.Shadows.{on_lines}
 use Rattle.moves.proofs.Pinning.{HoldsPins, pins-along, ways-all}

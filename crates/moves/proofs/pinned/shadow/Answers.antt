@@ -1,13 +1,5 @@
 use Rattle.std.proofs.Common.{◌≡◌, inl, inr, sym, subst, ◌∙◌, arith}
-use Rattle.std.specs.Int.{bit_at}
-use Rattle.std.specs.Int.RustNames.{bit_or}
-use Rattle.std.proofs.lemmas.Bool.{cases_eq}
-use Rattle.std.proofs.lemmas.Nat.Bits.{bit_at_ones}
-use Rattle.cells.specs.Mailbox.{IsCell}
-use Rattle.cells.specs.CellSets.{Has}
-use Rattle.cells.specs.Ways.{IsOnStraight, IsOnSlanted}
-use Rattle.cells.proofs.CellNumbers.{cell_small}
-use Rattle.cells.proofs.Masks.{Has-and, Has-or, Has-zero}
+use Rattle.moves.proofs.Common.{bit_at, bit_or, cases_eq, bit_at_ones, IsCell, Has, IsOnStraight, IsOnSlanted, cell_small, Has-and, Has-or, Has-zero}
 use Rattle.moves.proofs.Shadows.{comes_through, riding}
 use Rattle.moves.proofs.pinned.shadow.Goals as goal
 

@@ -1,8 +1,5 @@
 use Rattle.std.proofs.Common.{sym, subst, ◌∙◌}
-use Rattle.std.proofs.lemmas.Bool.{false≢true}
-use Rattle.cells.specs.Mailbox.{place_in}
-use Rattle.board.specs.Games.{other_side}
-use Rattle.moves.specs.Looking.{AreAttacked}
+use Rattle.moves.proofs.Common.{false≢true, place_in, other_side, AreAttacked}
 use Rattle.moves.proofs.SafeCells.{calm_safe, free_safe, some_crowned, crowned_king}
 use Rattle.moves.proofs.safe.free_cells.Goals as goal
 

@@ -1,6 +1,5 @@
 use Rattle.std.proofs.Common.{sym, ◌∙◌}
-use Rattle.std.proofs.lemmas.Bool.{false≢true, not-true, not_from_false, false_from_ne_true}
-use Rattle.cells.specs.Mailbox.{place_in}
+use Rattle.moves.proofs.Common.{false≢true, not-true, not_from_false, false_from_ne_true, place_in}
 use Rattle.moves.proofs.SafeCells.{some_crowned}
 use Rattle.moves.proofs.safe.is_calm.Goals as goal
 

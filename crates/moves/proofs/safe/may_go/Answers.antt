@@ -1,14 +1,5 @@
 use Rattle.std.proofs.Common.{◌≡◌, ◌↔◌, IsTrue, Some, refl, sym, ap, subst, ◌∙◌}
-use Rattle.std.proofs.lemmas.Bool.{false≢true, not-true}
-use Rattle.board.specs.Games.{other_side}
-use Rattle.board.specs.Board.{PlainBoard}
-use Rattle.rules.specs.Squares.{unit_at}
-use Rattle.rules.specs.Reach.{IsAttacked, IsInCheck}
-use Rattle.rules.specs.Moves.{IsSomeKing, IsPseudoLegal, after}
-use Rattle.cells.specs.Mailbox.{cell_of, place_in}
-use Rattle.cells.specs.CellSets.{Has}
-use Rattle.moves.specs.Safe.{IsNamed, IsCalm}
-use Rattle.cells.proofs.CellNumbers.{cell_of-place_in}
+use Rattle.moves.proofs.Common.{false≢true, not-true, other_side, PlainBoard, unit_at, IsAttacked, IsInCheck, IsSomeKing, IsPseudoLegal, after, cell_of, place_in, Has, IsNamed, IsCalm, cell_of-place_in}
 use Rattle.moves.proofs.AtOnce.{pseudo_by, move_by}
 use Rattle.moves.proofs.Guarding.{lawful_if_safe, not_attacked_safe}
 use Rattle.moves.proofs.SafeCells.{lawful_too, pseudo_named, calm_lawful, lawful_calm, free_lawful, some_crowned, crowned_king}

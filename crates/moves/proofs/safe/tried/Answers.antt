@@ -1,11 +1,5 @@
 use Rattle.std.proofs.Common.{◌≡◌, Some, sym, ap, subst, ◌∙◌}
-use Rattle.std.proofs.lemmas.Bool.{false≢true}
-use Rattle.board.specs.declared.game.Kind.TheVariants.{King}
-use Rattle.board.specs.Games.{other_side}
-use Rattle.rules.specs.Squares.{unit_at}
-use Rattle.cells.specs.Mailbox.{cell_of, place_in}
-use Rattle.moves.specs.Looking.{AreAttacked}
-use Rattle.moves.specs.Targets.{IsTarget}
+use Rattle.moves.proofs.Common.{false≢true, King, other_side, unit_at, cell_of, place_in, AreAttacked, IsTarget}
 use Rattle.moves.proofs.SafeCells.{calm_target, calm_all}
 use Rattle.moves.proofs.AtOnce.{pseudo_by, move_by}
 use Rattle.moves.proofs.Checking.{IsTarget-move}

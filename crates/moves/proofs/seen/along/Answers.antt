@@ -1,7 +1,5 @@
 use Rattle.std.proofs.Common.{◌≡◌, ◌⊎◌, true, false, inl, inr, ap}
-use Rattle.cells.specs.declared.tables.Way.{Way}
-use Rattle.cells.specs.declared.tables.Way.TheVariants.{North, South, East, West, NorthEast, NorthWest, SouthEast, SouthWest}
-use Rattle.cells.specs.Ways.{rises}
+use Rattle.moves.proofs.Common.{Way, North, South, East, West, NorthEast, NorthWest, SouthEast, SouthWest, rises}
 use Rattle.moves.proofs.Riding.{ray-of, cut-up, cut-down}
 use Rattle.moves.proofs.seen.along.Goals as goal
 

@@ -1,11 +1,5 @@
 use Rattle.std.proofs.Common.{◌↔◌, inl, inr, sym, subst}
-use Rattle.board.specs.declared.game.Kind.TheVariants.{King, Knight, Pawn}
-use Rattle.cells.specs.Mailbox.{place_in, IsCell}
-use Rattle.moves.specs.Looking.{Aims}
-use Rattle.cells.specs.CellSets.{Has}
-use Rattle.cells.specs.Leaps.{IsLeapt}
-use Rattle.std.specs.Int.RustNames.{bit_or}
-use Rattle.cells.proofs.Masks.{Has-or}
+use Rattle.moves.proofs.Common.{King, Knight, Pawn, place_in, IsCell, Aims, Has, IsLeapt, bit_or, Has-or}
 use Rattle.moves.proofs.Seeing.{Sees-rook, Sees-bishop, Sees-queen, Sees-leaper, king_leaps_all, knight_leaps_all, pawn_leaps_all}
 use Rattle.moves.proofs.seen.seen.Goals as goal
 

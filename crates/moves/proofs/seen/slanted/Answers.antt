@@ -1,6 +1,4 @@
-use Rattle.cells.specs.declared.tables.Way.TheVariants.{NorthEast, SouthWest, NorthWest, SouthEast}
-use Rattle.cells.specs.Ways.{Rides}
-use Rattle.cells.proofs.Masks.{four-are}
+use Rattle.moves.proofs.Common.{NorthEast, SouthWest, NorthWest, SouthEast, Rides, four-are}
 use Rattle.moves.proofs.seen.slanted.Goals as goal
 
 pub returns : goal.returns

@@ -1,6 +1,4 @@
-use Rattle.cells.specs.declared.tables.Way.TheVariants.{North, South, East, West}
-use Rattle.cells.specs.Ways.{Rides}
-use Rattle.cells.proofs.Masks.{four-are}
+use Rattle.moves.proofs.Common.{North, South, East, West, Rides, four-are}
 use Rattle.moves.proofs.seen.straight.Goals as goal
 
 pub returns : goal.returns

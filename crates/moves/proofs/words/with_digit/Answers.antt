@@ -1,7 +1,5 @@
 use Rattle.std.proofs.Common.{◌≡◌, ◌<◌, refl, subst, sym}
-use Rattle.std.proofs.lemmas.Nat.{xor_lt}
-use Rattle.std.specs.Int.RustNames.{bit_xor}
-use Rattle.moves.specs.Words.{digit}
+use Rattle.moves.proofs.Common.{xor_lt, bit_xor, digit}
 use Rattle.moves.proofs.Digits.{digit_there, digit_other}
 use Rattle.moves.proofs.words.with_digit.Goals as goal
 

@@ -1,11 +1,5 @@
 use Rattle.std.proofs.Common.{ℕ, ◌^◌, ◌<◌, ◌↔◌, IsTrue, not, eqb, sym, subst}
-use Rattle.board.specs.Board.{PlainBoard}
-use Rattle.cells.specs.Mailbox.{cell_of, place_in}
-use Rattle.cells.specs.CellSets.{Has}
-use Rattle.cells.proofs.CellNumbers.{IsCell-cell_of, place_in-cell_of}
-use Rattle.cells.proofs.Masks.{Has-zero, lowest-has, not-zero}
-use Rattle.moves.specs.declared.sets.Class.TheVariants.{Foot}
-use Rattle.moves.specs.Sets.{Holds, StandsAs}
+use Rattle.moves.proofs.Common.{PlainBoard, cell_of, place_in, Has, IsCell-cell_of, place_in-cell_of, Has-zero, lowest-has, not-zero, Foot, Holds, StandsAs}
 use Rattle.moves.specs.Pawns.{HasPawn}
 use Rattle.moves.proofs.packed.Board.has_pawn.Goals as goal
 

@@ -1,13 +1,7 @@
 use Rattle.std.proofs.Common.{◌≡◌, arith, rules, sym, subst, ap, ◌∙◌, bit_and}
+use Rattle.moves.proofs.Common.{IsPosition, IsOnBoard, unit_at, place_in, IsCell, Has, Has-zero, Crowned, Holds, Shows}
 use mathlib.Core.Logic.{dite}
 use native.Mathlib.Decide.{ℕ_discrete}
-use Rattle.board.specs.Board.{IsPosition}
-use Rattle.rules.specs.Squares.{IsOnBoard, unit_at}
-use Rattle.cells.specs.Mailbox.{place_in, IsCell}
-use Rattle.cells.specs.CellSets.{Has}
-use Rattle.cells.proofs.Masks.{Has-zero}
-use Rattle.moves.specs.declared.sets.Class.TheVariants.{Crowned}
-use Rattle.moves.specs.Sets.{Holds, Shows}
 use Rattle.moves.proofs.Guarding.{no_kingless}
 use Rattle.moves.proofs.Kings.{king_of}
 use Rattle.moves.proofs.KingCells.{king_in, has_king}

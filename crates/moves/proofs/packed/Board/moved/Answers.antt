@@ -1,15 +1,6 @@
 use Rattle.std.proofs.Common.{◌≡◌, ◌≢◌, ◌<◌, ℕ, set, Some, unwrap_or, sym, ap, subst, ◌∙◌}
-use Rattle.board.specs.Board.{PlainBoard, IsPosition}
-use Rattle.board.specs.Games.{squares_of}
-use Rattle.board.specs.declared.game.Unit.{Unit as Man}
-use Rattle.rules.specs.Squares.{Ply, square_number}
-use Rattle.cells.specs.Mailbox.{cell_of}
-use Rattle.moves.specs.Sets.{Shows, AreMoved}
+use Rattle.moves.proofs.Common.{PlainBoard, IsPosition, squares_of, Man, Ply, square_number, cell_of, Shows, AreMoved, number_within, placed, after, to_on_board, other_square, IsPosition-after, man_of, game_of, unpacked, IsPacked}
 use Rattle.moves.proofs.Shown.{Shows-after}
-use Rattle.rules.proofs.Listed.{number_within}
-use Rattle.rules.specs.Moves.{placed, after}
-use Rattle.rules.proofs.Keeps.{to_on_board, other_square, IsPosition-after}
-use Rattle.moves.specs.Words.{man_of, game_of, unpacked, IsPacked}
 use Rattle.moves.proofs.Packing.{IsPut, made, unpacked_end, IsPacked-end}
 use Rattle.moves.proofs.packed.Board.moved.Goals as goal
 

@@ -1,9 +1,6 @@
 use Rattle.std.proofs.Common.{◌≡◌, ◌↔◌, true, sym, subst}
+use Rattle.moves.proofs.Common.{is_of_side, unit_at, place_in, IsCell, Has}
 use Rattle.board.specs.declared.game.Side.TheVariants as side
-use Rattle.board.specs.Board.{is_of_side}
-use Rattle.rules.specs.Squares.{unit_at}
-use Rattle.cells.specs.Mailbox.{place_in, IsCell}
-use Rattle.cells.specs.CellSets.{Has}
 use Rattle.moves.specs.declared.sets.Class.TheVariants.{White, Black}
 use Rattle.moves.proofs.Shown.{side-shown}
 use Rattle.moves.proofs.packed.Board.of_side.Goals as goal

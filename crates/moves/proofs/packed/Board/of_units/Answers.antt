@@ -1,5 +1,5 @@
 use Rattle.std.proofs.Common.{sym, subst}
-use Rattle.moves.specs.Sets.{Shows}
+use Rattle.moves.proofs.Common.{Shows}
 use Rattle.moves.proofs.packed.Board.of_units.Goals as goal
 
 pub invariant_of-result : goal.invariant_of-result

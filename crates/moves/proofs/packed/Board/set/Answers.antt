@@ -1,5 +1,5 @@
 use Rattle.std.proofs.Common.{sym, subst}
-use Rattle.moves.specs.Sets.{Holds, Shows}
+use Rattle.moves.proofs.Common.{Holds, Shows}
 use Rattle.moves.proofs.packed.Board.set.Goals as goal
 
 pub returns-in-White : goal.returns-in-White

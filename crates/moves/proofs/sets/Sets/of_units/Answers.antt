@@ -1,8 +1,5 @@
 use Rattle.std.proofs.Common.{◌≡◌, ◌+◌, sym, subst, arith}
-use Rattle.board.specs.Games.{squares_of}
-use Rattle.board.specs.Board.{board_of}
-use Rattle.moves.specs.declared.sets.Sets.{Sets}
-use Rattle.moves.specs.Sets.{AreAdded}
+use Rattle.moves.proofs.Common.{squares_of, board_of, Sets, AreAdded}
 use Rattle.moves.proofs.Packing.{none_where}
 use Rattle.moves.proofs.Shown.{ShownBelow, ShownBelow-start, ShownBelow-none, ShownBelow-unit, ShownBelow-all}
 use Rattle.moves.proofs.sets.Sets.of_units.Goals as goal
