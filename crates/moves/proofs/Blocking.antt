@@ -2,7 +2,7 @@
 use Rattle.std.proofs.Common.{◌≡◌, ℕ, ◌-◌, ◌^◌, sym, ap, subst, ◌∙◌, arith, ◌⊎◌, inl, inr, Some, None}
 use Rattle.moves.proofs.Common.{bit_at_ones, same_Some, Side, King, Man, Step, other_side, PlainBoard, IsPosition, Place, Ply, IsOnBoard, unit_at, Leads, AttacksFrom, IsInCheck, once, again, IsPseudoLegal, after, Way, cell_of, place_in, IsCell, Rides, Has, Aims, HasBlocks, IsCell-cell_of, place_in-cell_of, cell_of-place_in, cell_small, one_target, to_on_board, IsPosition-after, single_step, Leads-end, own_or_other}
 use Rattle.moves.proofs.Riding.{Rides-leads}
-use Rattle.moves.proofs.Seeing.{ways_of}
+use Rattle.moves.proofs.Seeing.{rides_as}
 use Rattle.moves.proofs.Laying.{unit_at-other}
 use Rattle.moves.proofs.Kings.{king_of, check_from}
 use Rattle.moves.proofs.Guarding.{king_stays}
@@ -51,11 +51,11 @@ module _ (b : PlainBoard) (is : IsPosition b) (k i : ℕ) (on : IsCell b.game k)
       let to = to_on_board b m u p in
       let cell = IsCell-cell_of b.game m.to to in
       let crosses' : Leads b b.mover a.step (place_in k) (place_in (cell_of m.to)) = subst (Leads b b.mover a.step (place_in k)) (sym (place_in-cell_of b.game m.to to)) crosses in
-      elim (ways_of b.mover check.unit.kind a.step a.denoted) [
+      elim (rides_as b.mover check.unit.kind a.step a.denoted) [
         | inl single ↦
             let same : m.to ≡ place_in i = one_target b.mover a.step (place_in k) m.to (place_in i) (single_step b b.mover a.step (place_in k) m.to single crosses) (single_step b b.mover a.step (place_in k) (place_in i) single a.leads) in
             subst (Has set) (sym (ap cell_of same ∙ cell_of-place_in b.game i at)) there
-        | inr way ↦ between way.0 (Rides-leads b b.mover way.0 a.step way.1 k i on at a.leads) (cell_of m.to) (Rides-leads b b.mover way.0 a.step way.1 k (cell_of m.to) on cell crosses')
+        | inr way ↦ between way.way (Rides-leads b b.mover way.way a.step way.goes k i on at a.leads) (cell_of m.to) (Rides-leads b b.mover way.way a.step way.goes k (cell_of m.to) on cell crosses')
       ]
 
 -- with no check each cell will do

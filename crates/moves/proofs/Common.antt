@@ -31,7 +31,7 @@ pub use Rattle.rules.proofs.Forcing.{same_side-self, to_own, to_other, turn-own}
 pub use Rattle.rules.proofs.Keeps.{IsRankAhead, to_on_board, no_own as own_or_other, IsPosition-after, Leads-single_step as single_step, other_square, Leads-on_board as Leads-end, pawn_ahead, one_after}
 pub use Rattle.rules.proofs.Listed.{same_number, number_within}
 pub use Rattle.rules.proofs.Lists.{IsNumbered-lawful, HasParts-lawful, ListsBelow-nil, ListsBelow-jump, ListsLawful-from, own_from, ListsBelow-all_to, IsNumbered, ListsBelow-push, ListsBelow-skip, ListsBelow-promoted, promotes_to, numbered_promotion, first_promotion}
-pub use Rattle.rules.proofs.Rides.{room_of, room_of-step, one_target}
+pub use Rattle.rules.proofs.Rides.{room_of, room_of-step, one_target, size-ahead}
 pub use Rattle.rules.proofs.Room.{squares_36, share, share-more, share-most, share-step}
 pub use Rattle.rules.specs.Forces.{IsReached, Forces}
 pub use Rattle.rules.specs.Listing.{ListsBelow, ListsFrom, ply_number}
@@ -56,10 +56,10 @@ pub use Rattle.cells.specs.declared.tables.Way.{Way}
 pub use Rattle.cells.specs.declared.tables.Way.TheVariants.{North, South, East, West, NorthEast, SouthWest, NorthWest, SouthEast}
 pub use Rattle.moves.specs.Checking.{Attains}
 pub use Rattle.moves.specs.Guard.{HasBlocks, Guards, Checkers}
-pub use Rattle.moves.specs.Looking.{Aims, IsSwept, AreAttacked}
+pub use Rattle.moves.specs.Looking.{Aims, class_of, TakesAs, IsSwept, AreAttacked}
 pub use Rattle.moves.specs.Pinned.{IsPinned}
 pub use Rattle.moves.specs.Safe.{IsNamed, HasSafe, IsCalm, CountsFrom, IsEach, promotions_of}
-pub use Rattle.moves.specs.Sets.{StandsAs, Holds, RidesStraight, RidesSlanted, IsOf, Shows, HasMoved, AreMoved, AreAdded, HasNone}
+pub use Rattle.moves.specs.Sets.{StandsAs, StandsFor, Holds, SomeWay, RidesBy, Owns, IsOf, Shows, HasMoved, AreMoved, AreAdded, HasNone}
 pub use Rattle.moves.specs.Targets.{IsTarget}
 pub use Rattle.moves.specs.Words.{digit, man_of, word_of, place_of, code_on, flags_of, game_of, game_of_flags, mover_of_flags, units_in, unpacked, Spells, IsUnused, IsPacked, IsFlags}
 pub use Rattle.moves.specs.declared.sets.Class.{Class}

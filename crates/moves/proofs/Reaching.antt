@@ -2,7 +2,7 @@
 use Rattle.std.proofs.Common.{◌≡◌, ℕ, ◌^◌, ◌<◌, ◌≤◌, w64, zero, suc, refl, sym, ap, subst, ◌∙◌, arith, ◌↔◌, ◌⊎◌, inl, inr, Bool, true, false, ℤ, pos, ◌<ℤ◌, Option, Some, None}
 use Rattle.moves.proofs.Common.{list_all, bit_not, unsigned_abs, bit_and, bit_or, ints, false≢true, AllPass-from_list_all, All-contains, Side, White, Black, Kind, King, Queen, Rook, Bishop, Knight, Pawn, Man, Mode, Move, Capture, Both, Step, Wazir, Term, IsAtomLeap, terms_of, Denotes, other_side, IsPlayed, PlainBoard, is_of_side, unit_at, ahead_of, IsShift, IsStep, Allows, Reaches, once, table_of, place_in, IsAway, IsCell, Aims, Has, IsTarget, IsNext, ahead_way, shift_in, table_of-exact, Has-and, Has-or, Has-minus, next_of, next-is, is-next, single_step as single}
 use Rattle.moves.proofs.Guarding.{own_unit_side, is_own}
-use Rattle.moves.proofs.Seeing.{zero_of}
+use Rattle.moves.proofs.Seeing.{zero_of, by_table}
 
 -- ---- where a step may end
 
@@ -54,7 +54,7 @@ both_modes Knight h = refl
 both_modes Pawn h = absurd (h refl)
 
 mode_both : (k : Kind) → (k ≡ Pawn → ⊥) → (step : Step) → Denotes (terms_of k) step → step.mode ≡ Both
-mode_both k other step denoted = both_is step.mode (All-contains (λ x. all_both x ≡ true) (table_of k) step (AllPass-from_list_all all_both (table_of k) (both_modes k other)) ((table_of-exact k step).1 denoted))
+mode_both k other step denoted = both_is step.mode (by_table all_both k (both_modes k other) step denoted)
 
 module _ (b : PlainBoard) (u : Man) (i : ℕ) (played : IsPlayed b.game u.kind) where
   -- what it sees and doesn't hold is what it reaches

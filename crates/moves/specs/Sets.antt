@@ -1,16 +1,19 @@
 -- The units of a board as sets of cells, and what a unit sees.
-use Rattle.std.specs.Prelude.{◌≡◌, ◌≢◌, ℕ, ◌↔◌, ◌⊎◌, List, Some}
+use Rattle.std.specs.Prelude.{◌≡◌, ◌≢◌, ℕ, ◌↔◌, ◌⊎◌, List, Some, true}
+use Rattle.board.specs.declared.game.Side.{Side}
 use Rattle.board.specs.declared.game.Side.TheVariants as side
 use Rattle.board.specs.declared.game.Kind.TheVariants.{King, Queen, Rook, Bishop, Knight, Pawn}
 use Rattle.board.specs.declared.game.Unit.{Unit as Man}
-use Rattle.board.specs.Board.{PlainBoard}
+use Rattle.board.specs.declared.terms.Atom.{Atom}
+use Rattle.board.specs.Denotation.{IsAtomLeap}
+use Rattle.board.specs.Board.{PlainBoard, is_of_side}
 use Rattle.moves.specs.declared.sets.Class.{Class}
 use Rattle.moves.specs.declared.sets.Class.TheVariants.{White, Black, Crowned, Straight, Slanted, Horsed, Foot}
 use Rattle.moves.specs.declared.sets.Sets.{Sets}
 use Rattle.rules.specs.Squares.{Place, unit_at}
 use Rattle.cells.specs.Mailbox.{place_in, IsCell}
-use Rattle.cells.specs.Ways.{Rides}
-use Rattle.cells.specs.declared.tables.Way.TheVariants.{North, South, East, West, NorthEast, SouthWest, NorthWest, SouthEast}
+use Rattle.cells.specs.Ways.{Rides, files_of, ranks_of}
+use Rattle.cells.specs.declared.tables.Way.{Way}
 use Rattle.cells.specs.CellSets.{Has}
 use Rattle.moves.specs.Words.{unpacked, IsPacked}
 
@@ -28,6 +31,13 @@ IsOf Foot u = u.kind ≡ Pawn
 pub record StandsAs (b : PlainBoard) (class : Class) (s : Place) : Type 0 where
   pub unit : Man
   pub stands : unit_at b s ≡ Some unit
+  pub is : IsOf class unit
+
+-- or one of a side as well
+pub record StandsFor (b : PlainBoard) (side : Side) (class : Class) (s : Place) : Type 0 where
+  pub unit : Man
+  pub stands : unit_at b s ≡ Some unit
+  pub owner : unit.side ≡ side
   pub is : IsOf class unit
 
 -- the set has the cells of the units of the class
@@ -82,13 +92,19 @@ pub record HasNone (s : Sets) : Type 0 where
   pub knights : s.knights ≡ 0
   pub pawns : s.pawns ≡ 0
 
--- a rider comes to the cell along a rank or a file
-abbrev pub RidesStraight : PlainBoard → ℕ → ℕ → Type 0
-RidesStraight b i j = Rides b North i j ⊎ (Rides b South i j ⊎ (Rides b East i j ⊎ Rides b West i j))
+-- a way that an atom's leaps go, with what holds of it: along a rank or a file for a wazir, along a diagonal for a ferz
+pub record SomeWay (atom : Atom) (P : Way → Type 0) : Type 0 where
+  pub way : Way
+  pub leap : IsAtomLeap atom (files_of way) (ranks_of way)
+  pub holds : P way
 
--- or along a diagonal
-abbrev pub RidesSlanted : PlainBoard → ℕ → ℕ → Type 0
-RidesSlanted b i j = Rides b NorthEast i j ⊎ (Rides b SouthWest i j ⊎ (Rides b NorthWest i j ⊎ Rides b SouthEast i j))
+-- a rider comes to the cell along such a way
+abbrev pub RidesBy : PlainBoard → Atom → ℕ → ℕ → Type 0
+RidesBy b atom i j = SomeWay atom (λ way. Rides b way i j)
+
+-- the set has the cells of the side's units
+abbrev pub Owns : PlainBoard → Side → ℕ → Type 0
+Owns b side set = (i : ℕ) → Has set i ↔ (IsCell b.game i × (is_of_side side (unit_at b (place_in i)) ≡ true))
 
 -- what a board keeps: words of a position, and sets that show the same
 pub record IsKept (words : List ℕ) (sets : Sets) : Type 0 where

@@ -1,13 +1,13 @@
 //! A position in three words.
-ghost use Rattle.std.specs.Prelude.{◌≡◌, ◌<◌, ◌+◌, ◌*◌, ◌↔◌, ℕ, Some, None, true, IsTrue};
+ghost use Rattle.std.specs.Prelude.{◌≡◌, ◌<◌, ◌+◌, ◌*◌, ◌↔◌, ℕ, Some, None, IsTrue};
 ghost use Rattle.board.specs.declared.game.Kind.TheVariants.{King};
-ghost use Rattle.board.specs.Board.{board_of, unit_on, is_of_side, IsPosition};
-ghost use Rattle.board.specs.Games.{squares_of};
+ghost use Rattle.board.specs.Board.{board_of, unit_on, IsPosition};
+ghost use Rattle.board.specs.Games.{squares_of, other_side};
 ghost use Rattle.moves.specs.Words.{unpacked, IsPacked};
 ghost use Rattle.rules.specs.Squares.{IsOnBoard, unit_at};
 ghost use Rattle.cells.specs.Mailbox.{place_in, IsCell};
 ghost use Rattle.cells.specs.CellSets.{Has};
-ghost use Rattle.moves.specs.Sets.{Holds};
+ghost use Rattle.moves.specs.Sets.{Holds, Owns};
 ghost use Rattle.moves.specs.Pawns.{HasPawn};
 ghost use Rattle.rules.specs.Moves.{IsPseudoLegal, IsMove, IsLawful, after};
 
@@ -118,7 +118,7 @@ impl Board {
         ensures on_board { IsOnBoard self.now.game result }
         ensures king { unit_at self.now result ≡ Some (record { side = side; kind = King }) }
     {
-        square_in(lowest(self.sets.kings & self.of_side(side)))
+        square_in(lowest(self.of_side(side) & self.sets.kings))
     }
 
     /// Whether a square has a pawn.
@@ -161,13 +161,19 @@ impl Board {
 
     /// The cells of a side's units.
     pub(crate) fn of_side(&self, side: Side) -> u64
-        ensures { (i : ℕ) → Has result i
-            ↔ (IsCell self.now.game i × (is_of_side side (unit_at self.now (place_in i)) ≡ true)) }
+        ensures { Owns self.now side result }
     {
         match side {
             Side::White => self.set(Class::White),
             Side::Black => self.set(Class::Black),
         }
+    }
+
+    /// The cells of the other side's units.
+    pub(crate) fn foes_of(&self, side: Side) -> u64
+        ensures { Owns self.now (other_side side) result }
+    {
+        self.of_side(side.other())
     }
 
     /// The cells of all units.

@@ -1,11 +1,12 @@
 //! What a unit sees from a cell: where it would take.
 ghost use Rattle.std.specs.Prelude.{◌<◌, ◌↔◌, ℕ};
 ghost use Rattle.std.specs.Int.{bit_at};
+ghost use Rattle.board.specs.declared.terms.Atom.TheVariants.{Wazir, Ferz};
 ghost use Rattle.cells.specs.Mailbox.{place_in, IsCell};
 ghost use Rattle.cells.specs.CellSets.{Has};
 ghost use Rattle.moves.specs.Looking.{Aims};
 ghost use Rattle.cells.specs.Ways.{Rides};
-ghost use Rattle.moves.specs.Sets.{RidesStraight, RidesSlanted};
+ghost use Rattle.moves.specs.Sets.{RidesBy};
 
 use crate::packed::Board;
 use board::{Kind, Side};
@@ -27,7 +28,7 @@ pub(crate) fn along(board: &Board, way: Way, cell: u8) -> u64
 /// The cells to which a rider comes from the cell along its rank and its file.
 fn straight(board: &Board, cell: u8) -> u64
     requires { IsCell board.now.game cell }
-    ensures { (j : ℕ) → Has result j ↔ RidesStraight board.now cell j }
+    ensures { (j : ℕ) → Has result j ↔ RidesBy board.now Wazir cell j }
 {
     along(board, Way::North, cell)
         | along(board, Way::South, cell)
@@ -38,7 +39,7 @@ fn straight(board: &Board, cell: u8) -> u64
 /// The cells to which a rider comes from the cell along its diagonals.
 fn slanted(board: &Board, cell: u8) -> u64
     requires { IsCell board.now.game cell }
-    ensures { (j : ℕ) → Has result j ↔ RidesSlanted board.now cell j }
+    ensures { (j : ℕ) → Has result j ↔ RidesBy board.now Ferz cell j }
 {
     along(board, Way::NorthEast, cell)
         | along(board, Way::SouthWest, cell)

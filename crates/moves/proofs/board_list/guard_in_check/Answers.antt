@@ -1,13 +1,15 @@
 use Rattle.std.proofs.Common.{◌↔◌, ℕ, refl, sym, subst}
-use Rattle.moves.proofs.Common.{false≢true, other_side, AttacksFrom, place_in, IsCell, Has}
+use Rattle.moves.proofs.Common.{false≢true, Side, other_side, AttacksFrom, place_in, IsCell, Has, Checkers}
 use Rattle.moves.proofs.Blocking.{HasBlocks-all}
 use Rattle.moves.proofs.Kings.{check_from}
 use Rattle.moves.proofs.Attacking.{some_checkers}
 use Rattle.moves.proofs.board_list.guard_in_check.Goals as goal
 
+checkers : (c : goal.After-attackers-checkers) → Checkers c.args.board.now c.args.king c.attackers-checkers.result
+checkers c = subst (λ (s : Side). (i : ℕ) → Has c.attackers-checkers.result i ↔ (IsCell c.args.board.now.game i × AttacksFrom c.args.board.now (other_side s) (place_in i) (place_in c.args.king))) c.mover.ensures.value c.attackers-checkers.ensures
+
 pub shadow-requires-clause-checkers : goal.shadow-requires-clause-checkers
-shadow-requires-clause-checkers c =
-    subst (λ s. (i : ℕ) → Has c.attackers-checkers.result i ↔ (IsCell c.args.board.now.game i × AttacksFrom c.args.board.now (other_side s) (place_in i) (place_in c.args.king))) c.mover.ensures.value c.attackers-checkers.ensures
+shadow-requires-clause-checkers c = checkers c
 
 pub returns-clause-guards : goal.returns-clause-guards
 returns-clause-guards c =
@@ -23,11 +25,7 @@ returns-clause-guards c =
     }
 
 pub returns-clause-some : goal.returns-clause-some
-returns-clause-some c =
-    some_checkers c.args.board.now c.requires.position c.args.board.now.mover c.args.king c.requires.cell c.attackers-checkers.result
-    (subst (λ s. (i : ℕ) → Has c.attackers-checkers.result i ↔ (IsCell c.args.board.now.game i × AttacksFrom c.args.board.now (other_side s) (place_in i) (place_in c.args.king))) c.mover.ensures.value c.attackers-checkers.ensures)
-    ((c.requires.attacked c.args.king).0 c.requires.there).1
+returns-clause-some c = some_checkers c.args.board.now c.requires.position (other_side c.args.board.now.mover) (place_in c.args.king) _ (checkers c.before) ((c.requires.attacked c.args.king).0 c.requires.there).1
 
 pub returns-clause-checkers : goal.returns-clause-checkers
-returns-clause-checkers c =
-    subst (λ s. (i : ℕ) → Has c.attackers-checkers.result i ↔ (IsCell c.args.board.now.game i × AttacksFrom c.args.board.now (other_side s) (place_in i) (place_in c.args.king))) c.mover.ensures.value c.attackers-checkers.ensures
+returns-clause-checkers c = checkers c.before
