@@ -148,15 +148,7 @@ impl Board {
     pub(crate) fn set(&self, class: Class) -> u64
         ensures { Holds self.now class result }
     {
-        match class {
-            Class::White => self.sets.white,
-            Class::Black => self.sets.black,
-            Class::Crowned => self.sets.kings,
-            Class::Straight => self.sets.straight,
-            Class::Slanted => self.sets.slanted,
-            Class::Horsed => self.sets.knights,
-            Class::Foot => self.sets.pawns,
-        }
+        self.sets.of_class(class)
     }
 
     /// The cells of a side's units.

@@ -6,7 +6,7 @@ ghost use Rattle.rules.specs.Moves.{IsPseudoLegal, placed, after};
 ghost use Rattle.cells.specs.Mailbox.{cell_of, place_in, IsCell};
 ghost use Rattle.cells.specs.CellSets.{Has};
 ghost use Rattle.moves.specs.Looking.{class_of};
-ghost use Rattle.moves.specs.Sets.{IsOf, Shows, HasMoved, AreMoved, HasAdded, AreAdded, HasNone};
+ghost use Rattle.moves.specs.Sets.{IsOf, set_of, Shows, HasMoved, AreMoved, HasAdded, AreAdded, HasNone};
 
 use board::{Game, Kind, Side, Unit};
 use cells::{cell_of, with_cell};
@@ -97,6 +97,21 @@ impl Sets {
             }
         }
         sets
+    }
+
+    /// The set of a class.
+    pub(crate) fn of_class(&self, class: Class) -> u64
+        ensures { result ≡ set_of self.now class }
+    {
+        match class {
+            Class::White => self.white,
+            Class::Black => self.black,
+            Class::Crowned => self.kings,
+            Class::Straight => self.straight,
+            Class::Slanted => self.slanted,
+            Class::Horsed => self.knights,
+            Class::Foot => self.pawns,
+        }
     }
 
     /// The sets of no units.

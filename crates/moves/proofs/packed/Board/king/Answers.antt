@@ -1,12 +1,12 @@
 use Rattle.std.proofs.Common.{◌≡◌, ◌↔◌, ℕ, arith, rules, sym, subst, ap, ◌∙◌, inl, inr}
-use Rattle.moves.proofs.Common.{bit_and, cases_eq, IsPosition, IsOnBoard, unit_at, place_in, IsCell, Has, Has-zero, Shows}
+use Rattle.moves.proofs.Common.{bit_and, cases_eq, IsPosition, IsOnBoard, unit_at, place_in, IsCell, Has, Has-zero, Shows, Crowned}
 use Rattle.moves.proofs.Guarding.{no_kingless}
 use Rattle.moves.proofs.Kings.{king_of}
 use Rattle.moves.proofs.Owned.{kings-are}
 use Rattle.moves.proofs.packed.Board.king.Goals as goal
 
 kings : (c : goal.After-self) (i : ℕ) → Has (bit_and c.of_side.result c.self.inside.sets.kings) i ↔ (IsCell c.args.self.now.game i × (unit_at c.args.self.now (place_in i) ≡ king_of c.args.side))
-kings c = kings-are c.args.self.now c.args.side _ _ c.of_side.ensures (subst (λ b. Shows b c.self.inside.sets) c.self.view_is c.self.invariant.shows).kings
+kings c = kings-are c.args.self.now c.args.side _ _ c.of_side.ensures (subst (λ b. Shows b c.self.inside.sets) c.self.view_is c.self.invariant.shows Crowned)
 
 pub lowest-requires : goal.lowest-requires
 lowest-requires c = elim (cases_eq (bit_and c.of_side.result c.self.inside.sets.kings) 0) [
