@@ -59,7 +59,7 @@ pub use Rattle.moves.specs.Guard.{HasBlocks, Guards, Checkers}
 pub use Rattle.moves.specs.Looking.{Aims, class_of, TakesAs, IsSwept, AreAttacked}
 pub use Rattle.moves.specs.Pinned.{IsPinned}
 pub use Rattle.moves.specs.Safe.{IsNamed, HasSafe, IsCalm, CountsFrom, IsEach, promotions_of}
-pub use Rattle.moves.specs.Sets.{StandsAs, StandsFor, Holds, set_of, SomeWay, RidesBy, Owns, IsOf, Shows, HasMoved, AreMoved, HasAdded, AreAdded, HasNone}
+pub use Rattle.moves.specs.Sets.{StandsAs, HasRider, StandsFor, Holds, set_of, SomeWay, RidesBy, Owns, IsOf, Shows, HasMoved, AreMoved, HasAdded, AreAdded, HasNone}
 pub use Rattle.moves.specs.Targets.{IsTarget}
 pub use Rattle.moves.specs.Words.{digit, man_of, word_of, place_of, code_on, flags_of, game_of, game_of_flags, mover_of_flags, units_in, unpacked, Spells, IsUnused, IsPacked, IsFlags}
 pub use Rattle.moves.specs.declared.sets.Class.{Class}

@@ -1,6 +1,6 @@
 -- Steps of a king that are lawful after a move of the other side.
 use Rattle.std.proofs.Common.{◌≡◌, ℕ, refl, sym, ap, subst, ◌∙◌, ◌⊎◌, inl, inr, false, Some, None}
-use Rattle.moves.proofs.Common.{false≢true, same_Some, King, Queen, Rook, Bishop, Pawn, Man, Side, Step, terms_of, Denotes, other_side, PlainBoard, IsPosition, Place, Ply, IsOnBoard, unit_at, Leads, Allows, Reaches, AttacksFrom, IsAttacked, IsInCheck, once, again, IsSomeKing, IsPseudoLegal, IsLawful, placed, after, IsPosition-after, own_or_other, place_in, IsCell, IsOnStraight, IsOnSlanted, Aims, IsPinned, IsCalm, IsTarget}
+use Rattle.moves.proofs.Common.{false≢true, same_Some, King, Queen, Rook, Bishop, Pawn, Man, Side, Step, terms_of, Denotes, other_side, PlainBoard, IsPosition, Place, Ply, IsOnBoard, unit_at, Leads, Allows, Reaches, AttacksFrom, IsAttacked, IsInCheck, once, again, IsSomeKing, IsPseudoLegal, IsLawful, placed, after, IsPosition-after, own_or_other, place_in, IsCell, Way, IsOnRay, Aims, IsPinned, IsCalm, IsTarget}
 use Rattle.moves.proofs.Laying.{unit_at-other}
 use Rattle.moves.proofs.Kings.{king_of, check_at, check_from}
 use Rattle.moves.proofs.Guarding.{king_moved}
@@ -8,22 +8,14 @@ use Rattle.moves.proofs.Looking.{captures_from}
 use Rattle.moves.proofs.Pins.{stood, attacked_after}
 use Rattle.moves.proofs.Riding.{Rides-leads, rides-ray}
 use Rattle.moves.proofs.Seeing.{rides_as}
-use Rattle.moves.proofs.Shadows.{on_lines, pinned_attacks}
+use Rattle.moves.proofs.Shadows.{pinned_attacks}
 
--- what a rider would come to over a cell lies on the lines of that cell
-pub over_lines : (b : PlainBoard) (side : Side) (k i : ℕ) → IsCell b.game k → IsCell b.game i → IsPinned b side (place_in i) (place_in k) → IsOnStraight b.game k i ⊎ IsOnSlanted b.game k i
+-- what a rider would come to over a cell lies on a line of that cell
+pub over_lines : (b : PlainBoard) (side : Side) (k i : ℕ) → IsCell b.game k → IsCell b.game i → IsPinned b side (place_in i) (place_in k) → (way : Way) × IsOnRay b.game way k i
 over_lines b side k i on cell w = elim (rides_as w.rider.side w.rider.kind w.step w.denoted) [
   | inl single ↦ absurd (false≢true (sym single ∙ w.rides))
-  | inr way ↦ on_lines b.game way.way k i (rides-ray b way.way k i (Rides-leads b w.rider.side way.way w.step way.goes k i on cell w.to_king))
+  | inr way ↦ (way.way, rides-ray b way.way k i (Rides-leads b w.rider.side way.way w.step way.goes k i on cell w.to_king))
 ]
-
--- a cell to which the other king steps, which the move leaves as it was, and which no unit of the mover comes to attack by it
-pub record StaysOpen (b : PlainBoard) (m : Ply) (u : Man) (k i : ℕ) : Type 0 where
-  pub target : IsTarget b (record { side = other_side b.mover; kind = King }) (place_in k) i
-  pub away : place_in i ≡ m.from → ⊥
-  pub apart : place_in i ≡ m.to → ⊥
-  pub unseen : (c : PlainBoard) → c.game ≡ b.game → Aims c (placed u m) m.to (place_in i) → ⊥
-  pub shut : IsPinned b (other_side b.mover) (place_in i) m.from → ⊥
 
 no_ride : ((King ≡ Queen) ⊎ (King ≡ Rook)) ⊎ ((King ≡ Queen) ⊎ (King ≡ Bishop)) → ⊥
 no_ride (inl (inl e)) = cc

@@ -1,11 +1,19 @@
 -- The units of a side and a class, as the two sets that have them.
-use Rattle.std.proofs.Common.{refl, ◌≡◌, ℕ, ◌↔◌, Some, sym, ap, subst, ◌∙◌}
-use Rattle.moves.proofs.Common.{bit_and, Side, Kind, King, PlainBoard, is_of_side, unit_at, place_in, IsCell, Has, Has-and, Class, Crowned, Holds, Owns, StandsFor, class_of}
+use Rattle.std.proofs.Common.{refl, ◌≡◌, ℕ, ◌↔◌, Option, Some, None, sym, ap, subst, ◌∙◌}
+use Rattle.moves.proofs.Common.{bit_and, Side, Kind, King, PlainBoard, is_of_side, unit_at, place_in, IsCell, Has, Has-and, Class, Crowned, Holds, Owns, StandsAs, StandsFor, class_of, Man, IsSomeKing}
 use Rattle.moves.proofs.Kings.{king_of}
 use Rattle.moves.proofs.Guarding.{is_own, own_unit_side}
 
 pub via : {A B C : Type 0} → A ↔ B → B ↔ C → A ↔ C
 via p q = (λ a. q.0 (p.0 a), λ c. p.1 (q.1 c))
+
+-- the crowned are the kings
+pub crowned : (b : PlainBoard) (i : ℕ) → (IsCell b.game i × StandsAs b Crowned (place_in i)) ↔ (IsCell b.game i × IsSomeKing (unit_at b (place_in i)))
+crowned b i = (λ (cell, at). (cell, subst IsSomeKing (sym at.stands) at.is), λ (cell, king). (cell, some (unit_at b (place_in i)) refl king))
+  where
+    some : (o : Option Man) → unit_at b (place_in i) ≡ o → IsSomeKing o → StandsAs b Crowned (place_in i)
+    some None e h = absurd h
+    some (Some v) e h = record { unit = v; stands = e; is = h }
 
 pub units-are : (b : PlainBoard) (side : Side) (class : Class) (own set : ℕ) → Owns b side own → Holds b class set → (i : ℕ) → Has (bit_and own set) i ↔ (IsCell b.game i × StandsFor b side class (place_in i))
 units-are b side class own set owns holds i = (

@@ -1,6 +1,6 @@
 -- What is pinned is seen from the king along a way.
-use Rattle.std.proofs.Common.{◌≡◌, ℕ, refl, sym, ap, subst, ◌∙◌, arith, ◌↔◌, inl, inr, true, false, Bool, Some, None, Contains}
-use Rattle.moves.proofs.Common.{bit_and, bit_or, cases_order, false≢true, Side, other_side, PlainBoard, is_of_side, Straight, Slanted, Way, North, South, East, West, NorthEast, SouthWest, NorthWest, SouthEast, WAYS, unit_at, Leads, cell_of, place_in, IsCell, IsPinned, Holds, Has, Rides, rises, IsCell-cell_of, place_in-cell_of, Has-and, Has-or}
+use Rattle.std.proofs.Common.{◌≡◌, ℕ, refl, sym, ap, subst, ◌∙◌, arith, ◌↔◌, ◌⊎◌, inl, inr, true, false, Bool, Some, None, Contains}
+use Rattle.moves.proofs.Common.{bit_and, cases_order, false≢true, Side, other_side, PlainBoard, is_of_side, Straight, Slanted, Way, North, South, East, West, NorthEast, SouthWest, NorthWest, SouthEast, WAYS, unit_at, Leads, cell_of, place_in, IsCell, IsPinned, Has, Rides, rises, IsCell-cell_of, place_in-cell_of, Has-and, Place, Man, IsOf, HasRider, Owns}
 use Rattle.moves.proofs.Looking.{both_back}
 use Rattle.moves.proofs.Guarding.{is_own}
 use Rattle.moves.proofs.Riding.{IsSooner, Rides-clear, Rides-leads}
@@ -40,32 +40,27 @@ pub record PinsAlong (b : PlainBoard) (riders k i : ℕ) : Type 0 where
   pub to_rider : Rides b way i rider
   pub has : Has riders rider
 
-module _ (b : PlainBoard) (side : Side) (foes straight slanted : ℕ) (owns : (j : ℕ) → Has foes j ↔ (IsCell b.game j × (is_of_side (other_side side) (unit_at b (place_in j)) ≡ true))) (hs : Holds b Straight straight) (hl : Holds b Slanted slanted)
-    (k i : ℕ) (on : IsCell b.game k) (cell : IsCell b.game i) where
-  pub pins-along : IsPinned b side (place_in k) (place_in i) → PinsAlong b (bit_and foes (bit_or straight slanted)) k i
-  pins-along w =
-      let (x, rider, mode, denoted, to_rider, to_unit) = both_back b side w.rider w.step w.from (place_in i) (place_in k) w.owner w.denoted w.on_board cell.on_board w.to_unit w.to_king in
-      let r = cell_of w.from in
-      let rc = IsCell-cell_of b.game w.from w.on_board in
-      let at = place_in-cell_of b.game w.from w.on_board in
-      let stands : unit_at b (place_in r) ≡ Some w.rider = ap (unit_at b) at ∙ w.stands in
-      let owner : is_of_side (other_side side) (unit_at b (place_in r)) ≡ true = ap (is_of_side (other_side side)) stands ∙ is_own (other_side side) w.rider w.owner in
-      elim (rides_as side w.rider.kind x denoted) [
-        | inl single ↦ absurd (false≢true (sym single ∙ rider ∙ w.rides))
-        | inr way ↦ record {
-          way = way.way;
-          to_unit = Rides-leads b side way.way x way.goes k i on cell to_unit;
-          rider = r;
-          to_rider = Rides-leads b side way.way x way.goes i r cell rc (subst (λ t. Leads b side x (place_in i) t) (sym at) to_rider);
-          has = (Has-and foes (bit_or straight slanted) r).1 (
-            (owns r).1 (rc, owner),
-            (Has-or straight slanted r).1 (elim way.class [
-              | inl of ↦ inl ((hs r).1 (rc, record { unit = w.rider; stands = stands; is = of }))
-              | inr of ↦ inr ((hl r).1 (rc, record { unit = w.rider; stands = stands; is = of }))
-            ]),
-          );
-        }
-      ]
+pub has_rider : (b : PlainBoard) (s : Place) (u : Man) → unit_at b s ≡ Some u → IsOf Straight u ⊎ IsOf Slanted u → HasRider b s
+has_rider b s u stands (inl of) = inl (record { unit = u; stands = stands; is = of })
+has_rider b s u stands (inr of) = inr (record { unit = u; stands = stands; is = of })
+
+pub pins-along : (b : PlainBoard) (side : Side) (foes riders : ℕ) → Owns b (other_side side) foes → ((j : ℕ) → Has riders j ↔ (IsCell b.game j × HasRider b (place_in j))) → (k i : ℕ) → IsCell b.game k → IsCell b.game i → IsPinned b side (place_in k) (place_in i) → PinsAlong b (bit_and foes riders) k i
+pins-along b side foes riders owns are k i on cell w =
+    let (x, rider, mode, denoted, to_rider, to_unit) = both_back b side w.rider w.step w.from (place_in i) (place_in k) w.owner w.denoted w.on_board cell.on_board w.to_unit w.to_king in
+    let r = cell_of w.from in
+    let rc = IsCell-cell_of b.game w.from w.on_board in
+    let at = place_in-cell_of b.game w.from w.on_board in
+    let stands : unit_at b (place_in r) ≡ Some w.rider = ap (unit_at b) at ∙ w.stands in
+    elim (rides_as side w.rider.kind x denoted) [
+      | inl single ↦ absurd (false≢true (sym single ∙ rider ∙ w.rides))
+      | inr way ↦ record {
+        way = way.way;
+        to_unit = Rides-leads b side way.way x way.goes k i on cell to_unit;
+        rider = r;
+        to_rider = Rides-leads b side way.way x way.goes i r cell rc (subst (λ t. Leads b side x (place_in i) t) (sym at) to_rider);
+        has = (Has-and foes riders r).1 ((owns r).1 (rc, ap (is_of_side (other_side side)) stands ∙ is_own (other_side side) w.rider w.owner), (are r).1 (rc, has_rider b (place_in r) w.rider stands way.class));
+      }
+    ]
 
 -- along a way the set has each unit that one of the riders pins
 abbrev pub HoldsPins : PlainBoard → ℕ → ℕ → ℕ → Way → Type 0

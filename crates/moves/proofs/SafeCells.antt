@@ -118,17 +118,6 @@ pseudo_named b m u s i on stands owner target no_king from to named = record {
   allowed = named.allowed;
 }
 
--- a king stands there as one of the crowned
-pub some_crowned : (b : PlainBoard) (s : Place) → IsSomeKing (unit_at b s) → StandsAs b Crowned s
-some_crowned b s there = crowned (unit_at b s) refl there
-  where
-    crowned : (o : Option Man) → unit_at b s ≡ o → IsSomeKing o → StandsAs b Crowned s
-    crowned None e h = absurd h
-    crowned (Some v) e h = record { unit = v; stands = e; is = h }
-
-pub crowned_king : (b : PlainBoard) (s : Place) → StandsAs b Crowned s → IsSomeKing (unit_at b s)
-crowned_king b s w = subst IsSomeKing (sym w.stands) w.is
-
 -- a unit that isn't pinned, where its own king isn't in check
 module _ (b : PlainBoard) (u : Man) (s k : Place) (is : IsPosition b) (on : IsOnBoard b.game s) (stands : unit_at b s ≡ Some u) (owner : u.side ≡ b.mover) (piece : u.kind ≡ King → ⊥)
     (on_k : IsOnBoard b.game k) (king : unit_at b k ≡ king_of b.mover) (unchecked : IsInCheck b b.mover → ⊥) (free : IsPinned b b.mover k s → ⊥) where

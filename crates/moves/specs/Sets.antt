@@ -33,7 +33,11 @@ pub record StandsAs (b : PlainBoard) (class : Class) (s : Place) : Type 0 where
   pub stands : unit_at b s ≡ Some unit
   pub is : IsOf class unit
 
--- or one of a side as well
+-- a rider
+abbrev pub HasRider : PlainBoard → Place → Type 0
+HasRider b s = StandsAs b Straight s ⊎ StandsAs b Slanted s
+
+-- a unit of a side and a class
 pub record StandsFor (b : PlainBoard) (side : Side) (class : Class) (s : Place) : Type 0 where
   pub unit : Man
   pub stands : unit_at b s ≡ Some unit

@@ -12,7 +12,7 @@ ghost use Rattle.moves.specs.Targets.{IsTarget};
 
 use crate::packed::Board;
 use crate::seen::seen;
-use crate::sets::{Class, class_of};
+use crate::sets::class_of;
 use crate::sweep::take_lowest;
 use crate::targets::targets;
 use board::{Kind, Side, Unit};
@@ -61,8 +61,5 @@ pub(crate) fn calm_steps(board: &Board, side: Side, king: u8, attacked: u64) -> 
         side,
         kind: Kind::King,
     };
-    except(
-        targets(board, unit, king),
-        attacked | board.set(Class::Crowned),
-    )
+    except(targets(board, unit, king), attacked | board.kings())
 }

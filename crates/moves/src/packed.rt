@@ -7,15 +7,15 @@ ghost use Rattle.moves.specs.Words.{unpacked, IsPacked};
 ghost use Rattle.rules.specs.Squares.{IsOnBoard, unit_at};
 ghost use Rattle.cells.specs.Mailbox.{place_in, IsCell};
 ghost use Rattle.cells.specs.CellSets.{Has};
-ghost use Rattle.moves.specs.Sets.{Holds, Owns};
+ghost use Rattle.moves.specs.Sets.{Holds, HasRider, Owns};
 ghost use Rattle.moves.specs.Pawns.{HasPawn};
-ghost use Rattle.rules.specs.Moves.{IsPseudoLegal, IsMove, IsLawful, after};
+ghost use Rattle.rules.specs.Moves.{IsSomeKing, IsPseudoLegal, IsMove, IsLawful, after};
 
 use crate::codec::{read_words, write_units};
 use crate::sets::{Class, Sets};
 use crate::words::{code_of, code_on, put, turned, unit_of};
 use board::{Game, Position, Side, Unit};
-use cells::{cell_of, cells, lowest, square_in};
+use cells::{cell_of, cells, has, lowest, square_in};
 use rules::{Move, Square};
 use std::marker::Model;
 
@@ -151,6 +151,28 @@ impl Board {
         self.sets.of_class(class)
     }
 
+    /// The cells of the riders.
+    pub(crate) fn riders(&self) -> u64
+        ensures { (i : ℕ) → Has result i ↔ (IsCell self.now.game i × HasRider self.now (place_in i)) }
+    {
+        self.set(Class::Straight) | self.set(Class::Slanted)
+    }
+
+    /// The cells of the kings.
+    pub(crate) fn kings(&self) -> u64
+        ensures { (i : ℕ) → Has result i ↔ (IsCell self.now.game i × IsSomeKing (unit_at self.now (place_in i))) }
+    {
+        self.set(Class::Crowned)
+    }
+
+    /// Whether a king stands in the cell.
+    pub(crate) fn has_king(&self, cell: u8) -> bool
+        requires { IsCell self.now.game cell }
+        ensures { IsTrue result ↔ IsSomeKing (unit_at self.now (place_in cell)) }
+    {
+        has(self.kings(), cell)
+    }
+
     /// The cells of a side's units.
     pub(crate) fn of_side(&self, side: Side) -> u64
         ensures { Owns self.now side result }
@@ -159,6 +181,14 @@ impl Board {
             Side::White => self.set(Class::White),
             Side::Black => self.set(Class::Black),
         }
+    }
+
+    /// The cells of the mover's units.
+    pub(crate) fn own(&self) -> u64
+        ensures cells { Owns self.now self.now.mover result }
+        ensures position { IsPosition self.now }
+    {
+        self.of_side(self.mover())
     }
 
     /// The cells of the other side's units.

@@ -6,9 +6,8 @@ use Rattle.moves.proofs.board_list.list_lawful.Goals as goal
 pub units-init : goal.units-init
 units-init c =
     let b = c.args.board.now in
-    let own : (i : ℕ) → Has c.of_side-left.result i ↔ IsOwn b i = subst (λ s. (i : ℕ) → Has c.of_side-left.result i ↔ (IsCell b.game i × (is_of_side s (unit_at b (place_in i)) ≡ true))) c.mover.ensures.value c.of_side-left.ensures in
     let empty : c.clear.new.self.items ≡ [] = search rules in
-    subst (IsGathered b c.of_side-left.result) (sym empty) (gathered_start b c.of_side-left.result own)
+    subst (IsGathered b c.own-left.result) (sym empty) (gathered_start b c.own-left.result c.own-left.ensures.cells)
 
 pub push_in-requires-clause-cell : goal.push_in-requires-clause-cell
 push_in-requires-clause-cell c = (gathered_next c.args.board.now c.units.left c.units.moves.items c.units.invariant c.take_lowest-cell.result c.take_lowest-cell.ensures.there c.take_lowest-cell.ensures.least).0

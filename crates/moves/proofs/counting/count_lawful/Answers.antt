@@ -4,10 +4,7 @@ use Rattle.moves.proofs.Gathering.{IsOwn, tallied_start, tallied_end, tallied_ne
 use Rattle.moves.proofs.counting.count_lawful.Goals as goal
 
 pub units-init : goal.units-init
-units-init c =
-    let b = c.args.board.now in
-    let own : (i : ℕ) → Has c.of_side-left.result i ↔ IsOwn b i = subst (λ s. (i : ℕ) → Has c.of_side-left.result i ↔ (IsCell b.game i × (is_of_side s (unit_at b (place_in i)) ≡ true))) c.mover.ensures.value c.of_side-left.ensures in
-    tallied_start b c.of_side-left.result own
+units-init c = tallied_start c.args.board.now c.own-left.result c.own-left.ensures.cells
 
 pub count_from-count-requires-clause-cell : goal.count_from-count-requires-clause-cell
 count_from-count-requires-clause-cell c = (tallied_next c.args.board.now c.units.left c.units.count c.units.invariant c.take_lowest-cell.result c.take_lowest-cell.ensures.there c.take_lowest-cell.ensures.least).0

@@ -1,0 +1,5 @@
+use Rattle.moves.proofs.Owned.{via, crowned}
+use Rattle.moves.proofs.packed.Board.kings.Goals as goal
+
+pub returns : goal.returns
+returns c = λ i. via (c.set.ensures i) (crowned c.args.self.now i)
