@@ -1,6 +1,5 @@
 -- What a side reaches with its next move.
-use Rattle.std.proofs.Common.{◌≡◌, ◌≢◌, ℕ, ◌<◌, ◌≤◌, ◌↔◌, IsTrue, Bool, true, false, not, inl, inr, refl, sym, ◌∙◌, ap, subst, arith, get_or, Option, Some, None}
-use Rattle.moves.proofs.Common.{false≢true, same_Some, cases_lt, Kind, King, Queen, Rook, Bishop, Knight, Pawn, Side, White, Black, Man, Mode, Move, Capture, Both, is_same_side, other_side, PlainBoard, Goal, Place, Ply, IsOnBoard, unit_at, Allows, Reaches, IsInCheck, Promotes, IsSomeKing, IsPseudoLegal, IsMove, IsLawful, IsMated, after, promotion_number, PROMOTIONS, IsReached, Forces, Attains, IsNamed, HasParts-lawful, promotes_to, to_own, to_other, same_side-self, turn-own}
+use Rattle.moves.proofs.Common.{◌≡◌, ℕ, ◌<◌, ◌≤◌, ◌↔◌, IsTrue, Bool, true, false, not, inl, inr, refl, sym, ◌∙◌, ap, subst, arith, get_or, Option, Some, None, false≢true, same_Some, cases_lt, Kind, King, Queen, Rook, Bishop, Knight, Pawn, Side, White, Black, Man, Mode, Move, Capture, Both, is_same_side, other_side, PlainBoard, Goal, Place, Ply, IsOnBoard, unit_at, Allows, Reaches, IsInCheck, Promotes, IsSomeKing, IsPseudoLegal, IsMove, IsLawful, IsMated, after, promotion_number, PROMOTIONS, IsReached, Forces, Attains, IsNamed, HasParts-lawful, promotes_to, to_own, to_other, same_side-self, turn-own}
 use Rattle.rules.specs.declared.goal.Goal.TheVariants.{Mate, MateOrStale}
 use Rattle.moves.proofs.Kings.{check_from}
 use Rattle.board.proofs.RankText.{on_true as on_own, on_false as on_other}

@@ -1,6 +1,5 @@
 -- The units that attack a cell, by the sets.
-use Rattle.std.proofs.Common.{◌≡◌, ℕ, ◌<◌, ◌^◌, arith, refl, sym, subst, ◌↔◌, ◌⊎◌, inl, inr}
-use Rattle.moves.proofs.Common.{bit_or, cases_eq, Side, Kind, King, Queen, Rook, Bishop, Knight, Pawn, Man, Step, terms_of, Denotes, other_side, PlainBoard, IsPosition, unit_at, Place, IsOnBoard, AttacksFrom, IsAttacked, IsInCheck, Leads, cell_of, place_in, IsCell, Aims, AreAttacked, TakesAs, IsSwept, class_of, Has, IsOf, IsCell-cell_of, place_in-cell_of, Has-or, four-are, Has-zero, lowest-has}
+use Rattle.moves.proofs.Common.{◌≡◌, ℕ, ◌<◌, ◌^◌, arith, refl, sym, subst, ◌↔◌, ◌⊎◌, inl, inr, bit_or, cases_eq, Side, Kind, King, Queen, Rook, Bishop, Knight, Pawn, Man, Step, terms_of, Denotes, other_side, PlainBoard, IsPosition, unit_at, Place, IsOnBoard, AttacksFrom, IsAttacked, IsInCheck, Leads, cell_of, place_in, IsCell, Aims, AreAttacked, TakesAs, IsSwept, class_of, Has, IsOf, IsCell-cell_of, place_in-cell_of, Has-or, four-are, Has-zero, lowest-has}
 use Rattle.moves.proofs.Kings.{king_of, check_at}
 use Rattle.moves.proofs.Looking.{attacks_on, captures_from, other_twice, Aims-back}
 use Rattle.moves.proofs.Seeing.{queen_step}

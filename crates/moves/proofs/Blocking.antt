@@ -1,6 +1,5 @@
 -- A check stands but for a move of the king, a capture, or a unit put between.
-use Rattle.std.proofs.Common.{◌≡◌, ℕ, ◌-◌, ◌^◌, sym, ap, subst, ◌∙◌, arith, ◌⊎◌, inl, inr, Some, None}
-use Rattle.moves.proofs.Common.{bit_at_ones, same_Some, Side, King, Man, Step, other_side, PlainBoard, IsPosition, Place, Ply, IsOnBoard, unit_at, Leads, AttacksFrom, IsInCheck, once, again, IsPseudoLegal, after, Way, cell_of, place_in, IsCell, Rides, Has, Aims, HasBlocks, IsCell-cell_of, place_in-cell_of, cell_of-place_in, cell_small, one_target, to_on_board, IsPosition-after, single_step, Leads-end, own_or_other}
+use Rattle.moves.proofs.Common.{◌≡◌, ℕ, ◌-◌, ◌^◌, sym, ap, subst, ◌∙◌, arith, ◌⊎◌, inl, inr, Some, None, bit_at_ones, same_Some, Side, King, Man, Step, other_side, PlainBoard, IsPosition, Place, Ply, IsOnBoard, unit_at, Leads, AttacksFrom, IsInCheck, once, again, IsPseudoLegal, after, Way, cell_of, place_in, IsCell, Rides, Has, Aims, HasBlocks, IsCell-cell_of, place_in-cell_of, cell_of-place_in, cell_small, one_target, to_on_board, IsPosition-after, single_step, Leads-end, own_or_other}
 use Rattle.moves.proofs.Riding.{Rides-leads}
 use Rattle.moves.proofs.Seeing.{rides_as}
 use Rattle.moves.proofs.Laying.{unit_at-other}

@@ -1,6 +1,5 @@
 -- Who gives check after a move: the unit that moved, from where it comes to, or one that it kept from the king.
-use Rattle.std.proofs.Common.{◌≡◌, zero, suc, ℤ, neg_ℤ, refl, sym, ap, subst, ◌∙◌, arith, ◌⊎◌, inl, inr, false, Option, Some, None, IsSome, unwrap_or}
-use Rattle.moves.proofs.Common.{ints, false≢true, Side, White, Black, Kind, Knight, Man, Mode, Move, Capture, Both, Step, Atom, Term, IsAtomLeap, Denotes, terms_of, other_side, IsPlayed, PlainBoard, IsPosition, Place, Ply, IsOnBoard, unit_at, ahead_of, Leads, Allows, Reaches, AttacksFrom, IsInCheck, once, IsPseudoLegal, after, cell_of, IsTarget, IsPinned, Aims, IsCell-cell_of, place_in-cell_of, to_on_board, single_step, own_or_other}
+use Rattle.moves.proofs.Common.{◌≡◌, zero, suc, ℤ, neg_ℤ, refl, sym, ap, subst, ◌∙◌, arith, ◌⊎◌, inl, inr, false, Option, Some, None, IsSome, unwrap_or, ints, false≢true, Side, White, Black, Kind, Knight, Man, Mode, Move, Capture, Both, Step, Term, IsAtomLeap, Denotes, terms_of, other_side, IsPlayed, PlainBoard, IsPosition, Place, Ply, IsOnBoard, unit_at, ahead_of, Leads, Allows, Reaches, AttacksFrom, IsInCheck, once, IsPseudoLegal, after, cell_of, IsTarget, IsPinned, Aims, IsCell-cell_of, place_in-cell_of, to_on_board, single_step, own_or_other}
 use Rattle.board.specs.declared.terms.Atom.TheVariants as atom
 use Rattle.moves.proofs.Kings.{king_of, check_from, one_king}
 use Rattle.moves.proofs.Looking.{size-neg, captures_from}

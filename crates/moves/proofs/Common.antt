@@ -1,4 +1,5 @@
 -- The words that proofs of this crate share, passed on from where they are defined.
+pub use Rattle.std.proofs.Common.{◌≡◌, ℕ, ◌+◌, ◌^◌, ◌<◌, arith, refl, sym, ap, subst, ◌∙◌, ◌⊎◌, ◌↔◌, inl, inr, Option, Some, None, IsSome, false, true, not, unwrap_or, IfSome, IsTrue, Bool, ◌≢◌, ◌-◌, ◌*◌, ◌/◌, ◌%◌, suc, ◌≤◌, cond, List, [], take, length, zero, ◌∷◌, ◌++◌, get_or, AllPairs, Contains, w64, ℤ, pos, ◌<ℤ◌, set, replicate, length-append, count_ones, ◌&&◌, leb, negsuc, neg_ℤ, get_or-take, length-take, IfNone, rules, min, add_assoc, MatchOption, eqb, All}
 pub use Rattle.std.proofs.lemmas.Bool.{cases_eq, false≢true, cases_order, and_parts, false_from_ne_true, cases_lt, not-true, leb-true, eqb-true, eq-eqb, not_from_false, cases_Bool}
 pub use Rattle.std.proofs.lemmas.Int.{ints}
 pub use Rattle.std.proofs.lemmas.List.{take-take, take_all, get_or-set_same, get_or-set_other, length-set}

@@ -1,6 +1,5 @@
 -- How many lawful moves there are, by the cells to which they lead.
-use Rattle.std.proofs.Common.{◌≡◌, ℕ, ◌+◌, ◌*◌, ◌/◌, ◌%◌, ◌^◌, ◌<◌, ◌≤◌, zero, suc, refl, sym, ap, subst, ◌∙◌, ◌↔◌, inl, inr, arith, List, [], ◌∷◌, ◌++◌, length, get_or, length-append, Option, Some, None, IsSome, IfSome, count_ones}
-use Rattle.moves.proofs.Common.{bit_at, ones_le_self, bit_at-lt, bit_at_lowest, bit_at-suc, cases_eq, All-get_or, Game, LosAlamos, Gardner, Kind, Queen, Rook, Bishop, Knight, Man, PlainBoard, Place, Ply, IsOnBoard, square_number, unit_at, Promotes, IsPromotion, IsLawful, promotion_number, ply_number, ListsBelow, place_in, IsCell, Has, IsNamed, HasSafe, IsEach, promotions_of, cell_small, IsNumbered, ListsBelow-push, ListsBelow-skip, ListsBelow-promoted}
+use Rattle.moves.proofs.Common.{◌≡◌, ℕ, ◌+◌, ◌*◌, ◌/◌, ◌%◌, ◌^◌, ◌<◌, ◌≤◌, zero, suc, refl, sym, ap, subst, ◌∙◌, ◌↔◌, inl, inr, arith, List, [], ◌∷◌, ◌++◌, length, get_or, length-append, Option, Some, None, IsSome, IfSome, count_ones, bit_at, ones_le_self, bit_at-lt, bit_at_lowest, bit_at-suc, cases_eq, All-get_or, Game, LosAlamos, Gardner, Kind, Queen, Rook, Bishop, Knight, Man, PlainBoard, Place, Ply, IsOnBoard, square_number, unit_at, Promotes, IsPromotion, IsLawful, promotion_number, ply_number, ListsBelow, place_in, IsCell, Has, IsNamed, HasSafe, IsEach, promotions_of, cell_small, IsNumbered, ListsBelow-push, ListsBelow-skip, ListsBelow-promoted}
 use Rattle.std.specs.Int.Count.{ones_step}
 use Rattle.moves.proofs.Guarding.{promotes_well}
 use Rattle.moves.proofs.Walking.{IsWalked, Jumps, walked_start, walked_end, next_holds, walked_more}

@@ -1,6 +1,5 @@
 -- Four bits of a word, and how an exclusive or changes them.
-use Rattle.std.proofs.Common.{◌≡◌, ◌≢◌, ℕ, ◌+◌, ◌-◌, ◌*◌, ◌/◌, ◌%◌, ◌^◌, ◌<◌, suc, sym, ap, subst, ◌∙◌, arith, inl, inr}
-use Rattle.moves.proofs.Common.{pow-add, shl-shr, shr-shr, shr_le, xor_shr, xor_mod, shl_whole, cases_order, bit_xor, digit}
+use Rattle.moves.proofs.Common.{◌≡◌, ◌≢◌, ℕ, ◌+◌, ◌-◌, ◌*◌, ◌/◌, ◌%◌, ◌^◌, ◌<◌, suc, sym, ap, subst, ◌∙◌, arith, inl, inr, pow-add, shl-shr, shr-shr, shr_le, xor_shr, xor_mod, shl_whole, cases_order, bit_xor, digit}
 use Rattle.std.proofs.Math.Nat.{mul_assoc, mul-mod_left}
 use Rattle.std.specs.Int.Bits.{xor_self, xor_assoc, xor_zero_l, xor_zero_r}
 

@@ -1,6 +1,5 @@
 -- Steps of a king that are lawful after a move of the other side.
-use Rattle.std.proofs.Common.{◌≡◌, ℕ, refl, sym, ap, subst, ◌∙◌, ◌⊎◌, inl, inr, false, Some, None}
-use Rattle.moves.proofs.Common.{false≢true, same_Some, King, Queen, Rook, Bishop, Pawn, Man, Side, Step, terms_of, Denotes, other_side, PlainBoard, IsPosition, Place, Ply, IsOnBoard, unit_at, Leads, Allows, Reaches, AttacksFrom, IsAttacked, IsInCheck, once, again, IsSomeKing, IsPseudoLegal, IsLawful, placed, after, IsPosition-after, own_or_other, place_in, IsCell, Way, IsOnRay, Aims, IsPinned, IsCalm, IsTarget}
+use Rattle.moves.proofs.Common.{◌≡◌, ℕ, refl, sym, ap, subst, ◌∙◌, ◌⊎◌, inl, inr, false, Some, None, false≢true, same_Some, King, Queen, Rook, Bishop, Pawn, Man, Side, Step, terms_of, Denotes, other_side, PlainBoard, IsPosition, Place, Ply, IsOnBoard, unit_at, Leads, Allows, Reaches, AttacksFrom, IsAttacked, IsInCheck, once, again, IsSomeKing, IsPseudoLegal, IsLawful, placed, after, IsPosition-after, own_or_other, place_in, IsCell, Way, IsOnRay, Aims, IsPinned, IsCalm}
 use Rattle.moves.proofs.Laying.{unit_at-other}
 use Rattle.moves.proofs.Kings.{king_of, check_at, check_from}
 use Rattle.moves.proofs.Guarding.{king_moved}

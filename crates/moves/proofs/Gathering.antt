@@ -1,6 +1,5 @@
 -- The mover's units, one after another: their moves as a list, and how many they are.
-use Rattle.std.proofs.Common.{◌≡◌, ◌≢◌, ℕ, ◌+◌, ◌*◌, ◌<◌, ◌≤◌, ◌↔◌, refl, ap, subst, ◌∙◌, arith, true, cond, None, Option, List, [], take, length}
-use Rattle.moves.proofs.Common.{count_by, take-take, count_by_more_yes, sum_by-take-le, Game, LosAlamos, Gardner, Man, most_units, squares_of, PlainBoard, is_of_side, IsPosition, Ply, square_number, unit_at, IsLawful, ListsLawful, ListsBelow, ListsFrom, cell_of, place_in, IsCell, Has, CountsFrom, IsCell-cell_of, place_in-cell_of, Has-zero, number_within, IsNumbered-lawful, HasParts-lawful, ListsBelow-nil, ListsBelow-jump, ListsLawful-from, own_from, squares_36}
+use Rattle.moves.proofs.Common.{◌≡◌, ◌≢◌, ℕ, ◌+◌, ◌*◌, ◌<◌, ◌≤◌, ◌↔◌, refl, ap, subst, ◌∙◌, arith, true, cond, None, Option, List, [], take, length, count_by, take-take, count_by_more_yes, sum_by-take-le, Game, LosAlamos, Gardner, Man, most_units, squares_of, PlainBoard, is_of_side, IsPosition, Ply, square_number, unit_at, IsLawful, ListsLawful, ListsBelow, ListsFrom, cell_of, place_in, IsCell, Has, CountsFrom, IsCell-cell_of, place_in-cell_of, Has-zero, number_within, IsNumbered-lawful, HasParts-lawful, ListsBelow-nil, ListsBelow-jump, ListsLawful-from, own_from, squares_36}
 use Rattle.moves.specs.Counting.{CountsLawful}
 use Rattle.moves.proofs.Counts.{few_below}
 use Rattle.moves.proofs.Walking.{IsWalked, Jumps, walked_start, walked_end, next, next_holds, walked_more}

@@ -1,6 +1,5 @@
 -- A move on a board: what stands on each square after it.
-use Rattle.std.proofs.Common.{◌≡◌, ℕ, ◌*◌, ◌<◌, ◌∙◌, arith, length, set, Some, None}
-use Rattle.moves.proofs.Common.{get_or-set_same, get_or-set_other, length-set, Game, LosAlamos, Gardner, Man, width_of, PlainBoard, Place, IsOnBoard, square_number, unit_at, IsPosition, Ply, IsPseudoLegal, placed, after, to_on_board, other_square, same_number, small_squares}
+use Rattle.moves.proofs.Common.{◌≡◌, ℕ, ◌*◌, ◌<◌, ◌∙◌, arith, length, set, Some, None, get_or-set_same, get_or-set_other, length-set, Game, LosAlamos, Gardner, Man, width_of, PlainBoard, Place, IsOnBoard, square_number, unit_at, IsPosition, Ply, IsPseudoLegal, placed, after, to_on_board, other_square, same_number, small_squares}
 
 -- ---- a move
 

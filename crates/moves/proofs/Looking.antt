@@ -1,6 +1,5 @@
 -- A walk read backwards: what attacks a square is what a unit of the same kind would take from there.
-use Rattle.std.proofs.Common.{◌≡◌, ℕ, ℤ, pos, negsuc, neg_ℤ, zero, suc, refl, sym, ap, subst, ◌∙◌, arith, true, Some, None, Option, IfSome, List}
-use Rattle.moves.proofs.Common.{unsigned_abs, ints, same_Some, Side, White, Black, Kind, King, Man, Mode, Move, Capture, Both, Step, Atom, Wazir, Ferz, Term, IsAtomLeap, Denotes, terms_of, other_side, IsPlayed, Game, PlainBoard, IsPosition, MayStandOn, Place, IsOnBoard, square_number, unit_at, ahead_of, IsStep, Leads, Allows, AttacksFrom, once, again, Aims}
+use Rattle.moves.proofs.Common.{◌≡◌, ℕ, ℤ, pos, negsuc, neg_ℤ, zero, suc, refl, sym, ap, subst, ◌∙◌, arith, true, Some, None, Option, IfSome, List, unsigned_abs, ints, same_Some, Side, White, Black, Kind, King, Man, Mode, Move, Capture, Both, Step, Atom, Wazir, Ferz, Term, IsAtomLeap, Denotes, terms_of, other_side, IsPlayed, Game, PlainBoard, IsPosition, MayStandOn, Place, IsOnBoard, square_number, unit_at, ahead_of, IsStep, Leads, Allows, AttacksFrom, once, again, Aims}
 use Rattle.board.specs.declared.terms.Atom.TheVariants as atom
 
 pub other_twice : (side : Side) → other_side (other_side side) ≡ side

@@ -1,6 +1,5 @@
 -- The units of a side and a class, as the two sets that have them.
-use Rattle.std.proofs.Common.{refl, ◌≡◌, ℕ, ◌↔◌, Option, Some, None, sym, ap, subst, ◌∙◌}
-use Rattle.moves.proofs.Common.{bit_and, Side, Kind, King, PlainBoard, is_of_side, unit_at, place_in, IsCell, Has, Has-and, Class, Crowned, Holds, Owns, StandsAs, StandsFor, class_of, Man, IsSomeKing}
+use Rattle.moves.proofs.Common.{refl, ◌≡◌, ℕ, ◌↔◌, Option, Some, None, sym, ap, subst, ◌∙◌, bit_and, Side, Kind, King, PlainBoard, is_of_side, unit_at, place_in, IsCell, Has, Has-and, Class, Crowned, Holds, Owns, StandsAs, StandsFor, class_of, Man, IsSomeKing}
 use Rattle.moves.proofs.Kings.{king_of}
 use Rattle.moves.proofs.Guarding.{is_own, own_unit_side}
 

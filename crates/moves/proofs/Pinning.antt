@@ -1,6 +1,5 @@
 -- What is pinned is seen from the king along a way.
-use Rattle.std.proofs.Common.{◌≡◌, ℕ, refl, sym, ap, subst, ◌∙◌, arith, ◌↔◌, ◌⊎◌, inl, inr, true, false, Bool, Some, None, Contains}
-use Rattle.moves.proofs.Common.{bit_and, cases_order, false≢true, Side, other_side, PlainBoard, is_of_side, Straight, Slanted, Way, North, South, East, West, NorthEast, SouthWest, NorthWest, SouthEast, WAYS, unit_at, Leads, cell_of, place_in, IsCell, IsPinned, Has, Rides, rises, IsCell-cell_of, place_in-cell_of, Has-and, Place, Man, IsOf, HasRider, Owns}
+use Rattle.moves.proofs.Common.{◌≡◌, ℕ, refl, sym, ap, subst, ◌∙◌, arith, ◌↔◌, ◌⊎◌, inl, inr, true, false, Bool, Some, None, Contains, bit_and, cases_order, false≢true, Side, other_side, PlainBoard, is_of_side, Straight, Slanted, Way, North, South, East, West, NorthEast, SouthWest, NorthWest, SouthEast, WAYS, unit_at, Leads, cell_of, place_in, IsCell, IsPinned, Has, Rides, rises, IsCell-cell_of, place_in-cell_of, Has-and, Place, Man, IsOf, HasRider, Owns}
 use Rattle.moves.proofs.Looking.{both_back}
 use Rattle.moves.proofs.Guarding.{is_own}
 use Rattle.moves.proofs.Riding.{IsSooner, Rides-clear, Rides-leads}

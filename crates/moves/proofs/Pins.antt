@@ -1,6 +1,5 @@
 -- Units that aren't pinned leave their king safe.
-use Rattle.std.proofs.Common.{◌≡◌, refl, sym, ap, subst, ◌∙◌, ◌⊎◌, inl, inr, true, not, Option, Some, None, unwrap_or, IfSome}
-use Rattle.moves.proofs.Common.{cases_eq, same_Some, Game, Side, Kind, King, Queen, Rook, Bishop, Knight, Pawn, Man, Step, other_side, PlainBoard, IsPosition, Place, Ply, IsOnBoard, square_number, unit_at, Leads, AttacksFrom, IsAttacked, IsInCheck, once, again, IsPromotion, IsPseudoLegal, placed, after, IsPinned, same_number, to_on_board, own_or_other}
+use Rattle.moves.proofs.Common.{◌≡◌, refl, sym, ap, subst, ◌∙◌, ◌⊎◌, inl, inr, true, not, Option, Some, None, unwrap_or, IfSome, cases_eq, same_Some, Game, Side, Kind, King, Queen, Rook, Bishop, Knight, Pawn, Man, Step, other_side, PlainBoard, IsPosition, Place, Ply, IsOnBoard, square_number, unit_at, Leads, AttacksFrom, IsAttacked, IsInCheck, once, again, IsPromotion, IsPseudoLegal, placed, after, IsPinned, same_number, to_on_board, own_or_other}
 use Rattle.moves.proofs.Laying.{unit_at-to, unit_at-from, unit_at-other}
 use Rattle.moves.proofs.Kings.{king_of, check_from, one_king}
 use Rattle.moves.proofs.Looking.{captures_from}

@@ -1,6 +1,5 @@
 -- A rider's way: a ray up to the first unit on it, and the same as its denotation's.
-use Rattle.std.proofs.Common.{◌≡◌, ℕ, ◌<◌, ◌≤◌, refl, sym, ap, subst, ◌∙◌, arith, ◌↔◌, Bool, true, false, None}
-use Rattle.moves.proofs.Common.{unsigned_abs, ints, Game, Side, Step, PlainBoard, Way, North, South, East, West, NorthEast, SouthWest, NorthWest, SouthEast, Place, IsOnBoard, unit_at, ahead_of, IsShift, IsStep, Leads, once as lead, again as lead_on, cell_of, place_in, IsCell, files_of, ranks_of, IsNext, IsOnRay, Rides, rises, shift_in, IsCell-cell_of, place_in-cell_of, cell_of-place_in, cell_small, Has-and, Has, bit_and}
+use Rattle.moves.proofs.Common.{◌≡◌, ℕ, ◌<◌, ◌≤◌, refl, sym, ap, subst, ◌∙◌, arith, ◌↔◌, Bool, true, false, None, unsigned_abs, ints, Game, Side, Step, PlainBoard, Way, North, South, East, West, NorthEast, SouthWest, NorthWest, SouthEast, Place, IsOnBoard, unit_at, ahead_of, IsShift, IsStep, Leads, once as lead, again as lead_on, cell_of, place_in, IsCell, files_of, ranks_of, IsNext, IsOnRay, Rides, rises, shift_in, IsCell-cell_of, place_in-cell_of, cell_of-place_in, cell_small, Has-and, Has, bit_and}
 use Rattle.cells.specs.Ways.IsOnRay.{next, beyond}
 use Rattle.cells.specs.Ways.Rides.{once, again}
 use Rattle.moves.proofs.Shown.{none_from}

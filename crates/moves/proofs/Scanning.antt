@@ -1,6 +1,5 @@
 -- The list of a unit's moves as its safe cells are read from the lowest on.
-use Rattle.std.proofs.Common.{◌≡◌, ◌≢◌, ℕ, ◌+◌, ◌-◌, ◌*◌, ◌<◌, ◌≤◌, zero, suc, refl, ap, subst, arith, ◌↔◌, List}
-use Rattle.moves.proofs.Common.{Pawn, Man, squares_of, PlainBoard, Place, Ply, IsOnBoard, square_number, ListsBelow, cell_of, place_in, IsCell, Has, HasSafe, place_in-cell_of, Has-zero, same_number, number_within, ListsBelow-jump, ListsBelow-all_to, IsNumbered-lawful, HasParts-lawful, share, share-more, share-most, share-step, squares_36}
+use Rattle.moves.proofs.Common.{◌≡◌, ◌≢◌, ℕ, ◌+◌, ◌-◌, ◌*◌, ◌<◌, ◌≤◌, zero, suc, refl, ap, subst, arith, ◌↔◌, List, Pawn, Man, squares_of, PlainBoard, Place, Ply, IsOnBoard, square_number, ListsBelow, cell_of, place_in, IsCell, Has, HasSafe, place_in-cell_of, Has-zero, same_number, number_within, ListsBelow-jump, ListsBelow-all_to, IsNumbered-lawful, HasParts-lawful, share, share-more, share-most, share-step, squares_36}
 use Rattle.moves.proofs.Walking.{IsWalked, Jumps, walked_start, walked_end, next, next_holds, walked_more}
 
 -- the moves to the squares numbered below n are listed, so many more than before

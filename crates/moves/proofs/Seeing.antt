@@ -1,6 +1,5 @@
 -- What a unit sees, by ways and leaps, is what its denotation says.
-use Rattle.std.proofs.Common.{◌≡◌, ℕ, ◌≤◌, zero, suc, refl, sym, ap, subst, ◌∙◌, arith, ◌↔◌, ◌⊎◌, inl, inr, Bool, true, false, ◌&&◌, not, leb, ℤ, pos, negsuc, neg_ℤ, List, [], ◌∷◌}
-use Rattle.moves.proofs.Common.{list_all, unsigned_abs, ints, false≢true, not-true, and_parts, leb-true, AllPass-from_list_all, All-contains, Side, White, Black, Kind, King, Queen, Rook, Bishop, Knight, Pawn, Move, Both, Step, Atom, Wazir, Ferz, Term, IsAtomLeap, IsTermStep, doubled, terms_of, Denotes, PlainBoard, Way, North, South, East, West, NorthEast, SouthWest, NorthWest, SouthEast, ahead_of, Leads, once, single_step, table_of, place_in, IsCell, Aims, IsLeapt, SomeWay, RidesBy, files_of, ranks_of, shift_in, table_of-exact, size-ahead}
+use Rattle.moves.proofs.Common.{◌≡◌, ℕ, ◌≤◌, zero, suc, refl, sym, subst, ◌∙◌, arith, ◌↔◌, ◌⊎◌, inl, inr, Bool, true, false, ◌&&◌, not, leb, ℤ, pos, negsuc, neg_ℤ, [], ◌∷◌, list_all, unsigned_abs, ints, false≢true, not-true, and_parts, leb-true, AllPass-from_list_all, All-contains, Side, White, Black, Kind, King, Queen, Rook, Bishop, Knight, Pawn, Both, Step, Atom, Wazir, Ferz, Term, IsAtomLeap, IsTermStep, doubled, terms_of, Denotes, PlainBoard, Way, North, South, East, West, NorthEast, SouthWest, NorthWest, SouthEast, ahead_of, Leads, once, single_step, table_of, place_in, IsCell, Aims, IsLeapt, SomeWay, RidesBy, files_of, ranks_of, shift_in, table_of-exact, size-ahead}
 use Rattle.board.specs.declared.terms.Atom.TheVariants as atom
 use Rattle.moves.proofs.Riding.{Goes, cell-rides, Leads-rides, Rides-leads}
 

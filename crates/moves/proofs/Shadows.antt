@@ -1,6 +1,5 @@
 -- Where a rider comes through a king's square.
-use Rattle.std.proofs.Common.{◌≡◌, ℕ, sym, ap, subst, ◌∙◌, ◌↔◌, inl, inr, Some}
-use Rattle.moves.proofs.Common.{false≢true, Side, King, Man, other_side, PlainBoard, IsPosition, Way, Place, IsOnBoard, unit_at, Leads, AttacksFrom, cell_of, place_in, IsCell, Has, IsOnRay, bit_and, Has-and, IsCell-cell_of, place_in-cell_of, Guards, Checkers, IsPinned, HasRider}
+use Rattle.moves.proofs.Common.{◌≡◌, ℕ, sym, ap, subst, ◌∙◌, ◌↔◌, inl, inr, Some, false≢true, Side, King, Man, other_side, PlainBoard, IsPosition, Way, Place, IsOnBoard, unit_at, Leads, AttacksFrom, cell_of, place_in, IsCell, Has, IsOnRay, bit_and, Has-and, IsCell-cell_of, place_in-cell_of, Guards, Checkers, IsPinned, HasRider}
 use Rattle.moves.specs.declared.board_list.Guard.{Guard}
 use Rattle.moves.proofs.Kings.{one_king}
 use Rattle.moves.proofs.Looking.{attacks_on}

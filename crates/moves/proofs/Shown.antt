@@ -1,6 +1,5 @@
 -- What the sets of a board show, and what a move does to them.
-use Rattle.std.proofs.Common.{◌≡◌, ℕ, ◌^◌, ◌<◌, ◌+◌, ◌*◌, ◌%◌, w64, IsTrue, refl, sym, ap, subst, ◌∙◌, arith, ◌↔◌, ◌⊎◌, inl, inr, Bool, true, Option, Some, None}
-use Rattle.moves.proofs.Common.{bit_not, bit_and, bit_or, cases_eq, false≢true, same_Some, Side, Man, squares_of, PlainBoard, unit_on, is_of_side, IsPosition, Class, Sets, Place, Ply, IsOnBoard, square_number, unit_at, IsPseudoLegal, placed, after, cell_of, place_in, IsCell, Has, IsOf, StandsAs, Holds, Shows, HasMoved, HasAdded, set_of, AreMoved, AreAdded, HasNone, IsCell-cell_of, place_in-cell_of, cell_of-place_in, to_on_board, same_number, number_within, Has-or, Has-zero, Has-clear, Has-minus, and_fits}
+use Rattle.moves.proofs.Common.{◌≡◌, ℕ, ◌^◌, ◌<◌, ◌+◌, ◌*◌, ◌%◌, w64, IsTrue, refl, sym, ap, subst, ◌∙◌, arith, ◌↔◌, ◌⊎◌, inl, inr, Bool, true, Option, Some, None, bit_not, bit_and, bit_or, cases_eq, false≢true, same_Some, Side, Man, squares_of, PlainBoard, unit_on, is_of_side, IsPosition, Class, Sets, Place, Ply, IsOnBoard, square_number, unit_at, IsPseudoLegal, placed, after, cell_of, place_in, IsCell, Has, IsOf, StandsAs, Holds, Shows, HasMoved, HasAdded, set_of, AreMoved, AreAdded, HasNone, IsCell-cell_of, place_in-cell_of, cell_of-place_in, to_on_board, same_number, number_within, Has-or, Has-zero, Has-clear, Has-minus, and_fits}
 use Rattle.board.specs.declared.game.Side.TheVariants as side
 use Rattle.moves.specs.declared.sets.Class.TheVariants.{White, Black}
 use Rattle.cells.proofs.Reached.{same_cell}

@@ -1,6 +1,5 @@
 -- A walk over cells in the order of their squares' numbers, as a set's cells are taken from the lowest on.
-use Rattle.std.proofs.Common.{◌≡◌, ◌≢◌, ℕ, ◌+◌, ◌<◌, ◌≤◌, ap, arith, inl, inr, ◌↔◌}
-use Rattle.moves.proofs.Common.{cases_order, Game, LosAlamos, Gardner, squares_of, square_number, place_in, IsCell, number_within}
+use Rattle.moves.proofs.Common.{◌≡◌, ◌≢◌, ℕ, ◌+◌, ◌<◌, ◌≤◌, ap, arith, inl, inr, ◌↔◌, cases_order, Game, LosAlamos, Gardner, squares_of, square_number, place_in, IsCell, number_within}
 
 -- cells are ordered as their squares' numbers are
 cell_order : (g : Game) (i j : ℕ) → IsCell g i → IsCell g j → square_number g (place_in i) < square_number g (place_in j) → i < j

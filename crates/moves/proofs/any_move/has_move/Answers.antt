@@ -1,6 +1,5 @@
-use Rattle.std.proofs.Common.{rules, ◌≡◌, ℕ, ◌↔◌, IsTrue, Bool, true, false, refl, sym, subst, inl, inr}
-use Rattle.moves.proofs.Common.{cases_Bool, is_of_side, Ply, unit_at, IsLawful, cell_of, place_in, IsCell, Has, place_in-cell_of, IsNumbered-lawful}
-use Rattle.moves.proofs.Gathering.{IsOwn, own_left}
+use Rattle.moves.proofs.Common.{rules, ◌≡◌, ℕ, IsTrue, Bool, true, false, refl, sym, inl, inr, cases_Bool, Ply, IsLawful, cell_of, place_in, Has, place_in-cell_of, IsNumbered-lawful}
+use Rattle.moves.proofs.Gathering.{own_left}
 use Rattle.moves.proofs.any_move.has_move.Goals as goal
 
 pub returns : goal.returns

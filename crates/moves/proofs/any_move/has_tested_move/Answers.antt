@@ -1,5 +1,4 @@
-use Rattle.std.proofs.Common.{rules, ◌≡◌, ℕ, ◌↔◌, IsTrue, Bool, true, false, Some, refl, sym, ap, ◌∙◌}
-use Rattle.moves.proofs.Common.{false≢true, Ply, unit_at, IsLawful, cell_of, place_in, Has, IsNamed, place_in-cell_of, IsNumbered-lawful}
+use Rattle.moves.proofs.Common.{rules, ◌≡◌, ℕ, ◌↔◌, IsTrue, Bool, true, false, Some, refl, sym, ap, ◌∙◌, false≢true, Ply, unit_at, IsLawful, cell_of, place_in, Has, IsNamed, place_in-cell_of, IsNumbered-lawful}
 use Rattle.moves.proofs.SafeCells.{named_move, lawful_named}
 use Rattle.moves.proofs.any_move.has_tested_move.Goals as goal
 

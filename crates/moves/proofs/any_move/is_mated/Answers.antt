@@ -1,5 +1,4 @@
-use Rattle.std.proofs.Common.{not, sym, ap, ◌∙◌}
-use Rattle.moves.proofs.Common.{false≢true}
+use Rattle.moves.proofs.Common.{not, sym, ap, ◌∙◌, false≢true}
 use Rattle.moves.proofs.Attacking.{unattacked}
 use Rattle.moves.proofs.AtOnce.{mated_exactly}
 use Rattle.moves.proofs.any_move.is_mated.Goals as goal

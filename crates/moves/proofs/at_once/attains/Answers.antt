@@ -1,5 +1,4 @@
-use Rattle.std.proofs.Common.{◌≡◌, ◌↔◌, IsSome, IfSome, sym, subst, ◌∙◌}
-use Rattle.moves.proofs.Common.{false≢true, PlainBoard, IsInCheck, Promotes, IsPromotion, IsLawful, after, IsReached, one_after}
+use Rattle.moves.proofs.Common.{◌≡◌, sym, subst, ◌∙◌, false≢true, PlainBoard, IsInCheck, IsLawful, after, IsReached, one_after}
 use Rattle.moves.proofs.AtOnce.{move_by, no_move_at}
 use Rattle.moves.proofs.Guarding.{not_attacked_safe}
 use Rattle.moves.proofs.SafeCells.{lawful_named}

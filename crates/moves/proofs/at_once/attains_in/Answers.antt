@@ -1,5 +1,4 @@
-use Rattle.std.proofs.Common.{rules, ◌≡◌, ℕ, IsTrue, Bool, true, false, refl, sym}
-use Rattle.moves.proofs.Common.{Ply, cell_of, place_in, Has, Attains, place_in-cell_of, IsNumbered-lawful}
+use Rattle.moves.proofs.Common.{rules, ◌≡◌, ℕ, IsTrue, Bool, true, false, refl, sym, Ply, cell_of, place_in, Has, Attains, place_in-cell_of, IsNumbered-lawful}
 use Rattle.moves.proofs.at_once.attains_in.Goals as goal
 
 pub returns-clause-found : goal.returns-clause-found

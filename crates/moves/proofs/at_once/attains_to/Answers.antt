@@ -1,5 +1,4 @@
-use Rattle.std.proofs.Common.{◌≡◌, get_or, None, Some, sym, ap, ◌∙◌, arith, subst, inl, inr}
-use Rattle.moves.proofs.Common.{false≢true, cases_lt, PROMOTIONS, unit_at, Promotes, promotion_number, Attains}
+use Rattle.moves.proofs.Common.{◌≡◌, get_or, None, Some, sym, ap, ◌∙◌, arith, subst, inl, inr, false≢true, cases_lt, PROMOTIONS, unit_at, Promotes, promotion_number, Attains}
 use Rattle.moves.proofs.AtOnce.{promotion_at, promotion_tried}
 use Rattle.moves.proofs.at_once.attains_to.Goals as goal
 

@@ -1,5 +1,4 @@
-use Rattle.std.proofs.Common.{◌≡◌, Some, ap, subst, ◌∙◌}
-use Rattle.moves.proofs.Common.{PlainBoard, Goal, unit_at, IsInCheck, IsReached, cell_of, IsTarget, one_after}
+use Rattle.moves.proofs.Common.{◌≡◌, Some, ap, subst, ◌∙◌, PlainBoard, Goal, unit_at, IsInCheck, IsReached, cell_of, IsTarget, one_after}
 use Rattle.moves.proofs.AtOnce.{pseudo_by, move_by}
 use Rattle.moves.proofs.Checking.{IsTarget-move}
 use Rattle.moves.proofs.at_once.hopeful.Goals as goal

@@ -1,5 +1,4 @@
-use Rattle.std.proofs.Common.{◌∙◌, MatchOption, sym, ap, subst}
-use Rattle.moves.proofs.Common.{other_side, Guards, IsInCheck, false≢true, unit_at, place_in}
+use Rattle.moves.proofs.Common.{◌∙◌, MatchOption, sym, ap, subst, other_side, Guards, IsInCheck, false≢true, unit_at, place_in}
 use Rattle.moves.proofs.SafeCells.{lawful_calm, lawful_named}
 use Rattle.moves.proofs.AtOnce.{pseudo_by, pseudo_of}
 use Rattle.moves.proofs.at_once.is_open.Goals as goal

@@ -1,5 +1,4 @@
-use Rattle.std.proofs.Common.{◌↔◌, IsTrue, sym, subst}
-use Rattle.moves.proofs.Common.{Goal, IsReached}
+use Rattle.moves.proofs.Common.{◌↔◌, IsTrue, sym, subst, Goal, IsReached}
 use Rattle.moves.proofs.AtOnce.{stale_if}
 use Rattle.moves.proofs.at_once.is_reached.Goals as goal
 

@@ -1,7 +1,6 @@
-use Rattle.std.proofs.Common.{rules, ◌≡◌, ℕ, ◌↔◌, IsTrue, Bool, true, false, refl, sym, subst, inl, inr}
-use Rattle.moves.proofs.Common.{cases_Bool, is_of_side, Ply, unit_at, cell_of, place_in, IsCell, Has, Attains, place_in-cell_of, IsNumbered-lawful}
+use Rattle.moves.proofs.Common.{rules, ◌≡◌, ℕ, IsTrue, Bool, true, false, refl, sym, inl, inr, cases_Bool, Ply, cell_of, place_in, Has, Attains, place_in-cell_of, IsNumbered-lawful}
 use Rattle.moves.proofs.AtOnce.{forced_by, not_forced}
-use Rattle.moves.proofs.Gathering.{IsOwn, own_left}
+use Rattle.moves.proofs.Gathering.{own_left}
 use Rattle.moves.proofs.at_once.reaches_at_once.Goals as goal
 
 pub returns : goal.returns

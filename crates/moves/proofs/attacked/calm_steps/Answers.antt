@@ -1,5 +1,4 @@
-use Rattle.std.proofs.Common.{inl, inr}
-use Rattle.moves.proofs.Common.{place_in, Has-or}
+use Rattle.moves.proofs.Common.{inl, inr, Has-or}
 use Rattle.moves.proofs.attacked.calm_steps.Goals as goal
 
 pub returns : goal.returns

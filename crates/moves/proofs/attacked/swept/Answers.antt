@@ -1,5 +1,4 @@
-use Rattle.std.proofs.Common.{ℕ, subst, inl, inr}
-use Rattle.moves.proofs.Common.{cases_eq, place_in, Has, Has-or, Has-zero, Aims}
+use Rattle.moves.proofs.Common.{ℕ, subst, inl, inr, cases_eq, place_in, Has, Has-or, Has-zero, Aims}
 use Rattle.moves.proofs.Owned.{going-are}
 use Rattle.moves.proofs.attacked.swept.Goals as goal
 

@@ -1,5 +1,4 @@
-use Rattle.std.proofs.Common.{◌⊎◌, ℕ}
-use Rattle.moves.proofs.Common.{Has, IsSwept}
+use Rattle.moves.proofs.Common.{◌⊎◌, ℕ, Has, IsSwept}
 use Rattle.moves.proofs.attacked.swept.Given as given
 
 -- what units of cells that aren't left would take on is in the set, and nothing else

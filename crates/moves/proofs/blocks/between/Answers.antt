@@ -1,5 +1,4 @@
-use Rattle.std.proofs.Common.{sym, ◌∙◌}
-use Rattle.moves.proofs.Common.{false≢true}
+use Rattle.moves.proofs.Common.{sym, ◌∙◌, false≢true}
 use Rattle.moves.proofs.blocks.between.Goals as goal
 
 pub returns-then-has : goal.returns-then-has

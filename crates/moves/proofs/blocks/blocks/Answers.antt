@@ -1,5 +1,4 @@
-use Rattle.std.proofs.Common.{◌≡◌, All, take, inl, inr, refl, subst, arith}
-use Rattle.moves.proofs.Common.{bit_or, take_all, All-more, All-contains, Way, WAYS, Has-or}
+use Rattle.moves.proofs.Common.{◌≡◌, All, take, inl, inr, refl, subst, arith, bit_or, take_all, All-more, All-contains, Way, WAYS, Has-or}
 use Rattle.moves.proofs.Pinning.{ways-all}
 use Rattle.moves.proofs.Blocking.{HoldsBetween, HasBlocks-way}
 use Rattle.moves.proofs.blocks.blocks.Goals as goal

@@ -1,5 +1,4 @@
-use Rattle.std.proofs.Common.{All, take}
-use Rattle.moves.proofs.Common.{Way, Has}
+use Rattle.moves.proofs.Common.{All, take, Way, Has}
 use Rattle.moves.proofs.Blocking.{HoldsBetween}
 use Rattle.moves.proofs.blocks.blocks.Given as given
 

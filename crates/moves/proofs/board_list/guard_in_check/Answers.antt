@@ -1,5 +1,4 @@
-use Rattle.std.proofs.Common.{◌↔◌, ℕ, refl, sym, subst}
-use Rattle.moves.proofs.Common.{false≢true, Side, other_side, AttacksFrom, place_in, IsCell, Has, Checkers}
+use Rattle.moves.proofs.Common.{◌↔◌, ℕ, refl, sym, subst, false≢true, Side, other_side, AttacksFrom, place_in, IsCell, Has, Checkers}
 use Rattle.moves.proofs.Blocking.{HasBlocks-all}
 use Rattle.moves.proofs.Kings.{check_from}
 use Rattle.moves.proofs.Attacking.{some_checkers}

@@ -1,5 +1,4 @@
-use Rattle.std.proofs.Common.{sym, subst, ◌∙◌}
-use Rattle.moves.proofs.Common.{false≢true, place_in, IsPinned}
+use Rattle.moves.proofs.Common.{sym, subst, ◌∙◌, false≢true, place_in, IsPinned}
 use Rattle.moves.proofs.Kings.{check_from}
 use Rattle.moves.proofs.Blocking.{HasBlocks-all}
 use Rattle.moves.proofs.Attacking.{unattacked}

@@ -1,6 +1,5 @@
-use Rattle.std.proofs.Common.{rules, ◌≡◌, ℕ, ◌↔◌, true, sym, subst, []}
-use Rattle.moves.proofs.Common.{is_of_side, unit_at, place_in, IsCell, Has}
-use Rattle.moves.proofs.Gathering.{IsOwn, IsGathered, gathered_start, gathered_end, gathered_next, gathered_lists, gathered_more}
+use Rattle.moves.proofs.Common.{rules, ◌≡◌, sym, subst, []}
+use Rattle.moves.proofs.Gathering.{IsGathered, gathered_start, gathered_end, gathered_next, gathered_lists, gathered_more}
 use Rattle.moves.proofs.board_list.list_lawful.Goals as goal
 
 pub units-init : goal.units-init

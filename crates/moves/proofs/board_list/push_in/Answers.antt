@@ -1,5 +1,4 @@
-use Rattle.std.proofs.Common.{◌+◌, ◌*◌, sym, subst, ◌∙◌, arith}
-use Rattle.moves.proofs.Common.{IsOnBoard, square_number, ListsBelow, place_in}
+use Rattle.moves.proofs.Common.{◌+◌, ◌*◌, sym, subst, ◌∙◌, arith, IsOnBoard, square_number, ListsBelow, place_in}
 use Rattle.moves.proofs.Scanning.{scan_start, scan_next, scan_lists, scan_room, scan_more, scan_end}
 use Rattle.moves.proofs.Gathering.{unit_room, unit_more}
 use Rattle.moves.proofs.board_list.push_in.Goals as goal

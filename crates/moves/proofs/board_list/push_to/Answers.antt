@@ -1,5 +1,4 @@
-use Rattle.std.proofs.Common.{◌≡◌, ◌↔◌, IsSome, IfSome, ℕ, ◌+◌, ◌*◌, ◌<◌, get_or, None, refl, subst, sym, ap, ◌∙◌, arith, add_assoc}
-use Rattle.moves.proofs.Common.{false≢true, PROMOTIONS, Ply, square_number, Promotes, IsPromotion, IsLawful, promotion_number, ply_number, IsNumbered, numbered_promotion, ListsBelow-skip, ListsBelow-push, ListsBelow-promoted, first_promotion}
+use Rattle.moves.proofs.Common.{◌≡◌, ◌↔◌, IsSome, IfSome, ℕ, ◌+◌, ◌*◌, ◌<◌, get_or, None, refl, subst, sym, ap, ◌∙◌, arith, add_assoc, false≢true, PROMOTIONS, Ply, square_number, Promotes, IsPromotion, IsLawful, promotion_number, ply_number, IsNumbered, numbered_promotion, ListsBelow-skip, ListsBelow-push, ListsBelow-promoted, first_promotion}
 use Rattle.moves.proofs.Guarding.{promotes_well}
 use Rattle.moves.proofs.board_list.push_to.Goals as goal
 use Rattle.moves.proofs.board_list.push_to.Goals.{then-is_promoted_well, else-is_promoted_well}

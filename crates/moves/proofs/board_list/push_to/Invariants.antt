@@ -1,5 +1,4 @@
-use Rattle.std.proofs.Common.{◌≡◌, ◌+◌, ◌*◌, ◌≤◌, min}
-use Rattle.moves.proofs.Common.{array_vec_len, Pawn, square_number, ListsBelow}
+use Rattle.moves.proofs.Common.{◌≡◌, ◌+◌, ◌*◌, ◌≤◌, min, array_vec_len, Pawn, square_number, ListsBelow}
 use Rattle.moves.proofs.board_list.push_to.Given as given
 
 abbrev pub invariant-loop-i : given.invariant-loop-i

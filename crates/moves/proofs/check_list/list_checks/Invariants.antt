@@ -1,5 +1,4 @@
-use Rattle.std.proofs.Common.{◌≤◌, take, length}
-use Rattle.moves.proofs.Common.{Ply, GivesCheck, IsPlyBefore}
+use Rattle.moves.proofs.Common.{◌≤◌, take, length, Ply, GivesCheck, IsPlyBefore}
 use Rattle.moves.proofs.Picking.{InOrder, Picks}
 use Rattle.moves.proofs.check_list.list_checks.Given as goal
 

@@ -1,5 +1,4 @@
-use Rattle.std.proofs.Common.{sym, subst}
-use Rattle.moves.proofs.Common.{other_side, cell_of, place_in, IsCell-cell_of, place_in-cell_of, to_on_board, Aims}
+use Rattle.moves.proofs.Common.{sym, subst, other_side, cell_of, place_in, IsCell-cell_of, place_in-cell_of, to_on_board, Aims}
 use Rattle.moves.proofs.Looking.{Aims-back}
 use Rattle.moves.proofs.Checking.{knight_seen}
 use Rattle.moves.proofs.checks.aiming.Goals as goal

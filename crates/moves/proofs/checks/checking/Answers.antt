@@ -1,5 +1,4 @@
-use Rattle.std.proofs.Common.{inl, inr, sym, subst, ◌∙◌}
-use Rattle.moves.proofs.Common.{false≢true, other_side, unit_at, Reaches, cell_of, place_in, IsPinned, IsTarget}
+use Rattle.moves.proofs.Common.{inl, inr, sym, subst, ◌∙◌, false≢true, other_side, unit_at, Reaches, cell_of, place_in, IsPinned, IsTarget}
 use Rattle.moves.proofs.Checking.{who_checks, IsTarget-move}
 use Rattle.moves.proofs.checks.checking.Goals as goal
 

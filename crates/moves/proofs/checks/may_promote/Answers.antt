@@ -1,5 +1,4 @@
-use Rattle.std.proofs.Common.{rules, ◌≡◌, ◌+◌, ◌∙◌, sym, ap, subst, ◌↔◌}
-use Rattle.moves.proofs.Common.{eqb-true, eq-eqb, Pawn, width_of, Place, unit_at, IsLastRank, pawn_ahead}
+use Rattle.moves.proofs.Common.{rules, ◌≡◌, ◌+◌, ◌∙◌, sym, ap, subst, ◌↔◌, eqb-true, eq-eqb, Pawn, width_of, Place, unit_at, IsLastRank, pawn_ahead}
 use Rattle.moves.proofs.SafeCells.{IsBeforeLast, last_next}
 use Rattle.moves.proofs.checks.may_promote.Goals as goal
 

@@ -1,5 +1,4 @@
-use Rattle.std.proofs.Common.{◌≡◌, ℕ, Some, sym, ap, subst, ◌∙◌}
-use Rattle.moves.proofs.Common.{false≢true, King, Knight, other_side, unit_at, IsInCheck, place_in, IsCell, IsPinned, IsCalm, IsTarget, Has}
+use Rattle.moves.proofs.Common.{◌≡◌, ℕ, Some, sym, ap, subst, ◌∙◌, false≢true, King, Knight, other_side, unit_at, IsInCheck, place_in, IsCell, IsPinned, IsCalm, IsTarget, Has}
 use Rattle.moves.proofs.Kings.{check_at}
 use Rattle.moves.proofs.checks.watch_of.Goals as goal
 

@@ -1,5 +1,4 @@
-use Rattle.std.proofs.Common.{◌≡◌, ◌<◌, ◌∙◌, ℕ, List, Option, Some, None, sym, ap, subst, arith, IfSome, IfNone}
-use Rattle.moves.proofs.Common.{Game, Side, Man, squares_of, PlainBoard, board_of, IsPosition, man_of, code_on, Spells}
+use Rattle.moves.proofs.Common.{◌≡◌, ◌<◌, ◌∙◌, ℕ, List, Option, Some, None, sym, ap, subst, arith, IfSome, IfNone, Game, Side, Man, squares_of, PlainBoard, board_of, IsPosition, man_of, code_on, Spells}
 use Rattle.moves.proofs.Packing.{IsRead, IsRead-start, IsRead-more, IsRead-whole, within_36}
 use Rattle.moves.proofs.codec.read_words.Goals as goal
 

@@ -1,5 +1,4 @@
-use Rattle.std.proofs.Common.{◌≡◌, ◌+◌, ◌≢◌, ◌<◌, refl, sym, subst, ◌∙◌, arith}
-use Rattle.moves.proofs.Common.{squares_of, board_of}
+use Rattle.moves.proofs.Common.{◌≡◌, ◌+◌, refl, sym, subst, ◌∙◌, arith, squares_of, board_of}
 use Rattle.moves.proofs.Packing.{IsPut, IsFilled, IsFilled-put, IsFilled-none, none_where, IsPacked-of, unpacked_of}
 use Rattle.moves.proofs.codec.write_units.Goals as goal
 use Rattle.moves.proofs.codec.write_units.Goals.{in-Some, in_default}

@@ -1,5 +1,4 @@
-use Rattle.std.proofs.Common.{◌≡◌, ◌*◌, ◌≤◌, sym, subst, arith, Some, count_ones, rules}
-use Rattle.moves.proofs.Common.{unit_at, Reaches, place_in}
+use Rattle.moves.proofs.Common.{◌≡◌, ◌*◌, ◌≤◌, sym, subst, arith, Some, count_ones, rules, unit_at, Reaches, place_in}
 use Rattle.moves.proofs.Counts.{counted_all, few_ones, product_most}
 use Rattle.moves.proofs.counting.count_from.Goals as goal
 

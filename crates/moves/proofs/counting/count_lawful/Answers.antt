@@ -1,6 +1,5 @@
-use Rattle.std.proofs.Common.{◌≡◌, ℕ, ◌↔◌, true, subst, arith}
-use Rattle.moves.proofs.Common.{is_of_side, unit_at, place_in, IsCell, Has}
-use Rattle.moves.proofs.Gathering.{IsOwn, tallied_start, tallied_end, tallied_next, tallied_few, tallied_more}
+use Rattle.moves.proofs.Common.{arith}
+use Rattle.moves.proofs.Gathering.{tallied_start, tallied_end, tallied_next, tallied_few, tallied_more}
 use Rattle.moves.proofs.counting.count_lawful.Goals as goal
 
 pub units-init : goal.units-init

@@ -1,5 +1,4 @@
-use Rattle.std.proofs.Common.{◌≡◌, inl, inr, sym, ap, subst, ◌∙◌, unwrap_or}
-use Rattle.moves.proofs.Common.{Man, other_side, Ply, placed, to_on_board, cell_of, place_in, IsCell, IsCell-cell_of, place_in-cell_of, Has-four, Aims, IsPinned}
+use Rattle.moves.proofs.Common.{◌≡◌, inl, inr, sym, ap, subst, ◌∙◌, unwrap_or, Man, other_side, Ply, placed, to_on_board, cell_of, place_in, IsCell, IsCell-cell_of, place_in-cell_of, Has-four, Aims, IsPinned}
 use Rattle.moves.proofs.escapes.barred.Goals as goal
 
 pub open_lines-aims-requires : goal.open_lines-aims-requires

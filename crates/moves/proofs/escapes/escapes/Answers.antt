@@ -1,5 +1,4 @@
-use Rattle.std.proofs.Common.{◌≡◌, sym, ap, subst, ◌∙◌}
-use Rattle.moves.proofs.Common.{false≢true, other_side, Ply, cell_of, place_in, Has, IsCell-cell_of, place_in-cell_of, cell_of-place_in, lowest-has, not-zero, IsPinned}
+use Rattle.moves.proofs.Common.{◌≡◌, sym, ap, subst, ◌∙◌, false≢true, other_side, Ply, cell_of, place_in, Has, IsCell-cell_of, place_in-cell_of, cell_of-place_in, lowest-has, not-zero, IsPinned}
 use Rattle.moves.proofs.Escaping.{lawful_step}
 use Rattle.moves.proofs.escapes.escapes.Goals as goal
 

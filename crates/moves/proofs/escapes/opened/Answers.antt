@@ -1,5 +1,4 @@
-use Rattle.std.proofs.Common.{subst}
-use Rattle.moves.proofs.Common.{Has, Has-and, Has-zero}
+use Rattle.moves.proofs.Common.{subst, Has, Has-and, Has-zero}
 use Rattle.moves.proofs.Pinning.{pins-along}
 use Rattle.moves.proofs.Riding.{rides-ray}
 use Rattle.moves.proofs.Escaping.{over_lines}

@@ -1,5 +1,4 @@
-use Rattle.std.proofs.Common.{subst}
-use Rattle.moves.proofs.Common.{PlainBoard, IsInCheck, one_after}
+use Rattle.moves.proofs.Common.{subst, PlainBoard, IsInCheck, one_after}
 use Rattle.moves.proofs.look.gives_check.Goals as goal
 
 pub returns : goal.returns

@@ -1,5 +1,4 @@
-use Rattle.std.proofs.Common.{◌≡◌, ◌≢◌, ◌^◌, ◌<◌, ℕ, ◌↔◌, refl, subst}
-use Rattle.moves.proofs.Common.{bit_or, Kind, Queen, Rook, Bishop, Knight, King, Pawn, PlainBoard, IsPosition, Side, other_side, IsAttacked, place_in, IsCell, Has, TakesAs, not-zero}
+use Rattle.moves.proofs.Common.{ℕ, refl, bit_or, Kind, Rook, Bishop, Knight, King, Pawn, other_side, place_in, IsCell, TakesAs, not-zero}
 use Rattle.moves.proofs.Owned.{via}
 use Rattle.moves.proofs.Attacking.{five-are, attackers-are, none-attacks, some_attack}
 use Rattle.moves.proofs.look.is_attacked.Goals as goal

@@ -1,5 +1,4 @@
-use Rattle.std.proofs.Common.{subst}
-use Rattle.moves.proofs.Common.{Has, Has-zero}
+use Rattle.moves.proofs.Common.{subst, Has, Has-zero}
 use Rattle.moves.proofs.Owned.{kings-are}
 use Rattle.moves.proofs.look.king_cell.Goals as goal
 

@@ -1,5 +1,4 @@
-use Rattle.std.proofs.Common.{◌≡◌, ℕ, inl, inr, refl, subst, sym}
-use Rattle.moves.proofs.Common.{Game, Side, Kind, King, Queen, Rook, Bishop, Knight, Pawn, Wazir, Ferz, Way, PlainBoard, place_in, IsCell, IsOnStraight, IsOnSlanted, IsOnRay, IsLeapt, Has-or, Aims, RidesBy}
+use Rattle.moves.proofs.Common.{◌≡◌, ℕ, inl, inr, refl, subst, sym, Game, Side, Kind, King, Queen, Rook, Bishop, Knight, Pawn, Wazir, Ferz, Way, PlainBoard, place_in, IsCell, IsOnStraight, IsOnSlanted, IsOnRay, IsLeapt, Has-or, Aims, RidesBy}
 use Rattle.moves.proofs.Riding.{rides-ray}
 use Rattle.moves.proofs.Seeing.{Sees, IsLeaper, wazir_ways, ferz_ways, Sees-rook, Sees-bishop, Sees-queen, Sees-leaper}
 use Rattle.moves.proofs.look.open_lines.Goals as goal

@@ -1,5 +1,4 @@
-use Rattle.std.proofs.Common.{sym, subst}
-use Rattle.moves.proofs.Common.{other_side, place_in, IsCell, Has, Has-and, Has-zero}
+use Rattle.moves.proofs.Common.{sym, subst, other_side, place_in, IsCell, Has, Has-and, Has-zero}
 use Rattle.moves.proofs.Owned.{going-are}
 use Rattle.moves.proofs.Attacking.{aims-turned}
 use Rattle.moves.proofs.look.struck.Goals as goal

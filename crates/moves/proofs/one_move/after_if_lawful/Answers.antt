@@ -1,5 +1,4 @@
-use Rattle.std.proofs.Common.{◌≡◌, Some, sym, ap, subst, ◌∙◌}
-use Rattle.moves.proofs.Common.{false≢true, Ply, unit_at, IsInCheck, to_on_board}
+use Rattle.moves.proofs.Common.{◌≡◌, Some, sym, ap, subst, ◌∙◌, false≢true, Ply, unit_at, IsInCheck, to_on_board}
 use Rattle.moves.proofs.AtOnce.{pseudo_by}
 use Rattle.moves.proofs.Pins.{no_unit}
 use Rattle.moves.proofs.one_move.after_if_lawful.Goals as goal

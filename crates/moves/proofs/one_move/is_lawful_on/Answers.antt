@@ -1,5 +1,4 @@
-use Rattle.std.proofs.Common.{◌↔◌, IsTrue, Option, Some, None, MatchOption, refl, sym, subst}
-use Rattle.moves.proofs.Common.{false≢true, IsLawful}
+use Rattle.moves.proofs.Common.{◌↔◌, IsTrue, Option, Some, None, MatchOption, refl, sym, subst, false≢true, IsLawful}
 use Rattle.std.specs.Option.{is_some}
 use Rattle.moves.proofs.one_move.is_lawful_on.Goals as goal
 

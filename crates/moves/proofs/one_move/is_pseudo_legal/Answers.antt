@@ -1,5 +1,4 @@
-use Rattle.std.proofs.Common.{rules, ◌≡◌, ℕ, sym, ap, subst, ◌∙◌}
-use Rattle.moves.proofs.Common.{false≢true, PlainBoard, Place, Ply, IsOnBoard, unit_at, IsSomeKing, cell_of, place_in, IsTarget, place_in-cell_of}
+use Rattle.moves.proofs.Common.{rules, ◌≡◌, ℕ, sym, ap, subst, ◌∙◌, false≢true, PlainBoard, Place, Ply, IsOnBoard, unit_at, IsSomeKing, cell_of, place_in, IsTarget, place_in-cell_of}
 use Rattle.moves.proofs.Checking.{IsTarget-move}
 use Rattle.moves.proofs.SafeCells.{pseudo_named}
 use Rattle.moves.proofs.one_move.is_pseudo_legal.Goals as goal

@@ -1,7 +1,6 @@
-use Rattle.std.proofs.Common.{◌≡◌, All, take, inl, inr, subst, arith}
-use Rattle.moves.proofs.Common.{Way, WAYS, PlainBoard, bit_and, bit_or, take_all, All-more, All-contains, Has, Has-and, Has-or, Has-zero, place_in, IsCell, IsPinned}
+use Rattle.moves.proofs.Common.{◌≡◌, All, take, inl, inr, subst, arith, Way, WAYS, bit_and, bit_or, take_all, All-more, All-contains, Has, Has-and, Has-or, Has-zero}
 use Rattle.moves.proofs.Riding.{rides-ray, ray-beyond}
-use Rattle.moves.proofs.Pinning.{HoldsPins, PinsAlong, pins-along, ways-all}
+use Rattle.moves.proofs.Pinning.{HoldsPins, pins-along, ways-all}
 use Rattle.moves.proofs.pinned.pinned.Goals as goal
 
 pub returns-then-riders-lines-eq0 : goal.returns-then-riders-lines-eq0

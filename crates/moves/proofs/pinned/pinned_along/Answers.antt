@@ -1,5 +1,4 @@
-use Rattle.std.proofs.Common.{◌≡◌, ℕ, ◌↔◌, subst}
-use Rattle.moves.proofs.Common.{bit_and, Game, PlainBoard, Way, Has, IsOnRay, Rides, Has-and, Has-zero}
+use Rattle.moves.proofs.Common.{◌≡◌, ℕ, ◌↔◌, subst, bit_and, Game, PlainBoard, Way, Has, IsOnRay, Rides, Has-and, Has-zero}
 use Rattle.moves.proofs.Riding.{cell-rides, ray-beyond, ray-of, rides-ray}
 use Rattle.moves.proofs.Pinning.{one_unit}
 use Rattle.moves.proofs.pinned.pinned_along.Goals as goal

@@ -1,5 +1,4 @@
-use Rattle.std.proofs.Common.{◌≡◌, inl, inr, subst, ◌∙◌, arith}
-use Rattle.moves.proofs.Common.{PlainBoard, Way, bit_at, cases_eq, bit_at_ones, IsOnRay, Has, cell_small, Has-and, Has-zero}
+use Rattle.moves.proofs.Common.{◌≡◌, inl, inr, subst, ◌∙◌, arith, Way, bit_at, cases_eq, bit_at_ones, IsOnRay, Has, cell_small, Has-and, Has-zero}
 use Rattle.moves.proofs.Shadows.{comes_through, riding}
 use Rattle.moves.proofs.pinned.shadow.Goals as goal
 

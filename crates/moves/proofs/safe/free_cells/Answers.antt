@@ -1,5 +1,4 @@
-use Rattle.std.proofs.Common.{sym, subst, ◌∙◌}
-use Rattle.moves.proofs.Common.{false≢true, place_in, other_side, AreAttacked}
+use Rattle.moves.proofs.Common.{sym, subst, ◌∙◌, false≢true, place_in, other_side, AreAttacked}
 use Rattle.moves.proofs.SafeCells.{calm_safe, free_safe}
 use Rattle.moves.proofs.safe.free_cells.Goals as goal
 

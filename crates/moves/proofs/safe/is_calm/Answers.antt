@@ -1,5 +1,4 @@
-use Rattle.std.proofs.Common.{sym, ◌∙◌}
-use Rattle.moves.proofs.Common.{false≢true, not-true, not_from_false, false_from_ne_true}
+use Rattle.moves.proofs.Common.{sym, ◌∙◌, false≢true, not-true, not_from_false, false_from_ne_true}
 use Rattle.moves.proofs.safe.is_calm.Goals as goal
 
 pub returns-then-not-has_king : goal.returns-then-not-has_king

@@ -1,5 +1,4 @@
-use Rattle.std.proofs.Common.{◌↔◌, IsTrue, IsSome, IfSome, subst}
-use Rattle.moves.proofs.Common.{Game, Promotes, IsPromotion}
+use Rattle.moves.proofs.Common.{◌↔◌, IsTrue, IsSome, IfSome, subst, Game, Promotes, IsPromotion}
 use Rattle.moves.proofs.Owned.{via}
 use Rattle.moves.proofs.safe.is_named.Goals as goal
 

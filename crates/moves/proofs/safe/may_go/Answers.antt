@@ -1,5 +1,4 @@
-use Rattle.std.proofs.Common.{◌≡◌, ◌↔◌, IsTrue, Some, refl, sym, ap, subst, ◌∙◌}
-use Rattle.moves.proofs.Common.{false≢true, not-true, other_side, PlainBoard, unit_at, IsAttacked, IsInCheck, IsSomeKing, IsPseudoLegal, after, cell_of, place_in, Has, IsNamed, IsCalm, cell_of-place_in}
+use Rattle.moves.proofs.Common.{◌≡◌, ◌↔◌, IsTrue, Some, refl, sym, ap, subst, ◌∙◌, false≢true, not-true, other_side, PlainBoard, unit_at, IsAttacked, IsInCheck, IsSomeKing, IsPseudoLegal, after, cell_of, place_in, Has, IsNamed, IsCalm, cell_of-place_in}
 use Rattle.moves.proofs.AtOnce.{pseudo_by, move_by}
 use Rattle.moves.proofs.Guarding.{lawful_if_safe, not_attacked_safe}
 use Rattle.moves.proofs.SafeCells.{lawful_too, pseudo_named, calm_lawful, lawful_calm, free_lawful}

@@ -1,5 +1,4 @@
-use Rattle.std.proofs.Common.{◌≡◌, Some, sym, ap, subst, ◌∙◌, inl, inr}
-use Rattle.moves.proofs.Common.{cases_eq, unit_at, cell_of, place_in, Has, IsTarget, place_in-cell_of, Has-zero, IsNumbered-lawful}
+use Rattle.moves.proofs.Common.{◌≡◌, Some, sym, ap, subst, ◌∙◌, inl, inr, cases_eq, unit_at, cell_of, place_in, Has, IsTarget, place_in-cell_of, Has-zero, IsNumbered-lawful}
 use Rattle.moves.proofs.SafeCells.{lawful_named}
 use Rattle.moves.proofs.safe.sifted.Goals as goal
 

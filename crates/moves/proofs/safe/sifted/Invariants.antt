@@ -1,5 +1,4 @@
-use Rattle.std.proofs.Common.{◌≡◌, ◌⊎◌, ℕ}
-use Rattle.moves.proofs.Common.{Ply, cell_of, place_in, Has, IsTarget, IsLawful, IsNamed}
+use Rattle.moves.proofs.Common.{◌≡◌, ◌⊎◌, ℕ, Ply, cell_of, place_in, Has, IsTarget, IsLawful, IsNamed}
 use Rattle.moves.proofs.safe.sifted.Given as given
 
 -- the unit reaches what is left, moves lawfully to what is safe, and to no other cell

@@ -1,5 +1,4 @@
-use Rattle.std.proofs.Common.{◌≡◌, Some, sym, ap, subst, ◌∙◌}
-use Rattle.moves.proofs.Common.{false≢true, King, other_side, unit_at, cell_of, place_in, AreAttacked, IsTarget}
+use Rattle.moves.proofs.Common.{◌≡◌, Some, sym, ap, subst, ◌∙◌, false≢true, King, other_side, unit_at, cell_of, place_in, AreAttacked, IsTarget}
 use Rattle.moves.proofs.SafeCells.{calm_target, calm_all}
 use Rattle.moves.proofs.AtOnce.{pseudo_by, move_by}
 use Rattle.moves.proofs.Checking.{IsTarget-move}

@@ -1,5 +1,4 @@
-use Rattle.std.proofs.Common.{◌≡◌, ◌⊎◌, true, false, inl, inr, ap}
-use Rattle.moves.proofs.Common.{Way, North, South, East, West, NorthEast, NorthWest, SouthEast, SouthWest, rises}
+use Rattle.moves.proofs.Common.{◌≡◌, ◌⊎◌, true, false, inl, inr, ap, Way, North, South, East, West, NorthEast, NorthWest, SouthEast, SouthWest, rises}
 use Rattle.moves.proofs.Riding.{ray-of, cut-up, cut-down}
 use Rattle.moves.proofs.seen.along.Goals as goal
 

@@ -1,5 +1,4 @@
-use Rattle.std.proofs.Common.{sym, subst, inl, inr, false}
-use Rattle.moves.proofs.Common.{cases_eq, Has, Has-zero}
+use Rattle.moves.proofs.Common.{sym, subst, inl, inr, false, cases_eq, Has, Has-zero}
 use Rattle.moves.proofs.sweep.any_cell.Goals as goal
 
 pub cells-init : goal.cells-init

@@ -1,5 +1,4 @@
-use Rattle.std.proofs.Common.{◌+◌, ◌-◌, sym, subst}
-use Rattle.moves.proofs.Common.{IsNext, ahead_way, North, South, is-next}
+use Rattle.moves.proofs.Common.{◌+◌, ◌-◌, sym, subst, IsNext, ahead_way, North, South, is-next}
 use Rattle.moves.proofs.targets.ahead.Goals as goal
 
 pub returns-in-White : goal.returns-in-White

@@ -1,5 +1,4 @@
-use Rattle.std.proofs.Common.{◌≡◌, ◌<◌, refl, subst, sym}
-use Rattle.moves.proofs.Common.{xor_lt, bit_xor, digit}
+use Rattle.moves.proofs.Common.{◌≡◌, ◌<◌, refl, subst, sym, xor_lt, bit_xor, digit}
 use Rattle.moves.proofs.Digits.{digit_there, digit_other}
 use Rattle.moves.proofs.words.with_digit.Goals as goal
 

@@ -1,5 +1,4 @@
-use Rattle.std.proofs.Common.{ℕ, ◌^◌, ◌<◌, ◌↔◌, IsTrue, not, eqb, sym, subst}
-use Rattle.moves.proofs.Common.{PlainBoard, cell_of, place_in, Has, IsCell-cell_of, place_in-cell_of, Has-zero, lowest-has, not-zero, Foot, Holds, StandsAs}
+use Rattle.moves.proofs.Common.{ℕ, ◌^◌, ◌<◌, ◌↔◌, IsTrue, not, eqb, sym, subst, PlainBoard, cell_of, place_in, Has, IsCell-cell_of, place_in-cell_of, Has-zero, lowest-has, not-zero, Foot, Holds, StandsAs}
 use Rattle.moves.specs.Pawns.{HasPawn}
 use Rattle.moves.proofs.packed.Board.has_pawn.Goals as goal
 

@@ -1,5 +1,4 @@
-use Rattle.std.proofs.Common.{◌≡◌, ◌↔◌, ℕ, arith, rules, sym, subst, ap, ◌∙◌, inl, inr}
-use Rattle.moves.proofs.Common.{bit_and, cases_eq, IsPosition, IsOnBoard, unit_at, place_in, IsCell, Has, Has-zero, Shows, Crowned}
+use Rattle.moves.proofs.Common.{◌≡◌, ◌↔◌, ℕ, arith, rules, sym, subst, ap, ◌∙◌, inl, inr, bit_and, cases_eq, IsPosition, IsOnBoard, unit_at, place_in, IsCell, Has, Has-zero, Shows, Crowned}
 use Rattle.moves.proofs.Guarding.{no_kingless}
 use Rattle.moves.proofs.Kings.{king_of}
 use Rattle.moves.proofs.Owned.{kings-are}

@@ -1,5 +1,4 @@
-use Rattle.std.proofs.Common.{◌≡◌, Some, set, unwrap_or, sym, ap, subst, ◌∙◌}
-use Rattle.moves.proofs.Common.{Game, PlainBoard, Man, Ply, square_number, cell_of, Shows, AreMoved, placed, after, to_on_board, man_of, unpacked, IsPacked}
+use Rattle.moves.proofs.Common.{◌≡◌, Some, set, unwrap_or, sym, ap, subst, ◌∙◌, Game, Man, Ply, square_number, cell_of, Shows, AreMoved, placed, after, to_on_board, man_of, unpacked, IsPacked}
 use Rattle.moves.proofs.Shown.{Shows-after}
 use Rattle.moves.proofs.Packing.{IsPut, unpacked_after, IsPacked-after}
 use Rattle.moves.proofs.packed.Board.moved.Goals as goal

@@ -1,5 +1,4 @@
-use Rattle.std.proofs.Common.{◌≡◌, ◌↔◌, true, sym, subst}
-use Rattle.moves.proofs.Common.{is_of_side, unit_at, place_in, IsCell, Has}
+use Rattle.moves.proofs.Common.{◌≡◌, ◌↔◌, true, sym, subst, is_of_side, unit_at, place_in, IsCell, Has}
 use Rattle.board.specs.declared.game.Side.TheVariants as side
 use Rattle.moves.specs.declared.sets.Class.TheVariants.{White, Black}
 use Rattle.moves.proofs.Shown.{side-shown}

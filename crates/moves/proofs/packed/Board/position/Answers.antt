@@ -1,5 +1,4 @@
-use Rattle.std.proofs.Common.{◌≡◌, ℕ, List, Option, Some, None, IfNone, IsSome, refl, sym, subst, ◌∙◌}
-use Rattle.moves.proofs.Common.{Game, Side, PlainBoard, IsPosition, Spells, unpacked}
+use Rattle.moves.proofs.Common.{◌≡◌, ℕ, List, Option, Some, None, IfNone, IsSome, refl, sym, subst, ◌∙◌, Game, Side, PlainBoard, IsPosition, Spells, unpacked}
 use Rattle.moves.proofs.Packing.{units_in-at, within_36, one_spelled}
 use Rattle.moves.proofs.packed.Board.position.Goals as goal
 

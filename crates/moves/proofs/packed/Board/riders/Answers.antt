@@ -1,5 +1,4 @@
-use Rattle.std.proofs.Common.{inl, inr}
-use Rattle.moves.proofs.Common.{Has-or}
+use Rattle.moves.proofs.Common.{inl, inr, Has-or}
 use Rattle.moves.proofs.Owned.{via}
 use Rattle.moves.proofs.packed.Board.riders.Goals as goal
 

@@ -1,5 +1,4 @@
-use Rattle.std.proofs.Common.{sym, subst}
-use Rattle.moves.proofs.Common.{Holds, Shows}
+use Rattle.moves.proofs.Common.{sym, subst, Holds, Shows}
 use Rattle.moves.proofs.packed.Board.set.Goals as goal
 
 pub returns : goal.returns

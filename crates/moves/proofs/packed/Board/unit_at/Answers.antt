@@ -1,5 +1,4 @@
-use Rattle.std.proofs.Common.{◌≡◌, sym, ap, ◌∙◌}
-use Rattle.moves.proofs.Common.{PlainBoard, unit_on, square_number, code_on, man_of, game_of, number_within}
+use Rattle.moves.proofs.Common.{◌≡◌, sym, ap, ◌∙◌, PlainBoard, unit_on, square_number, code_on, man_of, game_of, number_within}
 use Rattle.moves.proofs.Packing.{units_in-at, within_36}
 use Rattle.moves.proofs.packed.Board.unit_at.Goals as goal
 

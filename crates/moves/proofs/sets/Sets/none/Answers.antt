@@ -1,4 +1,4 @@
-use Rattle.std.proofs.Common.{refl}
+use Rattle.moves.proofs.Common.{refl}
 use Rattle.moves.proofs.Classes.{by_class}
 use Rattle.moves.proofs.sets.Sets.none.Goals as goal
 

@@ -1,5 +1,4 @@
-use Rattle.std.proofs.Common.{◌≡◌, ◌+◌, sym, subst, arith}
-use Rattle.moves.proofs.Common.{squares_of, board_of, Sets, AreAdded}
+use Rattle.moves.proofs.Common.{◌≡◌, ◌+◌, sym, subst, arith, squares_of, board_of, Sets, AreAdded}
 use Rattle.moves.proofs.Packing.{none_where}
 use Rattle.moves.proofs.Shown.{ShownBelow, ShownBelow-start, ShownBelow-none, ShownBelow-unit, ShownBelow-all}
 use Rattle.moves.proofs.sets.Sets.of_units.Goals as goal
