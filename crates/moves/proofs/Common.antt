@@ -5,7 +5,7 @@ pub use Rattle.std.proofs.lemmas.Int.{ints}
 pub use Rattle.std.proofs.lemmas.List.{take-take, take_all, get_or-set_same, get_or-set_other, length-set}
 pub use Rattle.std.proofs.lemmas.List.Elements.{Contains-push, Contains-append_left, Contains-append_cases, All-contains, All-get_or, All-more}
 pub use Rattle.std.proofs.lemmas.List.Sums.{count_by_more_yes, sum_by-take-le, count_by_more_no, AllPass-from_list_all, sum_by_more_le}
-pub use Rattle.std.proofs.lemmas.Nat.{pow-add, shl-shr, shr-shr, shr_le, xor_shr, xor_mod, shl_whole, ones_le_self, xor_lt}
+pub use Rattle.std.proofs.lemmas.Nat.{mul-le, pow-add, shl-shr, shr-shr, shr_le, xor_shr, xor_mod, shl_whole, ones_le_self, xor_lt}
 pub use Rattle.std.proofs.lemmas.Nat.Bits.{bit_at_ones, bit_at-lt, bit_at_lowest, bit_at-suc}
 pub use Rattle.std.proofs.lemmas.Option.{same_Some}
 pub use Rattle.std.specs.Int.{bit_not, bit_at}

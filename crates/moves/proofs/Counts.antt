@@ -116,20 +116,16 @@ module _ (b : PlainBoard) (u : Man) (from to : Place) (on : IsOnBoard b.game fro
         promoted k may = lawful_as (Some k) ((λ _. due), (λ _. refl)) may
 
         -- the queen and the rook come first
-        two : (g : Game) → b.game ≡ g → IsPromotion g Queen → IsPromotion g Rook → ListsBelow b first xs → Taken 3 2
-        two g e queen rook lists =
-            take 2 1 (Some Rook) refl (promoted Rook (subst (λ x. IsPromotion x Rook) (sym e) rook))
-            (take 1 0 (Some Queen) refl (promoted Queen (subst (λ x. IsPromotion x Queen) (sym e) queen)) (leave 0 0 None refl (omega arith) not_none (start lists)))
+        two : ListsBelow b first xs → Taken 3 2
+        two lists = take 2 1 (Some Rook) refl (promoted Rook tt) (take 1 0 (Some Queen) refl (promoted Queen tt) (leave 0 0 None refl (omega arith) not_none (start lists)))
 
         take_all : (g : Game) → b.game ≡ g → ListsBelow b first xs → TakenAll (promotions_of g)
         take_all LosAlamos e lists =
             let no_bishop : IsLawful b (move_to (Some Bishop)) → ⊥ = λ l. subst (λ g. IsPromotion g Bishop) e (promotes_well b (move_to (Some Bishop)) u stands l).1 in
-            let knight : IsPromotion b.game Knight = subst (λ g. IsPromotion g Knight) (sym e) tt in
-            whole 5 3 (omega arith) (λ _. refl) (omega arith) (take 4 2 (Some Knight) refl (promoted Knight knight) (leave 3 2 (Some Bishop) refl (omega arith) no_bishop (two LosAlamos e tt tt lists)))
+            whole 5 3 (omega arith) (λ _. refl) (omega arith) (take 4 2 (Some Knight) refl (promoted Knight tt) (leave 3 2 (Some Bishop) refl (omega arith) no_bishop (two lists)))
         take_all Gardner e lists =
             let bishop : IsPromotion b.game Bishop = subst (λ g. IsPromotion g Bishop) (sym e) tt in
-            let knight : IsPromotion b.game Knight = subst (λ g. IsPromotion g Knight) (sym e) tt in
-            whole 5 4 (omega arith) (λ _. refl) (omega arith) (take 4 3 (Some Knight) refl (promoted Knight knight) (take 3 2 (Some Bishop) refl (promoted Bishop bishop) (two Gardner e tt tt lists)))
+            whole 5 4 (omega arith) (λ _. refl) (omega arith) (take 4 3 (Some Knight) refl (promoted Knight tt) (take 3 2 (Some Bishop) refl (promoted Bishop bishop) (two lists)))
 
       pub take_each : (each : ℕ) → IsEach b.game u to each → ListsBelow b first xs → TakenAll each
       take_each each (inl (due, e)) lists = subst TakenAll (sym e) (take_all due b.game refl lists)
@@ -209,12 +205,3 @@ module _ (b : PlainBoard) (u : Man) (from : Place) (on : IsOnBoard b.game from) 
     counted_all fits start =
         let (more, lists, count) = walked_end b.game (Has set) (λ i. Has set i × (64 ≤ i)) (Counted 64) cell (jump 64) (counted start 64) (λ i w. let small = cell_small b.game i (cell i w.0) in let high = w.1 in omega (arith, small, high)) in
         (more, skip_rest b u from on set safe more lists, count ∙ ap (λ x. length moves + x * each) (bits_all 64 set fits))
-
--- a product of bounded numbers
-pub product_most : (a c : ℕ) → a ≤ 64 → c ≤ 4 → a * c ≤ 256
-product_most a zero h k = omega arith
-product_most a (suc zero) h k = omega arith
-product_most a (suc (suc zero)) h k = omega arith
-product_most a (suc (suc (suc zero))) h k = omega arith
-product_most a (suc (suc (suc (suc zero)))) h k = omega arith
-product_most a (suc (suc (suc (suc (suc c))))) h k = absurd (omega arith)

@@ -4,6 +4,7 @@ use Rattle.board.proofs.Leaps.{goes_somewhere}
 use Rattle.moves.proofs.Laying.{unit_at-from, unit_at-other}
 use Rattle.moves.proofs.Kings.{king_of, check_at, check_from}
 use Rattle.moves.proofs.Guarding.{king_moved}
+use Rattle.moves.proofs.Looking.{carried}
 use Rattle.moves.proofs.Pins.{place_cases, foe_attacks}
 
 -- a walk ends where there is less room
@@ -43,16 +44,8 @@ module _ (b : PlainBoard) (m : Ply) (u : Man) (is : IsPosition b) (p : IsPseudoL
       let goes = goes_somewhere (terms_of a.unit.kind) r.step r.denoted in
       let away : s ≡ m.from → ⊥ = λ e. own_or_other b.mover (ap (λ (x : Man). x.side) (same_Some _ a.unit (sym before ∙ ap (unit_at b) (sym e) ∙ a.stands)) ∙ a.owner) in
       let apart : s ≡ m.to → ⊥ = elsewhere b a.unit.side r.step s m.to a.on_board goes r.reaches.leads in
-      check_from (after b m u) b.mover m.to (to_on_board b m u p) behind (
-        s,
-        record {
-          unit = a.unit;
-          on_board = a.on_board;
-          stands = unit_at-other b m u is p s a.on_board away apart ∙ a.stands;
-          owner = a.owner;
-          reaches = record { step = r.step; played = r.played; denoted = r.denoted; reaches = record { allows = r.reaches.allows; leads = walks a.unit.side r.step s goes r.reaches.leads } };
-        },
-      )
+      check_from (after b m u) b.mover m.to (to_on_board b m u p) behind
+      (s, carried b (after b m u) (other_side b.mover) s m.to s m.to a a.on_board r.played (unit_at-other b m u is p s a.on_board away apart ∙ a.stands) (walks a.unit.side r.step s goes r.reaches.leads))
 
   module _ (free : IsPinned b b.mover m.to m.from → ⊥) where
     attacked_now : IsAttacked (after b m u) m.to (other_side b.mover) → IsAttacked b m.to (other_side b.mover)

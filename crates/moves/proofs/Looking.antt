@@ -107,6 +107,16 @@ attacks_on b is side s t u on stands owner a = record {
   };
 }
 
+-- an attack from another square, on another one or on another board, where the same unit stands and its step leads
+pub carried : (b c : PlainBoard) (side : Side) (s t s' t' : Place) (a : AttacksFrom b side s t) → IsOnBoard c.game s' → IsPlayed c.game a.unit.kind → unit_at c s' ≡ Some a.unit → Leads c a.unit.side a.reaches.step s' t' → AttacksFrom c side s' t'
+carried b c side s t s' t' a on played stands leads = record {
+  unit = a.unit;
+  on_board = on;
+  stands = stands;
+  owner = a.owner;
+  reaches = record { step = a.reaches.step; played = played; denoted = a.reaches.denoted; reaches = record { allows = a.reaches.reaches.allows; leads = leads } };
+}
+
 module _ (b : PlainBoard) (t : Place) (me : Side) (on : IsOnBoard b.game t) where
   -- from the attacked square its own kind would take an attacker
   pub Aims-attacked : (s : Place) (a : AttacksFrom b (other_side me) s t) → Aims b (record { side = me; kind = a.unit.kind }) t s

@@ -25,25 +25,14 @@ record IsTurned (f h : ℕ) : Type 0 where
   mover : mover_of_flags h ≡ other_side (mover_of_flags f)
   flags : IsFlags h
 
-flag_cases : (f : ℕ) → IsFlags f → (f ≡ 0) ⊎ ((f ≡ 1) ⊎ ((f ≡ 4) ⊎ (f ≡ 5)))
-flag_cases f h = elim (cases_eq f 0) [
-  | inl e ↦ inl e
-  | inr a ↦ elim (cases_eq f 1) [
-    | inl e ↦ inr (inl e)
-    | inr b ↦ elim (cases_eq f 4) [
-      | inl e ↦ inr (inr (inl e))
-      | inr c ↦ inr (inr (inr (omega (arith, h.eight, h.colour, a, b, c))))
-    ]
-  ]
-]
-
 turned_flags : (f : ℕ) → IsFlags f → IsTurned f (bit_xor f 1)
-turned_flags f h = elim (flag_cases f h) [
-  | inl e ↦ subst (λ n. IsTurned n (bit_xor n 1)) (sym e) (record { game = refl; mover = refl; flags = record { eight = omega arith; colour = omega arith } })
-  | inr (inl e) ↦ subst (λ n. IsTurned n (bit_xor n 1)) (sym e) (record { game = refl; mover = refl; flags = record { eight = omega arith; colour = omega arith } })
-  | inr (inr (inl e)) ↦ subst (λ n. IsTurned n (bit_xor n 1)) (sym e) (record { game = refl; mover = refl; flags = record { eight = omega arith; colour = omega arith } })
-  | inr (inr (inr e)) ↦ subst (λ n. IsTurned n (bit_xor n 1)) (sym e) (record { game = refl; mover = refl; flags = record { eight = omega arith; colour = omega arith } })
-]
+turned_flags zero h = record { game = refl; mover = refl; flags = record { eight = omega arith; colour = omega arith } }
+turned_flags (suc zero) h = record { game = refl; mover = refl; flags = record { eight = omega arith; colour = omega arith } }
+turned_flags (suc (suc zero)) h = absurd (omega (arith, h.colour))
+turned_flags (suc (suc (suc zero))) h = absurd (omega (arith, h.colour))
+turned_flags (suc (suc (suc (suc zero)))) h = record { game = refl; mover = refl; flags = record { eight = omega arith; colour = omega arith } }
+turned_flags (suc (suc (suc (suc (suc zero))))) h = record { game = refl; mover = refl; flags = record { eight = omega arith; colour = omega arith } }
+turned_flags (suc (suc (suc (suc (suc (suc f)))))) h = absurd (omega (arith, h.eight, h.colour))
 
 -- `after` has the code on square s and is else as `before`
 pub record IsPut (g : Game) (before after : List ℕ) (s code : ℕ) : Type 0 where

@@ -3,6 +3,7 @@ use Rattle.moves.proofs.Common.{◌≡◌, ℕ, ◌+◌, ◌^◌, ◌<◌, arith
 use Rattle.moves.proofs.Guarding.{promotes_well}
 use Rattle.moves.proofs.KingSteps.{attacked_then, steps_safely}
 use Rattle.moves.proofs.Laying.{unit_at-to, unit_at-from, unit_at-other}
+use Rattle.moves.proofs.Looking.{carried}
 use Rattle.moves.proofs.Kings.{king_of, check_from}
 use Rattle.moves.proofs.Shadows.{pinned_attacks}
 use Rattle.moves.proofs.Pins.{place_cases, promotes_no_king, no_unit, stays_safe}
@@ -66,16 +67,7 @@ module _ (b : PlainBoard) (m : Ply) (o : Option Kind) (u : Man) (is : IsPosition
         record {
           on_board = check.on_board;
           king = sym (same_at t check.on_board far) ∙ check.king;
-          attacked = (
-            s,
-            record {
-              unit = a.unit;
-              on_board = a.on_board;
-              stands = sym (same_at s a.on_board away) ∙ a.stands;
-              owner = a.owner;
-              reaches = record { step = a.reaches.step; played = a.reaches.played; denoted = a.reaches.denoted; reaches = record { allows = a.reaches.reaches.allows; leads = same_walk a.unit.side a.reaches.step s t a.reaches.reaches.leads } };
-            },
-          );
+          attacked = (s, carried next (after b m u) (other_side b.mover) s t s t a a.on_board a.reaches.played (sym (same_at s a.on_board away) ∙ a.stands) (same_walk a.unit.side a.reaches.step s t a.reaches.reaches.leads));
         },
       )
 
