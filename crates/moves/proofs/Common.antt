@@ -66,3 +66,17 @@ pub use Rattle.moves.specs.Words.{digit, man_of, word_of, place_of, code_on, fla
 pub use Rattle.moves.specs.declared.sets.Class.{Class}
 pub use Rattle.moves.specs.declared.sets.Class.TheVariants.{Crowned, Straight, Slanted, Horsed, Foot}
 pub use Rattle.moves.specs.declared.sets.Sets.{Sets}
+
+pub via : {A B C : Type 0} → A ↔ B → B ↔ C → A ↔ C
+via p q = (λ a. q.0 (p.0 a), λ c. p.1 (q.1 c))
+
+-- a test that is passed, and one that isn't
+pub so : {P : Type 0} → P → IsTrue true ↔ P
+so p = (λ _. p, λ _. refl)
+
+pub not_so : {P : Type 0} → (P → ⊥) → IsTrue false ↔ P
+not_so none = (λ never. absurd (false≢true never), λ p. absurd (none p))
+
+pub not-is : {P : Type 0} (r : Bool) → (IsTrue r ↔ P) → IsTrue (not r) ↔ (P → ⊥)
+not-is true h = not_so (λ safe. safe (h.0 refl))
+not-is false h = so (λ p. false≢true (h.1 p))

@@ -2,7 +2,7 @@
 use Rattle.moves.proofs.Common.{◌≡◌, ◌≢◌, ℕ, ◌+◌, ◌*◌, ◌<◌, ◌≤◌, ◌↔◌, refl, ap, subst, ◌∙◌, arith, true, cond, None, Option, List, [], take, length, count_by, take-take, count_by_more_yes, sum_by-take-le, Game, LosAlamos, Gardner, Man, most_units, squares_of, PlainBoard, is_of_side, IsPosition, Ply, square_number, unit_at, IsLawful, ListsLawful, ListsBelow, ListsFrom, cell_of, place_in, IsCell, Has, CountsFrom, IsCell-cell_of, place_in-cell_of, Has-zero, number_within, IsNumbered-lawful, HasParts-lawful, ListsBelow-nil, ListsBelow-jump, ListsLawful-from, own_from, squares_36}
 use Rattle.moves.specs.Counting.{CountsLawful}
 use Rattle.moves.proofs.Counts.{few_below}
-use Rattle.moves.proofs.Walking.{IsWalked, Jumps, walked_start, walked_end, next, next_holds, walked_more}
+use Rattle.moves.proofs.Walking.{IsWalked, Jumps, walked_start, walked_end, next_holds, walked_more}
 
 -- a unit of the mover stands in the cell
 abbrev pub IsOwn : PlainBoard → ℕ → Type 0
@@ -55,9 +55,6 @@ module _ (b : PlainBoard) where
         (walked_end b.game (IsOwn b) (Has set) (λ n. ListsFrom b n moves) own_cell (gather moves) s (λ i h. Has-zero i (subst (λ x. Has x i) empty h))).lists
 
     module _ (to : ℕ) (there : Has set to) (least : (i : ℕ) → i < to → Has set i → ⊥) where
-      pub gathered_next : IsOwn b to
-      gathered_next = next b.game (IsOwn b) (Has set) (λ n. ListsFrom b n moves) own_cell (gather moves) s to there least
-
       pub gathered_lists : ListsFrom b (square_number b.game (place_in to)) moves
       gathered_lists = next_holds b.game (IsOwn b) (Has set) (λ n. ListsFrom b n moves) own_cell (gather moves) s to there least
 
@@ -101,9 +98,6 @@ module _ (b : PlainBoard) where
         record { moves = moves; lists = ListsLawful-from b (squares_of b.game) moves (omega arith) lists; count = same }
 
     module _ (to : ℕ) (there : Has set to) (least : (i : ℕ) → i < to → Has set i → ⊥) where
-      pub tallied_next : IsOwn b to
-      tallied_next = next b.game (IsOwn b) (Has set) (Counted n) own_cell (tally n) s to there least
-
       module _ (k : ℕ) (counts : CountsFrom b (square_number b.game (place_in to)) k) where
         counted : Counted (n + k) (square_number b.game (place_in to) + 1)
         counted =
@@ -114,7 +108,7 @@ module _ (b : PlainBoard) where
         pub tallied_few : n + k ≤ 6480
         tallied_few =
             let (more, listed, same) = counted in
-            omega (arith, few_below b _ more listed, number_within b.game (place_in to) tallied_next.0.on_board, squares_36 b.game, same)
+            omega (arith, few_below b _ more listed, number_within b.game (place_in to) ((s.left to).0 there).0.0.on_board, squares_36 b.game, same)
 
         pub tallied_more : (rest : ℕ) → ((i : ℕ) → Has rest i ↔ (Has set i × (i ≢ to))) → IsTallied rest (n + k)
         tallied_more rest others = walked_more b.game (IsOwn b) (Has set) (Counted n) own_cell (tally n) s to there least (Has rest) (Counted (n + k)) others counted

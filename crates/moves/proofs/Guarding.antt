@@ -91,11 +91,6 @@ module _ (b : PlainBoard) (m : Ply) (u : Man) (stands : unit_at b m.from ≡ Som
   pub promotes_well : IsLawful b m → (IsSome m.promotion ↔ Promotes b.game u m.to) × IfSome m.promotion (IsPromotion b.game)
   promotes_well (q, move) = (subst (λ v. IsSome m.promotion ↔ Promotes b.game v m.to) (same_unit move.unit move.pseudo) move.pseudo.named, move.pseudo.allowed)
 
--- no attack on the king is no check
-pub not_attacked_safe : (r : Bool) (q : PlainBoard) (side : Side) → (IsTrue r ↔ IsInCheck q side) → IsTrue (not r) ↔ (IsInCheck q side → ⊥)
-not_attacked_safe true q side h = (λ no. absurd (false≢true no), λ safe. absurd (safe (h.0 refl)))
-not_attacked_safe false q side h = (λ _ check. false≢true (h.1 check), λ _. refl)
-
 -- a unit of a side is its own
 pub own_unit_side : (side : Side) (u : Man) → is_of_side side (Some u) ≡ true → u.side ≡ side
 own_unit_side side u e = own_side side u.side e

@@ -54,6 +54,5 @@ module _ (b : PlainBoard) (m : Ply) (u : Man) (is : IsPosition b) (p : IsPseudoL
     check_now : IsInCheck (after b m u) b.mover → IsAttacked b m.to (other_side b.mover)
     check_now check = attacked_now (check_at (after b m u) (IsPosition-after b m u is p) b.mover m.to (to_on_board b m u p) behind check)
 
-    pub steps_safely : (r : Bool) → (IsTrue r ↔ IsAttacked b m.to (other_side b.mover)) → IsTrue (not r) ↔ (IsInCheck (after b m u) b.mover → ⊥)
-    steps_safely true h = (λ no. absurd (false≢true no), λ safe. absurd (safe (attacked_then (h.0 refl))))
-    steps_safely false h = (λ _ check. false≢true (h.1 (check_now check)), λ _. refl)
+    pub steps_safely : (IsAttacked b m.to (other_side b.mover) → ⊥) → IsInCheck (after b m u) b.mover → ⊥
+    steps_safely none check = none (check_now check)

@@ -1,10 +1,7 @@
 -- The units of a side and a class, as the two sets that have them.
-use Rattle.moves.proofs.Common.{refl, ◌≡◌, ℕ, ◌↔◌, Option, Some, None, sym, ap, subst, ◌∙◌, bit_and, Side, Kind, King, PlainBoard, is_of_side, unit_at, place_in, IsCell, Has, Has-and, Class, Crowned, Holds, Owns, StandsAs, StandsFor, class_of, Man, IsSomeKing}
+use Rattle.moves.proofs.Common.{refl, ◌≡◌, ℕ, ◌↔◌, Option, Some, None, sym, ap, subst, ◌∙◌, bit_and, Side, Kind, King, PlainBoard, is_of_side, unit_at, place_in, IsCell, Has, Has-and, Class, Crowned, Holds, Owns, StandsAs, StandsFor, class_of, Man, IsSomeKing, via}
 use Rattle.moves.proofs.Kings.{king_of}
 use Rattle.moves.proofs.Guarding.{is_own, own_unit_side}
-
-pub via : {A B C : Type 0} → A ↔ B → B ↔ C → A ↔ C
-via p q = (λ a. q.0 (p.0 a), λ c. p.1 (q.1 c))
 
 -- the crowned are the kings
 pub crowned : (b : PlainBoard) (i : ℕ) → (IsCell b.game i × StandsAs b Crowned (place_in i)) ↔ (IsCell b.game i × IsSomeKing (unit_at b (place_in i)))

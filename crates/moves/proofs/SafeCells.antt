@@ -182,7 +182,7 @@ module _ (b : PlainBoard) (u : Man) (s : Place) (i : ℕ) (is : IsPosition b) (k
       let p = pseudo_named b m u s i on stands owner target calm.no_king from to named in
       let none : IsAttacked b m.to (other_side b.mover) → ⊥ = λ a. calm.safe (subst (λ x. IsAttacked b x (other_side u.side)) to (subst (λ x. IsAttacked b m.to (other_side x)) (sym owner) a)) in
       let loose : IsPinned b b.mover m.to m.from → ⊥ = λ w. free (subst (λ x. IsPinned b b.mover x s) to (subst (IsPinned b b.mover m.to) from w)) in
-      (after b m u, record { unit = u; pseudo = p; leads = refl; safe = (steps_safely b m u is p king loose false ((λ e. absurd (false≢true e)), λ a. absurd (none a))).0 refl })
+      (after b m u, record { unit = u; pseudo = p; leads = refl; safe = steps_safely b m u is p king loose none })
 
   pub lawful_calm : (m : Ply) → m.from ≡ s → m.to ≡ place_in i → IsLawful b m → IsCalm b (place_in i) u.side
   lawful_calm m from to l =

@@ -1,29 +1,22 @@
-use Rattle.moves.proofs.Common.{◌≡◌, sym, subst, ◌∙◌, false≢true, PlainBoard, IsInCheck, IsLawful, after, IsReached, one_after}
+use Rattle.moves.proofs.Common.{◌≡◌, sym, subst, ◌∙◌, false≢true, PlainBoard, IsInCheck, IsLawful, after, IsReached, one_after, not_so, not-is}
 use Rattle.moves.proofs.AtOnce.{move_by, no_move_at}
-use Rattle.moves.proofs.Guarding.{not_attacked_safe}
 use Rattle.moves.proofs.SafeCells.{lawful_named}
 use Rattle.moves.proofs.at_once.attains.Goals as goal
 
 pub returns-then-not-is_named : goal.returns-then-not-is_named
-returns-then-not-is_named c = (
-  λ never. absurd (false≢true never),
-  λ w. absurd (false≢true (sym c.if-not-is_named.true ∙ c.is_named.ensures.1 (lawful_named c.args.board.now c.args.m c.args.unit c.requires.stands (w.next, w.move)))),
-)
+returns-then-not-is_named c = not_so (λ w. false≢true (sym c.if-not-is_named.true ∙ c.is_named.ensures.1 (lawful_named c.args.board.now c.args.m c.args.unit c.requires.stands (w.next, w.move))))
 
 pub escapes-requires-clause-pseudo : goal.escapes-requires-clause-pseudo
 escapes-requires-clause-pseudo c = c.requires.pseudo (c.is_named.ensures.0 c.if-not-is_named.false)
 
 pub returns-then-escapes : goal.returns-then-escapes
-returns-then-escapes c = (
-  λ never. absurd (false≢true never),
-  λ w.
-      let b = c.args.board.now in
-      let m = c.args.m in
-      let u = c.args.unit in
-      let same : w.next ≡ after b m u = one_after b m w.next _ w.move (move_by b m u c.requires.stands (w.next, w.move)) in
-      let step = c.escapes.ensures c.if-escapes.true in
-      absurd (no_move_at c.args.quest.goal w.next w.reached step.0 (subst (λ q. IsLawful q step.0) (sym same) step.1)),
-)
+returns-then-escapes c = not_so (λ w.
+    let b = c.args.board.now in
+    let m = c.args.m in
+    let u = c.args.unit in
+    let same : w.next ≡ after b m u = one_after b m w.next _ w.move (move_by b m u c.requires.stands (w.next, w.move)) in
+    let step = c.escapes.ensures c.if-escapes.true in
+    no_move_at c.args.quest.goal w.next w.reached step.0 (subst (λ q. IsLawful q step.0) (sym same) step.1))
 
 pub moved-next-requires : goal.moved-next-requires
 moved-next-requires c = c.requires.pseudo (c.is_named.ensures.0 c.if-not-is_named.false)
@@ -35,7 +28,7 @@ returns-then-is_reached c =
     let u = c.args.unit in
     let p = c.requires.pseudo (c.is_named.ensures.0 c.if-not-is_named.false) in
     let next = c.moved-next.result in
-    let own = not_attacked_safe c.is_checked.result next u.side c.is_checked.ensures in (
+    let own = not-is c.is_checked.result c.is_checked.ensures in (
       λ yes. record {
         next = next;
         move = record { unit = u; pseudo = p; leads = c.moved-next.ensures; safe = λ check. own.0 yes (subst (IsInCheck next) (sym p.owner) check) };

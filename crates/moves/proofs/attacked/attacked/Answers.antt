@@ -1,5 +1,4 @@
-use Rattle.moves.proofs.Common.{ℕ, subst, bit_or, Side, Kind, AreAttacked, IsSwept}
-use Rattle.moves.proofs.Owned.{via}
+use Rattle.moves.proofs.Common.{ℕ, subst, bit_or, Side, Kind, AreAttacked, IsSwept, via}
 use Rattle.moves.proofs.Attacking.{five-are, attacked-are}
 use Rattle.moves.proofs.attacked.attacked.Goals as goal
 

@@ -1,5 +1,5 @@
 use Rattle.moves.proofs.Common.{rules, ◌≡◌, sym, subst, []}
-use Rattle.moves.proofs.Gathering.{IsGathered, gathered_start, gathered_end, gathered_next, gathered_lists, gathered_more}
+use Rattle.moves.proofs.Gathering.{IsGathered, gathered_start, gathered_end, gathered_lists, gathered_more}
 use Rattle.moves.proofs.board_list.list_lawful.Goals as goal
 
 pub units-init : goal.units-init
@@ -9,10 +9,10 @@ units-init c =
     subst (IsGathered b c.own-left.result) (sym empty) (gathered_start b c.own-left.result c.own-left.ensures.cells)
 
 pub push_in-requires-clause-cell : goal.push_in-requires-clause-cell
-push_in-requires-clause-cell c = (gathered_next c.args.board.now c.units.left c.units.moves.items c.units.invariant c.take_lowest-cell.result c.take_lowest-cell.ensures.there c.take_lowest-cell.ensures.least).0
+push_in-requires-clause-cell c = ((c.units.invariant.left c.take_lowest-cell.result).0 c.take_lowest-cell.ensures.there).0.0
 
 pub push_in-requires-clause-own : goal.push_in-requires-clause-own
-push_in-requires-clause-own c = (gathered_next c.args.board.now c.units.left c.units.moves.items c.units.invariant c.take_lowest-cell.result c.take_lowest-cell.ensures.there c.take_lowest-cell.ensures.least).1
+push_in-requires-clause-own c = ((c.units.invariant.left c.take_lowest-cell.result).0 c.take_lowest-cell.ensures.there).0.1
 
 pub push_in-requires-clause-before : goal.push_in-requires-clause-before
 push_in-requires-clause-before c = gathered_lists c.args.board.now c.units.left c.units.moves.items c.units.invariant c.take_lowest-cell.result c.take_lowest-cell.ensures.there c.take_lowest-cell.ensures.least

@@ -1,15 +1,15 @@
 use Rattle.moves.proofs.Common.{arith}
-use Rattle.moves.proofs.Gathering.{tallied_start, tallied_end, tallied_next, tallied_few, tallied_more}
+use Rattle.moves.proofs.Gathering.{tallied_start, tallied_end, tallied_few, tallied_more}
 use Rattle.moves.proofs.counting.count_lawful.Goals as goal
 
 pub units-init : goal.units-init
 units-init c = tallied_start c.args.board.now c.own-left.result c.own-left.ensures.cells
 
 pub count_from-count-requires-clause-cell : goal.count_from-count-requires-clause-cell
-count_from-count-requires-clause-cell c = (tallied_next c.args.board.now c.units.left c.units.count c.units.invariant c.take_lowest-cell.result c.take_lowest-cell.ensures.there c.take_lowest-cell.ensures.least).0
+count_from-count-requires-clause-cell c = ((c.units.invariant.left c.take_lowest-cell.result).0 c.take_lowest-cell.ensures.there).0.0
 
 pub count_from-count-requires-clause-own : goal.count_from-count-requires-clause-own
-count_from-count-requires-clause-own c = (tallied_next c.args.board.now c.units.left c.units.count c.units.invariant c.take_lowest-cell.result c.take_lowest-cell.ensures.there c.take_lowest-cell.ensures.least).1
+count_from-count-requires-clause-own c = ((c.units.invariant.left c.take_lowest-cell.result).0 c.take_lowest-cell.ensures.there).0.1
 
 pub overflow_add-count : goal.overflow_add-count
 overflow_add-count c =

@@ -1,5 +1,4 @@
-use Rattle.moves.proofs.Common.{ℕ, Kind, other_side, place_in, IsCell, TakesAs}
-use Rattle.moves.proofs.Owned.{via}
+use Rattle.moves.proofs.Common.{ℕ, Kind, other_side, place_in, IsCell, TakesAs, via}
 use Rattle.moves.proofs.Attacking.{five-are, attackers-are}
 use Rattle.moves.proofs.look.attackers.Goals as goal
 

@@ -1,27 +1,22 @@
-use Rattle.moves.proofs.Common.{ℕ, refl, bit_or, Kind, Rook, Bishop, Knight, King, Pawn, other_side, place_in, IsCell, TakesAs, not-zero}
-use Rattle.moves.proofs.Owned.{via}
+use Rattle.moves.proofs.Common.{ℕ, refl, bit_or, Kind, Rook, Bishop, Knight, King, Pawn, other_side, place_in, IsCell, TakesAs, not-zero, via, so}
 use Rattle.moves.proofs.Attacking.{five-are, attackers-are, none-attacks, some_attack}
 use Rattle.moves.proofs.look.is_attacked.Goals as goal
 
 pub returns-then-struck-ne0 : goal.returns-then-struck-ne0
 returns-then-struck-ne0 c =
-    let found = some_attack c.args.board.now c.requires.position (other_side c.args.side) (place_in c.args.cell) Rook (λ e. cc) _ c.struck.type_inv c.struck.ensures c.if-struck-ne0.true in
-    (λ _. found, λ _. refl)
+    so (some_attack c.args.board.now c.requires.position (other_side c.args.side) (place_in c.args.cell) Rook (λ e. cc) _ c.struck.type_inv c.struck.ensures c.if-struck-ne0.true)
 
 pub returns-then-struck-ne0-2 : goal.returns-then-struck-ne0-2
 returns-then-struck-ne0-2 c =
-    let found = some_attack c.args.board.now c.requires.position (other_side c.args.side) (place_in c.args.cell) Bishop (λ e. cc) _ c.struck-2.type_inv c.struck-2.ensures c.if-struck-ne0-2.true in
-    (λ _. found, λ _. refl)
+    so (some_attack c.args.board.now c.requires.position (other_side c.args.side) (place_in c.args.cell) Bishop (λ e. cc) _ c.struck-2.type_inv c.struck-2.ensures c.if-struck-ne0-2.true)
 
 pub returns-then-struck-ne0-3 : goal.returns-then-struck-ne0-3
 returns-then-struck-ne0-3 c =
-    let found = some_attack c.args.board.now c.requires.position (other_side c.args.side) (place_in c.args.cell) Knight (λ e. cc) _ c.struck-3.type_inv c.struck-3.ensures c.if-struck-ne0-3.true in
-    (λ _. found, λ _. refl)
+    so (some_attack c.args.board.now c.requires.position (other_side c.args.side) (place_in c.args.cell) Knight (λ e. cc) _ c.struck-3.type_inv c.struck-3.ensures c.if-struck-ne0-3.true)
 
 pub returns-then-struck-ne0-4 : goal.returns-then-struck-ne0-4
 returns-then-struck-ne0-4 c =
-    let found = some_attack c.args.board.now c.requires.position (other_side c.args.side) (place_in c.args.cell) King (λ e. cc) _ c.struck-4.type_inv c.struck-4.ensures c.if-struck-ne0-4.true in
-    (λ _. found, λ _. refl)
+    so (some_attack c.args.board.now c.requires.position (other_side c.args.side) (place_in c.args.cell) King (λ e. cc) _ c.struck-4.type_inv c.struck-4.ensures c.if-struck-ne0-4.true)
 
 pub returns : goal.returns
 returns c =

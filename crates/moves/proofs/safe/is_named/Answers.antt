@@ -1,5 +1,4 @@
-use Rattle.moves.proofs.Common.{◌↔◌, IsTrue, IsSome, IfSome, subst, Game, Promotes, IsPromotion}
-use Rattle.moves.proofs.Owned.{via}
+use Rattle.moves.proofs.Common.{◌↔◌, IsTrue, IsSome, IfSome, subst, Game, Promotes, IsPromotion, via}
 use Rattle.moves.proofs.safe.is_named.Goals as goal
 
 pub returns : goal.returns

@@ -1,5 +1,4 @@
-use Rattle.moves.proofs.Common.{ℕ, ◌↔◌, ◌⊎◌, inl, inr, subst, bit_or, Game, Way, North, South, East, West, NorthEast, SouthWest, NorthWest, SouthEast, Has, Has-or, IsOnRay, IsOnStraight, IsOnSlanted}
-use Rattle.moves.proofs.Owned.{via}
+use Rattle.moves.proofs.Common.{ℕ, ◌↔◌, ◌⊎◌, inl, inr, subst, bit_or, Game, Way, North, South, East, West, NorthEast, SouthWest, NorthWest, SouthEast, Has, Has-or, IsOnRay, IsOnStraight, IsOnSlanted, via}
 use Rattle.moves.proofs.Seeing.{wazir_ways, ferz_ways}
 use Rattle.moves.proofs.seen.lines.Goals as goal
 

@@ -1,5 +1,4 @@
-use Rattle.moves.proofs.Common.{◌≡◌, ℕ, ◌↔◌, refl, inl, inr, sym, subst, Game, Side, Kind, King, Queen, Rook, Bishop, Knight, Pawn, PlainBoard, IsCell, Has, IsLeapt, Has-or}
-use Rattle.moves.proofs.Owned.{via}
+use Rattle.moves.proofs.Common.{◌≡◌, ℕ, ◌↔◌, refl, inl, inr, sym, subst, Game, Side, Kind, King, Queen, Rook, Bishop, Knight, Pawn, PlainBoard, IsCell, Has, IsLeapt, Has-or, via}
 use Rattle.moves.proofs.Seeing.{Sees, IsLeaper, Sees-rook, Sees-bishop, Sees-queen, Sees-leaper}
 use Rattle.moves.proofs.seen.seen.Goals as goal
 

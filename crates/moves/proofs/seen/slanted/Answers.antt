@@ -1,5 +1,4 @@
-use Rattle.moves.proofs.Common.{Way, NorthEast, SouthWest, NorthWest, SouthEast, Rides, four-are}
-use Rattle.moves.proofs.Owned.{via}
+use Rattle.moves.proofs.Common.{Way, NorthEast, SouthWest, NorthWest, SouthEast, Rides, four-are, via}
 use Rattle.moves.proofs.Seeing.{ferz_ways}
 use Rattle.moves.proofs.seen.slanted.Goals as goal
 

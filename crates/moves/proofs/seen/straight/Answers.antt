@@ -1,5 +1,4 @@
-use Rattle.moves.proofs.Common.{Way, North, South, East, West, Rides, four-are}
-use Rattle.moves.proofs.Owned.{via}
+use Rattle.moves.proofs.Common.{Way, North, South, East, West, Rides, four-are, via}
 use Rattle.moves.proofs.Seeing.{wazir_ways}
 use Rattle.moves.proofs.seen.straight.Goals as goal
 

@@ -1,4 +1,5 @@
-use Rattle.moves.proofs.Owned.{via, crowned}
+use Rattle.moves.proofs.Common.{via}
+use Rattle.moves.proofs.Owned.{crowned}
 use Rattle.moves.proofs.packed.Board.kings.Goals as goal
 
 pub returns : goal.returns

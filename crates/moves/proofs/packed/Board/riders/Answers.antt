@@ -1,5 +1,4 @@
-use Rattle.moves.proofs.Common.{inl, inr, Has-or}
-use Rattle.moves.proofs.Owned.{via}
+use Rattle.moves.proofs.Common.{inl, inr, Has-or, via}
 use Rattle.moves.proofs.packed.Board.riders.Goals as goal
 
 pub returns : goal.returns
