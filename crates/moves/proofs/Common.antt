@@ -29,7 +29,7 @@ pub use Rattle.board.specs.declared.terms.Atom.{Atom}
 pub use Rattle.board.specs.declared.terms.Atom.TheVariants.{Wazir, Ferz}
 pub use Rattle.board.specs.declared.terms.Term.{Term}
 pub use Rattle.rules.proofs.Forcing.{same_side-self, to_own, to_other, turn-own}
-pub use Rattle.rules.proofs.Keeps.{IsRankAhead, to_on_board, no_own as own_or_other, IsPosition-after, Leads-single_step as single_step, other_square, Leads-on_board as Leads-end, pawn_ahead, one_after}
+pub use Rattle.rules.proofs.Keeps.{lawful_from, IsRankAhead, to_on_board, no_own as own_or_other, IsPosition-after, Leads-single_step as single_step, other_square, Leads-on_board as Leads-end, pawn_ahead, one_after}
 pub use Rattle.rules.proofs.Listed.{same_number, number_within}
 pub use Rattle.rules.proofs.Lists.{IsNumbered-lawful, HasParts-lawful, ListsBelow-nil, ListsBelow-jump, ListsLawful-from, own_from, ListsBelow-all_to, IsNumbered, ListsBelow-push, ListsBelow-skip, ListsBelow-promoted, promotes_to, numbered_promotion, first_promotion}
 pub use Rattle.rules.proofs.Rides.{room_of, room_of-step, one_target, size-ahead}

@@ -1,7 +1,7 @@
 -- How many lawful moves there are, by the cells to which they lead.
 use Rattle.moves.proofs.Common.{◌≡◌, ℕ, ◌+◌, ◌*◌, ◌/◌, ◌%◌, ◌^◌, ◌<◌, ◌≤◌, zero, suc, refl, sym, ap, subst, ◌∙◌, ◌↔◌, inl, inr, arith, List, [], ◌∷◌, ◌++◌, length, get_or, length-append, Option, Some, None, IsSome, IfSome, count_ones, bit_at, ones_le_self, bit_at-lt, bit_at_lowest, bit_at-suc, cases_eq, All-get_or, Game, LosAlamos, Gardner, Kind, Queen, Rook, Bishop, Knight, Man, PlainBoard, Place, Ply, IsOnBoard, square_number, unit_at, Promotes, IsPromotion, IsLawful, promotion_number, ply_number, ListsBelow, place_in, IsCell, Has, IsNamed, HasSafe, IsEach, promotions_of, cell_small, IsNumbered, ListsBelow-push, ListsBelow-skip, ListsBelow-promoted}
 use Rattle.std.specs.Int.Count.{ones_step}
-use Rattle.moves.proofs.Guarding.{promotes_well}
+use Rattle.moves.proofs.AtOnce.{pseudo_by}
 use Rattle.moves.proofs.Walking.{IsWalked, Jumps, walked_start, walked_end, next_holds, walked_more}
 use Rattle.moves.proofs.Scanning.{skip, skip_rest}
 
@@ -107,7 +107,7 @@ module _ (b : PlainBoard) (u : Man) (from to : Place) (on : IsOnBoard b.game fro
 
       module _ (due : Promotes b.game u to) where
         not_none : IsLawful b (move_to None) → ⊥
-        not_none l = not_some ((promotes_well b (move_to None) u stands l).0.1 due)
+        not_none l = not_some ((pseudo_by b (move_to None) u stands l).named.1 due)
           where
             not_some : IsSome {T = Kind} None → ⊥
             not_some e = cc
@@ -121,7 +121,7 @@ module _ (b : PlainBoard) (u : Man) (from to : Place) (on : IsOnBoard b.game fro
 
         take_all : (g : Game) → b.game ≡ g → ListsBelow b first xs → TakenAll (promotions_of g)
         take_all LosAlamos e lists =
-            let no_bishop : IsLawful b (move_to (Some Bishop)) → ⊥ = λ l. subst (λ g. IsPromotion g Bishop) e (promotes_well b (move_to (Some Bishop)) u stands l).1 in
+            let no_bishop : IsLawful b (move_to (Some Bishop)) → ⊥ = λ l. subst (λ g. IsPromotion g Bishop) e (pseudo_by b (move_to (Some Bishop)) u stands l).allowed in
             whole 5 3 (omega arith) (λ _. refl) (omega arith) (take 4 2 (Some Knight) refl (promoted Knight tt) (leave 3 2 (Some Bishop) refl (omega arith) no_bishop (two lists)))
         take_all Gardner e lists =
             let bishop : IsPromotion b.game Bishop = subst (λ g. IsPromotion g Bishop) (sym e) tt in

@@ -75,22 +75,6 @@ module _ (b : PlainBoard) (m : Ply) (u : Man) (is : IsPosition b) (p : IsPseudoL
       taken None e = cc
       taken (Some v) e = ap (λ (x : Man). x.kind) (same_Some v _ e)
 
--- ---- lawful moves among those that reach a square
-
-module _ (b : PlainBoard) (m : Ply) (u : Man) (stands : unit_at b m.from ≡ Some u) where
-  same_unit : (v : Man) → IsPseudoLegal b m v → v ≡ u
-  same_unit v p = same_Some v u (sym p.stands ∙ stands)
-
-  -- a pseudo-legal move is lawful where it leaves the king safe
-  pub lawful_if_safe : (r : Bool) → IsPseudoLegal b m u → (IsTrue r ↔ (IsInCheck (after b m u) b.mover → ⊥)) → IsTrue r ↔ IsLawful b m
-  lawful_if_safe r p safe = (
-    λ e. (after b m u, record { unit = u; pseudo = p; leads = refl; safe = safe.0 e }),
-    λ (q, move). safe.1 (λ check. move.safe (subst (λ x. IsInCheck x b.mover) (ap (after b m) (sym (same_unit move.unit move.pseudo)) ∙ sym move.leads) check)),
-  )
-
-  pub promotes_well : IsLawful b m → (IsSome m.promotion ↔ Promotes b.game u m.to) × IfSome m.promotion (IsPromotion b.game)
-  promotes_well (q, move) = (subst (λ v. IsSome m.promotion ↔ Promotes b.game v m.to) (same_unit move.unit move.pseudo) move.pseudo.named, move.pseudo.allowed)
-
 -- a unit of a side is its own
 pub own_unit_side : (side : Side) (u : Man) → is_of_side side (Some u) ≡ true → u.side ≡ side
 own_unit_side side u e = own_side side u.side e

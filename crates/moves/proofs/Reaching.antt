@@ -1,15 +1,9 @@
 -- What a unit reaches is what it sees, but for its own units, and a pawn's step.
-use Rattle.moves.proofs.Common.{◌≡◌, ℕ, ◌^◌, ◌<◌, ◌≤◌, w64, zero, suc, refl, sym, ap, subst, ◌∙◌, arith, ◌↔◌, ◌⊎◌, inl, inr, Bool, true, false, ℤ, pos, ◌<ℤ◌, Option, Some, None, list_all, bit_not, unsigned_abs, bit_and, bit_or, ints, false≢true, Side, White, Black, Kind, King, Queen, Rook, Bishop, Knight, Pawn, Man, Mode, Move, Capture, Both, Step, Wazir, Term, IsAtomLeap, terms_of, Denotes, other_side, IsPlayed, PlainBoard, is_of_side, unit_at, ahead_of, IsShift, IsStep, Allows, Reaches, once, table_of, place_in, IsAway, IsCell, Aims, Has, IsTarget, IsNext, ahead_way, shift_in, Has-and, Has-or, Has-minus, next_of, next-is, is-next, single_step as single}
+use Rattle.moves.proofs.Common.{◌≡◌, ℕ, ◌^◌, ◌<◌, ◌≤◌, w64, zero, suc, refl, sym, ap, subst, ◌∙◌, arith, ◌↔◌, ◌⊎◌, inl, inr, Bool, true, false, ℤ, pos, ◌<ℤ◌, Option, Some, None, list_all, bit_not, unsigned_abs, bit_and, bit_or, ints, false≢true, Side, White, Black, Kind, King, Queen, Rook, Bishop, Knight, Pawn, Man, Mode, Move, Capture, Both, Step, Wazir, Term, IsAtomLeap, terms_of, Denotes, other_side, IsPlayed, PlainBoard, is_of_side, unit_at, ahead_of, IsShift, IsStep, Allows, Reaches, once, table_of, place_in, IsAway, IsCell, Aims, Has, IsTarget, IsNext, ahead_way, shift_in, Has-and, Has-or, Has-minus, next_of, next-is, is-next, single_step as single, own_or_other}
 use Rattle.moves.proofs.Guarding.{own_unit_side, is_own}
 use Rattle.moves.proofs.Seeing.{zero_of, by_table}
 
 -- ---- where a step may end
-
-own-foe : (s t : Side) (k : Kind) → t ≡ other_side s → is_of_side s (Some (record { side = t; kind = k })) ≡ true → ⊥
-own-foe White White k e h = cc
-own-foe White Black k e h = false≢true h
-own-foe Black White k e h = false≢true h
-own-foe Black Black k e h = cc
 
 foe-own : (s t : Side) (k : Kind) → (is_of_side s (Some (record { side = t; kind = k })) ≡ true → ⊥) → t ≡ other_side s
 foe-own White White k h = absurd (h refl)
@@ -19,7 +13,7 @@ foe-own Black Black k h = absurd (h refl)
 
 pub Allows-both : (side : Side) (o : Option Man) → Allows Both side o ↔ (is_of_side side o ≡ true → ⊥)
 Allows-both side None = (λ _ h. false≢true h, λ _. tt)
-Allows-both side (Some u) = (λ e. own-foe side u.side u.kind e, λ h. foe-own side u.side u.kind h)
+Allows-both side (Some u) = (λ e own. own_or_other side (sym (own_unit_side side u own) ∙ e), λ h. foe-own side u.side u.kind h)
 
 pub Allows-capture : (side : Side) (o : Option Man) → Allows Capture side o ↔ (is_of_side (other_side side) o ≡ true)
 Allows-capture side None = (λ h. absurd h, λ h. absurd (false≢true h))

@@ -1,6 +1,5 @@
 -- Whether a move is lawful doesn't depend on what a pawn becomes.
 use Rattle.moves.proofs.Common.{◌≡◌, ℕ, ◌+◌, ◌^◌, ◌<◌, arith, refl, sym, ap, subst, ◌∙◌, ◌⊎◌, ◌↔◌, inl, inr, Option, Some, None, IsSome, false, same_Some, cases_eq, false≢true, Game, LosAlamos, Gardner, Side, White, Black, Kind, King, Queen, Rook, Bishop, Knight, Pawn, Man, Step, width_of, other_side, PlainBoard, IsPosition, Place, Ply, IsOnBoard, unit_at, Leads, Reaches, IsAttacked, IsInCheck, once, again, IsLastRank, IsPromotion, Promotes, IsSomeKing, IsPseudoLegal, IsLawful, placed, after, cell_of, place_in, Has, IsTarget, IsPinned, IsNamed, HasSafe, IsCalm, place_in-cell_of, lowest-has, IsRankAhead, to_on_board, own_or_other}
-use Rattle.moves.proofs.Guarding.{promotes_well}
 use Rattle.moves.proofs.KingSteps.{attacked_then, steps_safely}
 use Rattle.moves.proofs.Laying.{unit_at-to, unit_at-from, unit_at-other}
 use Rattle.moves.proofs.Looking.{carried}
@@ -133,7 +132,7 @@ module _ (b : PlainBoard) (u : Man) (s k : Place) (is : IsPosition b) (on : IsOn
 
 -- a lawful move names its promotion well
 pub lawful_named : (b : PlainBoard) (m : Ply) (u : Man) → unit_at b m.from ≡ Some u → IsLawful b m → IsNamed b.game u m
-lawful_named b m u stands l = let well = promotes_well b m u stands l in record { named = well.0; allowed = well.1 }
+lawful_named b m u stands l = let p = pseudo_by b m u stands l in record { named = p.named; allowed = p.allowed }
 
 -- a pawn comes to its last rank from the one before it
 pub last_next : (g : Game) (side : Side) (from to : ℕ) → IsRankAhead side from to → IsLastRank g side to ↔ IsBeforeLast g side from

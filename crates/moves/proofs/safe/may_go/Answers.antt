@@ -1,6 +1,5 @@
-use Rattle.moves.proofs.Common.{◌≡◌, ◌↔◌, IsTrue, Some, refl, sym, ap, subst, ◌∙◌, false≢true, not-true, other_side, PlainBoard, unit_at, IsAttacked, IsInCheck, IsSomeKing, IsPseudoLegal, after, cell_of, place_in, Has, IsNamed, IsCalm, cell_of-place_in, so, not_so, not-is}
+use Rattle.moves.proofs.Common.{◌≡◌, ◌↔◌, IsTrue, Some, refl, sym, ap, subst, ◌∙◌, false≢true, not-true, other_side, PlainBoard, unit_at, IsAttacked, IsInCheck, IsSomeKing, IsPseudoLegal, after, cell_of, place_in, Has, IsNamed, IsCalm, cell_of-place_in, so, not_so, not-is, lawful_from}
 use Rattle.moves.proofs.AtOnce.{pseudo_by, move_by}
-use Rattle.moves.proofs.Guarding.{lawful_if_safe}
 use Rattle.moves.proofs.SafeCells.{lawful_too, pseudo_named, calm_lawful, lawful_calm, free_lawful}
 use Rattle.moves.proofs.Shadows.{in_shadow}
 use Rattle.moves.proofs.safe.may_go.Goals as goal
@@ -66,16 +65,11 @@ returns c = λ m from to named.
     let b = c.args.board.now in
     let u = c.args.unit in
     let q = c.queening-m.result in
-    let i = c.args.to in
     let from_q : q.from ≡ place_in c.args.from = c.queening-m.ensures.from ∙ c.square_in.ensures in
-    let to_q : q.to ≡ place_in i = c.queening-m.ensures.to ∙ c.square_in-2.ensures in
-    let named_q : IsNamed b.game u q = subst (λ g. IsNamed g u q) c.game.ensures.value c.queening-m.ensures.named in
-    let pseudo : IsPseudoLegal b q u = pseudo_named b q u (place_in c.args.from) i c.requires.cell.on_board c.requires.stands c.requires.owner c.requires.target
-    (λ there. false≢true (sym c.if-has_king.false ∙ c.has_king.ensures.1 there)) from_q to_q named_q in
+    let to_q : q.to ≡ place_in c.args.to = c.queening-m.ensures.to ∙ c.square_in-2.ensures in
+    let pseudo : IsPseudoLegal b q u = moved-requires c.before.before.before in
     let stands : unit_at b q.from ≡ Some u = ap (unit_at b) from_q ∙ c.requires.stands in
-    let next = after b q u in
-    let safe = not-is c.is_checked.result (subst (λ s. IsTrue c.is_checked.result ↔ IsInCheck next s) c.requires.owner (subst (λ (x : PlainBoard). IsTrue c.is_checked.result ↔ IsInCheck x u.side) c.moved.ensures c.is_checked.ensures)) in
-    let lawful = lawful_if_safe b q u stands _ pseudo safe in (
+    let lawful = lawful_from b q u c.moved.result u.side c.is_checked.result pseudo c.moved.ensures c.requires.owner c.is_checked.ensures in (
       λ yes. lawful_too b q m u c.requires.position stands (from ∙ sym from_q) (to ∙ sym to_q) named (lawful.0 yes),
-      λ l. lawful.1 (lawful_too b m q u c.requires.position (ap (unit_at b) from ∙ c.requires.stands) (from_q ∙ sym from) (to_q ∙ sym to) named_q l),
+      λ l. lawful.1 (lawful_too b m q u c.requires.position (ap (unit_at b) from ∙ c.requires.stands) (from_q ∙ sym from) (to_q ∙ sym to) (record { named = pseudo.named; allowed = pseudo.allowed }) l),
     )
