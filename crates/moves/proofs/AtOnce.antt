@@ -1,5 +1,5 @@
 -- What a side reaches with its next move.
-use Rattle.moves.proofs.Common.{◌≡◌, ℕ, ◌<◌, ◌≤◌, ◌↔◌, IsTrue, Bool, true, false, not, inl, inr, refl, sym, ◌∙◌, ap, subst, arith, get_or, Option, Some, None, false≢true, same_Some, cases_lt, Kind, King, Queen, Rook, Bishop, Knight, Pawn, Side, White, Black, Man, Mode, Move, Capture, Both, is_same_side, other_side, PlainBoard, Goal, Place, Ply, IsOnBoard, unit_at, Allows, Reaches, IsInCheck, Promotes, IsSomeKing, IsPseudoLegal, IsMove, IsLawful, IsMated, after, promotion_number, PROMOTIONS, IsReached, Forces, Attains, IsNamed, HasParts-lawful, promotes_to, to_own, to_other, same_side-self, turn-own}
+use Rattle.moves.proofs.Common.{◌≡◌, ℕ, ◌<◌, ◌≤◌, ◌↔◌, IsTrue, Bool, true, false, not, inl, inr, refl, sym, ◌∙◌, ap, subst, arith, get_or, Option, Some, None, false≢true, same_Some, cases_lt, Kind, King, Queen, Rook, Bishop, Knight, Pawn, Side, Man, Mode, Move, Capture, Both, is_same_side, other_side, PlainBoard, Goal, Place, Ply, IsOnBoard, unit_at, Allows, Reaches, IsInCheck, Promotes, IsSomeKing, IsPseudoLegal, IsMove, IsLawful, IsMated, after, promotion_number, PROMOTIONS, IsReached, Forces, Attains, HasParts-lawful, promotes_to, to_own, to_other, same_side-self, turn-own, not-is}
 use Rattle.rules.specs.declared.goal.Goal.TheVariants.{Mate, MateOrStale}
 use Rattle.moves.proofs.Kings.{check_from}
 use Rattle.moves.proofs.Looking.{other_twice}
@@ -9,8 +9,7 @@ use Rattle.board.proofs.RankText.{on_true as on_own, on_false as on_other}
 
 -- in check, mate is want of a lawful move
 pub mated_exactly : (b : PlainBoard) (some : Bool) → IsInCheck b b.mover → (IsTrue some ↔ ((m : Ply) × IsLawful b m)) → IsTrue (not some) ↔ IsMated b
-mated_exactly b true check h = (λ is. absurd (false≢true is), λ mated. absurd (let w = h.0 refl in mated.no_move w.0 w.1))
-mated_exactly b false check h = (λ _. record { check = check; no_move = λ m lawful. false≢true (h.1 (m, lawful)) }, λ _. refl)
+mated_exactly b some check h = let w = not-is some h in (λ no. record { check = check; no_move = λ m lawful. w.0 no (m, lawful) }, λ mated. w.1 (λ l. mated.no_move l.0 l.1))
 
 pub mated_if : (goal : Goal) (b : PlainBoard) (check some : Bool) → goal ≡ Mate → (IsTrue check ↔ IsInCheck b b.mover) → (IsTrue some ↔ ((m : Ply) × IsLawful b m)) → check ≡ true → IsTrue (not some) ↔ IsReached goal b
 mated_if goal b check some is h k e = subst (λ (g : Goal). IsTrue (not some) ↔ IsReached g b) (sym is) (mated_exactly b some (h.0 e) k)
@@ -26,9 +25,8 @@ no_move_at Mate b mated = mated.no_move
 no_move_at MateOrStale b r = no_move_of b r
 
 pub stale_exactly : (b : PlainBoard) (check some : Bool) → (IsTrue check ↔ IsInCheck b b.mover) → (IsTrue some ↔ ((m : Ply) × IsLawful b m)) → IsTrue (not some) ↔ IsReached MateOrStale b
-stale_exactly b check true h k = (λ is. absurd (false≢true is), λ r. absurd (let w = k.0 refl in no_move_of b r w.0 w.1))
-stale_exactly b true false h k = (λ _. inl (record { check = h.0 refl; no_move = λ m lawful. false≢true (k.1 (m, lawful)) }), λ _. refl)
-stale_exactly b false false h k = (λ _. inr (record { no_check = λ c. false≢true (h.1 c); no_move = λ m lawful. false≢true (k.1 (m, lawful)) }), λ _. refl)
+stale_exactly b true some h k = let w = not-is some k in (λ no. inl (record { check = h.0 refl; no_move = λ m lawful. w.0 no (m, lawful) }), λ r. w.1 (λ l. no_move_of b r l.0 l.1))
+stale_exactly b false some h k = let w = not-is some k in (λ no. inr (record { no_check = λ c. false≢true (h.1 c); no_move = λ m lawful. w.0 no (m, lawful) }), λ r. w.1 (λ l. no_move_of b r l.0 l.1))
 
 pub stale_if : (goal : Goal) (b : PlainBoard) (check some : Bool) → goal ≡ MateOrStale → (IsTrue check ↔ IsInCheck b b.mover) → (IsTrue some ↔ ((m : Ply) × IsLawful b m)) → IsTrue (not some) ↔ IsReached goal b
 stale_if goal b check some is h k = subst (λ (g : Goal). IsTrue (not some) ↔ IsReached g b) (sym is) (stale_exactly b check some h k)

@@ -107,10 +107,7 @@ module _ (b : PlainBoard) (u : Man) (from to : Place) (on : IsOnBoard b.game fro
 
       module _ (due : Promotes b.game u to) where
         not_none : IsLawful b (move_to None) → ⊥
-        not_none l = not_some ((pseudo_by b (move_to None) u stands l).named.1 due)
-          where
-            not_some : IsSome {T = Kind} None → ⊥
-            not_some e = cc
+        not_none l = cc ((pseudo_by b (move_to None) u stands l).named.1 due)
 
         promoted : (k : Kind) → IsPromotion b.game k → IsLawful b (move_to (Some k))
         promoted k may = lawful_as (Some k) ((λ _. due), (λ _. refl)) may

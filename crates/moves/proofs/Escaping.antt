@@ -1,12 +1,12 @@
 -- Steps of a king that are lawful after a move of the other side.
-use Rattle.moves.proofs.Common.{◌≡◌, ℕ, refl, sym, ap, subst, ◌∙◌, ◌⊎◌, inl, inr, false, Some, None, false≢true, same_Some, King, Queen, Rook, Bishop, Pawn, Man, Side, Step, terms_of, Denotes, other_side, PlainBoard, IsPosition, Place, Ply, IsOnBoard, unit_at, Leads, Allows, Reaches, AttacksFrom, IsAttacked, IsInCheck, once, again, IsSomeKing, IsPseudoLegal, IsLawful, placed, after, IsPosition-after, own_or_other, place_in, IsCell, Way, IsOnRay, Aims, IsPinned, IsCalm}
+use Rattle.moves.proofs.Common.{◌≡◌, ℕ, refl, sym, ap, subst, ◌∙◌, inl, inr, false, Some, None, false≢true, same_Some, King, Man, Side, Step, other_side, PlainBoard, IsPosition, Place, Ply, IsOnBoard, unit_at, Leads, Allows, Reaches, AttacksFrom, IsAttacked, IsInCheck, once, again, IsSomeKing, IsPseudoLegal, IsLawful, placed, after, IsPosition-after, own_or_other, place_in, IsCell, Way, IsOnRay, Aims, IsPinned, IsCalm}
 use Rattle.moves.proofs.Laying.{unit_at-other}
 use Rattle.moves.proofs.Kings.{king_of, check_at, check_from}
 use Rattle.moves.proofs.Guarding.{king_moved}
-use Rattle.moves.proofs.Looking.{captures_from}
+use Rattle.moves.proofs.Looking.{attack_aims}
 use Rattle.moves.proofs.Pins.{stood, attacked_after}
 use Rattle.moves.proofs.Riding.{Rides-leads, rides-ray}
-use Rattle.moves.proofs.Seeing.{rides_as}
+use Rattle.moves.proofs.Seeing.{rides_as, king_single}
 use Rattle.moves.proofs.Shadows.{pinned_attacks}
 
 -- what a rider would come to over a cell lies on a line of that cell
@@ -15,15 +15,6 @@ over_lines b side k i on cell w = elim (rides_as w.rider.side w.rider.kind w.ste
   | inl single ↦ absurd (false≢true (sym single ∙ w.rides))
   | inr way ↦ (way.way, rides-ray b way.way k i (Rides-leads b w.rider.side way.way w.step way.goes k i on cell w.to_king))
 ]
-
-no_ride : ((King ≡ Queen) ⊎ (King ≡ Rook)) ⊎ ((King ≡ Queen) ⊎ (King ≡ Bishop)) → ⊥
-no_ride (inl (inl e)) = cc
-no_ride (inl (inr e)) = cc
-no_ride (inr (inl e)) = cc
-no_ride (inr (inr e)) = cc
-
-no_pawn : King ≡ Pawn → ⊥
-no_pawn e = cc
 
 module _ (b : PlainBoard) (m : Ply) (u : Man) (is : IsPosition b) (p : IsPseudoLegal b m u) where
   -- a step at once is one on any board
@@ -56,14 +47,11 @@ module _ (b : PlainBoard) (m : Ply) (u : Man) (is : IsPosition b) (p : IsPseudoL
         denoted = reach.denoted;
         reaches = record {
           allows = subst (Allows reach.step.mode (other_side b.mover)) (sym same_target) reach.reaches.allows;
-          leads = elim (rides_as (other_side b.mover) King reach.step reach.denoted) [
-            | inl single ↦ single_after (other_side b.mover) reach.step k f single reach.reaches.leads
-            | inr way ↦ absurd (no_ride way.class)
-          ];
+          leads = single_after (other_side b.mover) reach.step k f (king_single reach.step reach.denoted) reach.reaches.leads;
         };
       };
       no_king = λ w. calm.no_king (subst IsSomeKing same_target w);
-      named = (λ never. absurd (false≢true never), λ w. absurd (no_pawn w.0));
+      named = (λ never. absurd (false≢true never), λ w. cc w.0);
       allowed = tt;
     }
 
@@ -97,12 +85,7 @@ module _ (b : PlainBoard) (m : Ply) (u : Man) (is : IsPosition b) (p : IsPseudoL
         where
           -- the unit that moved takes there
           aims : (c : PlainBoard) (s : Place) (a : AttacksFrom c (other_side (other_side b.mover)) s f) → s ≡ m.to → a.unit ≡ placed u m → Aims c (placed u m) m.to f
-          aims c s a same man = record {
-            step = a.reaches.step;
-            denoted = subst (λ (x : Man). Denotes (terms_of x.kind) a.reaches.step) man a.reaches.denoted;
-            captures = captures_from a.reaches.step.mode a.unit.side _ a.reaches.reaches.allows;
-            leads = subst (λ (x : Man). Leads c x.side a.reaches.step m.to f) man (subst (λ x. Leads c a.unit.side a.reaches.step x f) same a.reaches.reaches.leads);
-          }
+          aims c s a same man = subst (λ x. Aims c (placed u m) x f) same (subst (λ (x : Man). Aims c x s f) man (attack_aims c (other_side (other_side b.mover)) s f a))
 
       pub lawful_step : IsLawful (after b m u) (record { from = k; to = f; promotion = None })
       lawful_step =

@@ -1,5 +1,5 @@
 -- The mover's king, and the moves that keep it safe.
-use Rattle.moves.proofs.Common.{◌≡◌, ℕ, ◌+◌, ◌/◌, ◌%◌, ◌<◌, ◌≤◌, zero, suc, refl, sym, ap, subst, ◌∙◌, arith, ◌↔◌, IsTrue, Bool, true, false, not, List, length, get_or, take, Option, Some, None, IsSome, IfSome, unwrap_or, count_by, false≢true, and_parts, false_from_ne_true, take_all, count_by_more_no, same_Some, Game, LosAlamos, Gardner, Side, White, Black, Kind, King, Queen, Rook, Bishop, Knight, Pawn, Man, squares_of, is_same_side, PlainBoard, unit_on, is_king, is_king_of, is_of_side, IsPosition, MayStandOn, Place, Ply, IsOnBoard, square_number, unit_at, IsInCheck, Promotes, IsPromotion, IsSomeKing, IsPseudoLegal, IsLawful, after, cell_of, place_in, IsCell, IsCell-cell_of, place_in-cell_of, same_side-self}
+use Rattle.moves.proofs.Common.{◌≡◌, ℕ, ◌+◌, ◌/◌, ◌%◌, ◌<◌, ◌≤◌, zero, suc, refl, sym, ap, subst, ◌∙◌, arith, Bool, true, false, List, length, get_or, take, Option, Some, None, IsSome, IfSome, unwrap_or, count_by, false≢true, and_parts, false_from_ne_true, take_all, count_by_more_no, same_Some, Game, LosAlamos, Gardner, Side, White, Black, Kind, King, Queen, Rook, Bishop, Knight, Pawn, Man, squares_of, is_same_side, PlainBoard, unit_on, is_king, is_king_of, is_of_side, IsPosition, MayStandOn, Place, Ply, IsOnBoard, square_number, unit_at, IsSomeKing, IsPseudoLegal, after, cell_of, place_in, IsCell, IsCell-cell_of, place_in-cell_of, same_side-self}
 use Rattle.moves.proofs.Laying.{unit_at-to, unit_at-other}
 use Rattle.moves.proofs.Kings.{king_of}
 

@@ -1,5 +1,5 @@
 -- A king steps into check exactly where the square is attacked already, if no rider comes there through the king's square.
-use Rattle.moves.proofs.Common.{◌≡◌, ◌+◌, ◌<◌, refl, sym, ap, ◌∙◌, arith, inl, inr, IsTrue, ◌↔◌, Bool, true, false, not, Some, unsigned_abs, false≢true, same_Some, Side, King, Man, Step, terms_of, other_side, PlainBoard, IsPosition, Place, Ply, IsOnBoard, unit_at, Leads, IsAttacked, IsInCheck, once, again, IsPseudoLegal, after, room_of, room_of-step, to_on_board, IsPosition-after, own_or_other, IsPinned}
+use Rattle.moves.proofs.Common.{◌≡◌, ◌+◌, ◌<◌, sym, ap, ◌∙◌, arith, inl, inr, Some, unsigned_abs, same_Some, Side, King, Man, Step, terms_of, other_side, PlainBoard, IsPosition, Place, Ply, IsOnBoard, unit_at, Leads, IsAttacked, IsInCheck, once, again, IsPseudoLegal, after, room_of, room_of-step, to_on_board, IsPosition-after, own_or_other, IsPinned}
 use Rattle.board.proofs.Leaps.{goes_somewhere}
 use Rattle.moves.proofs.Laying.{unit_at-from, unit_at-other}
 use Rattle.moves.proofs.Kings.{king_of, check_at, check_from}

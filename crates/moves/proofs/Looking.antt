@@ -107,6 +107,10 @@ attacks_on b is side s t u on stands owner a = record {
   };
 }
 
+-- what attacks a square would take there
+pub attack_aims : (b : PlainBoard) (side : Side) (s t : Place) (a : AttacksFrom b side s t) → Aims b a.unit s t
+attack_aims b side s t a = record { step = a.reaches.step; denoted = a.reaches.denoted; captures = captures_from a.reaches.step.mode a.unit.side _ a.reaches.reaches.allows; leads = a.reaches.reaches.leads }
+
 -- an attack from another square, on another one or on another board, where the same unit stands and its step leads
 pub carried : (b c : PlainBoard) (side : Side) (s t s' t' : Place) (a : AttacksFrom b side s t) → IsOnBoard c.game s' → IsPlayed c.game a.unit.kind → unit_at c s' ≡ Some a.unit → Leads c a.unit.side a.reaches.step s' t' → AttacksFrom c side s' t'
 carried b c side s t s' t' a on played stands leads = record {
@@ -121,10 +125,8 @@ module _ (b : PlainBoard) (t : Place) (me : Side) (on : IsOnBoard b.game t) wher
   -- from the attacked square its own kind would take an attacker
   pub Aims-attacked : (s : Place) (a : AttacksFrom b (other_side me) s t) → Aims b (record { side = me; kind = a.unit.kind }) t s
   Aims-attacked s a =
-      let r = a.reaches in
       let turned : other_side a.unit.side ≡ me = ap other_side a.owner ∙ other_twice me in
-      let there : Aims b a.unit s t = record { step = r.step; denoted = r.denoted; captures = captures_from r.step.mode a.unit.side _ r.reaches.allows; leads = r.reaches.leads } in
-      subst (λ x. Aims b (record { side = x; kind = a.unit.kind }) t s) turned (Aims-back b a.unit.side a.unit.kind s t a.on_board there)
+      subst (λ x. Aims b (record { side = x; kind = a.unit.kind }) t s) turned (Aims-back b a.unit.side a.unit.kind s t a.on_board (attack_aims b (other_side me) s t a))
 
   -- and what it would take so attacks the square
   pub attacks_back : IsPosition b → (s : Place) (u : Man) → IsOnBoard b.game s → unit_at b s ≡ Some u → u.side ≡ other_side me → Aims b (record { side = me; kind = u.kind }) t s → AttacksFrom b (other_side me) s t

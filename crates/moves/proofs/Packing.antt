@@ -1,5 +1,5 @@
 -- What words stand for, and what a move does to them.
-use Rattle.moves.proofs.Common.{◌≡◌, ◌≢◌, ℕ, ◌+◌, ◌%◌, ◌<◌, ◌≤◌, zero, suc, refl, sym, ap, subst, ◌∙◌, arith, ◌⊎◌, inl, inr, List, length, get_or, set, IfSome, Option, Some, None, replicate, bit_xor, cases_eq, cases_lt, get_or-set_same, get_or-set_other, length-set, Game, LosAlamos, Gardner, Man, squares_of, other_side, PlainBoard, unit_on, IsPosition, MayStandOn, digit, man_of, word_of, place_of, code_on, flags_of, game_of, game_of_flags, mover_of_flags, units_in, unpacked, Spells, IsUnused, IsPacked, IsFlags, Ply, square_number, IsPseudoLegal, placed, after, number_within, to_on_board, IsPosition-after}
+use Rattle.moves.proofs.Common.{◌≡◌, ◌≢◌, ℕ, ◌+◌, ◌%◌, ◌<◌, ◌≤◌, zero, suc, refl, sym, ap, subst, ◌∙◌, arith, inl, inr, List, length, get_or, set, IfSome, Option, Some, None, replicate, bit_xor, cases_eq, cases_lt, get_or-set_same, get_or-set_other, length-set, Game, LosAlamos, Gardner, Man, squares_of, other_side, PlainBoard, unit_on, IsPosition, MayStandOn, digit, man_of, word_of, place_of, code_on, flags_of, game_of, game_of_flags, mover_of_flags, units_in, unpacked, Spells, IsUnused, IsPacked, IsFlags, Ply, square_number, IsPseudoLegal, placed, after, number_within, to_on_board, IsPosition-after}
 use Rattle.std.proofs.lemmas.List.FromFn.{get_or-map-range_with_len, fill_by_all}
 
 pub within_36 : (g : Game) (n : ℕ) → n < squares_of g → n < 36

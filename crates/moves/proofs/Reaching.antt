@@ -1,5 +1,5 @@
 -- What a unit reaches is what it sees, but for its own units, and a pawn's step.
-use Rattle.moves.proofs.Common.{◌≡◌, ℕ, ◌^◌, ◌<◌, ◌≤◌, w64, zero, suc, refl, sym, ap, subst, ◌∙◌, arith, ◌↔◌, ◌⊎◌, inl, inr, Bool, true, false, ℤ, pos, ◌<ℤ◌, Option, Some, None, list_all, bit_not, unsigned_abs, bit_and, bit_or, ints, false≢true, Side, White, Black, Kind, King, Queen, Rook, Bishop, Knight, Pawn, Man, Mode, Move, Capture, Both, Step, Wazir, Term, IsAtomLeap, terms_of, Denotes, other_side, IsPlayed, PlainBoard, is_of_side, unit_at, ahead_of, IsShift, IsStep, Allows, Reaches, once, table_of, place_in, IsAway, IsCell, Aims, Has, IsTarget, IsNext, ahead_way, shift_in, Has-and, Has-or, Has-minus, next_of, next-is, is-next, single_step as single, own_or_other}
+use Rattle.moves.proofs.Common.{◌≡◌, ℕ, ◌^◌, ◌<◌, ◌≤◌, w64, zero, suc, refl, sym, ap, subst, ◌∙◌, arith, ◌↔◌, ◌⊎◌, inl, inr, Bool, true, false, ℤ, pos, ◌<ℤ◌, Option, Some, None, list_all, bit_not, unsigned_abs, bit_and, bit_or, ints, false≢true, Side, White, Black, Kind, King, Queen, Rook, Bishop, Knight, Pawn, Man, Mode, Move, Capture, Both, Step, Wazir, Term, IsAtomLeap, terms_of, Denotes, other_side, IsPlayed, PlainBoard, is_of_side, unit_at, ahead_of, IsShift, IsStep, Allows, once, table_of, place_in, IsAway, IsCell, Aims, Has, IsTarget, IsNext, ahead_way, shift_in, Has-and, Has-or, Has-minus, next_of, next-is, is-next, single_step as single, own_or_other}
 use Rattle.moves.proofs.Guarding.{own_unit_side, is_own}
 use Rattle.moves.proofs.Seeing.{zero_of, by_table}
 

@@ -1,5 +1,5 @@
 -- Whether a move is lawful doesn't depend on what a pawn becomes.
-use Rattle.moves.proofs.Common.{◌≡◌, ℕ, ◌+◌, ◌^◌, ◌<◌, arith, refl, sym, ap, subst, ◌∙◌, ◌⊎◌, ◌↔◌, inl, inr, Option, Some, None, IsSome, false, same_Some, cases_eq, false≢true, Game, LosAlamos, Gardner, Side, White, Black, Kind, King, Queen, Rook, Bishop, Knight, Pawn, Man, Step, width_of, other_side, PlainBoard, IsPosition, Place, Ply, IsOnBoard, unit_at, Leads, Reaches, IsAttacked, IsInCheck, once, again, IsLastRank, IsPromotion, Promotes, IsSomeKing, IsPseudoLegal, IsLawful, placed, after, cell_of, place_in, Has, IsTarget, IsPinned, IsNamed, HasSafe, IsCalm, place_in-cell_of, lowest-has, IsRankAhead, to_on_board, own_or_other}
+use Rattle.moves.proofs.Common.{◌≡◌, ℕ, ◌+◌, ◌^◌, ◌<◌, arith, refl, sym, ap, subst, ◌∙◌, ◌⊎◌, ◌↔◌, inl, inr, Option, Some, None, IsSome, same_Some, cases_eq, Game, LosAlamos, Gardner, Side, White, Black, Kind, King, Queen, Rook, Bishop, Knight, Pawn, Man, Step, width_of, other_side, PlainBoard, IsPosition, Place, Ply, IsOnBoard, unit_at, Leads, Reaches, IsAttacked, IsInCheck, once, again, IsLastRank, IsPromotion, Promotes, IsSomeKing, IsPseudoLegal, IsLawful, placed, after, cell_of, place_in, Has, IsTarget, IsPinned, IsNamed, HasSafe, IsCalm, place_in-cell_of, lowest-has, IsRankAhead, to_on_board, own_or_other}
 use Rattle.moves.proofs.KingSteps.{attacked_then, steps_safely}
 use Rattle.moves.proofs.Laying.{unit_at-to, unit_at-from, unit_at-other}
 use Rattle.moves.proofs.Looking.{carried}
@@ -32,10 +32,7 @@ not_named (Some k) never = absurd (never refl)
 
 -- a king names no promotion
 king_unnamed : (b : PlainBoard) (m : Ply) (u : Man) → IsPseudoLegal b m u → u.kind ≡ King → m.promotion ≡ None
-king_unnamed b m u p king = not_named m.promotion (λ s. not_pawn u.kind king (p.named.0 s).0)
-  where
-    not_pawn : (k : Kind) → k ≡ King → k ≡ Pawn → ⊥
-    not_pawn k e f = cc
+king_unnamed b m u p king = not_named m.promotion (λ s. cc (sym king ∙ (p.named.0 s).0))
 
 module _ (b : PlainBoard) (m : Ply) (o : Option Kind) (u : Man) (is : IsPosition b) (p : IsPseudoLegal b m u) (q : IsPseudoLegal b (becoming m o) u) where
   -- but for the to-square both boards have the same units

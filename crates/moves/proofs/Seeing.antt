@@ -200,16 +200,16 @@ pub record RidesAs (side : Side) (kind : Kind) (step : Step) : Type 0 where
   pub goes : Goes side way step
   pub class : ((kind ≡ Queen) ⊎ (kind ≡ Rook)) ⊎ ((kind ≡ Queen) ⊎ (kind ≡ Bishop))
 
-line : (side : Side) (q : Kind) (step : Step) → ((q ≡ Queen) ⊎ (q ≡ Rook)) → Denotes (terms_of Rook) step → RidesAs side q step
-line side q step of d = let w = step_way Wazir (λ e. cc) side step ((one_term (doubled Wazir) step).0 d).leap.atom in record { way = w.way; goes = w.holds; class = inl of }
+ride : (a : Atom) → (a ≡ atom.Knight → ⊥) → (side : Side) (q : Kind) (step : Step) → ((q ≡ Queen) ⊎ (q ≡ Rook)) ⊎ ((q ≡ Queen) ⊎ (q ≡ Bishop)) → Denotes (doubled a ∷ []) step → RidesAs side q step
+ride a other side q step of d = let w = step_way a other side step ((one_term (doubled a) step).0 d).leap.atom in record { way = w.way; goes = w.holds; class = of }
 
-slant : (side : Side) (q : Kind) (step : Step) → ((q ≡ Queen) ⊎ (q ≡ Bishop)) → Denotes (terms_of Bishop) step → RidesAs side q step
-slant side q step of d = let w = step_way Ferz (λ e. cc) side step ((one_term (doubled Ferz) step).0 d).leap.atom in record { way = w.way; goes = w.holds; class = inr of }
+pub king_single : (step : Step) → Denotes (terms_of King) step → step.rider ≡ false
+king_single step d = (leaps King refl step d).0
 
 pub rides_as : (side : Side) (kind : Kind) (step : Step) → Denotes (terms_of kind) step → (step.rider ≡ false) ⊎ RidesAs side kind step
-rides_as side King step d = inl (leaps King refl step d).0
-rides_as side Queen step d = inr (elim ((queen_step step).0 d) [ inl s ↦ line side Queen step (inl refl) s | inr s ↦ slant side Queen step (inl refl) s ])
-rides_as side Rook step d = inr (line side Rook step (inr refl) d)
-rides_as side Bishop step d = inr (slant side Bishop step (inr refl) d)
+rides_as side King step d = inl (king_single step d)
+rides_as side Queen step d = inr (elim ((queen_step step).0 d) [ inl s ↦ ride Wazir (λ e. cc) side Queen step (inl (inl refl)) s | inr s ↦ ride Ferz (λ e. cc) side Queen step (inr (inl refl)) s ])
+rides_as side Rook step d = inr (ride Wazir (λ e. cc) side Rook step (inl (inr refl)) d)
+rides_as side Bishop step d = inr (ride Ferz (λ e. cc) side Bishop step (inr (inr refl)) d)
 rides_as side Knight step d = inl (leaps Knight refl step d).0
 rides_as side Pawn step d = inl (leaps Pawn refl step d).0

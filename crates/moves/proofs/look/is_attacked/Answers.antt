@@ -1,4 +1,4 @@
-use Rattle.moves.proofs.Common.{ℕ, refl, bit_or, Kind, Rook, Bishop, Knight, King, Pawn, other_side, place_in, IsCell, TakesAs, not-zero, via, so}
+use Rattle.moves.proofs.Common.{ℕ, bit_or, Kind, Rook, Bishop, Knight, King, Pawn, other_side, place_in, IsCell, TakesAs, not-zero, via, so}
 use Rattle.moves.proofs.Attacking.{five-are, attackers-are, none-attacks, some_attack}
 use Rattle.moves.proofs.look.is_attacked.Goals as goal
 

@@ -1,4 +1,4 @@
-use Rattle.moves.proofs.Common.{◌≡◌, ◌↔◌, IsTrue, Some, refl, sym, ap, subst, ◌∙◌, false≢true, not-true, other_side, PlainBoard, unit_at, IsAttacked, IsInCheck, IsSomeKing, IsPseudoLegal, after, cell_of, place_in, Has, IsNamed, IsCalm, cell_of-place_in, so, not_so, not-is, lawful_from}
+use Rattle.moves.proofs.Common.{◌≡◌, Some, sym, ap, subst, ◌∙◌, false≢true, not-true, other_side, unit_at, IsAttacked, IsSomeKing, IsPseudoLegal, cell_of, place_in, Has, IsNamed, IsCalm, cell_of-place_in, so, not_so, lawful_from}
 use Rattle.moves.proofs.AtOnce.{pseudo_by, move_by}
 use Rattle.moves.proofs.SafeCells.{lawful_too, pseudo_named, calm_lawful, lawful_calm, free_lawful}
 use Rattle.moves.proofs.Shadows.{in_shadow}

@@ -16,14 +16,8 @@ lowest-requires c = elim (cases_eq (bit_and c.of_side.result c.self.inside.sets.
 there : (c : goal.After-lowest) → IsCell c.args.self.now.game c.lowest.result × (unit_at c.args.self.now (place_in c.lowest.result) ≡ king_of c.args.side)
 there c = (kings c.before c.lowest.result).0 c.lowest.ensures.there
 
-pub square_in-requires-clause-above : goal.square_in-requires-clause-above
-square_in-requires-clause-above c = (there c).0.above
-
-pub square_in-requires-clause-file : goal.square_in-requires-clause-file
-square_in-requires-clause-file c = let cell = (there c).0 in search rules
-
-pub square_in-requires-clause-rank : goal.square_in-requires-clause-rank
-square_in-requires-clause-rank c = let cell = (there c).0 in search rules
+pub square_in-requires : goal.square_in-requires
+square_in-requires c = let cell = (there c).0 in record { above = cell.above; file = search rules; rank = search rules }
 
 pub returns-clause-on_board : goal.returns-clause-on_board
 returns-clause-on_board c = subst (IsOnBoard c.args.self.now.game) (sym c.square_in.ensures) (there c.before).0.on_board
