@@ -6,15 +6,14 @@ use Rattle.moves.proofs.Guarding.{king_moved}
 use Rattle.moves.proofs.Looking.{attack_aims}
 use Rattle.moves.proofs.Pins.{stood, attacked_after}
 use Rattle.moves.proofs.Riding.{Rides-leads, rides-ray}
-use Rattle.moves.proofs.Seeing.{rides_as, king_single}
+use Rattle.moves.proofs.Seeing.{rider_way, king_single}
 use Rattle.moves.proofs.Shadows.{pinned_attacks}
 
 -- what a rider would come to over a cell lies on a line of that cell
 pub over_lines : (b : PlainBoard) (side : Side) (k i : ℕ) → IsCell b.game k → IsCell b.game i → IsPinned b side (place_in i) (place_in k) → (way : Way) × IsOnRay b.game way k i
-over_lines b side k i on cell w = elim (rides_as w.rider.side w.rider.kind w.step w.denoted) [
-  | inl single ↦ absurd (false≢true (sym single ∙ w.rides))
-  | inr way ↦ (way.way, rides-ray b way.way k i (Rides-leads b w.rider.side way.way w.step way.goes k i on cell w.to_king))
-]
+over_lines b side k i on cell w =
+    let way = rider_way w.rider.side w.rider.kind w.step w.denoted w.rides in
+    (way.way, rides-ray b way.way k i (Rides-leads b w.rider.side way.way w.step way.goes k i on cell w.to_king))
 
 module _ (b : PlainBoard) (m : Ply) (u : Man) (is : IsPosition b) (p : IsPseudoLegal b m u) where
   -- a step at once is one on any board

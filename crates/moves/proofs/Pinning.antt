@@ -1,9 +1,9 @@
 -- What is pinned is seen from the king along a way.
-use Rattle.moves.proofs.Common.{◌≡◌, ℕ, refl, sym, ap, subst, ◌∙◌, arith, ◌↔◌, ◌⊎◌, inl, inr, true, false, Bool, Some, None, Contains, bit_and, cases_order, false≢true, Side, other_side, PlainBoard, is_of_side, Straight, Slanted, Way, North, South, East, West, NorthEast, SouthWest, NorthWest, SouthEast, WAYS, unit_at, Leads, cell_of, place_in, IsCell, IsPinned, Has, Rides, rises, IsCell-cell_of, place_in-cell_of, Has-and, Place, Man, IsOf, HasRider, Owns}
+use Rattle.moves.proofs.Common.{◌≡◌, ℕ, refl, sym, ap, subst, ◌∙◌, arith, ◌↔◌, ◌⊎◌, inl, inr, Some, None, Contains, bit_and, Side, other_side, PlainBoard, is_of_side, Straight, Slanted, Way, North, South, East, West, NorthEast, SouthWest, NorthWest, SouthEast, WAYS, unit_at, Leads, cell_of, place_in, IsCell, IsPinned, Has, Rides, rises, IsCell-cell_of, place_in-cell_of, Has-and, Place, Man, IsOf, HasRider, Owns}
 use Rattle.moves.proofs.Looking.{both_back}
 use Rattle.moves.proofs.Guarding.{is_own}
-use Rattle.moves.proofs.Riding.{IsSooner, Rides-clear, Rides-leads}
-use Rattle.moves.proofs.Seeing.{rides_as}
+use Rattle.moves.proofs.Riding.{sooner-cases, Rides-clear, Rides-leads}
+use Rattle.moves.proofs.Seeing.{rider_way}
 
 -- all ways are in the list of them
 pub ways-all : (way : Way) → Contains WAYS way
@@ -21,15 +21,11 @@ pub one_unit : (b : PlainBoard) (way : Way) (k i j : ℕ) → Rides b way k i �
 one_unit b way k i j r s taken there =
     let w = (Rides-clear b way k i).0 r in
     let v = (Rides-clear b way k j).0 s in
-    elim (cases_order i j) [
+    elim (sooner-cases (rises way) i j) [
       | inl same ↦ same
-      | inr (inl before) ↦ absurd (order (rises way) (λ up. taken (v.1 i w.0 (subst (λ x. IsSooner x i j) (sym up) before))) (λ down. there (w.1 j v.0 (subst (λ x. IsSooner x j i) (sym down) before))))
-      | inr (inr behind) ↦ absurd (order (rises way) (λ up. there (w.1 j v.0 (subst (λ x. IsSooner x j i) (sym up) behind))) (λ down. taken (v.1 i w.0 (subst (λ x. IsSooner x i j) (sym down) behind))))
+      | inr (inl before) ↦ absurd (taken (v.1 i w.0 before))
+      | inr (inr behind) ↦ absurd (there (w.1 j v.0 behind))
     ]
-  where
-    order : (r : Bool) → (r ≡ true → ⊥) → (r ≡ false → ⊥) → ⊥
-    order true x y = x refl
-    order false x y = y refl
 
 -- a rider that pins, as the king sees it
 pub record PinsAlong (b : PlainBoard) (riders k i : ℕ) : Type 0 where
@@ -50,16 +46,14 @@ pins-along b side foes riders owns are k i on cell w =
     let rc = IsCell-cell_of b.game w.from w.on_board in
     let at = place_in-cell_of b.game w.from w.on_board in
     let stands : unit_at b (place_in r) ≡ Some w.rider = ap (unit_at b) at ∙ w.stands in
-    elim (rides_as side w.rider.kind x denoted) [
-      | inl single ↦ absurd (false≢true (sym single ∙ rider ∙ w.rides))
-      | inr way ↦ record {
-        way = way.way;
-        to_unit = Rides-leads b side way.way x way.goes k i on cell to_unit;
-        rider = r;
-        to_rider = Rides-leads b side way.way x way.goes i r cell rc (subst (λ t. Leads b side x (place_in i) t) (sym at) to_rider);
-        has = (Has-and foes riders r).1 ((owns r).1 (rc, ap (is_of_side (other_side side)) stands ∙ is_own (other_side side) w.rider w.owner), (are r).1 (rc, has_rider b (place_in r) w.rider stands way.class));
-      }
-    ]
+    let way = rider_way side w.rider.kind x denoted (rider ∙ w.rides) in
+    record {
+      way = way.way;
+      to_unit = Rides-leads b side way.way x way.goes k i on cell to_unit;
+      rider = r;
+      to_rider = Rides-leads b side way.way x way.goes i r cell rc (subst (λ t. Leads b side x (place_in i) t) (sym at) to_rider);
+      has = (Has-and foes riders r).1 ((owns r).1 (rc, ap (is_of_side (other_side side)) stands ∙ is_own (other_side side) w.rider w.owner), (are r).1 (rc, has_rider b (place_in r) w.rider stands way.class));
+    }
 
 -- along a way the set has each unit that one of the riders pins
 abbrev pub HoldsPins : PlainBoard → ℕ → ℕ → ℕ → Way → Type 0

@@ -1,5 +1,5 @@
 -- A rider's way: a ray up to the first unit on it, and the same as its denotation's.
-use Rattle.moves.proofs.Common.{◌≡◌, ℕ, ◌<◌, ◌≤◌, refl, sym, ap, subst, ◌∙◌, arith, ◌↔◌, Bool, true, false, None, unsigned_abs, ints, Game, Side, Step, PlainBoard, Way, North, South, East, West, NorthEast, SouthWest, NorthWest, SouthEast, Place, IsOnBoard, unit_at, ahead_of, IsShift, IsStep, Leads, once as lead, again as lead_on, cell_of, place_in, IsCell, files_of, ranks_of, IsNext, IsOnRay, Rides, rises, shift_in, IsCell-cell_of, place_in-cell_of, cell_of-place_in, cell_small, Has-and, Has, bit_and}
+use Rattle.moves.proofs.Common.{◌≡◌, ℕ, ◌<◌, ◌≤◌, refl, sym, ap, subst, ◌∙◌, arith, ◌↔◌, Bool, true, false, None, unsigned_abs, ints, Game, Side, Step, PlainBoard, Way, North, South, East, West, NorthEast, SouthWest, NorthWest, SouthEast, Place, IsOnBoard, unit_at, ahead_of, IsShift, IsStep, Leads, once as lead, again as lead_on, cell_of, place_in, IsCell, files_of, ranks_of, IsNext, IsOnRay, Rides, rises, shift_in, IsCell-cell_of, place_in-cell_of, cell_of-place_in, cell_small, Has-and, Has, bit_and, ◌⊎◌, inl, inr, cases_order}
 use Rattle.cells.specs.Ways.IsOnRay.{next, beyond}
 use Rattle.cells.specs.Ways.Rides.{once, again}
 use Rattle.moves.proofs.Shown.{none_from}
@@ -31,6 +31,10 @@ sooner-trans false i j k a b = omega (arith, a, b)
 never-sooner : (r : Bool) (i : ℕ) → IsSooner r i i → ⊥
 never-sooner true i h = omega (arith, h)
 never-sooner false i h = omega (arith, h)
+
+pub sooner-cases : (r : Bool) (i j : ℕ) → (i ≡ j) ⊎ (IsSooner r i j ⊎ IsSooner r j i)
+sooner-cases true i j = cases_order i j
+sooner-cases false i j = elim (cases_order i j) [ inl same ↦ inl same | inr (inl less) ↦ inr (inr less) | inr (inr more) ↦ inr (inl more) ]
 
 one-next : (way : Way) (i j k : ℕ) → IsNext way i j → IsNext way i k → j ≡ k
 one-next way i j k a b = omega (arith, ints, a, b)

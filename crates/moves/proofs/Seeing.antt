@@ -213,3 +213,6 @@ rides_as side Rook step d = inr (ride Wazir (λ e. cc) side Rook step (inl (inr 
 rides_as side Bishop step d = inr (ride Ferz (λ e. cc) side Bishop step (inr (inr refl)) d)
 rides_as side Knight step d = inl (leaps Knight refl step d).0
 rides_as side Pawn step d = inl (leaps Pawn refl step d).0
+
+pub rider_way : (side : Side) (kind : Kind) (step : Step) → Denotes (terms_of kind) step → step.rider ≡ true → RidesAs side kind step
+rider_way side kind step d rides = elim (rides_as side kind step d) [ inl single ↦ absurd (false≢true (sym single ∙ rides)) | inr way ↦ way ]

@@ -1,10 +1,10 @@
 -- Where a rider comes through a king's square.
-use Rattle.moves.proofs.Common.{◌≡◌, ℕ, sym, ap, subst, ◌∙◌, ◌↔◌, inl, inr, Some, false≢true, Side, King, Man, other_side, PlainBoard, IsPosition, Way, Place, IsOnBoard, unit_at, Leads, AttacksFrom, cell_of, place_in, IsCell, Has, IsOnRay, bit_and, Has-and, IsCell-cell_of, place_in-cell_of, Guards, Checkers, IsPinned, HasRider}
+use Rattle.moves.proofs.Common.{◌≡◌, ℕ, sym, ap, subst, ◌∙◌, ◌↔◌, Some, Side, King, Man, other_side, PlainBoard, IsPosition, Way, Place, IsOnBoard, unit_at, Leads, AttacksFrom, cell_of, place_in, IsCell, Has, IsOnRay, bit_and, Has-and, IsCell-cell_of, place_in-cell_of, Guards, Checkers, IsPinned, HasRider}
 use Rattle.moves.specs.declared.board_list.Guard.{Guard}
 use Rattle.moves.proofs.Kings.{one_king}
 use Rattle.moves.proofs.Looking.{attacks_on}
 use Rattle.moves.proofs.Riding.{Rides-leads, rides-ray, ray-beyond}
-use Rattle.moves.proofs.Seeing.{rides_as}
+use Rattle.moves.proofs.Seeing.{rider_way}
 use Rattle.moves.proofs.Pinning.{has_rider}
 
 -- what pins a unit attacks its square
@@ -26,20 +26,17 @@ comes_through b is side k i on cell w =
     let rc = IsCell-cell_of b.game w.from w.on_board in
     let at : place_in r ≡ w.from = place_in-cell_of b.game w.from w.on_board in
     let stands : unit_at b (place_in r) ≡ Some w.rider = ap (unit_at b) at ∙ w.stands in
-    elim (rides_as w.rider.side w.rider.kind w.step w.denoted) [
-      | inl single ↦ absurd (false≢true (sym single ∙ w.rides))
-      | inr way ↦
-          let first = Rides-leads b w.rider.side way.way w.step way.goes r k rc on (subst (λ x. Leads b w.rider.side w.step x (place_in k)) (sym at) w.to_unit) in
-          let then = Rides-leads b w.rider.side way.way w.step way.goes k i on cell w.to_king in
-          record {
-            rider = r;
-            cell = rc;
-            attacks = subst (λ x. AttacksFrom b (other_side side) x (place_in k)) (sym at) (pinned_attacks b is side (place_in i) (place_in k) w);
-            has = has_rider b (place_in r) w.rider stands way.class;
-            way = way.way;
-            on = ray-beyond b.game way.way r k i (rides-ray b way.way r k first) (rides-ray b way.way k i then);
-          }
-    ]
+    let way = rider_way w.rider.side w.rider.kind w.step w.denoted w.rides in
+    let first = Rides-leads b w.rider.side way.way w.step way.goes r k rc on (subst (λ x. Leads b w.rider.side w.step x (place_in k)) (sym at) w.to_unit) in
+    let then = Rides-leads b w.rider.side way.way w.step way.goes k i on cell w.to_king in
+    record {
+      rider = r;
+      cell = rc;
+      attacks = subst (λ x. AttacksFrom b (other_side side) x (place_in k)) (sym at) (pinned_attacks b is side (place_in i) (place_in k) w);
+      has = has_rider b (place_in r) w.rider stands way.class;
+      way = way.way;
+      on = ray-beyond b.game way.way r k i (rides-ray b way.way r k first) (rides-ray b way.way k i then);
+    }
 
 -- it is one of the riders among the checkers
 pub riding : (b : PlainBoard) (k i checkers riders : ℕ) → Checkers b k checkers → ((j : ℕ) → Has riders j ↔ (IsCell b.game j × HasRider b (place_in j))) → (t : ComesThrough b b.mover k i) → Has (bit_and checkers riders) t.rider
