@@ -1,5 +1,5 @@
 -- The words that proofs of this crate share, passed on from where they are defined.
-pub use Rattle.std.proofs.Common.{◌≡◌, ℕ, ◌+◌, ◌^◌, ◌<◌, arith, refl, sym, ap, subst, ◌∙◌, ◌⊎◌, ◌↔◌, inl, inr, Option, Some, None, IsSome, false, true, not, unwrap_or, IfSome, IsTrue, Bool, ◌≢◌, ◌-◌, ◌*◌, ◌/◌, ◌%◌, suc, ◌≤◌, cond, List, [], take, length, zero, ◌∷◌, ◌++◌, get_or, AllPairs, Contains, w64, ℤ, pos, ◌<ℤ◌, set, replicate, length-append, count_ones, ◌&&◌, leb, negsuc, neg_ℤ, get_or-take, length-take, IfNone, rules, min, add_assoc, MatchOption, eqb, All}
+pub use Rattle.std.proofs.Common.{◌≡◌, ℕ, ◌+◌, ◌^◌, ◌<◌, arith, refl, sym, ap, subst, ◌∙◌, ◌⊎◌, ◌↔◌, inl, inr, Option, Some, None, IsSome, false, true, not, unwrap_or, IfSome, IsTrue, Bool, ◌≢◌, ◌-◌, ◌*◌, ◌/◌, ◌%◌, suc, ◌≤◌, cond, List, [], take, length, zero, ◌∷◌, ◌++◌, get_or, AllPairs, Contains, w64, ℤ, pos, ◌<ℤ◌, set, replicate, length-append, count_ones, ◌&&◌, leb, negsuc, neg_ℤ, get_or-take, length-take, IfNone, rules, min, add_assoc, MatchOption, All}
 pub use Rattle.std.proofs.lemmas.Bool.{cases_eq, false≢true, cases_order, and_parts, false_from_ne_true, cases_lt, not-true, leb-true, eqb-true, eq-eqb, not_from_false, cases_Bool}
 pub use Rattle.std.proofs.lemmas.Int.{ints}
 pub use Rattle.std.proofs.lemmas.List.{take-take, take_all, get_or-set_same, get_or-set_other, length-set}
@@ -64,7 +64,7 @@ pub use Rattle.moves.specs.Sets.{StandsAs, HasRider, StandsFor, Holds, set_of, S
 pub use Rattle.moves.specs.Targets.{IsTarget}
 pub use Rattle.moves.specs.Words.{digit, man_of, word_of, place_of, code_on, flags_of, game_of, game_of_flags, mover_of_flags, units_in, unpacked, Spells, IsUnused, IsPacked, IsFlags}
 pub use Rattle.moves.specs.declared.sets.Class.{Class}
-pub use Rattle.moves.specs.declared.sets.Class.TheVariants.{Crowned, Straight, Slanted, Horsed, Foot}
+pub use Rattle.moves.specs.declared.sets.Class.TheVariants.{Crowned, Straight, Slanted, Foot}
 pub use Rattle.moves.specs.declared.sets.Sets.{Sets}
 
 pub via : {A B C : Type 0} → A ↔ B → B ↔ C → A ↔ C
