@@ -1,9 +1,9 @@
 -- How many lawful moves there are, by the cells to which they lead.
-use Rattle.moves.proofs.Common.{◌≡◌, ℕ, ◌+◌, ◌*◌, ◌/◌, ◌%◌, ◌^◌, ◌<◌, ◌≤◌, zero, suc, refl, sym, ap, subst, ◌∙◌, ◌↔◌, inl, inr, arith, List, [], ◌∷◌, ◌++◌, length, get_or, length-append, Option, Some, None, IsSome, IfSome, count_ones, bit_at, ones_le_self, bit_at-lt, bit_at_lowest, bit_at-suc, cases_eq, All-get_or, Game, LosAlamos, Gardner, Kind, Queen, Rook, Bishop, Knight, Man, PlainBoard, Place, Ply, IsOnBoard, square_number, unit_at, Promotes, IsPromotion, IsLawful, promotion_number, ply_number, ListsBelow, place_in, IsCell, Has, IsNamed, HasSafe, IsEach, promotions_of, cell_small, IsNumbered, ListsBelow-push, ListsBelow-skip, ListsBelow-promoted}
+use Rattle.moves.proofs.Common.{◌≡◌, ℕ, ◌+◌, ◌*◌, ◌/◌, ◌%◌, ◌^◌, ◌<◌, ◌≤◌, zero, suc, refl, sym, ap, subst, ◌∙◌, ◌↔◌, inl, inr, arith, List, [], ◌∷◌, ◌++◌, length, get_or, length-append, Option, Some, None, IsSome, IfSome, count_ones, bit_at, ones_le_self, bit_at-lt, bit_at_lowest, bit_at-suc, cases_eq, All-get_or, Game, LosAlamos, Gardner, Kind, Queen, Rook, Bishop, Knight, Man, PlainBoard, Place, Ply, IsOnBoard, square_number, unit_at, Promotes, IsPromotion, IsLawful, promotion_number, ply_number, ListsBelow, place_in, Has, IsNamed, HasSafe, IsEach, promotions_of, cell_small, IsNumbered, ListsBelow-push, ListsBelow-skip, ListsBelow-promoted}
 use Rattle.std.specs.Int.Count.{ones_step}
 use Rattle.moves.proofs.AtOnce.{pseudo_by}
 use Rattle.moves.proofs.Walking.{IsWalked, Jumps, walked_start, walked_end, next_holds, walked_more}
-use Rattle.moves.proofs.Scanning.{skip, skip_rest}
+use Rattle.moves.proofs.Scanning.{safe_cell, skip, skip_rest}
 
 -- ---- a list has no more moves than numbers
 
@@ -139,9 +139,6 @@ module _ (b : PlainBoard) (u : Man) (from : Place) (on : IsOnBoard b.game from) 
   abbrev IsCounted : ℕ → Type 0
   IsCounted k = IsWalked b.game (Has set) (λ i. Has set i × (k ≤ i)) (Counted k)
 
-  cell : (i : ℕ) → Has set i → IsCell b.game i
-  cell i h = (safe.cells i h).0
-
   jump : (k : ℕ) → Jumps b.game (Has set) (Counted k)
   jump k n m le within none (more, lists, count) = (more, skip b u from on set safe more n m le within none lists, count)
 
@@ -151,12 +148,12 @@ module _ (b : PlainBoard) (u : Man) (from : Place) (on : IsOnBoard b.game from) 
     with_member k h s =
         let n = square_number b.game (place_in k) in
         let least : (i : ℕ) → i < k → Has set i × (k ≤ i) → ⊥ = λ i low w. let high = w.1 in omega (arith, low, high) in
-        let (before, lists, count) = next_holds b.game (Has set) (λ i. Has set i × (k ≤ i)) (Counted k) cell (jump k) s k (h, omega arith) least in
-        let (more, listed, grown) = take_each b u from (place_in k) on (cell k h).on_board stands before (λ m f t named. safe.lawful k m h f t named) each (eachly k h) lists in
+        let (before, lists, count) = next_holds b.game (Has set) (λ i. Has set i × (k ≤ i)) (Counted k) (safe_cell b u from on set safe) (jump k) s k (h, omega arith) least in
+        let (more, listed, grown) = take_each b u from (place_in k) on (safe.cells k h).0.on_board stands before (λ m f t named. safe.lawful k m h f t named) each (eachly k h) lists in
         let same : (square_number b.game from * 36 + n + 1) * 5 ≡ (square_number b.game from * 36 + (n + 1)) * 5 = omega arith in
         let one : bit_at set k ≡ 1 = h in
         let product : (bits_below set k + bit_at set k) * each ≡ bits_below set k * each + each = ap (λ x. (bits_below set k + x) * each) one ∙ distributed (bits_below set k) in
-        walked_more b.game (Has set) (λ i. Has set i × (k ≤ i)) (Counted k) cell (jump k) s k (h, omega arith) least (λ i. Has set i × (suc k ≤ i)) (Counted (suc k))
+        walked_more b.game (Has set) (λ i. Has set i × (k ≤ i)) (Counted k) (safe_cell b u from on set safe) (jump k) s k (h, omega arith) least (λ i. Has set i × (suc k ≤ i)) (Counted (suc k))
         (λ i. (
           λ w. let above = w.1 in ((w.0, omega (arith, above)), λ e. omega (arith, above, e)),
           λ w. let above = w.0.1 in let other = w.1 in (w.0.0, omega (arith, above, other)),
@@ -200,5 +197,5 @@ module _ (b : PlainBoard) (u : Man) (from : Place) (on : IsOnBoard b.game from) 
 
     pub counted_all : set < 2 ^ 64 → ListsBelow b (square_number b.game from * 36 * 5) moves → (more : List Ply) × ListsBelow b ((square_number b.game from + 1) * 36 * 5) more × (length more ≡ length moves + count_ones set * each)
     counted_all fits start =
-        let (more, lists, count) = walked_end b.game (Has set) (λ i. Has set i × (64 ≤ i)) (Counted 64) cell (jump 64) (counted start 64) (λ i w. let small = cell_small b.game i (cell i w.0) in let high = w.1 in omega (arith, small, high)) in
+        let (more, lists, count) = walked_end b.game (Has set) (λ i. Has set i × (64 ≤ i)) (Counted 64) (safe_cell b u from on set safe) (jump 64) (counted start 64) (λ i w. let small = cell_small b.game i (safe.cells i w.0).0 in let high = w.1 in omega (arith, small, high)) in
         (more, skip_rest b u from on set safe more lists, count ∙ ap (λ x. length moves + x * each) (bits_all 64 set fits))

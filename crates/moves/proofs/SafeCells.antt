@@ -1,5 +1,5 @@
 -- Whether a move is lawful doesn't depend on what a pawn becomes.
-use Rattle.moves.proofs.Common.{◌≡◌, ℕ, ◌+◌, ◌^◌, ◌<◌, arith, refl, sym, ap, subst, ◌∙◌, ◌⊎◌, ◌↔◌, inl, inr, Option, Some, None, IsSome, same_Some, cases_eq, Game, LosAlamos, Gardner, Side, White, Black, Kind, King, Queen, Rook, Bishop, Knight, Pawn, Man, Step, width_of, other_side, PlainBoard, IsPosition, Place, Ply, IsOnBoard, unit_at, Leads, Reaches, IsAttacked, IsInCheck, once, again, IsLastRank, IsPromotion, Promotes, IsSomeKing, IsPseudoLegal, IsLawful, placed, after, cell_of, place_in, Has, IsTarget, IsPinned, IsNamed, HasSafe, IsCalm, place_in-cell_of, lowest-has, IsRankAhead, to_on_board, own_or_other}
+use Rattle.moves.proofs.Common.{◌≡◌, ℕ, ◌+◌, ◌^◌, ◌<◌, arith, refl, sym, ap, subst, ◌∙◌, ◌⊎◌, ◌↔◌, inl, inr, Option, Some, None, IsSome, same_Some, cases_eq, Game, Side, White, Black, Kind, King, Queen, Rook, Bishop, Knight, Pawn, Man, Step, width_of, other_side, PlainBoard, IsPosition, Place, Ply, IsOnBoard, unit_at, Leads, Reaches, IsAttacked, IsInCheck, once, again, IsLastRank, Promotes, IsSomeKing, IsPseudoLegal, IsLawful, placed, after, cell_of, place_in, Has, IsTarget, IsPinned, IsNamed, HasSafe, IsCalm, place_in-cell_of, lowest-has, IsRankAhead, to_on_board, own_or_other}
 use Rattle.moves.proofs.KingSteps.{attacked_then, steps_safely}
 use Rattle.moves.proofs.Laying.{unit_at-to, unit_at-from, unit_at-other}
 use Rattle.moves.proofs.Looking.{carried}
@@ -150,19 +150,18 @@ last_cases : (g : Game) (side : Side) (rank : ℕ) → IsLastRank g side rank �
 last_cases g White rank = cases_eq (rank + 1) (width_of g)
 last_cases g Black rank = cases_eq rank 0
 
+due_cases : (g : Game) (u : Man) (t : Place) → Promotes g u t ⊎ (Promotes g u t → ⊥)
+due_cases g u t = elim (pawn_cases u.kind) [
+  | inr piece ↦ inr (λ p. piece p.0)
+  | inl pawn ↦ elim (last_cases g u.side t.rank) [ inl last ↦ inl (pawn, last) | inr far ↦ inr (λ p. far p.1) ]
+]
+
 -- between two squares there is a move that names its promotion well
 pub named_move : (g : Game) (u : Man) (s t : Place) → (m : Ply) × (m.from ≡ s) × (m.to ≡ t) × IsNamed g u m
-named_move g u s t = elim (pawn_cases u.kind) [
-  | inr piece ↦ (record { from = s; to = t; promotion = None }, refl, refl, record { named = ((λ e. cc), λ p. absurd (piece p.0)); allowed = tt })
-  | inl pawn ↦ elim (last_cases g u.side t.rank) [
-    | inr far ↦ (record { from = s; to = t; promotion = None }, refl, refl, record { named = ((λ e. cc), λ p. absurd (far p.1)); allowed = tt })
-    | inl last ↦ (record { from = s; to = t; promotion = Some Queen }, refl, refl, record { named = ((λ _. (pawn, last)), λ _. refl); allowed = queen g })
-  ]
+named_move g u s t = elim (due_cases g u t) [
+  | inl due ↦ (record { from = s; to = t; promotion = Some Queen }, refl, refl, record { named = ((λ _. due), λ _. refl); allowed = tt })
+  | inr not ↦ (record { from = s; to = t; promotion = None }, refl, refl, record { named = ((λ e. cc), λ p. absurd (not p)); allowed = tt })
 ]
-  where
-    queen : (g : Game) → IsPromotion g Queen
-    queen LosAlamos = tt
-    queen Gardner = tt
 
 pub some_safe : (b : PlainBoard) (u : Man) (s : Place) (set : ℕ) → HasSafe b u s set → set < 2 ^ 64 → (set ≡ 0 → ⊥) → (m : Ply) × IsLawful b m
 some_safe b u s set safe fits some =

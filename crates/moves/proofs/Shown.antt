@@ -1,5 +1,5 @@
 -- What the sets of a board show, and what a move does to them.
-use Rattle.moves.proofs.Common.{◌≡◌, ℕ, ◌^◌, ◌<◌, ◌+◌, ◌*◌, ◌%◌, w64, IsTrue, refl, sym, ap, subst, ◌∙◌, arith, ◌↔◌, ◌⊎◌, inl, inr, Bool, true, Option, Some, None, bit_not, bit_and, bit_or, cases_eq, false≢true, same_Some, Side, Man, squares_of, PlainBoard, unit_on, is_of_side, IsPosition, Class, Sets, Place, Ply, IsOnBoard, square_number, unit_at, IsPseudoLegal, placed, after, cell_of, place_in, IsCell, Has, IsOf, StandsAs, Holds, Shows, HasMoved, HasAdded, set_of, AreMoved, AreAdded, HasNone, IsCell-cell_of, place_in-cell_of, cell_of-place_in, to_on_board, same_number, number_within, Has-or, Has-zero, Has-clear, Has-minus, and_fits}
+use Rattle.moves.proofs.Common.{◌≡◌, ℕ, ◌^◌, ◌<◌, ◌+◌, ◌*◌, ◌%◌, w64, IsTrue, refl, sym, ap, subst, ◌∙◌, arith, ◌↔◌, ◌⊎◌, inl, inr, Bool, true, Option, Some, None, bit_not, bit_and, bit_or, cases_eq, false≢true, same_Some, Side, Man, squares_of, PlainBoard, unit_on, is_of_side, IsPosition, Class, Sets, Place, Ply, IsOnBoard, square_number, unit_at, IsPseudoLegal, placed, after, cell_of, place_in, IsCell, Has, IsOf, StandsAs, Holds, Shows, HasMoved, HasAdded, set_of, AreMoved, IsCell-cell_of, place_in-cell_of, cell_of-place_in, to_on_board, same_number, number_within, Has-or, Has-zero, Has-clear, Has-minus, and_fits}
 use Rattle.board.specs.declared.game.Side.TheVariants as side
 use Rattle.moves.specs.declared.sets.Class.TheVariants.{White, Black}
 use Rattle.cells.proofs.Reached.{same_cell}
@@ -83,8 +83,8 @@ module _ (b : PlainBoard) (m : Ply) (u : Man) (is : IsPosition b) (p : IsPseudoL
 abbrev pub HeldBelow : PlainBoard → Class → ℕ → ℕ → Type 0
 HeldBelow b class set n = (i : ℕ) → Has set i ↔ ((IsCell b.game i × StandsAs b class (place_in i)) × (square_number b.game (place_in i) < n))
 
-pub HeldBelow-start : (b : PlainBoard) (class : Class) (n : ℕ) → n ≡ 0 → HeldBelow b class 0 n
-HeldBelow-start b class n e i = (λ h. absurd (Has-zero i h), λ w. let l = w.1 in absurd (omega (arith, l, e)))
+pub HeldBelow-start : (b : PlainBoard) (class : Class) (set : ℕ) → set ≡ 0 → HeldBelow b class set 0
+HeldBelow-start b class set e i = (λ h. absurd (Has-zero i (subst (λ n. Has n i) e h)), λ w. let l = w.1 in absurd (omega (arith, l)))
 
 pub HeldBelow-none : (b : PlainBoard) (class : Class) (set n : ℕ) → unit_on b n ≡ None → HeldBelow b class set n → HeldBelow b class set (n + 1)
 HeldBelow-none b class set n none held i = (
@@ -127,18 +127,6 @@ HeldBelow-all b class set n all held i = (
 -- each set has the cells of its class on the squares numbered below n
 abbrev pub ShownBelow : PlainBoard → Sets → ℕ → Type 0
 ShownBelow b s n = (class : Class) → HeldBelow b class (set_of s class) n
-
-pub ShownBelow-start : (b : PlainBoard) (s : Sets) → HasNone s → ShownBelow b s 0
-ShownBelow-start b s e = λ class. subst (λ x. HeldBelow b class x 0) (sym (e class)) (HeldBelow-start b class 0 refl)
-
-pub ShownBelow-none : (b : PlainBoard) (s : Sets) (n : ℕ) → unit_on b n ≡ None → ShownBelow b s n → ShownBelow b s (n + 1)
-ShownBelow-none b s n none h = λ class. HeldBelow-none b class (set_of s class) n none (h class)
-
-pub ShownBelow-unit : (b : PlainBoard) (s t : Sets) (n : ℕ) (at : Place) (u : Man) → IsOnBoard b.game at → square_number b.game at ≡ n → unit_on b n ≡ Some u → ShownBelow b s n → AreAdded s t (cell_of at) u → ShownBelow b t (n + 1)
-ShownBelow-unit b s t n at u on number stands h a = λ class. HeldBelow-unit b class (set_of s class) (set_of t class) n at u on number stands (a class) (h class)
-
-pub ShownBelow-all : (b : PlainBoard) (s : Sets) (n : ℕ) → n ≡ squares_of b.game → ShownBelow b s n → Shows b s
-ShownBelow-all b s n all h = λ class. HeldBelow-all b class (set_of s class) n all (h class)
 
 -- ---- a class after a move
 

@@ -8,14 +8,11 @@ units-init c =
     let empty : c.clear.new.self.items ≡ [] = search rules in
     subst (IsGathered b c.own-left.result) (sym empty) (gathered_start b c.own-left.result c.own-left.ensures.cells)
 
-pub push_in-requires-clause-cell : goal.push_in-requires-clause-cell
-push_in-requires-clause-cell c = ((c.units.invariant.left c.take_lowest-cell.result).0 c.take_lowest-cell.ensures.there).0.0
-
-pub push_in-requires-clause-own : goal.push_in-requires-clause-own
-push_in-requires-clause-own c = ((c.units.invariant.left c.take_lowest-cell.result).0 c.take_lowest-cell.ensures.there).0.1
-
-pub push_in-requires-clause-before : goal.push_in-requires-clause-before
-push_in-requires-clause-before c = gathered_lists c.args.board.now c.units.left c.units.moves.items c.units.invariant c.take_lowest-cell.result c.take_lowest-cell.ensures.there c.take_lowest-cell.ensures.least
+pub push_in-requires : goal.push_in-requires
+push_in-requires c =
+    let (cell, own) = ((c.units.invariant.left c.take_lowest-cell.result).0 c.take_lowest-cell.ensures.there).0 in
+    let before = gathered_lists c.args.board.now c.units.left c.units.moves.items c.units.invariant c.take_lowest-cell.result c.take_lowest-cell.ensures.there c.take_lowest-cell.ensures.least in
+    record { position = c.guard_of-guard.ensures.position; guards = c.guard_of-guard.ensures.guards; cell = cell; own = own; before = before }
 
 pub units-preserved : goal.units-preserved
 units-preserved c =

@@ -15,14 +15,10 @@ loop-square-preserved c = elim c.match-units-square.branch [
       (IsFilled-none c.args.game c.flags_of-flags.result c.args.units.now c.loop-square.words c.loop-square.square (none_where _ w.in_default.not-Some) c.loop-square.invariant)
 ]
 
-pub returns-clause-value : goal.returns-clause-value
-returns-clause-value c =
+pub returns : goal.returns
+returns c =
+    let b = board_of c.args.game c.args.mover c.args.units.now in
+    let f = c.flags_of-flags.ensures in
     let at_end : c.loop-square.square ≡ squares_of c.args.game = let end = c.squares-square-end.ensures in omega arith in
-    unpacked_of (board_of c.args.game c.args.mover c.args.units.now) c.requires c.flags_of-flags.result _ c.flags_of-flags.ensures.flags c.flags_of-flags.ensures.game c.flags_of-flags.ensures.mover
-    (subst (IsFilled c.args.game c.flags_of-flags.result c.args.units.now c.loop-square.words) at_end c.loop-square.invariant)
-
-pub returns-clause-packed : goal.returns-clause-packed
-returns-clause-packed c =
-    let at_end : c.loop-square.square ≡ squares_of c.args.game = let end = c.squares-square-end.ensures in omega arith in
-    IsPacked-of (board_of c.args.game c.args.mover c.args.units.now) c.requires c.flags_of-flags.result _ c.flags_of-flags.ensures.flags c.flags_of-flags.ensures.game c.flags_of-flags.ensures.mover
-    (subst (IsFilled c.args.game c.flags_of-flags.result c.args.units.now c.loop-square.words) at_end c.loop-square.invariant)
+    let filled = subst (IsFilled c.args.game c.flags_of-flags.result c.args.units.now c.loop-square.words) at_end c.loop-square.invariant in
+    record { value = unpacked_of b c.requires c.flags_of-flags.result _ f.flags f.game f.mover filled; packed = IsPacked-of b c.requires c.flags_of-flags.result _ f.flags f.game f.mover filled }

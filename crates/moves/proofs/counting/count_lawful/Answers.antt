@@ -5,11 +5,10 @@ use Rattle.moves.proofs.counting.count_lawful.Goals as goal
 pub units-init : goal.units-init
 units-init c = tallied_start c.args.board.now c.own-left.result c.own-left.ensures.cells
 
-pub count_from-count-requires-clause-cell : goal.count_from-count-requires-clause-cell
-count_from-count-requires-clause-cell c = ((c.units.invariant.left c.take_lowest-cell.result).0 c.take_lowest-cell.ensures.there).0.0
-
-pub count_from-count-requires-clause-own : goal.count_from-count-requires-clause-own
-count_from-count-requires-clause-own c = ((c.units.invariant.left c.take_lowest-cell.result).0 c.take_lowest-cell.ensures.there).0.1
+pub count_from-count-requires : goal.count_from-count-requires
+count_from-count-requires c =
+    let (cell, own) = ((c.units.invariant.left c.take_lowest-cell.result).0 c.take_lowest-cell.ensures.there).0 in
+    record { position = c.guard_of-guard.ensures.position; guards = c.guard_of-guard.ensures.guards; cell = cell; own = own }
 
 pub overflow_add-count : goal.overflow_add-count
 overflow_add-count c =
