@@ -56,15 +56,19 @@ module _ (b : PlainBoard) (m : Ply) (u : Man) (is : IsPosition b) (p : IsPseudoL
 
     module _ (unseen : (c : PlainBoard) → c.game ≡ b.game → Aims c (placed u m) m.to f → ⊥) (shut : IsPinned b (other_side b.mover) f m.from → ⊥)
         (safe : IsInCheck b (other_side b.mover) → ⊥) (kept : IsPinned b (other_side b.mover) k m.from → ⊥) where
-      -- the king isn't attacked where it comes to
-      still_safe : IsAttacked (after (after b m u) (record { from = k; to = f; promotion = None }) (record { side = other_side b.mover; kind = King })) f (other_side (other_side b.mover)) → ⊥
-      still_safe (s, a) =
+      -- what attacks there as the unit that moved would take there
+      aims : (c : PlainBoard) (s : Place) (a : AttacksFrom c (other_side (other_side b.mover)) s f) → s ≡ m.to → a.unit ≡ placed u m → Aims c (placed u m) m.to f
+      aims c s a same man = subst (λ x. Aims c (placed u m) x f) same (subst (λ (x : Man). Aims c x s f) man (attack_aims c (other_side (other_side b.mover)) s f a))
+
+      pub lawful_step : IsLawful (after b m u) (record { from = k; to = f; promotion = None })
+      lawful_step =
           let next = after b m u in
           let is_next = IsPosition-after b m u is p in
           let n : Ply = record { from = k; to = f; promotion = None } in
           let v : Man = record { side = other_side b.mover; kind = King } in
           let side = other_side b.mover in
-          elim (attacked_after next n v is_next steps side s f a) [
+          let fin = after next n v in
+          let still_safe : IsAttacked fin f (other_side side) → ⊥ = λ (s, a). elim (attacked_after next n v is_next steps side s f a) [
             | inl (at, moved) ↦ own_or_other side (sym (ap (λ (x : Man). x.side) (moved a.unit a.stands)) ∙ a.owner)
             | inr (inl w) ↦ elim (attacked_after b m u is p side s f w) [
               | inl (at, moved) ↦ unseen next refl (aims next s w at (moved w.unit w.stands))
@@ -76,28 +80,9 @@ module _ (b : PlainBoard) (m : Ply) (u : Man) (is : IsPosition b) (p : IsPseudoL
                 elim (attacked_after b m u is p side over.from k w) [
                   | inl (at, moved) ↦
                       let there : unit_at next s ≡ Some a.unit = stood next n v is_next steps s a.unit a.on_board a.stands (λ e. own_or_other side (sym (ap (λ (x : Man). x.side) e) ∙ a.owner)) in
-                      unseen (after next n v) refl (aims (after next n v) s a (sym from ∙ at) (moved a.unit (ap (unit_at next) from ∙ there)))
+                      unseen fin refl (aims fin s a (sym from ∙ at) (moved a.unit (ap (unit_at next) from ∙ there)))
                   | inr (inl l) ↦ safe (check_from b side k on king (over.from, l))
                   | inr (inr pin) ↦ kept pin.0
                 ]
-          ]
-        where
-          -- the unit that moved takes there
-          aims : (c : PlainBoard) (s : Place) (a : AttacksFrom c (other_side (other_side b.mover)) s f) → s ≡ m.to → a.unit ≡ placed u m → Aims c (placed u m) m.to f
-          aims c s a same man = subst (λ x. Aims c (placed u m) x f) same (subst (λ (x : Man). Aims c x s f) man (attack_aims c (other_side (other_side b.mover)) s f a))
-
-      pub lawful_step : IsLawful (after b m u) (record { from = k; to = f; promotion = None })
-      lawful_step =
-          let next = after b m u in
-          let is_next = IsPosition-after b m u is p in
-          let n : Ply = record { from = k; to = f; promotion = None } in
-          let v : Man = record { side = other_side b.mover; kind = King } in
-          let fin = after next n v in (
-            fin,
-            record {
-              unit = v;
-              pseudo = steps;
-              leads = refl;
-              safe = λ check. still_safe (check_at fin (IsPosition-after next n v is_next steps) (other_side b.mover) f to (king_moved next n v is_next steps refl) check);
-            },
-          )
+          ] in
+          (fin, record { unit = v; pseudo = steps; leads = refl; safe = λ check. still_safe (check_at fin (IsPosition-after next n v is_next steps) side f to (king_moved next n v is_next steps refl) check) })

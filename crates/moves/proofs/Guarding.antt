@@ -20,7 +20,7 @@ none_counted p xs (suc n) none h =
     let low : n < length xs = omega (arith, h) in
     ap (λ k. count_by p (take k xs)) next ∙ count_by_more_no p xs n None low (none n low) ∙ none_counted p xs n none (omega (arith, h))
 
-king_kind : (k : Kind) → is_king k ≡ true → k ≡ King
+pub king_kind : (k : Kind) → is_king k ≡ true → k ≡ King
 king_kind King e = refl
 king_kind Queen e = cc
 king_kind Rook e = cc

@@ -47,12 +47,5 @@ module _ (b : PlainBoard) (m : Ply) (u : Man) (is : IsPosition b) (p : IsPseudoL
       check_from (after b m u) b.mover m.to (to_on_board b m u p) behind
       (s, carried b (after b m u) (other_side b.mover) s m.to s m.to a a.on_board r.played (unit_at-other b m u is p s a.on_board away apart ∙ a.stands) (walks a.unit.side r.step s goes r.reaches.leads))
 
-  module _ (free : IsPinned b b.mover m.to m.from → ⊥) where
-    attacked_now : IsAttacked (after b m u) m.to (other_side b.mover) → IsAttacked b m.to (other_side b.mover)
-    attacked_now attack = elim (foe_attacks b m u is p m.to attack) [ inl w ↦ w | inr pin ↦ absurd (free pin) ]
-
-    check_now : IsInCheck (after b m u) b.mover → IsAttacked b m.to (other_side b.mover)
-    check_now check = attacked_now (check_at (after b m u) (IsPosition-after b m u is p) b.mover m.to (to_on_board b m u p) behind check)
-
-    pub steps_safely : (IsAttacked b m.to (other_side b.mover) → ⊥) → IsInCheck (after b m u) b.mover → ⊥
-    steps_safely none check = none (check_now check)
+  pub steps_safely : (IsPinned b b.mover m.to m.from → ⊥) → (IsAttacked b m.to (other_side b.mover) → ⊥) → IsInCheck (after b m u) b.mover → ⊥
+  steps_safely free none check = elim (foe_attacks b m u is p m.to (check_at (after b m u) (IsPosition-after b m u is p) b.mover m.to (to_on_board b m u p) behind check)) [ inl attacked ↦ none attacked | inr pin ↦ free pin ]

@@ -1,11 +1,12 @@
 -- Whether a move is lawful doesn't depend on what a pawn becomes.
-use Rattle.moves.proofs.Common.{◌≡◌, ℕ, ◌+◌, ◌^◌, ◌<◌, arith, refl, sym, ap, subst, ◌∙◌, ◌⊎◌, ◌↔◌, inl, inr, Option, Some, None, IsSome, same_Some, cases_eq, Game, Side, White, Black, Kind, King, Queen, Rook, Bishop, Knight, Pawn, Man, Step, width_of, other_side, PlainBoard, IsPosition, Place, Ply, IsOnBoard, unit_at, Leads, Reaches, IsAttacked, IsInCheck, once, again, IsLastRank, Promotes, IsSomeKing, IsPseudoLegal, IsLawful, placed, after, cell_of, place_in, Has, IsTarget, IsPinned, IsNamed, HasSafe, IsCalm, place_in-cell_of, lowest-has, IsRankAhead, to_on_board, own_or_other}
+use Rattle.moves.proofs.Common.{◌≡◌, ℕ, ◌+◌, ◌^◌, ◌<◌, arith, refl, sym, ap, subst, ◌∙◌, ◌⊎◌, ◌↔◌, inl, inr, Option, Some, None, IsSome, same_Some, cases_eq, Game, Side, White, Black, Kind, King, Queen, Rook, Bishop, Knight, Pawn, Man, Step, width_of, other_side, PlainBoard, IsPosition, Place, Ply, IsOnBoard, unit_at, Leads, Reaches, IsAttacked, IsInCheck, once, again, IsLastRank, Promotes, IsSomeKing, IsPseudoLegal, IsLawful, placed, after, cell_of, place_in, Has, IsTarget, IsPinned, IsNamed, HasSafe, IsCalm, place_in-cell_of, lowest-has, IsRankAhead, to_on_board, own_or_other, cases_Bool, is_king, false≢true}
 use Rattle.moves.proofs.KingSteps.{attacked_then, steps_safely}
 use Rattle.moves.proofs.Laying.{unit_at-to, unit_at-from, unit_at-other}
 use Rattle.moves.proofs.Looking.{carried}
 use Rattle.moves.proofs.Kings.{king_of, check_from}
 use Rattle.moves.proofs.Shadows.{pinned_attacks}
 use Rattle.moves.proofs.Pins.{place_cases, promotes_no_king, no_unit, stays_safe}
+use Rattle.moves.proofs.Guarding.{king_kind}
 use Rattle.moves.proofs.AtOnce.{pseudo_by, move_by}
 use Rattle.moves.proofs.Checking.{IsTarget-move}
 
@@ -19,12 +20,7 @@ abbrev pub becoming : Ply → Option Kind → Ply
 becoming m o = record { from = m.from; to = m.to; promotion = o }
 
 king_cases : (k : Kind) → (k ≡ King) ⊎ (k ≡ King → ⊥)
-king_cases King = inl refl
-king_cases Queen = inr (λ e. cc)
-king_cases Rook = inr (λ e. cc)
-king_cases Bishop = inr (λ e. cc)
-king_cases Knight = inr (λ e. cc)
-king_cases Pawn = inr (λ e. cc)
+king_cases k = elim (cases_Bool (is_king k)) [ inl king ↦ inl (king_kind k king) | inr piece ↦ inr (λ e. false≢true (sym piece ∙ ap is_king e)) ]
 
 not_named : (o : Option Kind) → (IsSome o → ⊥) → o ≡ None
 not_named None never = refl
