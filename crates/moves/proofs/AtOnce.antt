@@ -1,47 +1,20 @@
 -- What a side reaches with its next move.
-use Rattle.std.proofs.Common.{◌≡◌, ◌≢◌, ℕ, ◌<◌, ◌≤◌, ◌↔◌, IsTrue, Bool, true, false, not, inl, inr, refl, sym, ◌∙◌, ap, subst, arith, get_or, Option, Some, None}
-use Rattle.std.proofs.lemmas.Bool.{false≢true}
-use Rattle.std.proofs.lemmas.Option.{same_Some}
-use Rattle.std.proofs.lemmas.Bool.{cases_lt}
-use Rattle.board.specs.declared.game.Kind.{Kind}
-use Rattle.board.specs.declared.game.Kind.TheVariants.{King, Queen, Rook, Bishop, Knight, Pawn}
-use Rattle.board.specs.declared.game.Side.{Side}
-use Rattle.board.specs.declared.game.Side.TheVariants.{White, Black}
-use Rattle.board.specs.declared.game.Unit.{Unit as Man}
-use Rattle.board.specs.declared.step.Mode.{Mode}
-use Rattle.board.specs.declared.step.Mode.TheVariants.{Move, Capture, Both}
-use Rattle.board.specs.Games.{is_same_side, other_side}
-use Rattle.board.specs.Board.{PlainBoard}
-use Rattle.rules.specs.declared.goal.Goal.{Goal}
+use Rattle.moves.proofs.Common.{◌≡◌, ℕ, ◌<◌, ◌≤◌, ◌↔◌, IsTrue, Bool, true, false, not, inl, inr, refl, sym, ◌∙◌, ap, subst, arith, get_or, Option, Some, None, false≢true, same_Some, cases_lt, Kind, King, Queen, Rook, Bishop, Knight, Pawn, Side, Man, Mode, Move, Capture, Both, is_same_side, other_side, PlainBoard, Goal, Place, Ply, IsOnBoard, unit_at, Allows, Reaches, IsInCheck, Promotes, IsSomeKing, IsPseudoLegal, IsMove, IsLawful, IsMated, after, promotion_number, PROMOTIONS, IsReached, Forces, Attains, HasParts-lawful, promotes_to, to_own, to_other, same_side-self, turn-own, not-is}
 use Rattle.rules.specs.declared.goal.Goal.TheVariants.{Mate, MateOrStale}
-use Rattle.rules.specs.Squares.{Place, Ply, IsOnBoard, unit_at}
-use Rattle.rules.specs.Reach.{Allows, Reaches, IsInCheck}
-use Rattle.rules.specs.Moves.{Promotes, IsSomeKing, IsPseudoLegal, IsMove, IsLawful, IsMated, after}
-use Rattle.rules.specs.Order.{promotion_number}
-use Rattle.rules.specs.declared.list.TheConstants.{PROMOTIONS}
-use Rattle.rules.specs.Forces.{IsReached, Forces}
-use Rattle.moves.specs.Checking.{Attains}
-use Rattle.moves.specs.Safe.{IsNamed}
 use Rattle.moves.proofs.Kings.{check_from}
-use Rattle.rules.proofs.Lists.{HasParts-lawful, promotes_to}
-use Rattle.rules.proofs.Forcing.{to_own, to_other, same_side-self, turn-own}
+use Rattle.moves.proofs.Looking.{other_twice}
 use Rattle.board.proofs.RankText.{on_true as on_own, on_false as on_other}
 
 -- ---- the goal, by check and by whether a move is lawful
 
 -- in check, mate is want of a lawful move
 pub mated_exactly : (b : PlainBoard) (some : Bool) → IsInCheck b b.mover → (IsTrue some ↔ ((m : Ply) × IsLawful b m)) → IsTrue (not some) ↔ IsMated b
-mated_exactly b true check h = (λ is. absurd (false≢true is), λ mated. absurd (let w = h.0 refl in mated.no_move w.0 w.1))
-mated_exactly b false check h = (λ _. record { check = check; no_move = λ m lawful. false≢true (h.1 (m, lawful)) }, λ _. refl)
+mated_exactly b some check h = let w = not-is some h in (λ no. record { check = check; no_move = λ m lawful. w.0 no (m, lawful) }, λ mated. w.1 (λ l. mated.no_move l.0 l.1))
 
 pub mated_if : (goal : Goal) (b : PlainBoard) (check some : Bool) → goal ≡ Mate → (IsTrue check ↔ IsInCheck b b.mover) → (IsTrue some ↔ ((m : Ply) × IsLawful b m)) → check ≡ true → IsTrue (not some) ↔ IsReached goal b
 mated_if goal b check some is h k e = subst (λ (g : Goal). IsTrue (not some) ↔ IsReached g b) (sym is) (mated_exactly b some (h.0 e) k)
 
 -- the second goal is want of a lawful move
-pub still : (b : PlainBoard) (check some : Bool) → (IsTrue check ↔ IsInCheck b b.mover) → (IsTrue some ↔ ((m : Ply) × IsLawful b m)) → some ≡ false → IsReached MateOrStale b
-still b true some h k e = inl (record { check = h.0 refl; no_move = λ m lawful. false≢true (sym e ∙ k.1 (m, lawful)) })
-still b false some h k e = inr (record { no_check = λ c. false≢true (h.1 c); no_move = λ m lawful. false≢true (sym e ∙ k.1 (m, lawful)) })
-
 pub no_move_of : (b : PlainBoard) → IsReached MateOrStale b → (m : Ply) → IsLawful b m → ⊥
 no_move_of b (inl mated) = mated.no_move
 no_move_of b (inr stale) = stale.no_move
@@ -52,8 +25,8 @@ no_move_at Mate b mated = mated.no_move
 no_move_at MateOrStale b r = no_move_of b r
 
 pub stale_exactly : (b : PlainBoard) (check some : Bool) → (IsTrue check ↔ IsInCheck b b.mover) → (IsTrue some ↔ ((m : Ply) × IsLawful b m)) → IsTrue (not some) ↔ IsReached MateOrStale b
-stale_exactly b check true h k = (λ is. absurd (false≢true is), λ r. absurd (let w = k.0 refl in no_move_of b r w.0 w.1))
-stale_exactly b check false h k = (λ _. still b check false h k refl, λ _. refl)
+stale_exactly b true some h k = let w = not-is some k in (λ no. inl (record { check = h.0 refl; no_move = λ m lawful. w.0 no (m, lawful) }), λ r. w.1 (λ l. no_move_of b r l.0 l.1))
+stale_exactly b false some h k = let w = not-is some k in (λ no. inr (record { no_check = λ c. false≢true (h.1 c); no_move = λ m lawful. w.0 no (m, lawful) }), λ r. w.1 (λ l. no_move_of b r l.0 l.1))
 
 pub stale_if : (goal : Goal) (b : PlainBoard) (check some : Bool) → goal ≡ MateOrStale → (IsTrue check ↔ IsInCheck b b.mover) → (IsTrue some ↔ ((m : Ply) × IsLawful b m)) → IsTrue (not some) ↔ IsReached goal b
 stale_if goal b check some is h k = subst (λ (g : Goal). IsTrue (not some) ↔ IsReached g b) (sym is) (stale_exactly b check some h k)
@@ -112,27 +85,12 @@ enemy_on Capture side v h = h
 enemy_on Both side v h = h
 
 -- where the other king isn't attacked, no unit of the mover comes to a king
-takes_no_king : (b : PlainBoard) (u : Man) (s t : Place) (o : Option Man) → o ≡ unit_at b t → (IsInCheck b (other_side b.mover) → ⊥) → IsOnBoard b.game s → IsOnBoard b.game t → unit_at b s ≡ Some u → u.side ≡ b.mover → Reaches b u s t o → IsSomeKing o → ⊥
+pub takes_no_king : (b : PlainBoard) (u : Man) (s t : Place) (o : Option Man) → o ≡ unit_at b t → (IsInCheck b (other_side b.mover) → ⊥) → IsOnBoard b.game s → IsOnBoard b.game t → unit_at b s ≡ Some u → u.side ≡ b.mover → Reaches b u s t o → IsSomeKing o → ⊥
 takes_no_king b u s t None at safe from to stands owner r king = king
 takes_no_king b u s t (Some v) at safe from to stands owner r king =
     let foe : v.side ≡ other_side b.mover = enemy_on r.step.mode u.side v r.reaches.allows ∙ ap other_side owner in
     let there : v ≡ record { side = other_side b.mover; kind = King } = λ i. record { side = foe i; kind = king i } in
-    let again : b.mover ≡ other_side (other_side b.mover) = twice_other b.mover in
+    let again = sym (other_twice b.mover) in
     let target : v ≡ record { side = other_side (other_side (other_side b.mover)); kind = King } = there ∙ ap (λ x. record { side = other_side x; kind = King }) again in
     safe (check_from b (other_side b.mover) t to (sym at ∙ ap Some there)
     (s, record { unit = u; on_board = from; stands = stands; owner = owner ∙ again; reaches = subst (λ (x : Man). Reaches b u s t (Some x)) target r }))
-  where
-    twice_other : (side : Side) → side ≡ other_side (other_side side)
-    twice_other White = refl
-    twice_other Black = refl
-
-pub pseudo_of : (b : PlainBoard) (m : Ply) (u : Man) (s t : Place) → (IsInCheck b (other_side b.mover) → ⊥) → IsOnBoard b.game s → IsOnBoard b.game t → unit_at b s ≡ Some u → u.side ≡ b.mover → Reaches b u s t (unit_at b t) → m.from ≡ s → m.to ≡ t → IsNamed b.game u m → IsPseudoLegal b m u
-pseudo_of b m u s t safe on to stands owner r from at named = record {
-  on_board = subst (IsOnBoard b.game) (sym from) on;
-  stands = ap (unit_at b) from ∙ stands;
-  owner = owner;
-  reaches = subst (λ x. Reaches b u x m.to (unit_at b m.to)) (sym from) (subst (λ x. Reaches b u s x (unit_at b x)) (sym at) r);
-  no_king = λ there. takes_no_king b u s t (unit_at b t) refl safe on to stands owner r (subst (λ x. IsSomeKing (unit_at b x)) at there);
-  named = named.named;
-  allowed = named.allowed;
-}

@@ -1,29 +1,8 @@
 -- A check stands but for a move of the king, a capture, or a unit put between.
-use Rattle.std.proofs.Common.{◌≡◌, ℕ, ◌-◌, ◌^◌, sym, ap, subst, ◌∙◌, arith, ◌⊎◌, inl, inr, Some, None}
-use Rattle.std.proofs.lemmas.Nat.Bits.{bit_at_ones}
-use Rattle.std.proofs.lemmas.Option.{same_Some}
-use Rattle.board.specs.declared.game.Side.{Side}
-use Rattle.board.specs.declared.game.Kind.TheVariants.{King}
-use Rattle.board.specs.declared.game.Unit.{Unit as Man}
-use Rattle.board.specs.declared.step.Step.{Step}
-use Rattle.board.specs.Games.{other_side}
-use Rattle.board.specs.Board.{PlainBoard, IsPosition}
-use Rattle.rules.specs.Squares.{Place, Ply, IsOnBoard, unit_at}
-use Rattle.rules.specs.Reach.{Leads, AttacksFrom, IsInCheck}
-use Rattle.rules.specs.Reach.Leads.{once, again}
-use Rattle.rules.specs.Moves.{IsPseudoLegal, after}
-use Rattle.cells.specs.declared.tables.Way.{Way}
-use Rattle.cells.specs.Mailbox.{cell_of, place_in, IsCell}
-use Rattle.cells.specs.Ways.{Rides}
-use Rattle.cells.specs.CellSets.{Has}
-use Rattle.moves.specs.Looking.{Aims}
-use Rattle.moves.specs.Guard.{HasBlocks}
-use Rattle.cells.proofs.CellNumbers.{IsCell-cell_of, place_in-cell_of, cell_of-place_in, cell_small}
-use Rattle.rules.proofs.Rides.{one_target}
+use Rattle.moves.proofs.Common.{◌≡◌, ℕ, ◌-◌, ◌^◌, sym, ap, subst, ◌∙◌, arith, ◌⊎◌, inl, inr, Some, None, bit_at_ones, same_Some, Side, King, Man, Step, other_side, PlainBoard, IsPosition, Place, Ply, IsOnBoard, unit_at, Leads, AttacksFrom, IsInCheck, once, again, IsPseudoLegal, after, Way, cell_of, place_in, IsCell, Rides, Has, Aims, HasBlocks, IsCell-cell_of, place_in-cell_of, cell_of-place_in, cell_small, one_target, to_on_board, IsPosition-after, single_step, Leads-end, own_or_other}
 use Rattle.moves.proofs.Riding.{Rides-leads}
-use Rattle.moves.proofs.Seeing.{ways_of}
+use Rattle.moves.proofs.Seeing.{rides_as}
 use Rattle.moves.proofs.Laying.{unit_at-other}
-use Rattle.rules.proofs.Keeps.{to_on_board, IsPosition-after, Leads-single_step as single_step, Leads-on_board as Leads-end, no_own as own_or_other}
 use Rattle.moves.proofs.Kings.{king_of, check_from}
 use Rattle.moves.proofs.Guarding.{king_stays}
 use Rattle.moves.proofs.Looking.{Aims-attacked, attacks_back}
@@ -71,11 +50,11 @@ module _ (b : PlainBoard) (is : IsPosition b) (k i : ℕ) (on : IsCell b.game k)
       let to = to_on_board b m u p in
       let cell = IsCell-cell_of b.game m.to to in
       let crosses' : Leads b b.mover a.step (place_in k) (place_in (cell_of m.to)) = subst (Leads b b.mover a.step (place_in k)) (sym (place_in-cell_of b.game m.to to)) crosses in
-      elim (ways_of b.mover check.unit.kind a.step a.denoted) [
+      elim (rides_as b.mover check.unit.kind a.step a.denoted) [
         | inl single ↦
             let same : m.to ≡ place_in i = one_target b.mover a.step (place_in k) m.to (place_in i) (single_step b b.mover a.step (place_in k) m.to single crosses) (single_step b b.mover a.step (place_in k) (place_in i) single a.leads) in
             subst (Has set) (sym (ap cell_of same ∙ cell_of-place_in b.game i at)) there
-        | inr way ↦ between way.0 (Rides-leads b b.mover way.0 a.step way.1 k i on at a.leads) (cell_of m.to) (Rides-leads b b.mover way.0 a.step way.1 k (cell_of m.to) on cell crosses')
+        | inr way ↦ between way.way (Rides-leads b b.mover way.way a.step way.goes k i on at a.leads) (cell_of m.to) (Rides-leads b b.mover way.way a.step way.goes k (cell_of m.to) on cell crosses')
       ]
 
 -- with no check each cell will do

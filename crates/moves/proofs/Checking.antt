@@ -1,33 +1,8 @@
 -- Who gives check after a move: the unit that moved, from where it comes to, or one that it kept from the king.
-use Rattle.std.proofs.Common.{◌≡◌, zero, suc, ℤ, neg_ℤ, refl, sym, ap, subst, ◌∙◌, arith, ◌⊎◌, inl, inr, false, Option, Some, None, IsSome, unwrap_or}
-use Rattle.std.proofs.lemmas.Int.{ints}
-use Rattle.std.proofs.lemmas.Bool.{false≢true}
-use Rattle.board.specs.declared.game.Side.{Side}
-use Rattle.board.specs.declared.game.Side.TheVariants.{White, Black}
-use Rattle.board.specs.declared.game.Kind.{Kind}
-use Rattle.board.specs.declared.game.Kind.TheVariants.{Knight}
-use Rattle.board.specs.declared.game.Unit.{Unit as Man}
-use Rattle.board.specs.declared.step.Mode.{Mode}
-use Rattle.board.specs.declared.step.Mode.TheVariants.{Move, Capture, Both}
-use Rattle.board.specs.declared.step.Step.{Step}
-use Rattle.board.specs.declared.terms.Atom.{Atom}
+use Rattle.moves.proofs.Common.{◌≡◌, zero, suc, ℤ, neg_ℤ, refl, sym, ap, subst, ◌∙◌, arith, ◌⊎◌, inl, inr, false, Option, Some, None, IsSome, unwrap_or, ints, false≢true, Side, White, Black, Kind, Knight, Man, Mode, Move, Capture, Both, Step, Term, IsAtomLeap, Denotes, terms_of, other_side, IsPlayed, PlainBoard, IsPosition, Place, Ply, IsOnBoard, unit_at, ahead_of, Leads, Allows, Reaches, AttacksFrom, IsInCheck, once, IsPseudoLegal, after, cell_of, IsTarget, IsPinned, Aims, IsCell-cell_of, place_in-cell_of, to_on_board, single_step, own_or_other}
 use Rattle.board.specs.declared.terms.Atom.TheVariants as atom
-use Rattle.board.specs.declared.terms.Term.{Term}
-use Rattle.board.specs.Denotation.{IsAtomLeap, Denotes, terms_of}
-use Rattle.board.specs.Games.{other_side, IsPlayed}
-use Rattle.board.specs.Board.{PlainBoard, IsPosition}
-use Rattle.rules.specs.Squares.{Place, Ply, IsOnBoard, unit_at}
-use Rattle.rules.specs.Reach.{ahead_of, Leads, Allows, Reaches, AttacksFrom, IsInCheck}
-use Rattle.rules.specs.Reach.Leads.{once}
-use Rattle.rules.specs.Moves.{IsPseudoLegal, after}
-use Rattle.cells.specs.Mailbox.{cell_of}
-use Rattle.moves.specs.Targets.{IsTarget}
-use Rattle.moves.specs.Pinned.{IsPinned}
-use Rattle.moves.specs.Looking.{Aims}
-use Rattle.cells.proofs.CellNumbers.{IsCell-cell_of, place_in-cell_of}
-use Rattle.rules.proofs.Keeps.{to_on_board, Leads-single_step as single_step, no_own as own_or_other}
 use Rattle.moves.proofs.Kings.{king_of, check_from, one_king}
-use Rattle.moves.proofs.Looking.{size-neg, captures_from}
+use Rattle.moves.proofs.Looking.{size-neg, captures_from, carried}
 use Rattle.moves.proofs.Pins.{stood, walked, attacked_after}
 
 named_or_not : (o : Option Kind) → IsSome o ⊎ (o ≡ None)
@@ -56,16 +31,7 @@ module _ (b : PlainBoard) (m : Ply) (u : Man) (is : IsPosition b) (p : IsPseudoL
                   captures = captures_from r.step.mode a.unit.side _ r.reaches.allows;
                   leads = subst (λ (v : Man). Leads b v.side r.step m.to k) plain (subst (λ x. Leads b a.unit.side r.step m.to x) at (subst (λ x. Leads b a.unit.side r.step x t) same w));
                 }
-                | inr w ↦ absurd (safe (check_from b foe k on king (
-                  m.from,
-                  record {
-                    unit = a.unit;
-                    on_board = p.on_board;
-                    stands = p.stands ∙ ap Some (sym plain);
-                    owner = a.owner;
-                    reaches = record { step = r.step; played = r.played; denoted = r.denoted; reaches = record { allows = r.reaches.allows; leads = subst (Leads b a.unit.side r.step m.from) at w.2 } };
-                  },
-                )))
+                | inr w ↦ absurd (safe (check_from b foe k on king (m.from, carried (after b m u) b (other_side foe) s t m.from k a p.on_board r.played (p.stands ∙ ap Some (sym plain)) (subst (Leads b a.unit.side r.step m.from) at w.2))))
               ]))
         ]
         | inr (inl w) ↦ absurd (safe (check_from b foe k on king (s, subst (AttacksFrom b (other_side foe) s) at w)))

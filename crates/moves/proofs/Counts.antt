@@ -1,29 +1,9 @@
 -- How many lawful moves there are, by the cells to which they lead.
-use Rattle.std.proofs.Common.{◌≡◌, ℕ, ◌+◌, ◌*◌, ◌/◌, ◌%◌, ◌^◌, ◌<◌, ◌≤◌, zero, suc, refl, sym, ap, subst, ◌∙◌, ◌↔◌, inl, inr, arith, List, [], ◌∷◌, ◌++◌, length, get_or, length-append, Option, Some, None, IsSome, IfSome, count_ones}
-use Rattle.std.specs.Int.{bit_at}
+use Rattle.moves.proofs.Common.{◌≡◌, ℕ, ◌+◌, ◌*◌, ◌/◌, ◌%◌, ◌^◌, ◌<◌, ◌≤◌, zero, suc, refl, sym, ap, subst, ◌∙◌, ◌↔◌, inl, inr, arith, List, [], ◌∷◌, ◌++◌, length, get_or, length-append, Option, Some, None, IsSome, IfSome, count_ones, bit_at, ones_le_self, bit_at-lt, bit_at_lowest, bit_at-suc, cases_eq, All-get_or, Game, LosAlamos, Gardner, Kind, Queen, Rook, Bishop, Knight, Man, PlainBoard, Place, Ply, IsOnBoard, square_number, unit_at, Promotes, IsPromotion, IsLawful, promotion_number, ply_number, ListsBelow, place_in, Has, IsNamed, HasSafe, IsEach, promotions_of, cell_small, IsNumbered, ListsBelow-push, ListsBelow-skip, ListsBelow-promoted}
 use Rattle.std.specs.Int.Count.{ones_step}
-use Rattle.std.proofs.lemmas.Nat.{ones_le_self}
-use Rattle.std.proofs.lemmas.Nat.Bits.{bit_at-lt, bit_at_lowest, bit_at-suc}
-use Rattle.std.proofs.lemmas.Bool.{cases_eq}
-use Rattle.std.proofs.lemmas.List.Elements.{All-get_or}
-use Rattle.board.specs.declared.game.Game.{Game}
-use Rattle.board.specs.declared.game.Game.TheVariants.{LosAlamos, Gardner}
-use Rattle.board.specs.declared.game.Kind.{Kind}
-use Rattle.board.specs.declared.game.Kind.TheVariants.{Queen, Rook, Bishop, Knight}
-use Rattle.board.specs.declared.game.Unit.{Unit as Man}
-use Rattle.board.specs.Board.{PlainBoard}
-use Rattle.rules.specs.Squares.{Place, Ply, IsOnBoard, square_number, unit_at}
-use Rattle.rules.specs.Moves.{Promotes, IsPromotion, IsLawful}
-use Rattle.rules.specs.Order.{promotion_number}
-use Rattle.rules.specs.Listing.{ply_number, ListsBelow}
-use Rattle.cells.specs.Mailbox.{place_in, IsCell}
-use Rattle.cells.specs.CellSets.{Has}
-use Rattle.moves.specs.Safe.{IsNamed, HasSafe, IsEach, promotions_of}
-use Rattle.cells.proofs.CellNumbers.{cell_small}
-use Rattle.moves.proofs.Guarding.{promotes_well}
-use Rattle.rules.proofs.Lists.{IsNumbered, ListsBelow-push, ListsBelow-skip, ListsBelow-promoted}
+use Rattle.moves.proofs.AtOnce.{pseudo_by}
 use Rattle.moves.proofs.Walking.{IsWalked, Jumps, walked_start, walked_end, next_holds, walked_more}
-use Rattle.moves.proofs.Scanning.{skip, skip_rest}
+use Rattle.moves.proofs.Scanning.{safe_cell, skip, skip_rest}
 
 -- ---- a list has no more moves than numbers
 
@@ -127,29 +107,22 @@ module _ (b : PlainBoard) (u : Man) (from to : Place) (on : IsOnBoard b.game fro
 
       module _ (due : Promotes b.game u to) where
         not_none : IsLawful b (move_to None) → ⊥
-        not_none l = not_some ((promotes_well b (move_to None) u stands l).0.1 due)
-          where
-            not_some : IsSome {T = Kind} None → ⊥
-            not_some e = cc
+        not_none l = cc ((pseudo_by b (move_to None) u stands l).named.1 due)
 
         promoted : (k : Kind) → IsPromotion b.game k → IsLawful b (move_to (Some k))
         promoted k may = lawful_as (Some k) ((λ _. due), (λ _. refl)) may
 
         -- the queen and the rook come first
-        two : (g : Game) → b.game ≡ g → IsPromotion g Queen → IsPromotion g Rook → ListsBelow b first xs → Taken 3 2
-        two g e queen rook lists =
-            take 2 1 (Some Rook) refl (promoted Rook (subst (λ x. IsPromotion x Rook) (sym e) rook))
-            (take 1 0 (Some Queen) refl (promoted Queen (subst (λ x. IsPromotion x Queen) (sym e) queen)) (leave 0 0 None refl (omega arith) not_none (start lists)))
+        two : ListsBelow b first xs → Taken 3 2
+        two lists = take 2 1 (Some Rook) refl (promoted Rook tt) (take 1 0 (Some Queen) refl (promoted Queen tt) (leave 0 0 None refl (omega arith) not_none (start lists)))
 
         take_all : (g : Game) → b.game ≡ g → ListsBelow b first xs → TakenAll (promotions_of g)
         take_all LosAlamos e lists =
-            let no_bishop : IsLawful b (move_to (Some Bishop)) → ⊥ = λ l. subst (λ g. IsPromotion g Bishop) e (promotes_well b (move_to (Some Bishop)) u stands l).1 in
-            let knight : IsPromotion b.game Knight = subst (λ g. IsPromotion g Knight) (sym e) tt in
-            whole 5 3 (omega arith) (λ _. refl) (omega arith) (take 4 2 (Some Knight) refl (promoted Knight knight) (leave 3 2 (Some Bishop) refl (omega arith) no_bishop (two LosAlamos e tt tt lists)))
+            let no_bishop : IsLawful b (move_to (Some Bishop)) → ⊥ = λ l. subst (λ g. IsPromotion g Bishop) e (pseudo_by b (move_to (Some Bishop)) u stands l).allowed in
+            whole 5 3 (omega arith) (λ _. refl) (omega arith) (take 4 2 (Some Knight) refl (promoted Knight tt) (leave 3 2 (Some Bishop) refl (omega arith) no_bishop (two lists)))
         take_all Gardner e lists =
             let bishop : IsPromotion b.game Bishop = subst (λ g. IsPromotion g Bishop) (sym e) tt in
-            let knight : IsPromotion b.game Knight = subst (λ g. IsPromotion g Knight) (sym e) tt in
-            whole 5 4 (omega arith) (λ _. refl) (omega arith) (take 4 3 (Some Knight) refl (promoted Knight knight) (take 3 2 (Some Bishop) refl (promoted Bishop bishop) (two Gardner e tt tt lists)))
+            whole 5 4 (omega arith) (λ _. refl) (omega arith) (take 4 3 (Some Knight) refl (promoted Knight tt) (take 3 2 (Some Bishop) refl (promoted Bishop bishop) (two lists)))
 
       pub take_each : (each : ℕ) → IsEach b.game u to each → ListsBelow b first xs → TakenAll each
       take_each each (inl (due, e)) lists = subst TakenAll (sym e) (take_all due b.game refl lists)
@@ -166,9 +139,6 @@ module _ (b : PlainBoard) (u : Man) (from : Place) (on : IsOnBoard b.game from) 
   abbrev IsCounted : ℕ → Type 0
   IsCounted k = IsWalked b.game (Has set) (λ i. Has set i × (k ≤ i)) (Counted k)
 
-  cell : (i : ℕ) → Has set i → IsCell b.game i
-  cell i h = (safe.cells i h).0
-
   jump : (k : ℕ) → Jumps b.game (Has set) (Counted k)
   jump k n m le within none (more, lists, count) = (more, skip b u from on set safe more n m le within none lists, count)
 
@@ -178,12 +148,12 @@ module _ (b : PlainBoard) (u : Man) (from : Place) (on : IsOnBoard b.game from) 
     with_member k h s =
         let n = square_number b.game (place_in k) in
         let least : (i : ℕ) → i < k → Has set i × (k ≤ i) → ⊥ = λ i low w. let high = w.1 in omega (arith, low, high) in
-        let (before, lists, count) = next_holds b.game (Has set) (λ i. Has set i × (k ≤ i)) (Counted k) cell (jump k) s k (h, omega arith) least in
-        let (more, listed, grown) = take_each b u from (place_in k) on (cell k h).on_board stands before (λ m f t named. safe.lawful k m h f t named) each (eachly k h) lists in
+        let (before, lists, count) = next_holds b.game (Has set) (λ i. Has set i × (k ≤ i)) (Counted k) (safe_cell b u from on set safe) (jump k) s k (h, omega arith) least in
+        let (more, listed, grown) = take_each b u from (place_in k) on (safe.cells k h).0.on_board stands before (λ m f t named. safe.lawful k m h f t named) each (eachly k h) lists in
         let same : (square_number b.game from * 36 + n + 1) * 5 ≡ (square_number b.game from * 36 + (n + 1)) * 5 = omega arith in
         let one : bit_at set k ≡ 1 = h in
         let product : (bits_below set k + bit_at set k) * each ≡ bits_below set k * each + each = ap (λ x. (bits_below set k + x) * each) one ∙ distributed (bits_below set k) in
-        walked_more b.game (Has set) (λ i. Has set i × (k ≤ i)) (Counted k) cell (jump k) s k (h, omega arith) least (λ i. Has set i × (suc k ≤ i)) (Counted (suc k))
+        walked_more b.game (Has set) (λ i. Has set i × (k ≤ i)) (Counted k) (safe_cell b u from on set safe) (jump k) s k (h, omega arith) least (λ i. Has set i × (suc k ≤ i)) (Counted (suc k))
         (λ i. (
           λ w. let above = w.1 in ((w.0, omega (arith, above)), λ e. omega (arith, above, e)),
           λ w. let above = w.0.1 in let other = w.1 in (w.0.0, omega (arith, above, other)),
@@ -227,14 +197,5 @@ module _ (b : PlainBoard) (u : Man) (from : Place) (on : IsOnBoard b.game from) 
 
     pub counted_all : set < 2 ^ 64 → ListsBelow b (square_number b.game from * 36 * 5) moves → (more : List Ply) × ListsBelow b ((square_number b.game from + 1) * 36 * 5) more × (length more ≡ length moves + count_ones set * each)
     counted_all fits start =
-        let (more, lists, count) = walked_end b.game (Has set) (λ i. Has set i × (64 ≤ i)) (Counted 64) cell (jump 64) (counted start 64) (λ i w. let small = cell_small b.game i (cell i w.0) in let high = w.1 in omega (arith, small, high)) in
+        let (more, lists, count) = walked_end b.game (Has set) (λ i. Has set i × (64 ≤ i)) (Counted 64) (safe_cell b u from on set safe) (jump 64) (counted start 64) (λ i w. let small = cell_small b.game i (safe.cells i w.0).0 in let high = w.1 in omega (arith, small, high)) in
         (more, skip_rest b u from on set safe more lists, count ∙ ap (λ x. length moves + x * each) (bits_all 64 set fits))
-
--- a product of bounded numbers
-pub product_most : (a c : ℕ) → a ≤ 64 → c ≤ 4 → a * c ≤ 256
-product_most a zero h k = omega arith
-product_most a (suc zero) h k = omega arith
-product_most a (suc (suc zero)) h k = omega arith
-product_most a (suc (suc (suc zero))) h k = omega arith
-product_most a (suc (suc (suc (suc zero)))) h k = omega arith
-product_most a (suc (suc (suc (suc (suc c))))) h k = absurd (omega arith)

@@ -1,11 +1,7 @@
 -- Four bits of a word, and how an exclusive or changes them.
-use Rattle.std.proofs.Common.{◌≡◌, ◌≢◌, ℕ, ◌+◌, ◌-◌, ◌*◌, ◌/◌, ◌%◌, ◌^◌, ◌<◌, suc, sym, ap, subst, ◌∙◌, arith, inl, inr}
+use Rattle.moves.proofs.Common.{◌≡◌, ◌≢◌, ℕ, ◌+◌, ◌-◌, ◌*◌, ◌/◌, ◌%◌, ◌^◌, ◌<◌, suc, sym, ap, subst, ◌∙◌, arith, inl, inr, pow-add, shl-shr, shr-shr, shr_le, xor_shr, xor_mod, shl_whole, cases_order, bit_xor, digit}
 use Rattle.std.proofs.Math.Nat.{mul_assoc, mul-mod_left}
-use Rattle.std.proofs.lemmas.Nat.{pow-add, shl-shr, shr-shr, shr_le, xor_shr, xor_mod, shl_whole}
-use Rattle.std.proofs.lemmas.Bool.{cases_order}
 use Rattle.std.specs.Int.Bits.{xor_self, xor_assoc, xor_zero_l, xor_zero_r}
-use Rattle.std.specs.Int.RustNames.{bit_xor}
-use Rattle.moves.specs.Words.{digit}
 
 pub digit_xor : (a b i : ℕ) → digit (bit_xor a b) i ≡ bit_xor (digit a i) (digit b i)
 digit_xor a b i = ap (λ n. n % 16) (xor_shr a b (4 * i)) ∙ xor_mod (a / 2 ^ (4 * i)) (b / 2 ^ (4 * i)) 4

@@ -1,57 +1,19 @@
 -- Steps of a king that are lawful after a move of the other side.
-use Rattle.std.proofs.Common.{◌≡◌, ℕ, refl, sym, ap, subst, ◌∙◌, ◌⊎◌, inl, inr, false, Some, None}
-use Rattle.std.proofs.lemmas.Bool.{false≢true}
-use Rattle.std.proofs.lemmas.Option.{same_Some}
-use Rattle.board.specs.declared.game.Kind.TheVariants.{King, Queen, Rook, Bishop, Pawn}
-use Rattle.board.specs.declared.game.Unit.{Unit as Man}
-use Rattle.board.specs.declared.game.Side.{Side}
-use Rattle.board.specs.declared.step.Step.{Step}
-use Rattle.board.specs.Denotation.{terms_of, Denotes}
-use Rattle.board.specs.Games.{other_side}
-use Rattle.board.specs.Board.{PlainBoard, IsPosition}
-use Rattle.rules.specs.Squares.{Place, Ply, IsOnBoard, unit_at}
-use Rattle.rules.specs.Reach.{Leads, Allows, Reaches, AttacksFrom, IsAttacked, IsInCheck}
-use Rattle.rules.specs.Reach.Leads.{once, again}
-use Rattle.rules.specs.Moves.{IsSomeKing, IsPseudoLegal, IsLawful, placed, after}
-use Rattle.rules.proofs.Keeps.{IsPosition-after, no_own as own_or_other}
-use Rattle.cells.specs.Mailbox.{place_in, IsCell}
-use Rattle.cells.specs.Ways.{IsOnStraight, IsOnSlanted}
-use Rattle.moves.specs.Looking.{Aims}
-use Rattle.moves.specs.Pinned.{IsPinned}
-use Rattle.moves.specs.Safe.{IsCalm}
-use Rattle.moves.specs.Targets.{IsTarget}
+use Rattle.moves.proofs.Common.{◌≡◌, ℕ, refl, sym, ap, subst, ◌∙◌, inl, inr, false, Some, None, false≢true, same_Some, King, Man, Side, Step, other_side, PlainBoard, IsPosition, Place, Ply, IsOnBoard, unit_at, Leads, Allows, Reaches, AttacksFrom, IsAttacked, IsInCheck, once, again, IsSomeKing, IsPseudoLegal, IsLawful, placed, after, IsPosition-after, own_or_other, place_in, IsCell, Way, IsOnRay, Aims, IsPinned, IsCalm}
 use Rattle.moves.proofs.Laying.{unit_at-other}
 use Rattle.moves.proofs.Kings.{king_of, check_at, check_from}
 use Rattle.moves.proofs.Guarding.{king_moved}
-use Rattle.moves.proofs.Looking.{captures_from}
+use Rattle.moves.proofs.Looking.{attack_aims}
 use Rattle.moves.proofs.Pins.{stood, attacked_after}
 use Rattle.moves.proofs.Riding.{Rides-leads, rides-ray}
-use Rattle.moves.proofs.Seeing.{rides_as}
-use Rattle.moves.proofs.Shadows.{on_lines, pinned_attacks}
+use Rattle.moves.proofs.Seeing.{rider_way, king_single}
+use Rattle.moves.proofs.Shadows.{pinned_attacks}
 
--- what a rider would come to over a cell lies on the lines of that cell
-pub over_lines : (b : PlainBoard) (side : Side) (k i : ℕ) → IsCell b.game k → IsCell b.game i → IsPinned b side (place_in i) (place_in k) → IsOnStraight b.game k i ⊎ IsOnSlanted b.game k i
-over_lines b side k i on cell w = elim (rides_as w.rider.side w.rider.kind w.step w.denoted) [
-  | inl single ↦ absurd (false≢true (sym single ∙ w.rides))
-  | inr way ↦ on_lines b.game way.way k i (rides-ray b way.way k i (Rides-leads b w.rider.side way.way w.step way.goes k i on cell w.to_king))
-]
-
--- a cell to which the other king steps, which the move leaves as it was, and which no unit of the mover comes to attack by it
-pub record StaysOpen (b : PlainBoard) (m : Ply) (u : Man) (k i : ℕ) : Type 0 where
-  pub target : IsTarget b (record { side = other_side b.mover; kind = King }) (place_in k) i
-  pub away : place_in i ≡ m.from → ⊥
-  pub apart : place_in i ≡ m.to → ⊥
-  pub unseen : (c : PlainBoard) → c.game ≡ b.game → Aims c (placed u m) m.to (place_in i) → ⊥
-  pub shut : IsPinned b (other_side b.mover) (place_in i) m.from → ⊥
-
-no_ride : ((King ≡ Queen) ⊎ (King ≡ Rook)) ⊎ ((King ≡ Queen) ⊎ (King ≡ Bishop)) → ⊥
-no_ride (inl (inl e)) = cc
-no_ride (inl (inr e)) = cc
-no_ride (inr (inl e)) = cc
-no_ride (inr (inr e)) = cc
-
-no_pawn : King ≡ Pawn → ⊥
-no_pawn e = cc
+-- what a rider would come to over a cell lies on a line of that cell
+pub over_lines : (b : PlainBoard) (side : Side) (k i : ℕ) → IsCell b.game k → IsCell b.game i → IsPinned b side (place_in i) (place_in k) → (way : Way) × IsOnRay b.game way k i
+over_lines b side k i on cell w =
+    let way = rider_way w.rider.side w.rider.kind w.step w.denoted w.rides in
+    (way.way, rides-ray b way.way k i (Rides-leads b w.rider.side way.way w.step way.goes k i on cell w.to_king))
 
 module _ (b : PlainBoard) (m : Ply) (u : Man) (is : IsPosition b) (p : IsPseudoLegal b m u) where
   -- a step at once is one on any board
@@ -84,28 +46,29 @@ module _ (b : PlainBoard) (m : Ply) (u : Man) (is : IsPosition b) (p : IsPseudoL
         denoted = reach.denoted;
         reaches = record {
           allows = subst (Allows reach.step.mode (other_side b.mover)) (sym same_target) reach.reaches.allows;
-          leads = elim (rides_as (other_side b.mover) King reach.step reach.denoted) [
-            | inl single ↦ single_after (other_side b.mover) reach.step k f single reach.reaches.leads
-            | inr way ↦ absurd (no_ride way.class)
-          ];
+          leads = single_after (other_side b.mover) reach.step k f (king_single reach.step reach.denoted) reach.reaches.leads;
         };
       };
       no_king = λ w. calm.no_king (subst IsSomeKing same_target w);
-      named = (λ never. absurd (false≢true never), λ w. absurd (no_pawn w.0));
+      named = (λ never. absurd (false≢true never), λ w. cc w.0);
       allowed = tt;
     }
 
     module _ (unseen : (c : PlainBoard) → c.game ≡ b.game → Aims c (placed u m) m.to f → ⊥) (shut : IsPinned b (other_side b.mover) f m.from → ⊥)
         (safe : IsInCheck b (other_side b.mover) → ⊥) (kept : IsPinned b (other_side b.mover) k m.from → ⊥) where
-      -- the king isn't attacked where it comes to
-      still_safe : IsAttacked (after (after b m u) (record { from = k; to = f; promotion = None }) (record { side = other_side b.mover; kind = King })) f (other_side (other_side b.mover)) → ⊥
-      still_safe (s, a) =
+      -- what attacks there as the unit that moved would take there
+      aims : (c : PlainBoard) (s : Place) (a : AttacksFrom c (other_side (other_side b.mover)) s f) → s ≡ m.to → a.unit ≡ placed u m → Aims c (placed u m) m.to f
+      aims c s a same man = subst (λ x. Aims c (placed u m) x f) same (subst (λ (x : Man). Aims c x s f) man (attack_aims c (other_side (other_side b.mover)) s f a))
+
+      pub lawful_step : IsLawful (after b m u) (record { from = k; to = f; promotion = None })
+      lawful_step =
           let next = after b m u in
           let is_next = IsPosition-after b m u is p in
           let n : Ply = record { from = k; to = f; promotion = None } in
           let v : Man = record { side = other_side b.mover; kind = King } in
           let side = other_side b.mover in
-          elim (attacked_after next n v is_next steps side s f a) [
+          let fin = after next n v in
+          let still_safe : IsAttacked fin f (other_side side) → ⊥ = λ (s, a). elim (attacked_after next n v is_next steps side s f a) [
             | inl (at, moved) ↦ own_or_other side (sym (ap (λ (x : Man). x.side) (moved a.unit a.stands)) ∙ a.owner)
             | inr (inl w) ↦ elim (attacked_after b m u is p side s f w) [
               | inl (at, moved) ↦ unseen next refl (aims next s w at (moved w.unit w.stands))
@@ -117,33 +80,9 @@ module _ (b : PlainBoard) (m : Ply) (u : Man) (is : IsPosition b) (p : IsPseudoL
                 elim (attacked_after b m u is p side over.from k w) [
                   | inl (at, moved) ↦
                       let there : unit_at next s ≡ Some a.unit = stood next n v is_next steps s a.unit a.on_board a.stands (λ e. own_or_other side (sym (ap (λ (x : Man). x.side) e) ∙ a.owner)) in
-                      unseen (after next n v) refl (aims (after next n v) s a (sym from ∙ at) (moved a.unit (ap (unit_at next) from ∙ there)))
+                      unseen fin refl (aims fin s a (sym from ∙ at) (moved a.unit (ap (unit_at next) from ∙ there)))
                   | inr (inl l) ↦ safe (check_from b side k on king (over.from, l))
                   | inr (inr pin) ↦ kept pin.0
                 ]
-          ]
-        where
-          -- the unit that moved takes there
-          aims : (c : PlainBoard) (s : Place) (a : AttacksFrom c (other_side (other_side b.mover)) s f) → s ≡ m.to → a.unit ≡ placed u m → Aims c (placed u m) m.to f
-          aims c s a same man = record {
-            step = a.reaches.step;
-            denoted = subst (λ (x : Man). Denotes (terms_of x.kind) a.reaches.step) man a.reaches.denoted;
-            captures = captures_from a.reaches.step.mode a.unit.side _ a.reaches.reaches.allows;
-            leads = subst (λ (x : Man). Leads c x.side a.reaches.step m.to f) man (subst (λ x. Leads c a.unit.side a.reaches.step x f) same a.reaches.reaches.leads);
-          }
-
-      pub lawful_step : IsLawful (after b m u) (record { from = k; to = f; promotion = None })
-      lawful_step =
-          let next = after b m u in
-          let is_next = IsPosition-after b m u is p in
-          let n : Ply = record { from = k; to = f; promotion = None } in
-          let v : Man = record { side = other_side b.mover; kind = King } in
-          let fin = after next n v in (
-            fin,
-            record {
-              unit = v;
-              pseudo = steps;
-              leads = refl;
-              safe = λ check. still_safe (check_at fin (IsPosition-after next n v is_next steps) (other_side b.mover) f to (king_moved next n v is_next steps refl) check);
-            },
-          )
+          ] in
+          (fin, record { unit = v; pseudo = steps; leads = refl; safe = λ check. still_safe (check_at fin (IsPosition-after next n v is_next steps) side f to (king_moved next n v is_next steps refl) check) })

@@ -1,28 +1,8 @@
 -- The mover's units, one after another: their moves as a list, and how many they are.
-use Rattle.std.proofs.Common.{◌≡◌, ◌≢◌, ℕ, ◌+◌, ◌*◌, ◌<◌, ◌≤◌, ◌↔◌, refl, ap, subst, ◌∙◌, arith, true, cond, None, Option, List, [], take, length}
-use Rattle.std.specs.List.{count_by}
-use Rattle.std.proofs.lemmas.List.{take-take}
-use Rattle.std.proofs.lemmas.List.Sums.{count_by_more_yes, sum_by-take-le}
-use Rattle.board.specs.declared.game.Game.{Game}
-use Rattle.board.specs.declared.game.Game.TheVariants.{LosAlamos, Gardner}
-use Rattle.board.specs.declared.game.Unit.{Unit as Man}
-use Rattle.board.specs.Games.{most_units, squares_of}
-use Rattle.board.specs.Board.{PlainBoard, is_of_side, IsPosition}
-use Rattle.rules.specs.Squares.{Ply, square_number, unit_at}
-use Rattle.rules.specs.Moves.{IsLawful}
-use Rattle.rules.specs.Order.{ListsLawful}
-use Rattle.rules.specs.Listing.{ListsBelow, ListsFrom}
-use Rattle.cells.specs.Mailbox.{cell_of, place_in, IsCell}
-use Rattle.cells.specs.CellSets.{Has}
+use Rattle.moves.proofs.Common.{◌≡◌, ◌≢◌, ℕ, ◌+◌, ◌*◌, ◌<◌, ◌≤◌, ◌↔◌, refl, ap, subst, ◌∙◌, arith, true, cond, None, Option, List, [], take, length, count_by, take-take, count_by_more_yes, sum_by-take-le, Game, LosAlamos, Gardner, Man, most_units, squares_of, PlainBoard, is_of_side, IsPosition, Ply, square_number, unit_at, IsLawful, ListsLawful, ListsBelow, ListsFrom, cell_of, place_in, IsCell, Has, CountsFrom, IsCell-cell_of, place_in-cell_of, Has-zero, number_within, IsNumbered-lawful, HasParts-lawful, ListsBelow-nil, ListsBelow-jump, ListsLawful-from, own_from, squares_36}
 use Rattle.moves.specs.Counting.{CountsLawful}
-use Rattle.moves.specs.Safe.{CountsFrom}
-use Rattle.cells.proofs.CellNumbers.{IsCell-cell_of, place_in-cell_of}
-use Rattle.cells.proofs.Masks.{Has-zero}
-use Rattle.rules.proofs.Listed.{number_within}
-use Rattle.rules.proofs.Lists.{IsNumbered-lawful, HasParts-lawful, ListsBelow-nil, ListsBelow-jump, ListsLawful-from, own_from}
-use Rattle.rules.proofs.Room.{squares_36}
 use Rattle.moves.proofs.Counts.{few_below}
-use Rattle.moves.proofs.Walking.{IsWalked, Jumps, walked_start, walked_end, next, next_holds, walked_more}
+use Rattle.moves.proofs.Walking.{IsWalked, Jumps, walked_start, walked_end, next_holds, walked_more}
 
 -- a unit of the mover stands in the cell
 abbrev pub IsOwn : PlainBoard → ℕ → Type 0
@@ -39,9 +19,6 @@ most_12 LosAlamos = omega arith
 most_12 Gardner = omega arith
 
 module _ (b : PlainBoard) where
-  own_cell : (i : ℕ) → IsOwn b i → IsCell b.game i
-  own_cell i o = o.0
-
   -- where none of the mover's units is passed, no move is lawful
   pass : (moves : List Ply) → Jumps b.game (IsOwn b) (λ n. ListsBelow b (n * 36 * 5) moves)
   pass moves n k le within none lists =
@@ -72,17 +49,14 @@ module _ (b : PlainBoard) where
     pub gathered_end : set ≡ 0 → ListsLawful b moves
     gathered_end empty =
         ListsLawful-from b (squares_of b.game) moves (omega arith)
-        (walked_end b.game (IsOwn b) (Has set) (λ n. ListsFrom b n moves) own_cell (gather moves) s (λ i h. Has-zero i (subst (λ x. Has x i) empty h))).lists
+        (walked_end b.game (IsOwn b) (Has set) (λ n. ListsFrom b n moves) (λ i o. o.0) (gather moves) s (λ i h. Has-zero i (subst (λ x. Has x i) empty h))).lists
 
     module _ (to : ℕ) (there : Has set to) (least : (i : ℕ) → i < to → Has set i → ⊥) where
-      pub gathered_next : IsOwn b to
-      gathered_next = next b.game (IsOwn b) (Has set) (λ n. ListsFrom b n moves) own_cell (gather moves) s to there least
-
       pub gathered_lists : ListsFrom b (square_number b.game (place_in to)) moves
-      gathered_lists = next_holds b.game (IsOwn b) (Has set) (λ n. ListsFrom b n moves) own_cell (gather moves) s to there least
+      gathered_lists = next_holds b.game (IsOwn b) (Has set) (λ n. ListsFrom b n moves) (λ i o. o.0) (gather moves) s to there least
 
       pub gathered_more : (rest : ℕ) (more : List Ply) → ((i : ℕ) → Has rest i ↔ (Has set i × (i ≢ to))) → ListsFrom b (square_number b.game (place_in to) + 1) more → IsGathered rest more
-      gathered_more rest more = walked_more b.game (IsOwn b) (Has set) (λ n. ListsFrom b n moves) own_cell (gather moves) s to there least (Has rest) (λ n. ListsFrom b n more)
+      gathered_more rest more = walked_more b.game (IsOwn b) (Has set) (λ n. ListsFrom b n moves) (λ i o. o.0) (gather moves) s to there least (Has rest) (λ n. ListsFrom b n more)
 
   -- one more unit
   module _ (position : IsPosition b) (i : ℕ) (own : IsOwn b i) (moves : List Ply) (from : ListsFrom b (square_number b.game (place_in i)) moves) where
@@ -117,24 +91,21 @@ module _ (b : PlainBoard) where
   module _ (set n : ℕ) (s : IsTallied set n) where
     pub tallied_end : set ≡ 0 → CountsLawful b n
     tallied_end empty =
-        let (moves, lists, same) = walked_end b.game (IsOwn b) (Has set) (Counted n) own_cell (tally n) s (λ i h. Has-zero i (subst (λ x. Has x i) empty h)) in
+        let (moves, lists, same) = walked_end b.game (IsOwn b) (Has set) (Counted n) (λ i o. o.0) (tally n) s (λ i h. Has-zero i (subst (λ x. Has x i) empty h)) in
         record { moves = moves; lists = ListsLawful-from b (squares_of b.game) moves (omega arith) lists; count = same }
 
     module _ (to : ℕ) (there : Has set to) (least : (i : ℕ) → i < to → Has set i → ⊥) where
-      pub tallied_next : IsOwn b to
-      tallied_next = next b.game (IsOwn b) (Has set) (Counted n) own_cell (tally n) s to there least
-
       module _ (k : ℕ) (counts : CountsFrom b (square_number b.game (place_in to)) k) where
         counted : Counted (n + k) (square_number b.game (place_in to) + 1)
         counted =
-            let (moves, lists, same) = next_holds b.game (IsOwn b) (Has set) (Counted n) own_cell (tally n) s to there least in
+            let (moves, lists, same) = next_holds b.game (IsOwn b) (Has set) (Counted n) (λ i o. o.0) (tally n) s to there least in
             let (more, listed, count) = counts moves lists in
             (more, listed, omega (arith, same, count))
 
         pub tallied_few : n + k ≤ 6480
         tallied_few =
             let (more, listed, same) = counted in
-            omega (arith, few_below b _ more listed, number_within b.game (place_in to) tallied_next.0.on_board, squares_36 b.game, same)
+            omega (arith, few_below b _ more listed, number_within b.game (place_in to) ((s.left to).0 there).0.0.on_board, squares_36 b.game, same)
 
         pub tallied_more : (rest : ℕ) → ((i : ℕ) → Has rest i ↔ (Has set i × (i ≢ to))) → IsTallied rest (n + k)
-        tallied_more rest others = walked_more b.game (IsOwn b) (Has set) (Counted n) own_cell (tally n) s to there least (Has rest) (Counted (n + k)) others counted
+        tallied_more rest others = walked_more b.game (IsOwn b) (Has set) (Counted n) (λ i o. o.0) (tally n) s to there least (Has rest) (Counted (n + k)) others counted

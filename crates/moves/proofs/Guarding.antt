@@ -1,24 +1,5 @@
 -- The mover's king, and the moves that keep it safe.
-use Rattle.std.proofs.Common.{◌≡◌, ℕ, ◌+◌, ◌/◌, ◌%◌, ◌<◌, ◌≤◌, zero, suc, refl, sym, ap, subst, ◌∙◌, arith, ◌↔◌, IsTrue, Bool, true, false, not, List, length, get_or, take, Option, Some, None, IsSome, IfSome, unwrap_or, count_by}
-use Rattle.std.proofs.lemmas.Bool.{false≢true, and_parts, false_from_ne_true}
-use Rattle.std.proofs.lemmas.List.{take_all}
-use Rattle.std.proofs.lemmas.List.Sums.{count_by_more_no}
-use Rattle.std.proofs.lemmas.Option.{same_Some}
-use Rattle.board.specs.declared.game.Game.{Game}
-use Rattle.board.specs.declared.game.Game.TheVariants.{LosAlamos, Gardner}
-use Rattle.board.specs.declared.game.Side.{Side}
-use Rattle.board.specs.declared.game.Side.TheVariants.{White, Black}
-use Rattle.board.specs.declared.game.Kind.{Kind}
-use Rattle.board.specs.declared.game.Kind.TheVariants.{King, Queen, Rook, Bishop, Knight, Pawn}
-use Rattle.board.specs.declared.game.Unit.{Unit as Man}
-use Rattle.board.specs.Games.{squares_of, is_same_side}
-use Rattle.board.specs.Board.{PlainBoard, unit_on, is_king, is_king_of, is_of_side, IsPosition, MayStandOn}
-use Rattle.rules.specs.Squares.{Place, Ply, IsOnBoard, square_number, unit_at}
-use Rattle.rules.specs.Reach.{IsInCheck}
-use Rattle.rules.specs.Moves.{Promotes, IsPromotion, IsSomeKing, IsPseudoLegal, IsLawful, after}
-use Rattle.cells.specs.Mailbox.{cell_of, place_in, IsCell}
-use Rattle.cells.proofs.CellNumbers.{IsCell-cell_of, place_in-cell_of}
-use Rattle.rules.proofs.Forcing.{same_side-self}
+use Rattle.moves.proofs.Common.{◌≡◌, ℕ, ◌+◌, ◌/◌, ◌%◌, ◌<◌, ◌≤◌, zero, suc, refl, sym, ap, subst, ◌∙◌, arith, Bool, true, false, List, length, get_or, take, Option, Some, None, IsSome, IfSome, unwrap_or, count_by, false≢true, and_parts, false_from_ne_true, take_all, count_by_more_no, same_Some, Game, LosAlamos, Gardner, Side, White, Black, Kind, King, Queen, Rook, Bishop, Knight, Pawn, Man, squares_of, is_same_side, PlainBoard, unit_on, is_king, is_king_of, is_of_side, IsPosition, MayStandOn, Place, Ply, IsOnBoard, square_number, unit_at, IsSomeKing, IsPseudoLegal, after, cell_of, place_in, IsCell, IsCell-cell_of, place_in-cell_of, same_side-self}
 use Rattle.moves.proofs.Laying.{unit_at-to, unit_at-other}
 use Rattle.moves.proofs.Kings.{king_of}
 
@@ -39,7 +20,7 @@ none_counted p xs (suc n) none h =
     let low : n < length xs = omega (arith, h) in
     ap (λ k. count_by p (take k xs)) next ∙ count_by_more_no p xs n None low (none n low) ∙ none_counted p xs n none (omega (arith, h))
 
-king_kind : (k : Kind) → is_king k ≡ true → k ≡ King
+pub king_kind : (k : Kind) → is_king k ≡ true → k ≡ King
 king_kind King e = refl
 king_kind Queen e = cc
 king_kind Rook e = cc
@@ -93,27 +74,6 @@ module _ (b : PlainBoard) (m : Ply) (u : Man) (is : IsPosition b) (p : IsPseudoL
       taken : (o : Option Man) → o ≡ king_of b.mover → IsSomeKing o
       taken None e = cc
       taken (Some v) e = ap (λ (x : Man). x.kind) (same_Some v _ e)
-
--- ---- lawful moves among those that reach a square
-
-module _ (b : PlainBoard) (m : Ply) (u : Man) (stands : unit_at b m.from ≡ Some u) where
-  same_unit : (v : Man) → IsPseudoLegal b m v → v ≡ u
-  same_unit v p = same_Some v u (sym p.stands ∙ stands)
-
-  -- a pseudo-legal move is lawful where it leaves the king safe
-  pub lawful_if_safe : (r : Bool) → IsPseudoLegal b m u → (IsTrue r ↔ (IsInCheck (after b m u) b.mover → ⊥)) → IsTrue r ↔ IsLawful b m
-  lawful_if_safe r p safe = (
-    λ e. (after b m u, record { unit = u; pseudo = p; leads = refl; safe = safe.0 e }),
-    λ (q, move). safe.1 (λ check. move.safe (subst (λ x. IsInCheck x b.mover) (ap (after b m) (sym (same_unit move.unit move.pseudo)) ∙ sym move.leads) check)),
-  )
-
-  pub promotes_well : IsLawful b m → (IsSome m.promotion ↔ Promotes b.game u m.to) × IfSome m.promotion (IsPromotion b.game)
-  promotes_well (q, move) = (subst (λ v. IsSome m.promotion ↔ Promotes b.game v m.to) (same_unit move.unit move.pseudo) move.pseudo.named, move.pseudo.allowed)
-
--- no attack on the king is no check
-pub not_attacked_safe : (r : Bool) (q : PlainBoard) (side : Side) → (IsTrue r ↔ IsInCheck q side) → IsTrue (not r) ↔ (IsInCheck q side → ⊥)
-not_attacked_safe true q side h = (λ no. absurd (false≢true no), λ safe. absurd (safe (h.0 refl)))
-not_attacked_safe false q side h = (λ _ check. false≢true (h.1 check), λ _. refl)
 
 -- a unit of a side is its own
 pub own_unit_side : (side : Side) (u : Man) → is_of_side side (Some u) ≡ true → u.side ≡ side

@@ -1,26 +1,10 @@
 -- A king steps into check exactly where the square is attacked already, if no rider comes there through the king's square.
-use Rattle.std.proofs.Common.{◌≡◌, ◌+◌, ◌<◌, refl, sym, ap, ◌∙◌, arith, inl, inr, IsTrue, ◌↔◌, Bool, true, false, not, Some}
-use Rattle.std.specs.Int.RustNames.{unsigned_abs}
-use Rattle.std.proofs.lemmas.Bool.{false≢true}
-use Rattle.std.proofs.lemmas.Option.{same_Some}
-use Rattle.board.specs.declared.game.Side.{Side}
-use Rattle.board.specs.declared.game.Kind.TheVariants.{King}
-use Rattle.board.specs.declared.game.Unit.{Unit as Man}
-use Rattle.board.specs.declared.step.Step.{Step}
-use Rattle.board.specs.Denotation.{terms_of}
-use Rattle.board.specs.Games.{other_side}
-use Rattle.board.specs.Board.{PlainBoard, IsPosition}
+use Rattle.moves.proofs.Common.{◌≡◌, ◌+◌, ◌<◌, sym, ap, ◌∙◌, arith, inl, inr, Some, unsigned_abs, same_Some, Side, King, Man, Step, terms_of, other_side, PlainBoard, IsPosition, Place, Ply, IsOnBoard, unit_at, Leads, IsAttacked, IsInCheck, once, again, IsPseudoLegal, after, room_of, room_of-step, to_on_board, IsPosition-after, own_or_other, IsPinned}
 use Rattle.board.proofs.Leaps.{goes_somewhere}
-use Rattle.rules.specs.Squares.{Place, Ply, IsOnBoard, unit_at}
-use Rattle.rules.specs.Reach.{Leads, IsAttacked, IsInCheck}
-use Rattle.rules.specs.Reach.Leads.{once, again}
-use Rattle.rules.specs.Moves.{IsPseudoLegal, after}
-use Rattle.rules.proofs.Rides.{room_of, room_of-step}
-use Rattle.rules.proofs.Keeps.{to_on_board, IsPosition-after, no_own as own_or_other}
 use Rattle.moves.proofs.Laying.{unit_at-from, unit_at-other}
 use Rattle.moves.proofs.Kings.{king_of, check_at, check_from}
 use Rattle.moves.proofs.Guarding.{king_moved}
-use Rattle.moves.specs.Pinned.{IsPinned}
+use Rattle.moves.proofs.Looking.{carried}
 use Rattle.moves.proofs.Pins.{place_cases, foe_attacks}
 
 -- a walk ends where there is less room
@@ -60,24 +44,8 @@ module _ (b : PlainBoard) (m : Ply) (u : Man) (is : IsPosition b) (p : IsPseudoL
       let goes = goes_somewhere (terms_of a.unit.kind) r.step r.denoted in
       let away : s ≡ m.from → ⊥ = λ e. own_or_other b.mover (ap (λ (x : Man). x.side) (same_Some _ a.unit (sym before ∙ ap (unit_at b) (sym e) ∙ a.stands)) ∙ a.owner) in
       let apart : s ≡ m.to → ⊥ = elsewhere b a.unit.side r.step s m.to a.on_board goes r.reaches.leads in
-      check_from (after b m u) b.mover m.to (to_on_board b m u p) behind (
-        s,
-        record {
-          unit = a.unit;
-          on_board = a.on_board;
-          stands = unit_at-other b m u is p s a.on_board away apart ∙ a.stands;
-          owner = a.owner;
-          reaches = record { step = r.step; played = r.played; denoted = r.denoted; reaches = record { allows = r.reaches.allows; leads = walks a.unit.side r.step s goes r.reaches.leads } };
-        },
-      )
+      check_from (after b m u) b.mover m.to (to_on_board b m u p) behind
+      (s, carried b (after b m u) (other_side b.mover) s m.to s m.to a a.on_board r.played (unit_at-other b m u is p s a.on_board away apart ∙ a.stands) (walks a.unit.side r.step s goes r.reaches.leads))
 
-  module _ (free : IsPinned b b.mover m.to m.from → ⊥) where
-    attacked_now : IsAttacked (after b m u) m.to (other_side b.mover) → IsAttacked b m.to (other_side b.mover)
-    attacked_now attack = elim (foe_attacks b m u is p m.to attack) [ inl w ↦ w | inr pin ↦ absurd (free pin) ]
-
-    check_now : IsInCheck (after b m u) b.mover → IsAttacked b m.to (other_side b.mover)
-    check_now check = attacked_now (check_at (after b m u) (IsPosition-after b m u is p) b.mover m.to (to_on_board b m u p) behind check)
-
-    pub steps_safely : (r : Bool) → (IsTrue r ↔ IsAttacked b m.to (other_side b.mover)) → IsTrue (not r) ↔ (IsInCheck (after b m u) b.mover → ⊥)
-    steps_safely true h = (λ no. absurd (false≢true no), λ safe. absurd (safe (attacked_then (h.0 refl))))
-    steps_safely false h = (λ _ check. false≢true (h.1 (check_now check)), λ _. refl)
+  pub steps_safely : (IsPinned b b.mover m.to m.from → ⊥) → (IsAttacked b m.to (other_side b.mover) → ⊥) → IsInCheck (after b m u) b.mover → ⊥
+  steps_safely free none check = elim (foe_attacks b m u is p m.to (check_at (after b m u) (IsPosition-after b m u is p) b.mover m.to (to_on_board b m u p) behind check)) [ inl attacked ↦ none attacked | inr pin ↦ free pin ]

@@ -1,19 +1,5 @@
 -- A side's king stands on one square.
-use Rattle.std.proofs.Common.{◌≡◌, ℕ, ◌<◌, ◌≤◌, refl, sym, ap, subst, ◌∙◌, arith, inl, inr, Bool, true, cond, List, length, get_or, take, Option, Some, None, count_by, get_or-take, length-take}
-use Rattle.std.proofs.lemmas.Bool.{cases_order}
-use Rattle.std.proofs.lemmas.List.Sums.{sum_by_more_le}
-use Rattle.board.specs.declared.game.Side.{Side}
-use Rattle.board.specs.declared.game.Side.TheVariants.{White, Black}
-use Rattle.board.specs.declared.game.Kind.TheVariants.{King}
-use Rattle.board.specs.declared.game.Unit.{Unit as Man}
-use Rattle.board.specs.Games.{other_side}
-use Rattle.board.specs.Board.{PlainBoard, is_king_of, IsPosition}
-use Rattle.rules.specs.Squares.{Place, IsOnBoard, square_number, unit_at}
-use Rattle.rules.specs.Reach.{IsAttacked, IsInCheck}
-use Rattle.cells.specs.Mailbox.{cell_of, place_in, IsCell}
-use Rattle.cells.proofs.CellNumbers.{IsCell-cell_of, place_in-cell_of}
-use Rattle.rules.proofs.Listed.{same_number, number_within}
-use Rattle.rules.proofs.Room.{squares_36}
+use Rattle.moves.proofs.Common.{◌≡◌, ℕ, ◌<◌, ◌≤◌, refl, sym, ap, subst, ◌∙◌, arith, inl, inr, Bool, true, cond, List, length, get_or, take, Option, Some, None, count_by, get_or-take, length-take, cases_order, sum_by_more_le, Side, White, Black, King, Man, other_side, PlainBoard, is_king_of, IsPosition, Place, IsOnBoard, square_number, unit_at, IsAttacked, IsInCheck, cell_of, place_in, IsCell, IsCell-cell_of, place_in-cell_of, same_number, number_within, squares_36}
 
 abbrev pub king_of : Side → Option Man
 king_of side = Some (record { side = side; kind = King })

@@ -1,51 +1,22 @@
 -- A move on a board: what stands on each square after it.
-use Rattle.std.proofs.Common.{◌≡◌, ℕ, ◌*◌, ◌<◌, ◌∙◌, arith, length, set, Some, None}
-use Rattle.std.proofs.lemmas.List.{get_or-set_same, get_or-set_other, length-set}
-use Rattle.board.specs.declared.game.Game.{Game}
-use Rattle.board.specs.declared.game.Game.TheVariants.{LosAlamos, Gardner}
-use Rattle.board.specs.declared.game.Unit.{Unit as Man}
-use Rattle.board.specs.Games.{width_of}
-use Rattle.board.specs.Board.{PlainBoard}
-use Rattle.rules.specs.Squares.{Place, IsOnBoard, square_number, unit_at}
-use Rattle.board.specs.Board.{IsPosition}
-use Rattle.rules.specs.Squares.{Ply}
-use Rattle.rules.specs.Moves.{IsPseudoLegal, placed, after}
-use Rattle.rules.proofs.Keeps.{to_on_board, other_square}
-use Rattle.rules.proofs.Listed.{same_number}
-use Rattle.cells.proofs.CellNumbers.{small_squares}
-
--- ---- a move
-
-number_below : (g : Game) (s : Place) → IsOnBoard g s → square_number g s < width_of g * width_of g
-number_below LosAlamos s on = let f = on.file in let r = on.rank in omega arith
-number_below Gardner s on = let f = on.file in let r = on.rank in omega arith
+use Rattle.moves.proofs.Common.{◌≡◌, ◌<◌, ◌∙◌, arith, length, set, Some, None, get_or-set_same, get_or-set_other, length-set, Man, PlainBoard, Place, IsOnBoard, square_number, unit_at, IsPosition, Ply, IsPseudoLegal, placed, after, to_on_board, other_square, same_number, number_within, squares_36}
 
 module _ (b : PlainBoard) (m : Ply) (u : Man) (is : IsPosition b) (p : IsPseudoLegal b m u) where
-  to : IsOnBoard b.game m.to
-  to = to_on_board b m u p
+  from : square_number b.game m.from < length b.units
+  from = omega (arith, is.places, number_within b.game m.from p.on_board, squares_36 b.game)
 
-  n_from : ℕ
-  n_from = square_number b.game m.from
+  to : square_number b.game m.to < length (set b.units (square_number b.game m.from) None)
+  to = omega (arith, length-set b.units (square_number b.game m.from) None, is.places, number_within b.game m.to (to_on_board b m u p), squares_36 b.game)
 
-  n_to : ℕ
-  n_to = square_number b.game m.to
-
-  long_two : length (set b.units n_from None) ≡ 36
-  long_two = length-set b.units n_from None ∙ is.places
-
-  -- what stands on a square after the move
   pub unit_at-to : unit_at (after b m u) m.to ≡ Some (placed u m)
-  unfolding n_from n_to
-  unit_at-to = get_or-set_same (set b.units n_from None) n_to (Some (placed u m)) None (omega (arith, long_two, number_below b.game m.to to, small_squares b.game))
+  unit_at-to = get_or-set_same (set b.units (square_number b.game m.from) None) (square_number b.game m.to) (Some (placed u m)) None to
 
   pub unit_at-from : unit_at (after b m u) m.from ≡ None
-  unfolding n_from n_to
   unit_at-from =
-      get_or-set_other (set b.units n_from None) n_to n_from (Some (placed u m)) None (other_square b m u p)
-      ∙ get_or-set_same b.units n_from None None (omega (arith, is.places, number_below b.game m.from p.on_board, small_squares b.game))
+      get_or-set_other (set b.units (square_number b.game m.from) None) (square_number b.game m.to) (square_number b.game m.from) (Some (placed u m)) None (other_square b m u p)
+      ∙ get_or-set_same b.units (square_number b.game m.from) None None from
 
   pub unit_at-other : (s : Place) → IsOnBoard b.game s → (s ≡ m.from → ⊥) → (s ≡ m.to → ⊥) → unit_at (after b m u) s ≡ unit_at b s
-  unfolding n_from n_to
   unit_at-other s on a c =
-      get_or-set_other (set b.units n_from None) n_to (square_number b.game s) (Some (placed u m)) None (λ e. c (same_number b.game s m.to on to e))
-      ∙ get_or-set_other b.units n_from (square_number b.game s) None None (λ e. a (same_number b.game s m.from on p.on_board e))
+      get_or-set_other (set b.units (square_number b.game m.from) None) (square_number b.game m.to) (square_number b.game s) (Some (placed u m)) None (λ e. c (same_number b.game s m.to on (to_on_board b m u p) e))
+      ∙ get_or-set_other b.units (square_number b.game m.from) (square_number b.game s) None None (λ e. a (same_number b.game s m.from on p.on_board e))

@@ -1,28 +1,6 @@
 -- A walk read backwards: what attacks a square is what a unit of the same kind would take from there.
-use Rattle.std.proofs.Common.{◌≡◌, ℕ, ℤ, pos, negsuc, neg_ℤ, zero, suc, refl, sym, ap, subst, ◌∙◌, arith, true, Some, None, Option, IfSome, List}
-use Rattle.std.specs.Int.RustNames.{unsigned_abs}
-use Rattle.std.proofs.lemmas.Int.{ints}
-use Rattle.std.proofs.lemmas.Option.{same_Some}
-use Rattle.board.specs.declared.game.Side.{Side}
-use Rattle.board.specs.declared.game.Side.TheVariants.{White, Black}
-use Rattle.board.specs.declared.game.Kind.{Kind}
-use Rattle.board.specs.declared.game.Kind.TheVariants.{King}
-use Rattle.board.specs.declared.game.Unit.{Unit as Man}
-use Rattle.board.specs.declared.step.Mode.{Mode}
-use Rattle.board.specs.declared.step.Mode.TheVariants.{Move, Capture, Both}
-use Rattle.board.specs.declared.step.Step.{Step}
-use Rattle.board.specs.declared.terms.Atom.{Atom}
-use Rattle.board.specs.declared.terms.Atom.TheVariants.{Wazir, Ferz}
+use Rattle.moves.proofs.Common.{◌≡◌, ℕ, ℤ, pos, negsuc, neg_ℤ, zero, suc, refl, sym, ap, subst, ◌∙◌, arith, true, Some, None, Option, IfSome, List, unsigned_abs, ints, same_Some, Side, White, Black, Kind, King, Man, Mode, Move, Capture, Both, Step, Atom, Wazir, Ferz, Term, IsAtomLeap, Denotes, terms_of, other_side, IsPlayed, Game, PlainBoard, IsPosition, MayStandOn, Place, IsOnBoard, square_number, unit_at, ahead_of, IsStep, Leads, Allows, AttacksFrom, once, again, Aims}
 use Rattle.board.specs.declared.terms.Atom.TheVariants as atom
-use Rattle.board.specs.declared.terms.Term.{Term}
-use Rattle.board.specs.Denotation.{IsAtomLeap, Denotes, terms_of}
-use Rattle.board.specs.Games.{other_side, IsPlayed}
-use Rattle.board.specs.declared.game.Game.{Game}
-use Rattle.board.specs.Board.{PlainBoard, IsPosition, MayStandOn}
-use Rattle.rules.specs.Squares.{Place, IsOnBoard, square_number, unit_at}
-use Rattle.rules.specs.Reach.{ahead_of, IsStep, Leads, Allows, AttacksFrom}
-use Rattle.rules.specs.Reach.Leads.{once, again}
-use Rattle.moves.specs.Looking.{Aims}
 
 pub other_twice : (side : Side) → other_side (other_side side) ≡ side
 other_twice White = refl
@@ -129,14 +107,26 @@ attacks_on b is side s t u on stands owner a = record {
   };
 }
 
+-- what attacks a square would take there
+pub attack_aims : (b : PlainBoard) (side : Side) (s t : Place) (a : AttacksFrom b side s t) → Aims b a.unit s t
+attack_aims b side s t a = record { step = a.reaches.step; denoted = a.reaches.denoted; captures = captures_from a.reaches.step.mode a.unit.side _ a.reaches.reaches.allows; leads = a.reaches.reaches.leads }
+
+-- an attack from another square, on another one or on another board, where the same unit stands and its step leads
+pub carried : (b c : PlainBoard) (side : Side) (s t s' t' : Place) (a : AttacksFrom b side s t) → IsOnBoard c.game s' → IsPlayed c.game a.unit.kind → unit_at c s' ≡ Some a.unit → Leads c a.unit.side a.reaches.step s' t' → AttacksFrom c side s' t'
+carried b c side s t s' t' a on played stands leads = record {
+  unit = a.unit;
+  on_board = on;
+  stands = stands;
+  owner = a.owner;
+  reaches = record { step = a.reaches.step; played = played; denoted = a.reaches.denoted; reaches = record { allows = a.reaches.reaches.allows; leads = leads } };
+}
+
 module _ (b : PlainBoard) (t : Place) (me : Side) (on : IsOnBoard b.game t) where
   -- from the attacked square its own kind would take an attacker
   pub Aims-attacked : (s : Place) (a : AttacksFrom b (other_side me) s t) → Aims b (record { side = me; kind = a.unit.kind }) t s
   Aims-attacked s a =
-      let r = a.reaches in
       let turned : other_side a.unit.side ≡ me = ap other_side a.owner ∙ other_twice me in
-      let there : Aims b a.unit s t = record { step = r.step; denoted = r.denoted; captures = captures_from r.step.mode a.unit.side _ r.reaches.allows; leads = r.reaches.leads } in
-      subst (λ x. Aims b (record { side = x; kind = a.unit.kind }) t s) turned (Aims-back b a.unit.side a.unit.kind s t a.on_board there)
+      subst (λ x. Aims b (record { side = x; kind = a.unit.kind }) t s) turned (Aims-back b a.unit.side a.unit.kind s t a.on_board (attack_aims b (other_side me) s t a))
 
   -- and what it would take so attacks the square
   pub attacks_back : IsPosition b → (s : Place) (u : Man) → IsOnBoard b.game s → unit_at b s ≡ Some u → u.side ≡ other_side me → Aims b (record { side = me; kind = u.kind }) t s → AttacksFrom b (other_side me) s t

@@ -1,15 +1,6 @@
 -- What words stand for, and what a move does to them.
-use Rattle.std.proofs.Common.{◌≡◌, ◌≢◌, ℕ, ◌+◌, ◌%◌, ◌<◌, ◌≤◌, zero, suc, refl, sym, ap, subst, ◌∙◌, arith, ◌⊎◌, inl, inr, List, length, get_or, set, IfSome, Option, Some, None, replicate}
-use Rattle.std.specs.Int.RustNames.{bit_xor}
-use Rattle.std.proofs.lemmas.Bool.{cases_eq, cases_lt}
-use Rattle.std.proofs.lemmas.List.{get_or-set_same, get_or-set_other, length-set}
-use Rattle.std.proofs.lemmas.List.FromFn.{get_or-map-range_with_len, length-map-range_with_len, fill_by_all}
-use Rattle.board.specs.declared.game.Game.{Game}
-use Rattle.board.specs.declared.game.Game.TheVariants.{LosAlamos, Gardner}
-use Rattle.board.specs.declared.game.Unit.{Unit as Man}
-use Rattle.board.specs.Games.{squares_of, other_side}
-use Rattle.board.specs.Board.{PlainBoard, unit_on, board_of, IsPosition, MayStandOn}
-use Rattle.moves.specs.Words.{digit, man_of, word_of, place_of, code_on, flags_of, game_of, game_of_flags, mover_of_flags, units_in, unpacked, Spells, IsUnused, IsPacked, IsFlags}
+use Rattle.moves.proofs.Common.{◌≡◌, ◌≢◌, ℕ, ◌+◌, ◌%◌, ◌<◌, ◌≤◌, zero, suc, refl, sym, ap, subst, ◌∙◌, arith, inl, inr, List, length, get_or, set, IfSome, Option, Some, None, replicate, bit_xor, cases_eq, cases_lt, get_or-set_same, get_or-set_other, length-set, Game, LosAlamos, Gardner, Man, squares_of, other_side, PlainBoard, unit_on, IsPosition, MayStandOn, digit, man_of, word_of, place_of, code_on, flags_of, game_of, game_of_flags, mover_of_flags, units_in, unpacked, Spells, IsUnused, IsPacked, IsFlags, Ply, square_number, IsPseudoLegal, placed, after, number_within, to_on_board, IsPosition-after}
+use Rattle.std.proofs.lemmas.List.FromFn.{get_or-map-range_with_len, fill_by_all}
 
 pub within_36 : (g : Game) (n : ℕ) → n < squares_of g → n < 36
 within_36 LosAlamos n h = omega (arith, h)
@@ -34,133 +25,21 @@ record IsTurned (f h : ℕ) : Type 0 where
   mover : mover_of_flags h ≡ other_side (mover_of_flags f)
   flags : IsFlags h
 
-flag_cases : (f : ℕ) → IsFlags f → (f ≡ 0) ⊎ ((f ≡ 1) ⊎ ((f ≡ 4) ⊎ (f ≡ 5)))
-flag_cases f h = elim (cases_eq f 0) [
-  | inl e ↦ inl e
-  | inr a ↦ elim (cases_eq f 1) [
-    | inl e ↦ inr (inl e)
-    | inr b ↦ elim (cases_eq f 4) [
-      | inl e ↦ inr (inr (inl e))
-      | inr c ↦ inr (inr (inr (omega (arith, h.eight, h.colour, a, b, c))))
-    ]
-  ]
-]
-
 turned_flags : (f : ℕ) → IsFlags f → IsTurned f (bit_xor f 1)
-turned_flags f h = elim (flag_cases f h) [
-  | inl e ↦ subst (λ n. IsTurned n (bit_xor n 1)) (sym e) (record { game = refl; mover = refl; flags = record { eight = omega arith; colour = omega arith } })
-  | inr (inl e) ↦ subst (λ n. IsTurned n (bit_xor n 1)) (sym e) (record { game = refl; mover = refl; flags = record { eight = omega arith; colour = omega arith } })
-  | inr (inr (inl e)) ↦ subst (λ n. IsTurned n (bit_xor n 1)) (sym e) (record { game = refl; mover = refl; flags = record { eight = omega arith; colour = omega arith } })
-  | inr (inr (inr e)) ↦ subst (λ n. IsTurned n (bit_xor n 1)) (sym e) (record { game = refl; mover = refl; flags = record { eight = omega arith; colour = omega arith } })
-]
-
--- the board with a unit on square `to`, none on `from` and the other side to move
-abbrev pub made : PlainBoard → ℕ → ℕ → Man → PlainBoard
-made b from to u = board_of b.game (other_side b.mover) (set (set b.units from None) to (Some u))
+turned_flags zero h = record { game = refl; mover = refl; flags = record { eight = omega arith; colour = omega arith } }
+turned_flags (suc zero) h = record { game = refl; mover = refl; flags = record { eight = omega arith; colour = omega arith } }
+turned_flags (suc (suc zero)) h = absurd (omega (arith, h.colour))
+turned_flags (suc (suc (suc zero))) h = absurd (omega (arith, h.colour))
+turned_flags (suc (suc (suc (suc zero)))) h = record { game = refl; mover = refl; flags = record { eight = omega arith; colour = omega arith } }
+turned_flags (suc (suc (suc (suc (suc zero))))) h = record { game = refl; mover = refl; flags = record { eight = omega arith; colour = omega arith } }
+turned_flags (suc (suc (suc (suc (suc (suc f)))))) h = absurd (omega (arith, h.eight, h.colour))
 
 -- `after` has the code on square s and is else as `before`
 pub record IsPut (g : Game) (before after : List ℕ) (s code : ℕ) : Type 0 where
   pub there : code_on g after s ≡ code
   pub elsewhere : (k i : ℕ) → (k ≡ word_of g s → i ≡ place_of g s → ⊥) → digit (get_or after k 0) i ≡ digit (get_or before k 0) i
 
-module _ (g : Game) (w v u : List ℕ) (t from to code : ℕ) (p : IsPut g w v from 0) (q : IsPut g v u to code) (apart : from ≢ to) (long : length u ≡ 3)
-    (flip : digit t 12 ≡ bit_xor (digit (get_or u 0 0) 12) 1) (rest : (i : ℕ) → i ≢ 12 → digit t i ≡ digit (get_or u 0 0) i) where
-  end : List ℕ
-  end = set u 0 t
-
-  end_first : get_or end 0 0 ≡ t
-  unfolding end
-  end_first = get_or-set_same u 0 t 0 (omega (arith, long))
-
-  -- what the turn leaves
-  end_same : (k i : ℕ) → (k ≡ 0 → i ≡ 12 → ⊥) → digit (get_or end k 0) i ≡ digit (get_or u k 0) i
-  unfolding end
-  end_same k i none = elim (cases_eq k 0) [
-    | inl e ↦ subst (λ n. digit (get_or end n 0) i ≡ digit (get_or u n 0) i) (sym e) (ap (λ n. digit n i) end_first ∙ rest i (none e))
-    | inr other ↦ ap (λ n. digit n i) (get_or-set_other u 0 k t 0 other)
-  ]
-
-  flags_end : flags_of end ≡ bit_xor (flags_of w) 1
-  flags_end =
-      ap (λ n. digit n 12) end_first ∙ flip
-      ∙ ap (λ n. bit_xor n 1) (q.elsewhere 0 12 (λ _ e. not_flags g to e) ∙ p.elsewhere 0 12 (λ _ e. not_flags g from e))
-
-  code_end : (n : ℕ) → code_on g end n ≡ code_on g u n
-  code_end n = end_same (word_of g n) (place_of g n) (λ _ e. not_flags g n (sym e))
-
-  at_to : code_on g end to ≡ code
-  at_to = code_end to ∙ q.there
-
-  at_from : code_on g end from ≡ 0
-  at_from = code_end from ∙ q.elsewhere (word_of g from) (place_of g from) (other_place g from to apart) ∙ p.there
-
-  at_other : (n : ℕ) → n ≢ from → n ≢ to → code_on g end n ≡ code_on g w n
-  at_other n a b =
-      code_end n ∙ q.elsewhere (word_of g n) (place_of g n) (other_place g n to b)
-      ∙ p.elsewhere (word_of g n) (place_of g n) (other_place g n from a)
-
-  module _ (same : game_of w ≡ g) (packed : IsPacked w) (f : from < squares_of g) (o : to < squares_of g) (pl : Man) (m : man_of code ≡ Some pl) where
-    flags_turned : IsTurned (flags_of w) (flags_of end)
-    flags_turned = subst (IsTurned (flags_of w)) (sym flags_end) (turned_flags (flags_of w) (record { eight = packed.flags; colour = packed.colour }))
-
-    game_end : game_of end ≡ g
-    game_end = flags_turned.game ∙ same
-
-    length_two : length (set (set (units_in g w) from None) to (Some pl)) ≡ 36
-    length_two = length-set (set (units_in g w) from None) to (Some pl) ∙ length-set (units_in g w) from None ∙ length-map-range_with_len (λ n. man_of (code_on g w n)) 0 36
-
-    unit_end : (k : ℕ) → k < 36 → get_or (set (set (units_in g w) from None) to (Some pl)) k None ≡ man_of (code_on g end k)
-    unit_end k h = elim (cases_eq k to) [
-      | inl e ↦ subst (λ n. get_or (set (set (units_in g w) from None) to (Some pl)) n None ≡ man_of (code_on g end n)) (sym e)
-          (get_or-set_same (set (units_in g w) from None) to (Some pl) None (omega (arith, length-set (units_in g w) from None, length-map-range_with_len (λ n. man_of (code_on g w n)) 0 36, within_36 g to o))
-          ∙ sym m ∙ ap man_of (sym at_to))
-      | inr a ↦ get_or-set_other (set (units_in g w) from None) to k (Some pl) None a ∙ elim (cases_eq k from) [
-        | inl e ↦ subst (λ n. get_or (set (units_in g w) from None) n None ≡ man_of (code_on g end n)) (sym e)
-            (get_or-set_same (units_in g w) from None None (omega (arith, length-map-range_with_len (λ n. man_of (code_on g w n)) 0 36, within_36 g from f))
-            ∙ ap man_of (sym at_from))
-        | inr b ↦ get_or-set_other (units_in g w) from k None None b ∙ units_in-at g w k h ∙ ap man_of (sym (at_other k b a))
-      ]
-    ]
-
-    units_end : units_in g end ≡ set (set (units_in g w) from None) to (Some pl)
-    units_end = sym (fill_by_all (λ n. man_of (code_on g end n)) _ 36 None length_two unit_end)
-
-    -- the new words stand for the board after the move
-    pub unpacked_end : unpacked (set u 0 t) ≡ made (unpacked w) from to pl
-    unfolding end
-    unpacked_end =
-        let units : units_in (game_of end) end ≡ set (set (units_in (game_of w) w) from None) to (Some pl) =
-        ap (λ x. units_in x end) game_end ∙ units_end ∙ ap (λ x. set (set (units_in x w) from None) to (Some pl)) (sym same) in
-        λ i. record { game = flags_turned.game i; mover = flags_turned.mover i; units = units i }
-
-    code_small : code < 13 → (n : ℕ) → n < squares_of g → code_on g end n < 13
-    code_small small n h = elim (cases_eq n to) [
-      | inl e ↦ subst (λ x. code_on g end x < 13) (sym e) (subst (λ x. x < 13) (sym at_to) small)
-      | inr a ↦ elim (cases_eq n from) [
-        | inl e ↦ subst (λ x. code_on g end x < 13) (sym e) (subst (λ x. x < 13) (sym at_from) (omega arith))
-        | inr b ↦ subst (λ x. x < 13) (sym (at_other n b a)) (subst (λ x. code_on x w n < 13) same (packed.codes n (subst (λ x. n < squares_of x) (sym same) h)))
-      ]
-    ]
-
-    unused_end : (k i : ℕ) → IsUnused g k i → digit (get_or end k 0) i ≡ 0
-    unused_end k i free =
-        end_same k i free.no_flags
-        ∙ q.elsewhere k i (λ a b. free.no_square to o (sym a) (sym b))
-        ∙ p.elsewhere k i (λ a b. free.no_square from f (sym a) (sym b))
-        ∙ packed.unused k i (subst (λ x. IsUnused x k i) (sym same) free)
-
-    -- and keep what a board's words keep
-    pub IsPacked-end : code < 13 → IsPosition (made (unpacked w) from to pl) → IsPacked (set u 0 t)
-    unfolding end
-    IsPacked-end small is = record {
-      position = subst IsPosition (sym unpacked_end) is;
-      codes = λ n h. subst (λ x. code_on x end n < 13) (sym game_end) (code_small small n (subst (λ x. n < squares_of x) game_end h));
-      flags = flags_turned.flags.eight;
-      colour = flags_turned.flags.colour;
-      unused = λ k i free. unused_end k i (subst (λ x. IsUnused x k i) game_end free);
-    }
-
--- ---- the words of a position, filled square by square
+-- ---- words that have units on their squares
 
 -- the squares below n are filled, and all else is 0 but for the flags
 pub record IsFilled (g : Game) (f : ℕ) (units : List (Option Man)) (words : List ℕ) (n : ℕ) : Type 0 where
@@ -169,23 +48,56 @@ pub record IsFilled (g : Game) (f : ℕ) (units : List (Option Man)) (words : Li
   pub small : (k : ℕ) → k < n → code_on g words k < 13
   pub free : (k i : ℕ) → ((m : ℕ) → m < n → word_of g m ≡ k → place_of g m ≡ i → ⊥) → (k ≡ 0 → i ≡ 12 → ⊥) → digit (get_or words k 0) i ≡ 0
 
-module _ (g : Game) (f : ℕ) (units : List (Option Man)) (v u : List ℕ) (n code : ℕ) (p : IsPut g v u n code) (is : man_of code ≡ get_or units n None) (low : code < 13) (h : IsFilled g f units v n) where
-  same_below : (k : ℕ) → k ≢ n → code_on g u k ≡ code_on g v k
-  same_below k other = p.elsewhere (word_of g k) (place_of g k) (other_place g k n other)
+-- so are a board's words
+IsFilled-packed : (words : List ℕ) → IsPacked words → IsFilled (game_of words) (flags_of words) (units_in (game_of words) words) words (squares_of (game_of words))
+IsFilled-packed words p = record {
+  flags = refl;
+  done = λ k less. sym (units_in-at (game_of words) words k (within_36 (game_of words) k less));
+  small = p.codes;
+  free = λ k i none flag. p.unused k i (record { no_square = none; no_flags = flag });
+}
 
-  pub IsFilled-more : IsFilled g f units u (n + 1)
-  IsFilled-more = record {
-    flags = p.elsewhere 0 12 (λ _ e. not_flags g n e) ∙ h.flags;
-    done = λ k less. elim (cases_eq k n) [
-      | inl e ↦ subst (λ x. man_of (code_on g u x) ≡ get_or units x None) (sym e) (ap man_of p.there ∙ is)
-      | inr other ↦ ap man_of (same_below k other) ∙ h.done k (omega (arith, less, other))
+-- a code more, or another one
+module _ (g : Game) (f : ℕ) (units placed : List (Option Man)) (v u : List ℕ) (s code n m : ℕ) (p : IsPut g v u s code) (is : man_of code ≡ get_or placed s None) (low : code < 13)
+    (within : s < m) (more : n ≤ m) (others : (k : ℕ) → k < m → k ≢ s → (k < n) × (get_or placed k None ≡ get_or units k None)) (h : IsFilled g f units v n) where
+  same_at : (k : ℕ) → k ≢ s → code_on g u k ≡ code_on g v k
+  same_at k other = p.elsewhere (word_of g k) (place_of g k) (other_place g k s other)
+
+  pub IsFilled-put : IsFilled g f placed u m
+  IsFilled-put = record {
+    flags = p.elsewhere 0 12 (λ _ e. not_flags g s e) ∙ h.flags;
+    done = λ k less. elim (cases_eq k s) [
+      | inl e ↦ subst (λ x. man_of (code_on g u x) ≡ get_or placed x None) (sym e) (ap man_of p.there ∙ is)
+      | inr other ↦ let w = others k less other in ap man_of (same_at k other) ∙ h.done k w.0 ∙ sym w.1
     ];
-    small = λ k less. elim (cases_eq k n) [
+    small = λ k less. elim (cases_eq k s) [
       | inl e ↦ subst (λ x. code_on g u x < 13) (sym e) (subst (λ x. x < 13) (sym p.there) low)
-      | inr other ↦ subst (λ x. x < 13) (sym (same_below k other)) (h.small k (omega (arith, less, other)))
+      | inr other ↦ subst (λ x. x < 13) (sym (same_at k other)) (h.small k (others k less other).0)
     ];
-    free = λ k i none flag. p.elsewhere k i (λ a b. none n (omega arith) (sym a) (sym b)) ∙ h.free k i (λ m less. none m (omega (arith, less))) flag;
+    free = λ k i none flag. p.elsewhere k i (λ a b. none s within (sym a) (sym b)) ∙ h.free k i (λ x below. none x (omega (arith, below, more))) flag;
   }
+
+-- the other side to move
+IsFilled-turned : (g : Game) (f : ℕ) (units : List (Option Man)) (u : List ℕ) (t n : ℕ) → 0 < length u → digit t 12 ≡ bit_xor (digit (get_or u 0 0) 12) 1 → ((i : ℕ) → i ≢ 12 → digit t i ≡ digit (get_or u 0 0) i)
+    → IsFilled g f units u n → IsFilled g (bit_xor f 1) units (set u 0 t) n
+IsFilled-turned g f units u t n long flip rest h = record {
+  flags = ap (λ x. digit x 12) first ∙ flip ∙ ap (λ x. bit_xor x 1) h.flags;
+  done = λ k less. ap man_of (code k) ∙ h.done k less;
+  small = λ k less. subst (λ x. x < 13) (sym (code k)) (h.small k less);
+  free = λ k i none flag. same k i flag ∙ h.free k i none flag;
+}
+  where
+    first : get_or (set u 0 t) 0 0 ≡ t
+    first = get_or-set_same u 0 t 0 long
+
+    same : (k i : ℕ) → (k ≡ 0 → i ≡ 12 → ⊥) → digit (get_or (set u 0 t) k 0) i ≡ digit (get_or u k 0) i
+    same k i none = elim (cases_eq k 0) [
+      | inl e ↦ subst (λ x. digit (get_or (set u 0 t) x 0) i ≡ digit (get_or u x 0) i) (sym e) (ap (λ x. digit x i) first ∙ rest i (none e))
+      | inr other ↦ ap (λ x. digit x i) (get_or-set_other u 0 k t 0 other)
+    ]
+
+    code : (k : ℕ) → code_on g (set u 0 t) k ≡ code_on g u k
+    code k = same (word_of g k) (place_of g k) (λ _ e. not_flags g k (sym e))
 
 -- what is no unit is none
 pub none_where : (o : Option Man) → ((u : Man) → o ≡ Some u → ⊥) → o ≡ None
@@ -246,6 +158,34 @@ module _ (b : PlainBoard) (is : IsPosition b) (f : ℕ) (words : List ℕ) (flag
     colour = subst (λ x. x % 4 < 2) (sym h.flags) flags.colour;
     unused = λ k i free. unused_0 k i (subst (λ x. IsUnused x k i) game_is free);
   }
+
+-- ---- the words after a move
+
+module _ (b : PlainBoard) (m : Ply) (u : Man) (is : IsPosition b) (p : IsPseudoLegal b m u) (w v x : List ℕ) (t code : ℕ) (packed : IsPacked w) (view : unpacked w ≡ b) (first : IsPut b.game w v (square_number b.game m.from) 0)
+    (second : IsPut b.game v x (square_number b.game m.to) code) (stands : man_of code ≡ Some (placed u m)) (low : code < 13) (long : length x ≡ 3) (flip : digit t 12 ≡ bit_xor (digit (get_or x 0 0) 12) 1)
+    (rest : (i : ℕ) → i ≢ 12 → digit t i ≡ digit (get_or x 0 0) i) where
+  turned : IsTurned (flags_of w) (bit_xor (flags_of w) 1)
+  turned = turned_flags (flags_of w) (record { eight = packed.flags; colour = packed.colour })
+
+  filled : IsFilled b.game (bit_xor (flags_of w) 1) (after b m u).units (set x 0 t) (squares_of b.game)
+  filled =
+      let from = number_within b.game m.from p.on_board in
+      let to = number_within b.game m.to (to_on_board b m u p) in
+      let lifted = set b.units (square_number b.game m.from) None in
+      let start = subst (λ (q : PlainBoard). IsFilled q.game (flags_of w) q.units w (squares_of q.game)) view (IsFilled-packed w packed) in
+      let one = IsFilled-put b.game (flags_of w) b.units lifted w v (square_number b.game m.from) 0 (squares_of b.game) (squares_of b.game) first
+      (sym (get_or-set_same b.units (square_number b.game m.from) None None (omega (arith, is.places, within_36 b.game (square_number b.game m.from) from))))
+      (omega arith) from (omega arith) (λ k less other. (less, get_or-set_other b.units (square_number b.game m.from) k None None other)) start in
+      IsFilled-turned b.game (flags_of w) (after b m u).units x t (squares_of b.game) (omega (arith, long)) flip rest
+      (IsFilled-put b.game (flags_of w) lifted (after b m u).units v x (square_number b.game m.to) code (squares_of b.game) (squares_of b.game) second
+      (stands ∙ sym (get_or-set_same lifted (square_number b.game m.to) (Some (placed u m)) None (omega (arith, is.places, length-set b.units (square_number b.game m.from) None, within_36 b.game (square_number b.game m.to) to))))
+      low to (omega arith) (λ k less other. (less, get_or-set_other lifted (square_number b.game m.to) k (Some (placed u m)) None other)) one)
+
+  pub unpacked_after : unpacked (set x 0 t) ≡ after b m u
+  unpacked_after = unpacked_of (after b m u) (IsPosition-after b m u is p) (bit_xor (flags_of w) 1) (set x 0 t) turned.flags (turned.game ∙ ap (λ (q : PlainBoard). q.game) view) (turned.mover ∙ ap (λ (q : PlainBoard). other_side q.mover) view) filled
+
+  pub IsPacked-after : IsPacked (set x 0 t)
+  IsPacked-after = IsPacked-of (after b m u) (IsPosition-after b m u is p) (bit_xor (flags_of w) 1) (set x 0 t) turned.flags (turned.game ∙ ap (λ (q : PlainBoard). q.game) view) (turned.mover ∙ ap (λ (q : PlainBoard). other_side q.mover) view) filled
 
 -- ---- the units of words, read square by square
 

@@ -1,7 +1,6 @@
 -- A list of the elements that have a property, each with what it has, in order.
-use Rattle.std.proofs.Common.{◌≡◌, ℕ, ◌+◌, ◌<◌, inl, inr, suc, sym, ap, subst, ◌∙◌, arith, List, [], ◌∷◌, ◌++◌, length, take, get_or, AllPairs, Contains, ◌↔◌}
+use Rattle.moves.proofs.Common.{◌≡◌, ℕ, ◌+◌, ◌<◌, inl, inr, suc, sym, ap, subst, ◌∙◌, arith, List, [], ◌∷◌, ◌++◌, length, take, get_or, AllPairs, Contains, ◌↔◌, Contains-push, Contains-append_left, Contains-append_cases}
 use Rattle.std.proofs.lemmas.Grind.{common_steps, elements}
-use Rattle.std.proofs.lemmas.List.Elements.{Contains-push, Contains-append_left, Contains-append_cases}
 use Rattle.std.proofs.lemmas.List.Quantifiers.{all_pairs_push}
 use Rattle.std.proofs.Math.Seq.{take-suc}
 

@@ -1,27 +1,9 @@
 -- What is pinned is seen from the king along a way.
-use Rattle.std.proofs.Common.{◌≡◌, ℕ, refl, sym, ap, subst, ◌∙◌, arith, ◌↔◌, inl, inr, true, false, Bool, Some, None, Contains}
-use Rattle.std.specs.Int.RustNames.{bit_and, bit_or}
-use Rattle.std.proofs.lemmas.Bool.{cases_order, false≢true}
-use Rattle.board.specs.declared.game.Side.{Side}
-use Rattle.board.specs.Games.{other_side}
-use Rattle.board.specs.Board.{PlainBoard, is_of_side}
-use Rattle.moves.specs.declared.sets.Class.TheVariants.{Straight, Slanted}
-use Rattle.cells.specs.declared.tables.Way.{Way}
-use Rattle.cells.specs.declared.tables.Way.TheVariants.{North, South, East, West, NorthEast, SouthWest, NorthWest, SouthEast}
-use Rattle.cells.specs.declared.tables.TheConstants.{WAYS}
-use Rattle.rules.specs.Squares.{unit_at}
-use Rattle.rules.specs.Reach.{Leads}
-use Rattle.cells.specs.Mailbox.{cell_of, place_in, IsCell}
-use Rattle.moves.specs.Pinned.{IsPinned}
-use Rattle.moves.specs.Sets.{Holds}
-use Rattle.cells.specs.CellSets.{Has}
-use Rattle.cells.specs.Ways.{Rides, rises}
-use Rattle.cells.proofs.CellNumbers.{IsCell-cell_of, place_in-cell_of}
+use Rattle.moves.proofs.Common.{◌≡◌, ℕ, refl, sym, ap, subst, ◌∙◌, arith, ◌↔◌, ◌⊎◌, inl, inr, Some, None, Contains, bit_and, Side, other_side, PlainBoard, is_of_side, Straight, Slanted, Way, North, South, East, West, NorthEast, SouthWest, NorthWest, SouthEast, WAYS, unit_at, Leads, cell_of, place_in, IsCell, IsPinned, Has, Rides, rises, IsCell-cell_of, place_in-cell_of, Has-and, Place, Man, IsOf, HasRider, Owns}
 use Rattle.moves.proofs.Looking.{both_back}
-use Rattle.cells.proofs.Masks.{Has-and, Has-or}
 use Rattle.moves.proofs.Guarding.{is_own}
-use Rattle.moves.proofs.Riding.{IsSooner, Rides-clear, Rides-leads}
-use Rattle.moves.proofs.Seeing.{rides_as}
+use Rattle.moves.proofs.Riding.{sooner-cases, Rides-clear, Rides-leads}
+use Rattle.moves.proofs.Seeing.{rider_way}
 
 -- all ways are in the list of them
 pub ways-all : (way : Way) → Contains WAYS way
@@ -39,15 +21,11 @@ pub one_unit : (b : PlainBoard) (way : Way) (k i j : ℕ) → Rides b way k i �
 one_unit b way k i j r s taken there =
     let w = (Rides-clear b way k i).0 r in
     let v = (Rides-clear b way k j).0 s in
-    elim (cases_order i j) [
+    elim (sooner-cases (rises way) i j) [
       | inl same ↦ same
-      | inr (inl before) ↦ absurd (order (rises way) (λ up. taken (v.1 i w.0 (subst (λ x. IsSooner x i j) (sym up) before))) (λ down. there (w.1 j v.0 (subst (λ x. IsSooner x j i) (sym down) before))))
-      | inr (inr behind) ↦ absurd (order (rises way) (λ up. there (w.1 j v.0 (subst (λ x. IsSooner x j i) (sym up) behind))) (λ down. taken (v.1 i w.0 (subst (λ x. IsSooner x i j) (sym down) behind))))
+      | inr (inl before) ↦ absurd (taken (v.1 i w.0 before))
+      | inr (inr behind) ↦ absurd (there (w.1 j v.0 behind))
     ]
-  where
-    order : (r : Bool) → (r ≡ true → ⊥) → (r ≡ false → ⊥) → ⊥
-    order true x y = x refl
-    order false x y = y refl
 
 -- a rider that pins, as the king sees it
 pub record PinsAlong (b : PlainBoard) (riders k i : ℕ) : Type 0 where
@@ -57,32 +35,25 @@ pub record PinsAlong (b : PlainBoard) (riders k i : ℕ) : Type 0 where
   pub to_rider : Rides b way i rider
   pub has : Has riders rider
 
-module _ (b : PlainBoard) (side : Side) (foes straight slanted : ℕ) (owns : (j : ℕ) → Has foes j ↔ (IsCell b.game j × (is_of_side (other_side side) (unit_at b (place_in j)) ≡ true))) (hs : Holds b Straight straight) (hl : Holds b Slanted slanted)
-    (k i : ℕ) (on : IsCell b.game k) (cell : IsCell b.game i) where
-  pub pins-along : IsPinned b side (place_in k) (place_in i) → PinsAlong b (bit_and foes (bit_or straight slanted)) k i
-  pins-along w =
-      let (x, rider, mode, denoted, to_rider, to_unit) = both_back b side w.rider w.step w.from (place_in i) (place_in k) w.owner w.denoted w.on_board cell.on_board w.to_unit w.to_king in
-      let r = cell_of w.from in
-      let rc = IsCell-cell_of b.game w.from w.on_board in
-      let at = place_in-cell_of b.game w.from w.on_board in
-      let stands : unit_at b (place_in r) ≡ Some w.rider = ap (unit_at b) at ∙ w.stands in
-      let owner : is_of_side (other_side side) (unit_at b (place_in r)) ≡ true = ap (is_of_side (other_side side)) stands ∙ is_own (other_side side) w.rider w.owner in
-      elim (rides_as side w.rider.kind x denoted) [
-        | inl single ↦ absurd (false≢true (sym single ∙ rider ∙ w.rides))
-        | inr way ↦ record {
-          way = way.way;
-          to_unit = Rides-leads b side way.way x way.goes k i on cell to_unit;
-          rider = r;
-          to_rider = Rides-leads b side way.way x way.goes i r cell rc (subst (λ t. Leads b side x (place_in i) t) (sym at) to_rider);
-          has = (Has-and foes (bit_or straight slanted) r).1 (
-            (owns r).1 (rc, owner),
-            (Has-or straight slanted r).1 (elim way.class [
-              | inl of ↦ inl ((hs r).1 (rc, record { unit = w.rider; stands = stands; is = of }))
-              | inr of ↦ inr ((hl r).1 (rc, record { unit = w.rider; stands = stands; is = of }))
-            ]),
-          );
-        }
-      ]
+pub has_rider : (b : PlainBoard) (s : Place) (u : Man) → unit_at b s ≡ Some u → IsOf Straight u ⊎ IsOf Slanted u → HasRider b s
+has_rider b s u stands (inl of) = inl (record { unit = u; stands = stands; is = of })
+has_rider b s u stands (inr of) = inr (record { unit = u; stands = stands; is = of })
+
+pub pins-along : (b : PlainBoard) (side : Side) (foes riders : ℕ) → Owns b (other_side side) foes → ((j : ℕ) → Has riders j ↔ (IsCell b.game j × HasRider b (place_in j))) → (k i : ℕ) → IsCell b.game k → IsCell b.game i → IsPinned b side (place_in k) (place_in i) → PinsAlong b (bit_and foes riders) k i
+pins-along b side foes riders owns are k i on cell w =
+    let (x, rider, mode, denoted, to_rider, to_unit) = both_back b side w.rider w.step w.from (place_in i) (place_in k) w.owner w.denoted w.on_board cell.on_board w.to_unit w.to_king in
+    let r = cell_of w.from in
+    let rc = IsCell-cell_of b.game w.from w.on_board in
+    let at = place_in-cell_of b.game w.from w.on_board in
+    let stands : unit_at b (place_in r) ≡ Some w.rider = ap (unit_at b) at ∙ w.stands in
+    let way = rider_way side w.rider.kind x denoted (rider ∙ w.rides) in
+    record {
+      way = way.way;
+      to_unit = Rides-leads b side way.way x way.goes k i on cell to_unit;
+      rider = r;
+      to_rider = Rides-leads b side way.way x way.goes i r cell rc (subst (λ t. Leads b side x (place_in i) t) (sym at) to_rider);
+      has = (Has-and foes riders r).1 ((owns r).1 (rc, ap (is_of_side (other_side side)) stands ∙ is_own (other_side side) w.rider w.owner), (are r).1 (rc, has_rider b (place_in r) w.rider stands way.class));
+    }
 
 -- along a way the set has each unit that one of the riders pins
 abbrev pub HoldsPins : PlainBoard → ℕ → ℕ → ℕ → Way → Type 0

@@ -1,25 +1,8 @@
 -- Units that aren't pinned leave their king safe.
-use Rattle.std.proofs.Common.{◌≡◌, refl, sym, ap, subst, ◌∙◌, ◌⊎◌, inl, inr, true, not, Option, Some, None, unwrap_or, IfSome}
-use Rattle.std.proofs.lemmas.Bool.{cases_eq}
-use Rattle.std.proofs.lemmas.Option.{same_Some}
-use Rattle.board.specs.declared.game.Game.{Game}
-use Rattle.board.specs.declared.game.Side.{Side}
-use Rattle.board.specs.declared.game.Kind.{Kind}
-use Rattle.board.specs.declared.game.Kind.TheVariants.{King, Queen, Rook, Bishop, Knight, Pawn}
-use Rattle.board.specs.declared.game.Unit.{Unit as Man}
-use Rattle.board.specs.declared.step.Step.{Step}
-use Rattle.board.specs.Games.{other_side}
-use Rattle.board.specs.Board.{PlainBoard, IsPosition}
-use Rattle.rules.specs.Squares.{Place, Ply, IsOnBoard, square_number, unit_at}
-use Rattle.rules.specs.Reach.{Leads, AttacksFrom, IsAttacked, IsInCheck}
-use Rattle.rules.specs.Reach.Leads.{once, again}
-use Rattle.rules.specs.Moves.{IsPromotion, IsPseudoLegal, placed, after}
-use Rattle.moves.specs.Pinned.{IsPinned}
-use Rattle.rules.proofs.Listed.{same_number}
+use Rattle.moves.proofs.Common.{◌≡◌, refl, sym, ap, subst, ◌∙◌, ◌⊎◌, inl, inr, true, not, Option, Some, None, unwrap_or, IfSome, cases_eq, same_Some, Game, Side, Kind, King, Queen, Rook, Bishop, Knight, Pawn, Man, Step, other_side, PlainBoard, IsPosition, Place, Ply, IsOnBoard, square_number, unit_at, Leads, AttacksFrom, IsAttacked, IsInCheck, once, again, IsPromotion, IsPseudoLegal, placed, after, IsPinned, same_number, to_on_board, own_or_other}
 use Rattle.moves.proofs.Laying.{unit_at-to, unit_at-from, unit_at-other}
-use Rattle.rules.proofs.Keeps.{to_on_board, no_own as own_or_other}
 use Rattle.moves.proofs.Kings.{king_of, check_from, one_king}
-use Rattle.moves.proofs.Looking.{captures_from}
+use Rattle.moves.proofs.Looking.{captures_from, carried}
 
 -- ---- a move of a unit that isn't pinned
 
@@ -81,13 +64,7 @@ module _ (b : PlainBoard) (m : Ply) (u : Man) (is : IsPosition b) (p : IsPseudoL
           let r = a.reaches in
           let stands : unit_at b s ≡ Some a.unit = sym (unit_at-other b m u is p s a.on_board apart far) ∙ a.stands in
           inr (elim (walked a.unit.side r.step s t r.reaches.leads) [
-            | inl w ↦ inl (record {
-              unit = a.unit;
-              on_board = a.on_board;
-              stands = stands;
-              owner = a.owner;
-              reaches = record { step = r.step; played = r.played; denoted = r.denoted; reaches = record { allows = r.reaches.allows; leads = w } };
-            })
+            | inl w ↦ inl (carried (after b m u) b (other_side side) s t s t a a.on_board r.played stands w)
             | inr w ↦ inr (
               record {
                 rider = a.unit;

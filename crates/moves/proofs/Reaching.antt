@@ -1,49 +1,9 @@
 -- What a unit reaches is what it sees, but for its own units, and a pawn's step.
-use Rattle.std.proofs.Common.{◌≡◌, ℕ, ◌^◌, ◌<◌, ◌≤◌, w64, zero, suc, refl, sym, ap, subst, ◌∙◌, arith, ◌↔◌, ◌⊎◌, inl, inr, Bool, true, false, ℤ, pos, ◌<ℤ◌, Option, Some, None}
-use Rattle.std.specs.List.{list_all}
-use Rattle.std.specs.Int.{bit_not}
-use Rattle.std.specs.Int.RustNames.{unsigned_abs, bit_and, bit_or}
-use Rattle.std.proofs.lemmas.Int.{ints}
-use Rattle.std.proofs.lemmas.Bool.{false≢true}
-use Rattle.std.proofs.lemmas.List.Sums.{AllPass-from_list_all}
-use Rattle.std.proofs.lemmas.List.Elements.{All-contains}
-use Rattle.board.specs.declared.game.Side.{Side}
-use Rattle.board.specs.declared.game.Side.TheVariants.{White, Black}
-use Rattle.board.specs.declared.game.Kind.{Kind}
-use Rattle.board.specs.declared.game.Kind.TheVariants.{King, Queen, Rook, Bishop, Knight, Pawn}
-use Rattle.board.specs.declared.game.Unit.{Unit as Man}
-use Rattle.board.specs.declared.step.Mode.{Mode}
-use Rattle.board.specs.declared.step.Mode.TheVariants.{Move, Capture, Both}
-use Rattle.board.specs.declared.step.Step.{Step}
-use Rattle.board.specs.declared.terms.Atom.TheVariants.{Wazir}
-use Rattle.board.specs.declared.terms.Term.{Term}
-use Rattle.board.specs.Denotation.{IsAtomLeap, terms_of, Denotes}
-use Rattle.board.specs.Games.{other_side, IsPlayed}
-use Rattle.board.specs.Board.{PlainBoard, is_of_side}
-use Rattle.rules.specs.Squares.{unit_at}
-use Rattle.rules.specs.Reach.{ahead_of, IsShift, IsStep, Allows, Reaches}
-use Rattle.rules.specs.Reach.Leads.{once}
-use Rattle.cells.specs.StepTables.{table_of}
-use Rattle.cells.specs.Mailbox.{place_in, IsAway, IsCell}
-use Rattle.moves.specs.Looking.{Aims}
-use Rattle.cells.specs.CellSets.{Has}
-use Rattle.moves.specs.Targets.{IsTarget}
-use Rattle.cells.specs.Ways.{IsNext, ahead_way}
-use Rattle.cells.proofs.CellNumbers.{shift_in}
-use Rattle.cells.proofs.TableTests.{table_of-exact}
-use Rattle.cells.proofs.Masks.{Has-and, Has-or, Has-minus}
-use Rattle.cells.proofs.OnRays.{next_of, next-is, is-next}
-use Rattle.rules.proofs.Keeps.{Leads-single_step as single}
+use Rattle.moves.proofs.Common.{◌≡◌, ℕ, ◌^◌, ◌<◌, ◌≤◌, w64, zero, suc, refl, sym, ap, subst, ◌∙◌, arith, ◌↔◌, ◌⊎◌, inl, inr, Bool, true, false, ℤ, pos, ◌<ℤ◌, Option, Some, None, list_all, bit_not, unsigned_abs, bit_and, bit_or, ints, false≢true, Side, White, Black, Kind, King, Queen, Rook, Bishop, Knight, Pawn, Man, Mode, Move, Capture, Both, Step, Wazir, Term, IsAtomLeap, terms_of, Denotes, other_side, IsPlayed, PlainBoard, is_of_side, unit_at, ahead_of, IsShift, IsStep, Allows, once, table_of, place_in, IsAway, IsCell, Aims, Has, IsTarget, IsNext, ahead_way, shift_in, Has-and, Has-or, Has-minus, next_of, next-is, is-next, single_step as single, own_or_other}
 use Rattle.moves.proofs.Guarding.{own_unit_side, is_own}
-use Rattle.moves.proofs.Seeing.{zero_of}
+use Rattle.moves.proofs.Seeing.{zero_of, by_table}
 
 -- ---- where a step may end
-
-own-foe : (s t : Side) (k : Kind) → t ≡ other_side s → is_of_side s (Some (record { side = t; kind = k })) ≡ true → ⊥
-own-foe White White k e h = cc
-own-foe White Black k e h = false≢true h
-own-foe Black White k e h = false≢true h
-own-foe Black Black k e h = cc
 
 foe-own : (s t : Side) (k : Kind) → (is_of_side s (Some (record { side = t; kind = k })) ≡ true → ⊥) → t ≡ other_side s
 foe-own White White k h = absurd (h refl)
@@ -53,7 +13,7 @@ foe-own Black Black k h = absurd (h refl)
 
 pub Allows-both : (side : Side) (o : Option Man) → Allows Both side o ↔ (is_of_side side o ≡ true → ⊥)
 Allows-both side None = (λ _ h. false≢true h, λ _. tt)
-Allows-both side (Some u) = (λ e. own-foe side u.side u.kind e, λ h. foe-own side u.side u.kind h)
+Allows-both side (Some u) = (λ e own. own_or_other side (sym (own_unit_side side u own) ∙ e), λ h. foe-own side u.side u.kind h)
 
 pub Allows-capture : (side : Side) (o : Option Man) → Allows Capture side o ↔ (is_of_side (other_side side) o ≡ true)
 Allows-capture side None = (λ h. absurd h, λ h. absurd (false≢true h))
@@ -87,7 +47,7 @@ both_modes Knight h = refl
 both_modes Pawn h = absurd (h refl)
 
 mode_both : (k : Kind) → (k ≡ Pawn → ⊥) → (step : Step) → Denotes (terms_of k) step → step.mode ≡ Both
-mode_both k other step denoted = both_is step.mode (All-contains (λ x. all_both x ≡ true) (table_of k) step (AllPass-from_list_all all_both (table_of k) (both_modes k other)) ((table_of-exact k step).1 denoted))
+mode_both k other step denoted = both_is step.mode (by_table all_both k (both_modes k other) step denoted)
 
 module _ (b : PlainBoard) (u : Man) (i : ℕ) (played : IsPlayed b.game u.kind) where
   -- what it sees and doesn't hold is what it reaches
@@ -109,30 +69,21 @@ module _ (b : PlainBoard) (u : Man) (i : ℕ) (played : IsPlayed b.game u.kind) 
 
 -- ---- pawns
 
--- a pawn's step that only moves goes straight ahead
-move_step : (step : Step) → Denotes (terms_of Pawn) step → step.mode ≡ Move → (step.rider ≡ false) × (step.dx ≡ pos 0) × (step.dy ≡ pos 1)
-move_step step (zero, t, h, e, ts) m =
-    let r : t.rider ≡ false = sym (ap (λ (x : Term). x.rider) e) in
-    let f : t.forward ≡ true = sym (ap (λ (x : Term). x.forward) e) in
+-- a pawn's step moves straight ahead or captures
+pawn_step : (step : Step) → Denotes (terms_of Pawn) step → ((step.mode ≡ Move) × (step.rider ≡ false) × (step.dx ≡ pos 0) × (step.dy ≡ pos 1)) ⊎ (step.mode ≡ Capture)
+pawn_step step (zero, t, h, e, ts) =
     let a : t.atom ≡ Wazir = sym (ap (λ (x : Term). x.atom) e) in
-    let leap : IsAtomLeap Wazir step.dx step.dy = subst (λ x. IsAtomLeap x step.dx step.dy) a ts.leap.atom in
-    let up = ts.leap.ahead f in
-    let ahead : (step.dx ≡ pos 0) × (step.dy ≡ pos 1) = elim leap [
+    let up = ts.leap.ahead (sym (ap (λ (x : Term). x.forward) e)) in
+    let ahead : (step.dx ≡ pos 0) × (step.dy ≡ pos 1) = elim (subst (λ x. IsAtomLeap x step.dx step.dy) a ts.leap.atom) [
       | inl w ↦ let p = w.1 in absurd (omega (arith, ints, p, up))
       | inr w ↦ (zero_of step.dx w.0, one_of step.dy w.1 up)
     ] in
-    (ts.rider ∙ r, ahead.0, ahead.1)
+    inl (ts.mode ∙ sym (ap (λ (x : Term). x.mode) e), ts.rider ∙ sym (ap (λ (x : Term). x.rider) e), ahead.0, ahead.1)
   where
     one_of : (z : ℤ) → unsigned_abs z ≡ 1 → pos 0 <ℤ z → z ≡ pos 1
     one_of z e p = omega (arith, ints, e, p)
-move_step step (suc zero, t, h, e, ts) m = cc (sym m ∙ ts.mode ∙ sym (ap (λ (x : Term). x.mode) e))
-move_step step (suc (suc k), t, h, e, ts) m = absurd (omega (arith, h))
-
--- no pawn's step does both
-no_both : (step : Step) → Denotes (terms_of Pawn) step → step.mode ≡ Both → ⊥
-no_both step (zero, t, h, e, ts) m = cc (sym m ∙ ts.mode ∙ sym (ap (λ (x : Term). x.mode) e))
-no_both step (suc zero, t, h, e, ts) m = cc (sym m ∙ ts.mode ∙ sym (ap (λ (x : Term). x.mode) e))
-no_both step (suc (suc k), t, h, e, ts) m = absurd (omega (arith, h))
+pawn_step step (suc zero, t, h, e, ts) = inr (ts.mode ∙ sym (ap (λ (x : Term). x.mode) e))
+pawn_step step (suc (suc k), t, h, e, ts) = absurd (omega (arith, h))
 
 ahead_step : Step
 ahead_step = record { dx = pos 0; dy = pos 1; rider = false; mode = Move }
@@ -164,8 +115,11 @@ IsTarget-pawn b u i ci pawn played set foes push seen others pushes j =
         | inl x ↦
             let (s, f) = v.0 x in
             let (c, a) = (seen j).0 s in
-            let foe = ((others j).0 f).1 in
-            (c, record { step = a.step; played = played; denoted = a.denoted; reaches = record { allows = captured a.step.mode a.captures (λ e. no_both a.step (subst (λ k. Denotes (terms_of k) a.step) pawn a.denoted) e) foe; leads = a.leads } })
+            let allows : Allows a.step.mode u.side (unit_at b (place_in j)) = elim (pawn_step a.step (subst (λ k. Denotes (terms_of k) a.step) pawn a.denoted)) [
+              | inl moves ↦ absurd (a.captures moves.0)
+              | inr takes ↦ subst (λ m. Allows m u.side (unit_at b (place_in j))) (sym takes) ((Allows-capture u.side (unit_at b (place_in j))).1 ((others j).0 f).1)
+            ] in
+            (c, record { step = a.step; played = played; denoted = a.denoted; reaches = record { allows = allows; leads = a.leads } })
         | inr x ↦
             let (e, c, none) = (pushes j).0 x in
             let away = (next-ahead u.side i j).0 e in (
@@ -181,25 +135,16 @@ IsTarget-pawn b u i ci pawn played set foes push seen others pushes j =
               },
             )
       ],
-      λ (c, r). w.1 (by_mode c r r.step.mode refl),
-    )
-  where
-    captured : (m : Mode) → (m ≡ Move → ⊥) → (m ≡ Both → ⊥) → is_of_side (other_side u.side) (unit_at b (place_in j)) ≡ true → Allows m u.side (unit_at b (place_in j))
-    captured Move x y foe = absurd (x refl)
-    captured Capture x y foe = (Allows-capture u.side (unit_at b (place_in j))).1 foe
-    captured Both x y foe = absurd (y refl)
-
-    by_mode : IsCell b.game j → (r : Reaches b u (place_in i) (place_in j) (unit_at b (place_in j))) → (m : Mode) → r.step.mode ≡ m → Has (bit_and set foes) j ⊎ Has push j
-    by_mode c r Move e =
-        let s = move_step r.step (subst (λ k. Denotes (terms_of k) r.step) pawn r.denoted) e in
-        let away = step-away u.side r.step i j ci.above c.above s.1 s.2 (single b u.side r.step (place_in i) (place_in j) s.0 r.reaches.leads) in
-        inr ((pushes j).1 ((next-ahead u.side i j).1 away, c, (Allows-move u.side (unit_at b (place_in j))).0 (subst (λ m. Allows m u.side (unit_at b (place_in j))) e r.reaches.allows)))
-    by_mode c r Capture e =
-        inl ((Has-and set foes j).1 (
-          (seen j).1 (c, record { step = r.step; denoted = r.denoted; captures = λ f. cc (sym e ∙ f); leads = r.reaches.leads }),
-          (others j).1 (c, (Allows-capture u.side (unit_at b (place_in j))).0 (subst (λ m. Allows m u.side (unit_at b (place_in j))) e r.reaches.allows)),
+      λ (c, r). w.1 (elim (pawn_step r.step (subst (λ k. Denotes (terms_of k) r.step) pawn r.denoted)) [
+        | inl (moves, rider, dx, dy) ↦
+            let away = step-away u.side r.step i j ci.above c.above dx dy (single b u.side r.step (place_in i) (place_in j) rider r.reaches.leads) in
+            inr ((pushes j).1 ((next-ahead u.side i j).1 away, c, (Allows-move u.side (unit_at b (place_in j))).0 (subst (λ m. Allows m u.side (unit_at b (place_in j))) moves r.reaches.allows)))
+        | inr takes ↦ inl (v.1 (
+          (seen j).1 (c, record { step = r.step; denoted = r.denoted; captures = λ f. cc (sym takes ∙ f); leads = r.reaches.leads }),
+          (others j).1 (c, (Allows-capture u.side (unit_at b (place_in j))).0 (subst (λ m. Allows m u.side (unit_at b (place_in j))) takes r.reaches.allows)),
         ))
-    by_mode c r Both e = absurd (no_both r.step (subst (λ k. Denotes (terms_of k) r.step) pawn r.denoted) e)
+      ]),
+    )
 
 -- ---- the cell ahead
 

@@ -1,40 +1,28 @@
 -- A rider's way: a ray up to the first unit on it, and the same as its denotation's.
-use Rattle.std.proofs.Common.{◌≡◌, ℕ, ◌<◌, ◌≤◌, refl, sym, ap, subst, ◌∙◌, arith, ◌↔◌, Bool, true, false, None}
-use Rattle.std.specs.Int.RustNames.{unsigned_abs}
-use Rattle.std.proofs.lemmas.Int.{ints}
-use Rattle.board.specs.declared.game.Game.{Game}
-use Rattle.board.specs.declared.game.Side.{Side}
-use Rattle.board.specs.declared.step.Step.{Step}
-use Rattle.board.specs.Board.{PlainBoard}
-use Rattle.cells.specs.declared.tables.Way.{Way}
-use Rattle.cells.specs.declared.tables.Way.TheVariants.{North, South, East, West, NorthEast, SouthWest, NorthWest, SouthEast}
-use Rattle.rules.specs.Squares.{Place, IsOnBoard, unit_at}
-use Rattle.rules.specs.Reach.{ahead_of, IsShift, IsStep, Leads}
-use Rattle.rules.specs.Reach.Leads.{once as lead, again as lead_on}
-use Rattle.cells.specs.Mailbox.{cell_of, place_in, IsCell}
-use Rattle.cells.specs.Ways.{files_of, ranks_of, IsNext, IsOnRay, Rides, rises}
+use Rattle.moves.proofs.Common.{◌≡◌, ℕ, ◌<◌, ◌≤◌, refl, sym, ap, subst, ◌∙◌, arith, ◌↔◌, Bool, true, false, None, unsigned_abs, ints, Game, Side, Step, PlainBoard, Way, North, South, East, West, NorthEast, SouthWest, NorthWest, SouthEast, Place, IsOnBoard, unit_at, ahead_of, IsShift, IsStep, Leads, once as lead, again as lead_on, cell_of, place_in, IsCell, files_of, ranks_of, IsNext, IsOnRay, Rides, rises, shift_in, IsCell-cell_of, place_in-cell_of, cell_of-place_in, cell_small, Has-and, Has, bit_and, ◌⊎◌, inl, inr, cases_order}
 use Rattle.cells.specs.Ways.IsOnRay.{next, beyond}
 use Rattle.cells.specs.Ways.Rides.{once, again}
-use Rattle.cells.proofs.CellNumbers.{shift_in, IsCell-cell_of, place_in-cell_of, cell_of-place_in, cell_small}
-use Rattle.cells.proofs.Masks.{Has-and}
 use Rattle.moves.proofs.Shown.{none_from}
-use Rattle.cells.specs.CellSets.{Has}
-use Rattle.std.specs.Int.RustNames.{bit_and}
 
 -- the cell j lies on the way before k
 abbrev pub IsSooner : Bool → ℕ → ℕ → Type 0
 IsSooner true j k = j < k
 IsSooner false j k = k < j
 
-sooner-next : (way : Way) (i j : ℕ) → IsNext way i j → IsSooner (rises way) i j
-sooner-next North i j e = omega (arith, ints, e)
-sooner-next South i j e = omega (arith, ints, e)
-sooner-next East i j e = omega (arith, ints, e)
-sooner-next West i j e = omega (arith, ints, e)
-sooner-next NorthEast i j e = omega (arith, ints, e)
-sooner-next SouthWest i j e = omega (arith, ints, e)
-sooner-next NorthWest i j e = omega (arith, ints, e)
-sooner-next SouthEast i j e = omega (arith, ints, e)
+-- what goes for each way
+record IsWay (way : Way) : Type 0 where
+  sooner : (i j : ℕ) → IsNext way i j → IsSooner (rises way) i j
+  small : unsigned_abs (files_of way) ≤ 2
+
+is_way : (way : Way) → IsWay way
+is_way North = record { sooner = λ i j e. omega (arith, ints, e); small = omega arith }
+is_way South = record { sooner = λ i j e. omega (arith, ints, e); small = omega arith }
+is_way East = record { sooner = λ i j e. omega (arith, ints, e); small = omega arith }
+is_way West = record { sooner = λ i j e. omega (arith, ints, e); small = omega arith }
+is_way NorthEast = record { sooner = λ i j e. omega (arith, ints, e); small = omega arith }
+is_way SouthWest = record { sooner = λ i j e. omega (arith, ints, e); small = omega arith }
+is_way NorthWest = record { sooner = λ i j e. omega (arith, ints, e); small = omega arith }
+is_way SouthEast = record { sooner = λ i j e. omega (arith, ints, e); small = omega arith }
 
 sooner-trans : (r : Bool) (i j k : ℕ) → IsSooner r i j → IsSooner r j k → IsSooner r i k
 sooner-trans true i j k a b = omega (arith, a, b)
@@ -44,12 +32,16 @@ never-sooner : (r : Bool) (i : ℕ) → IsSooner r i i → ⊥
 never-sooner true i h = omega (arith, h)
 never-sooner false i h = omega (arith, h)
 
+pub sooner-cases : (r : Bool) (i j : ℕ) → (i ≡ j) ⊎ (IsSooner r i j ⊎ IsSooner r j i)
+sooner-cases true i j = cases_order i j
+sooner-cases false i j = elim (cases_order i j) [ inl same ↦ inl same | inr (inl less) ↦ inr (inr less) | inr (inr more) ↦ inr (inl more) ]
+
 one-next : (way : Way) (i j k : ℕ) → IsNext way i j → IsNext way i k → j ≡ k
 one-next way i j k a b = omega (arith, ints, a, b)
 
 pub sooner-ray : (g : Game) (way : Way) (i j : ℕ) → IsOnRay g way i j → IsSooner (rises way) i j
-sooner-ray g way i j (next a c) = sooner-next way i j a
-sooner-ray g way i j (beyond {k = k} a c r) = sooner-trans (rises way) i k j (sooner-next way i k a) (sooner-ray g way k j r)
+sooner-ray g way i j (next a c) = (is_way way).sooner i j a
+sooner-ray g way i j (beyond {k = k} a c r) = sooner-trans (rises way) i k j ((is_way way).sooner i k a) (sooner-ray g way k j r)
 
 pub cell-ray : (g : Game) (way : Way) (i j : ℕ) → IsOnRay g way i j → IsCell g j
 cell-ray g way i j (next a c) = c
@@ -95,20 +87,10 @@ pub record Goes (side : Side) (way : Way) (step : Step) : Type 0 where
   pub files : step.dx ≡ files_of way
   pub ranks : ahead_of side step.dy ≡ ranks_of way
 
-small_files : (way : Way) → unsigned_abs (files_of way) ≤ 2
-small_files North = omega arith
-small_files South = omega arith
-small_files East = omega arith
-small_files West = omega arith
-small_files NorthEast = omega arith
-small_files SouthWest = omega arith
-small_files NorthWest = omega arith
-small_files SouthEast = omega arith
-
 module _ (b : PlainBoard) (side : Side) (way : Way) (step : Step) (goes : Goes side way step) where
   step-next : (i j : ℕ) → IsCell b.game i → IsCell b.game j → IsNext way i j → IsStep side step (place_in i) (place_in j)
   step-next i j c d a =
-      let s = shift_in b.game (files_of way) (ranks_of way) i j c (small_files way) a d in
+      let s = shift_in b.game (files_of way) (ranks_of way) i j c (is_way way).small a d in
       subst (λ x. IsShift x (ahead_of side step.dy) (place_in i) (place_in j)) (sym goes.files) (subst (λ y. IsShift (files_of way) y (place_in i) (place_in j)) (sym goes.ranks) s)
 
   next-step : (i : ℕ) (t : Place) → IsCell b.game i → IsOnBoard b.game t → IsStep side step (place_in i) t → IsNext way i (cell_of t)

@@ -1,37 +1,12 @@
 -- Whether a move is lawful doesn't depend on what a pawn becomes.
-use Rattle.std.proofs.Common.{◌≡◌, ℕ, ◌+◌, ◌^◌, ◌<◌, arith, refl, sym, ap, subst, ◌∙◌, ◌⊎◌, ◌↔◌, inl, inr, Option, Some, None, IsSome, false}
-use Rattle.std.proofs.lemmas.Option.{same_Some}
-use Rattle.std.proofs.lemmas.Bool.{cases_eq, false≢true}
-use Rattle.board.specs.declared.game.Game.{Game}
-use Rattle.board.specs.declared.game.Game.TheVariants.{LosAlamos, Gardner}
-use Rattle.board.specs.declared.game.Side.{Side}
-use Rattle.board.specs.declared.game.Side.TheVariants.{White, Black}
-use Rattle.board.specs.declared.game.Kind.{Kind}
-use Rattle.board.specs.declared.game.Kind.TheVariants.{King, Queen, Rook, Bishop, Knight, Pawn}
-use Rattle.board.specs.declared.game.Unit.{Unit as Man}
-use Rattle.board.specs.declared.step.Step.{Step}
-use Rattle.board.specs.Games.{width_of, other_side}
-use Rattle.board.specs.Board.{PlainBoard, IsPosition}
-use Rattle.rules.specs.Squares.{Place, Ply, IsOnBoard, unit_at}
-use Rattle.rules.specs.Reach.{Leads, Reaches, IsAttacked, IsInCheck}
-use Rattle.rules.specs.Reach.Leads.{once, again}
-use Rattle.rules.specs.Moves.{IsLastRank, IsPromotion, Promotes, IsSomeKing, IsPseudoLegal, IsLawful, placed, after}
-use Rattle.cells.specs.Mailbox.{cell_of, place_in}
-use Rattle.cells.specs.CellSets.{Has}
-use Rattle.moves.specs.Targets.{IsTarget}
-use Rattle.moves.specs.Pinned.{IsPinned}
-use Rattle.moves.specs.Sets.{StandsAs}
-use Rattle.moves.specs.declared.sets.Class.TheVariants.{Crowned}
-use Rattle.moves.specs.Safe.{IsNamed, HasSafe, IsCalm}
-use Rattle.cells.proofs.CellNumbers.{place_in-cell_of}
-use Rattle.moves.proofs.Guarding.{promotes_well}
+use Rattle.moves.proofs.Common.{◌≡◌, ℕ, ◌+◌, ◌^◌, ◌<◌, arith, refl, sym, ap, subst, ◌∙◌, ◌⊎◌, ◌↔◌, inl, inr, Option, Some, None, IsSome, same_Some, cases_eq, Game, Side, White, Black, Kind, King, Queen, Rook, Bishop, Knight, Pawn, Man, Step, width_of, other_side, PlainBoard, IsPosition, Place, Ply, IsOnBoard, unit_at, Leads, Reaches, IsAttacked, IsInCheck, once, again, IsLastRank, Promotes, IsSomeKing, IsPseudoLegal, IsLawful, placed, after, cell_of, place_in, Has, IsTarget, IsPinned, IsNamed, HasSafe, IsCalm, place_in-cell_of, lowest-has, IsRankAhead, to_on_board, own_or_other, cases_Bool, is_king, false≢true}
 use Rattle.moves.proofs.KingSteps.{attacked_then, steps_safely}
-use Rattle.cells.proofs.Masks.{lowest-has}
 use Rattle.moves.proofs.Laying.{unit_at-to, unit_at-from, unit_at-other}
-use Rattle.rules.proofs.Keeps.{IsRankAhead, to_on_board, no_own as own_or_other}
+use Rattle.moves.proofs.Looking.{carried}
 use Rattle.moves.proofs.Kings.{king_of, check_from}
 use Rattle.moves.proofs.Shadows.{pinned_attacks}
 use Rattle.moves.proofs.Pins.{place_cases, promotes_no_king, no_unit, stays_safe}
+use Rattle.moves.proofs.Guarding.{king_kind}
 use Rattle.moves.proofs.AtOnce.{pseudo_by, move_by}
 use Rattle.moves.proofs.Checking.{IsTarget-move}
 
@@ -45,12 +20,7 @@ abbrev pub becoming : Ply → Option Kind → Ply
 becoming m o = record { from = m.from; to = m.to; promotion = o }
 
 king_cases : (k : Kind) → (k ≡ King) ⊎ (k ≡ King → ⊥)
-king_cases King = inl refl
-king_cases Queen = inr (λ e. cc)
-king_cases Rook = inr (λ e. cc)
-king_cases Bishop = inr (λ e. cc)
-king_cases Knight = inr (λ e. cc)
-king_cases Pawn = inr (λ e. cc)
+king_cases k = elim (cases_Bool (is_king k)) [ inl king ↦ inl (king_kind k king) | inr piece ↦ inr (λ e. false≢true (sym piece ∙ ap is_king e)) ]
 
 not_named : (o : Option Kind) → (IsSome o → ⊥) → o ≡ None
 not_named None never = refl
@@ -58,10 +28,7 @@ not_named (Some k) never = absurd (never refl)
 
 -- a king names no promotion
 king_unnamed : (b : PlainBoard) (m : Ply) (u : Man) → IsPseudoLegal b m u → u.kind ≡ King → m.promotion ≡ None
-king_unnamed b m u p king = not_named m.promotion (λ s. not_pawn u.kind king (p.named.0 s).0)
-  where
-    not_pawn : (k : Kind) → k ≡ King → k ≡ Pawn → ⊥
-    not_pawn k e f = cc
+king_unnamed b m u p king = not_named m.promotion (λ s. cc (sym king ∙ (p.named.0 s).0))
 
 module _ (b : PlainBoard) (m : Ply) (o : Option Kind) (u : Man) (is : IsPosition b) (p : IsPseudoLegal b m u) (q : IsPseudoLegal b (becoming m o) u) where
   -- but for the to-square both boards have the same units
@@ -92,16 +59,7 @@ module _ (b : PlainBoard) (m : Ply) (o : Option Kind) (u : Man) (is : IsPosition
         record {
           on_board = check.on_board;
           king = sym (same_at t check.on_board far) ∙ check.king;
-          attacked = (
-            s,
-            record {
-              unit = a.unit;
-              on_board = a.on_board;
-              stands = sym (same_at s a.on_board away) ∙ a.stands;
-              owner = a.owner;
-              reaches = record { step = a.reaches.step; played = a.reaches.played; denoted = a.reaches.denoted; reaches = record { allows = a.reaches.reaches.allows; leads = same_walk a.unit.side a.reaches.step s t a.reaches.reaches.leads } };
-            },
-          );
+          attacked = (s, carried next (after b m u) (other_side b.mover) s t s t a a.on_board a.reaches.played (sym (same_at s a.on_board away) ∙ a.stands) (same_walk a.unit.side a.reaches.step s t a.reaches.reaches.leads));
         },
       )
 
@@ -143,17 +101,6 @@ pseudo_named b m u s i on stands owner target no_king from to named = record {
   allowed = named.allowed;
 }
 
--- a king stands there as one of the crowned
-pub some_crowned : (b : PlainBoard) (s : Place) → IsSomeKing (unit_at b s) → StandsAs b Crowned s
-some_crowned b s there = crowned (unit_at b s) refl there
-  where
-    crowned : (o : Option Man) → unit_at b s ≡ o → IsSomeKing o → StandsAs b Crowned s
-    crowned None e h = absurd h
-    crowned (Some v) e h = record { unit = v; stands = e; is = h }
-
-pub crowned_king : (b : PlainBoard) (s : Place) → StandsAs b Crowned s → IsSomeKing (unit_at b s)
-crowned_king b s w = subst IsSomeKing (sym w.stands) w.is
-
 -- a unit that isn't pinned, where its own king isn't in check
 module _ (b : PlainBoard) (u : Man) (s k : Place) (is : IsPosition b) (on : IsOnBoard b.game s) (stands : unit_at b s ≡ Some u) (owner : u.side ≡ b.mover) (piece : u.kind ≡ King → ⊥)
     (on_k : IsOnBoard b.game k) (king : unit_at b k ≡ king_of b.mover) (unchecked : IsInCheck b b.mover → ⊥) (free : IsPinned b b.mover k s → ⊥) where
@@ -178,7 +125,7 @@ module _ (b : PlainBoard) (u : Man) (s k : Place) (is : IsPosition b) (on : IsOn
 
 -- a lawful move names its promotion well
 pub lawful_named : (b : PlainBoard) (m : Ply) (u : Man) → unit_at b m.from ≡ Some u → IsLawful b m → IsNamed b.game u m
-lawful_named b m u stands l = let well = promotes_well b m u stands l in record { named = well.0; allowed = well.1 }
+lawful_named b m u stands l = let p = pseudo_by b m u stands l in record { named = p.named; allowed = p.allowed }
 
 -- a pawn comes to its last rank from the one before it
 pub last_next : (g : Game) (side : Side) (from to : ℕ) → IsRankAhead side from to → IsLastRank g side to ↔ IsBeforeLast g side from
@@ -199,19 +146,18 @@ last_cases : (g : Game) (side : Side) (rank : ℕ) → IsLastRank g side rank �
 last_cases g White rank = cases_eq (rank + 1) (width_of g)
 last_cases g Black rank = cases_eq rank 0
 
+due_cases : (g : Game) (u : Man) (t : Place) → Promotes g u t ⊎ (Promotes g u t → ⊥)
+due_cases g u t = elim (pawn_cases u.kind) [
+  | inr piece ↦ inr (λ p. piece p.0)
+  | inl pawn ↦ elim (last_cases g u.side t.rank) [ inl last ↦ inl (pawn, last) | inr far ↦ inr (λ p. far p.1) ]
+]
+
 -- between two squares there is a move that names its promotion well
 pub named_move : (g : Game) (u : Man) (s t : Place) → (m : Ply) × (m.from ≡ s) × (m.to ≡ t) × IsNamed g u m
-named_move g u s t = elim (pawn_cases u.kind) [
-  | inr piece ↦ (record { from = s; to = t; promotion = None }, refl, refl, record { named = ((λ e. cc), λ p. absurd (piece p.0)); allowed = tt })
-  | inl pawn ↦ elim (last_cases g u.side t.rank) [
-    | inr far ↦ (record { from = s; to = t; promotion = None }, refl, refl, record { named = ((λ e. cc), λ p. absurd (far p.1)); allowed = tt })
-    | inl last ↦ (record { from = s; to = t; promotion = Some Queen }, refl, refl, record { named = ((λ _. (pawn, last)), λ _. refl); allowed = queen g })
-  ]
+named_move g u s t = elim (due_cases g u t) [
+  | inl due ↦ (record { from = s; to = t; promotion = Some Queen }, refl, refl, record { named = ((λ _. due), λ _. refl); allowed = tt })
+  | inr not ↦ (record { from = s; to = t; promotion = None }, refl, refl, record { named = ((λ e. cc), λ p. absurd (not p)); allowed = tt })
 ]
-  where
-    queen : (g : Game) → IsPromotion g Queen
-    queen LosAlamos = tt
-    queen Gardner = tt
 
 pub some_safe : (b : PlainBoard) (u : Man) (s : Place) (set : ℕ) → HasSafe b u s set → set < 2 ^ 64 → (set ≡ 0 → ⊥) → (m : Ply) × IsLawful b m
 some_safe b u s set safe fits some =
@@ -227,7 +173,7 @@ module _ (b : PlainBoard) (u : Man) (s : Place) (i : ℕ) (is : IsPosition b) (k
       let p = pseudo_named b m u s i on stands owner target calm.no_king from to named in
       let none : IsAttacked b m.to (other_side b.mover) → ⊥ = λ a. calm.safe (subst (λ x. IsAttacked b x (other_side u.side)) to (subst (λ x. IsAttacked b m.to (other_side x)) (sym owner) a)) in
       let loose : IsPinned b b.mover m.to m.from → ⊥ = λ w. free (subst (λ x. IsPinned b b.mover x s) to (subst (IsPinned b b.mover m.to) from w)) in
-      (after b m u, record { unit = u; pseudo = p; leads = refl; safe = (steps_safely b m u is p king loose false ((λ e. absurd (false≢true e)), λ a. absurd (none a))).0 refl })
+      (after b m u, record { unit = u; pseudo = p; leads = refl; safe = steps_safely b m u is p king loose none })
 
   pub lawful_calm : (m : Ply) → m.from ≡ s → m.to ≡ place_in i → IsLawful b m → IsCalm b (place_in i) u.side
   lawful_calm m from to l =

@@ -1,20 +1,6 @@
 -- The list of a unit's moves as its safe cells are read from the lowest on.
-use Rattle.std.proofs.Common.{◌≡◌, ◌≢◌, ℕ, ◌+◌, ◌-◌, ◌*◌, ◌<◌, ◌≤◌, zero, suc, refl, ap, subst, arith, ◌↔◌, List}
-use Rattle.board.specs.declared.game.Kind.TheVariants.{Pawn}
-use Rattle.board.specs.declared.game.Unit.{Unit as Man}
-use Rattle.board.specs.Games.{squares_of}
-use Rattle.board.specs.Board.{PlainBoard}
-use Rattle.rules.specs.Squares.{Place, Ply, IsOnBoard, square_number}
-use Rattle.rules.specs.Listing.{ListsBelow}
-use Rattle.cells.specs.Mailbox.{cell_of, place_in, IsCell}
-use Rattle.cells.specs.CellSets.{Has}
-use Rattle.moves.specs.Safe.{HasSafe}
-use Rattle.cells.proofs.CellNumbers.{place_in-cell_of}
-use Rattle.cells.proofs.Masks.{Has-zero}
-use Rattle.rules.proofs.Listed.{same_number, number_within}
-use Rattle.rules.proofs.Lists.{ListsBelow-jump, ListsBelow-all_to, IsNumbered-lawful, HasParts-lawful}
-use Rattle.rules.proofs.Room.{share, share-more, share-most, share-step, squares_36}
-use Rattle.moves.proofs.Walking.{IsWalked, Jumps, walked_start, walked_end, next, next_holds, walked_more}
+use Rattle.moves.proofs.Common.{◌≡◌, ◌≢◌, ℕ, ◌+◌, ◌-◌, ◌*◌, ◌<◌, ◌≤◌, zero, suc, refl, ap, subst, arith, ◌↔◌, List, Pawn, Man, squares_of, PlainBoard, Place, Ply, IsOnBoard, square_number, ListsBelow, cell_of, place_in, IsCell, Has, HasSafe, place_in-cell_of, Has-zero, same_number, number_within, ListsBelow-jump, ListsBelow-all_to, IsNumbered-lawful, HasParts-lawful, share, share-more, share-most, share-step, squares_36}
+use Rattle.moves.proofs.Walking.{IsWalked, Jumps, walked_start, walked_end, next_holds, walked_more}
 
 -- the moves to the squares numbered below n are listed, so many more than before
 abbrev pub IsListed : PlainBoard → Man → Place → List Ply → ℕ → ℕ → ℕ → Type 0
@@ -68,20 +54,17 @@ module _ (b : PlainBoard) (u : Man) (from : Place) (on : IsOnBoard b.game from) 
         (skip_rest moves w.0, omega (arith, w.1, share-most b.game u from (squares_of b.game) (omega arith)))
 
     module _ (to : ℕ) (there : Has set to) (least : (i : ℕ) → i < to → Has set i → ⊥) where
-      pub scan_next : Has whole to
-      scan_next = next b.game (Has whole) (Has set) (IsListed b u from moves before now) safe_cell (jump moves before now) s to there least
-
       pub scan_lists : IsListed b u from moves before now (square_number b.game (place_in to))
       scan_lists = next_holds b.game (Has whole) (Has set) (IsListed b u from moves before now) safe_cell (jump moves before now) s to there least
 
       pub scan_room : now ≤ before + 36
-      scan_room = omega (arith, scan_lists.1, share-most b.game u from (square_number b.game (place_in to)) (omega (arith, number_within b.game (place_in to) (safe_cell to scan_next).on_board)))
+      scan_room = omega (arith, scan_lists.1, share-most b.game u from (square_number b.game (place_in to)) (omega (arith, number_within b.game (place_in to) (safe_cell to ((s.left to).0 there).0).on_board)))
 
       pub scan_more : (rest : ℕ) (more : List Ply) (later : ℕ) → ((i : ℕ) → Has rest i ↔ (Has set i × (i ≢ to))) → later ≤ now + 5 → ((u.kind ≡ Pawn → ⊥) → later ≤ now + 1)
           → ListsBelow b ((square_number b.game from * 36 + square_number b.game (place_in to) + 1) * 5) more → IsScanned b u from whole rest more before later
       scan_more rest more later others five one lists =
           let number = square_number b.game (place_in to) in
-          let target = safe.cells to scan_next in
+          let target = safe.cells to ((s.left to).0 there).0 in
           let step = share-step b u from (place_in to) _ number now later target.1 target.0.on_board refl five one in
           let same : (square_number b.game from * 36 + number + 1) * 5 ≡ (square_number b.game from * 36 + (number + 1)) * 5 = omega arith in
           walked_more b.game (Has whole) (Has set) (IsListed b u from moves before now) safe_cell (jump moves before now) s to there least

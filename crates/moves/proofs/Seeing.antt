@@ -1,36 +1,9 @@
 -- What a unit sees, by ways and leaps, is what its denotation says.
-use Rattle.std.proofs.Common.{◌≡◌, ℕ, ◌≤◌, zero, suc, refl, sym, ap, subst, ◌∙◌, arith, ◌↔◌, ◌⊎◌, inl, inr, Bool, true, false, ◌&&◌, not, leb, ℤ, pos, negsuc, neg_ℤ}
-use Rattle.std.specs.List.{list_all}
-use Rattle.std.specs.Int.RustNames.{unsigned_abs}
-use Rattle.std.proofs.lemmas.Int.{ints}
-use Rattle.std.proofs.lemmas.Bool.{false≢true, not-true, and_parts, leb-true}
-use Rattle.std.proofs.lemmas.List.Sums.{AllPass-from_list_all}
-use Rattle.std.proofs.lemmas.List.Elements.{All-contains}
-use Rattle.board.specs.declared.game.Side.{Side}
-use Rattle.board.specs.declared.game.Side.TheVariants.{White, Black}
-use Rattle.board.specs.declared.game.Kind.{Kind}
-use Rattle.board.specs.declared.game.Kind.TheVariants.{King, Queen, Rook, Bishop, Knight, Pawn}
-use Rattle.board.specs.declared.step.Mode.TheVariants.{Move, Both}
-use Rattle.board.specs.declared.step.Step.{Step}
-use Rattle.board.specs.declared.terms.Atom.TheVariants.{Wazir, Ferz}
-use Rattle.board.specs.Denotation.{IsAtomLeap, IsTermStep, doubled, terms_of, Denotes}
-use Rattle.board.specs.Board.{PlainBoard}
-use Rattle.cells.specs.declared.tables.Way.{Way}
-use Rattle.cells.specs.declared.tables.Way.TheVariants.{North, South, East, West, NorthEast, SouthWest, NorthWest, SouthEast}
-use Rattle.rules.specs.Squares.{Place}
-use Rattle.rules.specs.Reach.{ahead_of, IsStep, Leads}
-use Rattle.rules.specs.Reach.Leads.{once, again}
-use Rattle.cells.specs.StepTables.{table_of}
-use Rattle.cells.specs.Mailbox.{place_in, IsCell}
-use Rattle.moves.specs.Looking.{Aims}
-use Rattle.cells.specs.Leaps.{IsLeapt}
-use Rattle.moves.specs.Sets.{RidesStraight, RidesSlanted}
-use Rattle.cells.specs.Ways.{files_of, ranks_of, Rides}
-use Rattle.cells.proofs.CellNumbers.{shift_in}
-use Rattle.cells.proofs.TableTests.{table_of-exact}
+use Rattle.moves.proofs.Common.{◌≡◌, ℕ, ◌≤◌, zero, suc, refl, sym, subst, ◌∙◌, arith, ◌↔◌, ◌⊎◌, inl, inr, Bool, true, false, ◌&&◌, not, leb, ℤ, pos, negsuc, neg_ℤ, [], ◌∷◌, list_all, unsigned_abs, ints, false≢true, not-true, and_parts, leb-true, AllPass-from_list_all, All-contains, Side, White, Black, Kind, King, Queen, Rook, Bishop, Knight, Pawn, Both, Step, Atom, Wazir, Ferz, Term, IsAtomLeap, IsTermStep, doubled, terms_of, Denotes, PlainBoard, Way, North, South, East, West, NorthEast, SouthWest, NorthWest, SouthEast, ahead_of, Leads, once, single_step, table_of, place_in, IsCell, Aims, IsLeapt, SomeWay, RidesBy, files_of, ranks_of, shift_in, table_of-exact, size-ahead}
+use Rattle.board.specs.declared.terms.Atom.TheVariants as atom
 use Rattle.moves.proofs.Riding.{Goes, cell-rides, Leads-rides, Rides-leads}
 
--- ---- a rider's steps and its ways
+-- ---- the ways of an atom's leaps
 
 one_of : (z : ℤ) → unsigned_abs z ≡ 1 → (z ≡ pos 1) ⊎ (z ≡ neg_ℤ (pos 1))
 one_of (pos zero) e = absurd (omega (arith, e))
@@ -42,227 +15,184 @@ one_of (negsuc (suc n)) e = absurd (omega (arith, e))
 pub zero_of : (z : ℤ) → unsigned_abs z ≡ 0 → z ≡ pos 0
 zero_of z e = omega (arith, ints, e)
 
--- the way of a step, for each side
-record HasWay (R : PlainBoard → ℕ → ℕ → Type 0) (side : Side) (step : Step) : Type 0 where
-  way : Way
-  goes : Goes side way step
-  among : (b : PlainBoard) (i j : ℕ) → Rides b way i j → R b i j
+not_level : (n : ℕ) → ((n ≡ 1) × (n ≡ 0)) ⊎ ((n ≡ 0) × (n ≡ 1)) → ⊥
+not_level n (inl (a, b)) = omega (arith, a, b)
+not_level n (inr (a, b)) = omega (arith, a, b)
 
-go : (R : PlainBoard → ℕ → ℕ → Type 0) (step : Step) (dx dy : ℤ) (white black : Way) → step.dx ≡ dx → step.dy ≡ dy
-    → files_of white ≡ dx → ranks_of white ≡ dy → files_of black ≡ dx → ranks_of black ≡ neg_ℤ dy
-    → ((b : PlainBoard) (i j : ℕ) → Rides b white i j → R b i j) → ((b : PlainBoard) (i j : ℕ) → Rides b black i j → R b i j) → (side : Side) → HasWay R side step
-go R step dx dy white black e f wf wr bf br w k White = record { way = white; goes = record { files = e ∙ sym wf; ranks = f ∙ sym wr }; among = w }
-go R step dx dy white black e f wf wr bf br w k Black = record { way = black; goes = record { files = e ∙ sym bf; ranks = ap neg_ℤ f ∙ sym br }; among = k }
+pub wazir_ways : (P : Way → Type 0) → (P North ⊎ (P South ⊎ (P East ⊎ P West))) ↔ SomeWay Wazir P
+wazir_ways P = (
+  λ w. elim w [
+    | inl p ↦ record { way = North; leap = inr (refl, refl); holds = p }
+    | inr (inl p) ↦ record { way = South; leap = inr (refl, refl); holds = p }
+    | inr (inr (inl p)) ↦ record { way = East; leap = inl (refl, refl); holds = p }
+    | inr (inr (inr p)) ↦ record { way = West; leap = inl (refl, refl); holds = p }
+  ],
+  λ w. line w.way w.leap w.holds,
+)
+  where
+    line : (way : Way) → IsAtomLeap Wazir (files_of way) (ranks_of way) → P way → P North ⊎ (P South ⊎ (P East ⊎ P West))
+    line North l p = inl p
+    line South l p = inr (inl p)
+    line East l p = inr (inr (inl p))
+    line West l p = inr (inr (inr p))
+    line NorthEast l p = absurd (not_level 1 l)
+    line SouthWest l p = absurd (not_level 1 l)
+    line NorthWest l p = absurd (not_level 1 l)
+    line SouthEast l p = absurd (not_level 1 l)
 
-straight_way : (side : Side) (step : Step) → IsAtomLeap Wazir step.dx step.dy → HasWay RidesStraight side step
-straight_way side step (inl (x, y)) = elim (one_of step.dx x) [
-  | inl e ↦ go RidesStraight step (pos 1) (pos 0) East East e (zero_of step.dy y) refl refl refl refl (λ b i j r. inr (inr (inl r))) (λ b i j r. inr (inr (inl r))) side
-  | inr e ↦ go RidesStraight step (neg_ℤ (pos 1)) (pos 0) West West e (zero_of step.dy y) refl refl refl refl (λ b i j r. inr (inr (inr r))) (λ b i j r. inr (inr (inr r))) side
-]
-straight_way side step (inr (x, y)) = elim (one_of step.dy y) [
-  | inl e ↦ go RidesStraight step (pos 0) (pos 1) North South (zero_of step.dx x) e refl refl refl refl (λ b i j r. inl r) (λ b i j r. inr (inl r)) side
-  | inr e ↦ go RidesStraight step (pos 0) (neg_ℤ (pos 1)) South North (zero_of step.dx x) e refl refl refl refl (λ b i j r. inr (inl r)) (λ b i j r. inl r) side
-]
+each_one : (m n : ℕ) → ((m ≡ 1) × (n ≡ 1)) ⊎ ((m ≡ 1) × (n ≡ 1)) → (m ≡ 1) × (n ≡ 1)
+each_one m n (inl w) = w
+each_one m n (inr w) = w
 
-slanted_way : (side : Side) (step : Step) → IsAtomLeap Ferz step.dx step.dy → HasWay RidesSlanted side step
-slanted_way side step leap =
-    let sizes : (unsigned_abs step.dx ≡ 1) × (unsigned_abs step.dy ≡ 1) = elim leap [ inl w ↦ w | inr w ↦ w ] in
-    elim (one_of step.dx sizes.0) [
-      | inl e ↦ elim (one_of step.dy sizes.1) [
-        | inl f ↦ go RidesSlanted step (pos 1) (pos 1) NorthEast SouthEast e f refl refl refl refl (λ b i j r. inl r) (λ b i j r. inr (inr (inr r))) side
-        | inr f ↦ go RidesSlanted step (pos 1) (neg_ℤ (pos 1)) SouthEast NorthEast e f refl refl refl refl (λ b i j r. inr (inr (inr r))) (λ b i j r. inl r) side
-      ]
-      | inr e ↦ elim (one_of step.dy sizes.1) [
-        | inl f ↦ go RidesSlanted step (neg_ℤ (pos 1)) (pos 1) NorthWest SouthWest e f refl refl refl refl (λ b i j r. inr (inr (inl r))) (λ b i j r. inr (inl r)) side
-        | inr f ↦ go RidesSlanted step (neg_ℤ (pos 1)) (neg_ℤ (pos 1)) SouthWest NorthWest e f refl refl refl refl (λ b i j r. inr (inl r)) (λ b i j r. inr (inr (inl r))) side
-      ]
+pub ferz_ways : (P : Way → Type 0) → (P NorthEast ⊎ (P SouthWest ⊎ (P NorthWest ⊎ P SouthEast))) ↔ SomeWay Ferz P
+ferz_ways P = (
+  λ w. elim w [
+    | inl p ↦ record { way = NorthEast; leap = inl (refl, refl); holds = p }
+    | inr (inl p) ↦ record { way = SouthWest; leap = inl (refl, refl); holds = p }
+    | inr (inr (inl p)) ↦ record { way = NorthWest; leap = inl (refl, refl); holds = p }
+    | inr (inr (inr p)) ↦ record { way = SouthEast; leap = inl (refl, refl); holds = p }
+  ],
+  λ w. line w.way w.leap w.holds,
+)
+  where
+    line : (way : Way) → IsAtomLeap Ferz (files_of way) (ranks_of way) → P way → P NorthEast ⊎ (P SouthWest ⊎ (P NorthWest ⊎ P SouthEast))
+    line NorthEast l p = inl p
+    line SouthWest l p = inr (inl p)
+    line NorthWest l p = inr (inr (inl p))
+    line SouthEast l p = inr (inr (inr p))
+    line North l p = let w = each_one 0 1 l in cc w.0
+    line South l p = let w = each_one 0 1 l in cc w.0
+    line East l p = let w = each_one 1 0 l in cc w.1
+    line West l p = let w = each_one 1 0 l in cc w.1
+
+-- ---- a rider's steps and its ways
+
+-- a side's leaps are another's
+leap_ahead : (a : Atom) (side : Side) (dx dy : ℤ) → IsAtomLeap a dx dy → IsAtomLeap a dx (ahead_of side dy)
+leap_ahead Wazir side dx dy h = rw (sym (size-ahead side dy)) at h
+leap_ahead Ferz side dx dy h = rw (sym (size-ahead side dy)) at h
+leap_ahead atom.Knight side dx dy h = rw (sym (size-ahead side dy)) at h
+
+-- a leap goes a way
+way_at : (a : Atom) → (a ≡ atom.Knight → ⊥) → (dx dy : ℤ) → IsAtomLeap a dx dy → (way : Way) × (dx ≡ files_of way) × (dy ≡ ranks_of way)
+way_at Wazir other dx dy (inl (x, y)) = elim (one_of dx x) [ inl e ↦ (East, e, zero_of dy y) | inr e ↦ (West, e, zero_of dy y) ]
+way_at Wazir other dx dy (inr (x, y)) = elim (one_of dy y) [ inl e ↦ (North, zero_of dx x, e) | inr e ↦ (South, zero_of dx x, e) ]
+way_at Ferz other dx dy leap =
+    let w = each_one (unsigned_abs dx) (unsigned_abs dy) leap in
+    elim (one_of dx w.0) [
+      | inl e ↦ elim (one_of dy w.1) [ inl f ↦ (NorthEast, e, f) | inr f ↦ (SouthEast, e, f) ]
+      | inr e ↦ elim (one_of dy w.1) [ inl f ↦ (NorthWest, e, f) | inr f ↦ (SouthWest, e, f) ]
     ]
+way_at atom.Knight other dx dy leap = absurd (other refl)
 
--- the step that goes a way, for each side
-step_of : Side → Way → Step
-step_of side way = record { dx = files_of way; dy = ahead_of side (ranks_of way); rider = true; mode = Both }
+-- so does the step of a side
+step_way : (a : Atom) → (a ≡ atom.Knight → ⊥) → (side : Side) (step : Step) → IsAtomLeap a step.dx step.dy → SomeWay a (λ way. Goes side way step)
+step_way a other side step leap =
+    let ahead = leap_ahead a side step.dx step.dy leap in
+    let (way, e, f) = way_at a other step.dx (ahead_of side step.dy) ahead in
+    record { way = way; leap = subst (λ x. IsAtomLeap a x (ranks_of way)) e (subst (IsAtomLeap a step.dx) f ahead); holds = record { files = e; ranks = f } }
 
-step-goes : (side : Side) (way : Way) → Goes side way (step_of side way)
-unfolding step_of
-step-goes White way = record { files = refl; ranks = refl }
-step-goes Black North = record { files = refl; ranks = refl }
-step-goes Black South = record { files = refl; ranks = refl }
-step-goes Black East = record { files = refl; ranks = refl }
-step-goes Black West = record { files = refl; ranks = refl }
-step-goes Black NorthEast = record { files = refl; ranks = refl }
-step-goes Black SouthWest = record { files = refl; ranks = refl }
-step-goes Black NorthWest = record { files = refl; ranks = refl }
-step-goes Black SouthEast = record { files = refl; ranks = refl }
+ahead_twice : (side : Side) (dy : ℤ) → ahead_of side (ahead_of side dy) ≡ dy
+ahead_twice White dy = refl
+ahead_twice Black (pos zero) = refl
+ahead_twice Black (pos (suc n)) = refl
+ahead_twice Black (negsuc n) = refl
 
-abbrev pub IsStraightStep : Step → Type 0
-IsStraightStep s = IsTermStep (doubled Wazir) s
+module _ (b : PlainBoard) (side : Side) (i j : ℕ) (c : IsCell b.game i) (a : Atom) where
+  -- a way's step
+  way_step : RidesBy b a i j → (step : Step) × IsTermStep (doubled a) step × Leads b side step (place_in i) (place_in j)
+  way_step r =
+      let step : Step = record { dx = files_of r.way; dy = ahead_of side (ranks_of r.way); rider = true; mode = Both } in (
+        step,
+        record { leap = record { atom = leap_ahead a side _ _ r.leap; ahead = λ e. absurd (false≢true e) }; rider = refl; mode = refl },
+        Leads-rides b side r.way step (record { files = refl; ranks = ahead_twice side (ranks_of r.way) }) refl i j c r.holds,
+      )
 
-abbrev pub IsSlantedStep : Step → Type 0
-IsSlantedStep s = IsTermStep (doubled Ferz) s
+  along_way : (a ≡ atom.Knight → ⊥) → (step : Step) → IsCell b.game j → IsTermStep (doubled a) step → Leads b side step (place_in i) (place_in j) → RidesBy b a i j
+  along_way other step d s leads = let w = step_way a other side step s.leap.atom in record { way = w.way; leap = w.leap; holds = Rides-leads b side w.way step w.holds i j c d leads }
 
-straight : (side : Side) (way : Way) → IsAtomLeap Wazir (files_of way) (ahead_of side (ranks_of way)) → IsStraightStep (step_of side way)
-unfolding step_of
-straight side way leap = record { leap = record { atom = leap; ahead = λ e. absurd (false≢true e) }; rider = refl; mode = refl }
+-- ---- the terms of a rider
 
-slanted : (side : Side) (way : Way) → IsAtomLeap Ferz (files_of way) (ahead_of side (ranks_of way)) → IsSlantedStep (step_of side way)
-unfolding step_of
-slanted side way leap = record { leap = record { atom = leap; ahead = λ e. absurd (false≢true e) }; rider = refl; mode = refl }
+one_term : (t : Term) (step : Step) → Denotes (t ∷ []) step ↔ IsTermStep t step
+one_term t step = (only, λ s. (0, t, omega arith, refl, s))
+  where
+    only : Denotes (t ∷ []) step → IsTermStep t step
+    only (zero, u, h, e, ts) = subst (λ x. IsTermStep x step) (sym e) ts
+    only (suc k, u, h, e, ts) = absurd (omega (arith, h))
 
-north : (side : Side) → IsAtomLeap Wazir (pos 0) (ahead_of side (pos 1))
-north White = inr (refl, refl)
-north Black = inr (refl, refl)
+-- a queen's steps are a rook's and a bishop's
+pub queen_step : (step : Step) → Denotes (terms_of Queen) step ↔ (Denotes (terms_of Rook) step ⊎ Denotes (terms_of Bishop) step)
+queen_step step = (
+  queen,
+  λ w. elim w [
+    | inl d ↦ (0, doubled Wazir, omega arith, refl, (one_term (doubled Wazir) step).0 d)
+    | inr d ↦ (1, doubled Ferz, omega arith, refl, (one_term (doubled Ferz) step).0 d)
+  ],
+)
+  where
+    queen : Denotes (terms_of Queen) step → Denotes (terms_of Rook) step ⊎ Denotes (terms_of Bishop) step
+    queen (zero, t, h, e, ts) = inl ((one_term (doubled Wazir) step).1 (subst (λ x. IsTermStep x step) (sym e) ts))
+    queen (suc zero, t, h, e, ts) = inr ((one_term (doubled Ferz) step).1 (subst (λ x. IsTermStep x step) (sym e) ts))
+    queen (suc (suc k), t, h, e, ts) = absurd (omega (arith, h))
 
-south : (side : Side) → IsAtomLeap Wazir (pos 0) (ahead_of side (neg_ℤ (pos 1)))
-south White = inr (refl, refl)
-south Black = inr (refl, refl)
+-- ---- what a kind's table says of its steps
 
-east : (side : Side) (dx : ℤ) → unsigned_abs dx ≡ 1 → IsAtomLeap Wazir dx (ahead_of side (pos 0))
-east White dx e = inl (e, refl)
-east Black dx e = inl (e, refl)
+pub by_table : (p : Step → Bool) (kind : Kind) → list_all p (table_of kind) ≡ true → (step : Step) → Denotes (terms_of kind) step → p step ≡ true
+by_table p kind all step denoted = All-contains (λ x. p x ≡ true) (table_of kind) step (AllPass-from_list_all p (table_of kind) all) ((table_of-exact kind step).1 denoted)
 
-corner : (side : Side) (dx dy : ℤ) → unsigned_abs dx ≡ 1 → unsigned_abs (ahead_of side dy) ≡ 1 → IsAtomLeap Ferz dx (ahead_of side dy)
-corner side dx dy e f = inl (e, f)
+abbrev is_leap : Step → Bool
+is_leap s = not s.rider && leb (unsigned_abs s.dx) 2
 
-ahead_one : (side : Side) → unsigned_abs (ahead_of side (pos 1)) ≡ 1
-ahead_one White = refl
-ahead_one Black = refl
+abbrev pub IsLeaper : Kind → Type 0
+IsLeaper kind = list_all is_leap (table_of kind) ≡ true
 
-back_one : (side : Side) → unsigned_abs (ahead_of side (neg_ℤ (pos 1))) ≡ 1
-back_one White = refl
-back_one Black = refl
+leaps : (kind : Kind) → IsLeaper kind → (step : Step) → Denotes (terms_of kind) step → (step.rider ≡ false) × (unsigned_abs step.dx ≤ 2)
+leaps kind all step denoted = let w = and_parts (not step.rider) _ (by_table is_leap kind all step denoted) in (not-true step.rider w.0, leb-true _ _ w.1)
+
+-- ---- what the kinds see
+
+abbrev pub Sees : PlainBoard → Side → ℕ → ℕ → Kind → Type 0
+Sees b side i j kind = IsCell b.game j × Aims b (record { side = side; kind = kind }) (place_in i) (place_in j)
 
 module _ (b : PlainBoard) (side : Side) (i j : ℕ) (c : IsCell b.game i) where
-  ride-step : (way : Way) → Rides b way i j → Leads b side (step_of side way) (place_in i) (place_in j)
-  unfolding step_of
-  ride-step way r = Leads-rides b side way (step_of side way) (step-goes side way) refl i j c r
-
-  pub straight-leads : RidesStraight b i j → (step : Step) × IsStraightStep step × Leads b side step (place_in i) (place_in j)
-  straight-leads (inl r) = (step_of side North, straight side North (north side), ride-step North r)
-  straight-leads (inr (inl r)) = (step_of side South, straight side South (south side), ride-step South r)
-  straight-leads (inr (inr (inl r))) = (step_of side East, straight side East (east side (pos 1) refl), ride-step East r)
-  straight-leads (inr (inr (inr r))) = (step_of side West, straight side West (east side (neg_ℤ (pos 1)) refl), ride-step West r)
-
-  pub slanted-leads : RidesSlanted b i j → (step : Step) × IsSlantedStep step × Leads b side step (place_in i) (place_in j)
-  slanted-leads (inl r) = (step_of side NorthEast, slanted side NorthEast (corner side (pos 1) (pos 1) refl (ahead_one side)), ride-step NorthEast r)
-  slanted-leads (inr (inl r)) = (step_of side SouthWest, slanted side SouthWest (corner side (neg_ℤ (pos 1)) (neg_ℤ (pos 1)) refl (back_one side)), ride-step SouthWest r)
-  slanted-leads (inr (inr (inl r))) = (step_of side NorthWest, slanted side NorthWest (corner side (neg_ℤ (pos 1)) (pos 1) refl (ahead_one side)), ride-step NorthWest r)
-  slanted-leads (inr (inr (inr r))) = (step_of side SouthEast, slanted side SouthEast (corner side (pos 1) (neg_ℤ (pos 1)) refl (back_one side)), ride-step SouthEast r)
-
-  module _ (step : Step) (d : IsCell b.game j) (leads : Leads b side step (place_in i) (place_in j)) where
-    pub leads-straight : IsStraightStep step → RidesStraight b i j
-    leads-straight s = let w = straight_way side step s.leap.atom in w.among b i j (Rides-leads b side w.way step w.goes i j c d leads)
-
-    pub leads-slanted : IsSlantedStep step → RidesSlanted b i j
-    leads-slanted s = let w = slanted_way side step s.leap.atom in w.among b i j (Rides-leads b side w.way step w.goes i j c d leads)
-
-  cell_straight : RidesStraight b i j → IsCell b.game j
-  cell_straight (inl r) = cell-rides b North i j r
-  cell_straight (inr (inl r)) = cell-rides b South i j r
-  cell_straight (inr (inr (inl r))) = cell-rides b East i j r
-  cell_straight (inr (inr (inr r))) = cell-rides b West i j r
-
-  cell_slanted : RidesSlanted b i j → IsCell b.game j
-  cell_slanted (inl r) = cell-rides b NorthEast i j r
-  cell_slanted (inr (inl r)) = cell-rides b SouthWest i j r
-  cell_slanted (inr (inr (inl r))) = cell-rides b NorthWest i j r
-  cell_slanted (inr (inr (inr r))) = cell-rides b SouthEast i j r
-
-  abbrev Sees : Kind → Type 0
-  Sees kind = IsCell b.game j × Aims b (record { side = side; kind = kind }) (place_in i) (place_in j)
-
-  both_captures : (step : Step) → step.mode ≡ Both → step.mode ≡ Move → ⊥
-  both_captures step e f = cc (sym e ∙ f)
-
-  -- the terms of a rider
-  pub rook_step : (step : Step) → Denotes (terms_of Rook) step ↔ IsStraightStep step
-  rook_step step = (rook, λ s. (0, doubled Wazir, omega arith, refl, s))
-    where
-      rook : Denotes (terms_of Rook) step → IsStraightStep step
-      rook (zero, t, h, e, ts) = subst (λ x. IsTermStep x step) (sym e) ts
-      rook (suc k, t, h, e, ts) = absurd (omega (arith, h))
-
-  pub bishop_step : (step : Step) → Denotes (terms_of Bishop) step ↔ IsSlantedStep step
-  bishop_step step = (bishop, λ s. (0, doubled Ferz, omega arith, refl, s))
-    where
-      bishop : Denotes (terms_of Bishop) step → IsSlantedStep step
-      bishop (zero, t, h, e, ts) = subst (λ x. IsTermStep x step) (sym e) ts
-      bishop (suc k, t, h, e, ts) = absurd (omega (arith, h))
-
-  pub queen_step : (step : Step) → Denotes (terms_of Queen) step ↔ (IsStraightStep step ⊎ IsSlantedStep step)
-  queen_step step = (queen, λ w. elim w [ inl s ↦ (0, doubled Wazir, omega arith, refl, s) | inr s ↦ (1, doubled Ferz, omega arith, refl, s) ])
-    where
-      queen : Denotes (terms_of Queen) step → IsStraightStep step ⊎ IsSlantedStep step
-      queen (zero, t, h, e, ts) = inl (subst (λ x. IsTermStep x step) (sym e) ts)
-      queen (suc zero, t, h, e, ts) = inr (subst (λ x. IsTermStep x step) (sym e) ts)
-      queen (suc (suc k), t, h, e, ts) = absurd (omega (arith, h))
-
-  pub Sees-rook : RidesStraight b i j ↔ Sees Rook
-  Sees-rook = (
-    λ r. let (step, s, leads) = straight-leads r in (cell_straight r, record { step = step; denoted = (rook_step step).1 s; captures = both_captures step s.mode; leads = leads }),
-    λ (d, a). leads-straight a.step d a.leads ((rook_step a.step).0 a.denoted),
+  by_line : (a : Atom) (q : Kind) → (a ≡ atom.Knight → ⊥) → ((step : Step) → Denotes (terms_of q) step ↔ IsTermStep (doubled a) step) → RidesBy b a i j ↔ Sees b side i j q
+  by_line a q other term = (
+    λ r. let (step, s, leads) = way_step b side i j c a r in (cell-rides b r.way i j r.holds, record { step = step; denoted = (term step).1 s; captures = λ move. cc (sym s.mode ∙ move); leads = leads }),
+    λ (d, w). along_way b side i j c a other w.step d ((term w.step).0 w.denoted) w.leads,
   )
 
-  pub Sees-bishop : RidesSlanted b i j ↔ Sees Bishop
-  Sees-bishop = (
-    λ r. let (step, s, leads) = slanted-leads r in (cell_slanted r, record { step = step; denoted = (bishop_step step).1 s; captures = both_captures step s.mode; leads = leads }),
-    λ (d, a). leads-slanted a.step d a.leads ((bishop_step a.step).0 a.denoted),
-  )
+  pub Sees-rook : RidesBy b Wazir i j ↔ Sees b side i j Rook
+  Sees-rook = by_line Wazir Rook (λ e. cc) (one_term (doubled Wazir))
 
-  pub Sees-queen : (RidesStraight b i j ⊎ RidesSlanted b i j) ↔ Sees Queen
+  pub Sees-bishop : RidesBy b Ferz i j ↔ Sees b side i j Bishop
+  Sees-bishop = by_line Ferz Bishop (λ e. cc) (one_term (doubled Ferz))
+
+  as_kind : (k q : Kind) (w : Sees b side i j k) → Denotes (terms_of q) w.1.step → Sees b side i j q
+  as_kind k q (d, w) denoted = (d, record { step = w.step; denoted = denoted; captures = w.captures; leads = w.leads })
+
+  pub Sees-queen : (RidesBy b Wazir i j ⊎ RidesBy b Ferz i j) ↔ Sees b side i j Queen
   Sees-queen = (
     λ w. elim w [
-      | inl r ↦ let (step, s, leads) = straight-leads r in (cell_straight r, record { step = step; denoted = (queen_step step).1 (inl s); captures = both_captures step s.mode; leads = leads })
-      | inr r ↦ let (step, s, leads) = slanted-leads r in (cell_slanted r, record { step = step; denoted = (queen_step step).1 (inr s); captures = both_captures step s.mode; leads = leads })
+      | inl r ↦ let s = Sees-rook.0 r in as_kind Rook Queen s ((queen_step s.1.step).1 (inl s.1.denoted))
+      | inr r ↦ let s = Sees-bishop.0 r in as_kind Bishop Queen s ((queen_step s.1.step).1 (inr s.1.denoted))
     ],
-    λ (d, a). elim ((queen_step a.step).0 a.denoted) [
-      | inl s ↦ inl (leads-straight a.step d a.leads s)
-      | inr s ↦ inr (leads-slanted a.step d a.leads s)
-    ],
+    λ s. elim ((queen_step s.1.step).0 s.1.denoted) [ inl d ↦ inl (Sees-rook.1 (as_kind Queen Rook s d)) | inr d ↦ inr (Sees-bishop.1 (as_kind Queen Bishop s d)) ],
   )
 
-  -- ---- leapers
-
-  abbrev is_leap : Step → Bool
-  is_leap s = not s.rider && leb (unsigned_abs s.dx) 2
-
-  leaps : (kind : Kind) → list_all is_leap (table_of kind) ≡ true → (step : Step) → Denotes (terms_of kind) step → (step.rider ≡ false) × (unsigned_abs step.dx ≤ 2)
-  leaps kind all step denoted =
-      let w = and_parts (not step.rider) _ (All-contains (λ x. is_leap x ≡ true) (table_of kind) step (AllPass-from_list_all is_leap (table_of kind) all) ((table_of-exact kind step).1 denoted)) in
-      (not-true step.rider w.0, leb-true _ _ w.1)
-
-  single : (step : Step) (s t : Place) → step.rider ≡ false → Leads b side step s t → IsStep side step s t
-  single step s t e (once on a) = a
-  single step s t e (again r on a empty l) = cc
-
-  pub Sees-leaper : (kind : Kind) → list_all is_leap (table_of kind) ≡ true → IsLeapt b.game side kind i j ↔ Sees kind
+  pub Sees-leaper : (kind : Kind) → IsLeaper kind → IsLeapt b.game side kind i j ↔ Sees b side i j kind
   Sees-leaper kind all = (
     λ w.
         let s = leaps kind all w.step w.denoted in
         (w.cell, record { step = w.step; denoted = w.denoted; captures = w.captures; leads = once w.cell.on_board (shift_in b.game w.step.dx (ahead_of side w.step.dy) i j c s.1 w.away w.cell) }),
     λ (d, a).
         let s = leaps kind all a.step a.denoted in
-        let e = single a.step (place_in i) (place_in j) s.0 a.leads in
+        let e = single_step b side a.step (place_in i) (place_in j) s.0 a.leads in
         let low = c.above in
         let high = d.above in
         record { cell = d; step = a.step; denoted = a.denoted; captures = a.captures; away = omega (arith, ints, e.file, e.rank, low, high) },
   )
 
-pub king_leaps_all : list_all (λ (s : Step). not s.rider && leb (unsigned_abs s.dx) 2) (table_of King) ≡ true
-king_leaps_all = refl
-
-pub knight_leaps_all : list_all (λ (s : Step). not s.rider && leb (unsigned_abs s.dx) 2) (table_of Knight) ≡ true
-knight_leaps_all = refl
-
-pub pawn_leaps_all : list_all (λ (s : Step). not s.rider && leb (unsigned_abs s.dx) 2) (table_of Pawn) ≡ true
-pawn_leaps_all = refl
-
 -- ---- a step's way, where it is a rider's
-
-abbrev is_single : Step → Bool
-is_single s = not s.rider
-
-singles : (kind : Kind) → list_all is_single (table_of kind) ≡ true → (step : Step) → Denotes (terms_of kind) step → step.rider ≡ false
-singles kind all step denoted = not-true step.rider (All-contains (λ x. is_single x ≡ true) (table_of kind) step (AllPass-from_list_all is_single (table_of kind) all) ((table_of-exact kind step).1 denoted))
 
 -- the way that a rider of a class goes
 pub record RidesAs (side : Side) (kind : Kind) (step : Step) : Type 0 where
@@ -270,32 +200,19 @@ pub record RidesAs (side : Side) (kind : Kind) (step : Step) : Type 0 where
   pub goes : Goes side way step
   pub class : ((kind ≡ Queen) ⊎ (kind ≡ Rook)) ⊎ ((kind ≡ Queen) ⊎ (kind ≡ Bishop))
 
-line : (side : Side) (q : Kind) (step : Step) → ((q ≡ Queen) ⊎ (q ≡ Rook)) → IsStraightStep step → RidesAs side q step
-line side q step of s = let w = straight_way side step s.leap.atom in record { way = w.way; goes = w.goes; class = inl of }
+ride : (a : Atom) → (a ≡ atom.Knight → ⊥) → (side : Side) (q : Kind) (step : Step) → ((q ≡ Queen) ⊎ (q ≡ Rook)) ⊎ ((q ≡ Queen) ⊎ (q ≡ Bishop)) → Denotes (doubled a ∷ []) step → RidesAs side q step
+ride a other side q step of d = let w = step_way a other side step ((one_term (doubled a) step).0 d).leap.atom in record { way = w.way; goes = w.holds; class = of }
 
-slant : (side : Side) (q : Kind) (step : Step) → ((q ≡ Queen) ⊎ (q ≡ Bishop)) → IsSlantedStep step → RidesAs side q step
-slant side q step of s = let w = slanted_way side step s.leap.atom in record { way = w.way; goes = w.goes; class = inr of }
-
-at_rook : (step : Step) → Denotes (terms_of Rook) step → IsStraightStep step
-at_rook step (zero, t, h, e, ts) = subst (λ x. IsTermStep x step) (sym e) ts
-at_rook step (suc k, t, h, e, ts) = absurd (omega (arith, h))
-
-at_bishop : (step : Step) → Denotes (terms_of Bishop) step → IsSlantedStep step
-at_bishop step (zero, t, h, e, ts) = subst (λ x. IsTermStep x step) (sym e) ts
-at_bishop step (suc k, t, h, e, ts) = absurd (omega (arith, h))
-
-at_queen : (step : Step) → Denotes (terms_of Queen) step → IsStraightStep step ⊎ IsSlantedStep step
-at_queen step (zero, t, h, e, ts) = inl (subst (λ x. IsTermStep x step) (sym e) ts)
-at_queen step (suc zero, t, h, e, ts) = inr (subst (λ x. IsTermStep x step) (sym e) ts)
-at_queen step (suc (suc k), t, h, e, ts) = absurd (omega (arith, h))
+pub king_single : (step : Step) → Denotes (terms_of King) step → step.rider ≡ false
+king_single step d = (leaps King refl step d).0
 
 pub rides_as : (side : Side) (kind : Kind) (step : Step) → Denotes (terms_of kind) step → (step.rider ≡ false) ⊎ RidesAs side kind step
-rides_as side King step d = inl (singles King refl step d)
-rides_as side Queen step d = inr (elim (at_queen step d) [ inl s ↦ line side Queen step (inl refl) s | inr s ↦ slant side Queen step (inl refl) s ])
-rides_as side Rook step d = inr (line side Rook step (inr refl) (at_rook step d))
-rides_as side Bishop step d = inr (slant side Bishop step (inr refl) (at_bishop step d))
-rides_as side Knight step d = inl (singles Knight refl step d)
-rides_as side Pawn step d = inl (singles Pawn refl step d)
+rides_as side King step d = inl (king_single step d)
+rides_as side Queen step d = inr (elim ((queen_step step).0 d) [ inl s ↦ ride Wazir (λ e. cc) side Queen step (inl (inl refl)) s | inr s ↦ ride Ferz (λ e. cc) side Queen step (inr (inl refl)) s ])
+rides_as side Rook step d = inr (ride Wazir (λ e. cc) side Rook step (inl (inr refl)) d)
+rides_as side Bishop step d = inr (ride Ferz (λ e. cc) side Bishop step (inr (inr refl)) d)
+rides_as side Knight step d = inl (leaps Knight refl step d).0
+rides_as side Pawn step d = inl (leaps Pawn refl step d).0
 
-pub ways_of : (side : Side) (kind : Kind) (step : Step) → Denotes (terms_of kind) step → (step.rider ≡ false) ⊎ ((way : Way) × Goes side way step)
-ways_of side kind step d = elim (rides_as side kind step d) [ inl single ↦ inl single | inr w ↦ inr (w.way, w.goes) ]
+pub rider_way : (side : Side) (kind : Kind) (step : Step) → Denotes (terms_of kind) step → step.rider ≡ true → RidesAs side kind step
+rider_way side kind step d rides = elim (rides_as side kind step d) [ inl single ↦ absurd (false≢true (sym single ∙ rides)) | inr way ↦ way ]

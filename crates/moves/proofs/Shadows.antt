@@ -1,54 +1,24 @@
 -- Where a rider comes through a king's square.
-use Rattle.std.proofs.Common.{◌≡◌, ℕ, sym, ap, subst, ◌∙◌, ◌⊎◌, inl, inr, Some}
-use Rattle.std.proofs.lemmas.Bool.{false≢true}
-use Rattle.board.specs.declared.game.Game.{Game}
-use Rattle.board.specs.declared.game.Side.{Side}
-use Rattle.board.specs.declared.game.Kind.TheVariants.{King}
-use Rattle.board.specs.declared.game.Unit.{Unit as Man}
-use Rattle.board.specs.Games.{other_side}
-use Rattle.board.specs.Board.{PlainBoard, IsPosition}
-use Rattle.cells.specs.declared.tables.Way.{Way}
-use Rattle.cells.specs.declared.tables.Way.TheVariants.{North, South, East, West, NorthEast, SouthWest, NorthWest, SouthEast}
-use Rattle.rules.specs.Squares.{Place, IsOnBoard, unit_at}
-use Rattle.rules.specs.Reach.{Leads, AttacksFrom}
-use Rattle.cells.specs.Mailbox.{cell_of, place_in, IsCell}
-use Rattle.cells.specs.CellSets.{Has}
-use Rattle.cells.specs.Ways.{IsOnRay, IsOnStraight, IsOnSlanted}
-use Rattle.std.specs.Int.RustNames.{bit_and, bit_or}
-use Rattle.cells.proofs.Masks.{Has-and, Has-or}
-use Rattle.cells.proofs.CellNumbers.{IsCell-cell_of, place_in-cell_of}
+use Rattle.moves.proofs.Common.{◌≡◌, ℕ, sym, ap, subst, ◌∙◌, ◌↔◌, Some, Side, King, Man, other_side, PlainBoard, IsPosition, Way, Place, IsOnBoard, unit_at, Leads, AttacksFrom, cell_of, place_in, IsCell, Has, IsOnRay, bit_and, Has-and, IsCell-cell_of, place_in-cell_of, Guards, Checkers, IsPinned, HasRider}
 use Rattle.moves.specs.declared.board_list.Guard.{Guard}
-use Rattle.moves.specs.declared.sets.Class.TheVariants.{Straight, Slanted}
-use Rattle.moves.specs.Guard.{Guards, Checkers}
-use Rattle.moves.specs.Pinned.{IsPinned}
-use Rattle.moves.specs.Sets.{StandsAs, Holds}
 use Rattle.moves.proofs.Kings.{one_king}
 use Rattle.moves.proofs.Looking.{attacks_on}
 use Rattle.moves.proofs.Riding.{Rides-leads, rides-ray, ray-beyond}
-use Rattle.moves.proofs.Seeing.{rides_as}
+use Rattle.moves.proofs.Seeing.{rider_way}
+use Rattle.moves.proofs.Pinning.{has_rider}
 
 -- what pins a unit attacks its square
 pub pinned_attacks : (b : PlainBoard) → IsPosition b → (side : Side) (t k : Place) → (w : IsPinned b side t k) → AttacksFrom b (other_side side) w.from k
 pinned_attacks b is side t k w = attacks_on b is (other_side side) w.from k w.rider w.on_board w.stands w.owner (record { step = w.step; denoted = w.denoted; captures = w.captures; leads = w.to_unit })
-
--- a way is one of the lines
-pub on_lines : (g : Game) (way : Way) (r i : ℕ) → IsOnRay g way r i → IsOnStraight g r i ⊎ IsOnSlanted g r i
-on_lines g North r i h = inl (inl h)
-on_lines g South r i h = inl (inr (inl h))
-on_lines g East r i h = inl (inr (inr (inl h)))
-on_lines g West r i h = inl (inr (inr (inr h)))
-on_lines g NorthEast r i h = inr (inl h)
-on_lines g SouthWest r i h = inr (inr (inl h))
-on_lines g NorthWest r i h = inr (inr (inr (inl h)))
-on_lines g SouthEast r i h = inr (inr (inr (inr h)))
 
 -- a rider that checks in cell k would come on to cell i
 pub record ComesThrough (b : PlainBoard) (side : Side) (k i : ℕ) : Type 0 where
   pub rider : ℕ
   pub cell : IsCell b.game rider
   pub attacks : AttacksFrom b (other_side side) (place_in rider) (place_in k)
-  pub class : StandsAs b Straight (place_in rider) ⊎ StandsAs b Slanted (place_in rider)
-  pub lines : IsOnStraight b.game rider i ⊎ IsOnSlanted b.game rider i
+  pub has : HasRider b (place_in rider)
+  pub way : Way
+  pub on : IsOnRay b.game way rider i
 
 pub comes_through : (b : PlainBoard) → IsPosition b → (side : Side) (k i : ℕ) → IsCell b.game k → IsCell b.game i → IsPinned b side (place_in i) (place_in k) → ComesThrough b side k i
 comes_through b is side k i on cell w =
@@ -56,32 +26,21 @@ comes_through b is side k i on cell w =
     let rc = IsCell-cell_of b.game w.from w.on_board in
     let at : place_in r ≡ w.from = place_in-cell_of b.game w.from w.on_board in
     let stands : unit_at b (place_in r) ≡ Some w.rider = ap (unit_at b) at ∙ w.stands in
-    elim (rides_as w.rider.side w.rider.kind w.step w.denoted) [
-      | inl single ↦ absurd (false≢true (sym single ∙ w.rides))
-      | inr way ↦
-          let first = Rides-leads b w.rider.side way.way w.step way.goes r k rc on (subst (λ x. Leads b w.rider.side w.step x (place_in k)) (sym at) w.to_unit) in
-          let then = Rides-leads b w.rider.side way.way w.step way.goes k i on cell w.to_king in
-          record {
-            rider = r;
-            cell = rc;
-            attacks = subst (λ x. AttacksFrom b (other_side side) x (place_in k)) (sym at) (pinned_attacks b is side (place_in i) (place_in k) w);
-            class = elim way.class [
-              | inl of ↦ inl (record { unit = w.rider; stands = stands; is = of })
-              | inr of ↦ inr (record { unit = w.rider; stands = stands; is = of })
-            ];
-            lines = on_lines b.game way.way r i (ray-beyond b.game way.way r k i (rides-ray b way.way r k first) (rides-ray b way.way k i then));
-          }
-    ]
+    let way = rider_way w.rider.side w.rider.kind w.step w.denoted w.rides in
+    let first = Rides-leads b w.rider.side way.way w.step way.goes r k rc on (subst (λ x. Leads b w.rider.side w.step x (place_in k)) (sym at) w.to_unit) in
+    let then = Rides-leads b w.rider.side way.way w.step way.goes k i on cell w.to_king in
+    record {
+      rider = r;
+      cell = rc;
+      attacks = subst (λ x. AttacksFrom b (other_side side) x (place_in k)) (sym at) (pinned_attacks b is side (place_in i) (place_in k) w);
+      has = has_rider b (place_in r) w.rider stands way.class;
+      way = way.way;
+      on = ray-beyond b.game way.way r k i (rides-ray b way.way r k first) (rides-ray b way.way k i then);
+    }
 
 -- it is one of the riders among the checkers
-pub riding : (b : PlainBoard) (k i checkers straight slanted : ℕ) → Checkers b k checkers → Holds b Straight straight → Holds b Slanted slanted → (t : ComesThrough b b.mover k i) → Has (bit_and checkers (bit_or straight slanted)) t.rider
-riding b k i checkers straight slanted hc hs hl t = (Has-and checkers (bit_or straight slanted) t.rider).1 (
-  (hc t.rider).1 (t.cell, t.attacks),
-  (Has-or straight slanted t.rider).1 (elim t.class [
-    | inl unit ↦ inl ((hs t.rider).1 (t.cell, unit))
-    | inr unit ↦ inr ((hl t.rider).1 (t.cell, unit))
-  ]),
-)
+pub riding : (b : PlainBoard) (k i checkers riders : ℕ) → Checkers b k checkers → ((j : ℕ) → Has riders j ↔ (IsCell b.game j × HasRider b (place_in j))) → (t : ComesThrough b b.mover k i) → Has (bit_and checkers riders) t.rider
+riding b k i checkers riders hc are t = (Has-and checkers riders t.rider).1 ((hc t.rider).1 (t.cell, t.attacks), (are t.rider).1 (t.cell, t.has))
 
 -- where a rider would come through the mover's king, the guard's shadow is
 pub in_shadow : (b : PlainBoard) (guard : Guard) (u : Man) (s : Place) (i : ℕ) → IsPosition b → Guards b guard → IsOnBoard b.game s → IsCell b.game i → unit_at b s ≡ Some u → u.side ≡ b.mover → u.kind ≡ King → IsPinned b b.mover (place_in i) s → Has guard.shadow i

@@ -1,30 +1,11 @@
 -- What the sets of a board show, and what a move does to them.
-use Rattle.std.proofs.Common.{◌≡◌, ℕ, ◌^◌, ◌<◌, ◌+◌, ◌*◌, ◌%◌, w64, IsTrue, refl, sym, ap, subst, ◌∙◌, arith, ◌↔◌, ◌⊎◌, inl, inr, Bool, true, Option, Some, None}
-use Rattle.std.specs.Int.{bit_not}
-use Rattle.std.specs.Int.RustNames.{bit_and, bit_or}
-use Rattle.std.proofs.lemmas.Bool.{cases_eq, false≢true}
-use Rattle.std.proofs.lemmas.Option.{same_Some}
-use Rattle.board.specs.declared.game.Side.{Side}
+use Rattle.moves.proofs.Common.{◌≡◌, ℕ, ◌^◌, ◌<◌, ◌+◌, ◌*◌, ◌%◌, w64, IsTrue, refl, sym, ap, subst, ◌∙◌, arith, ◌↔◌, ◌⊎◌, inl, inr, Bool, true, Option, Some, None, bit_not, bit_and, bit_or, cases_eq, false≢true, same_Some, Side, Man, squares_of, PlainBoard, unit_on, is_of_side, IsPosition, Class, Sets, Place, Ply, IsOnBoard, square_number, unit_at, IsPseudoLegal, placed, after, cell_of, place_in, IsCell, Has, IsOf, StandsAs, Holds, Shows, HasMoved, HasAdded, set_of, AreMoved, IsCell-cell_of, place_in-cell_of, cell_of-place_in, to_on_board, same_number, number_within, Has-or, Has-zero, Has-clear, Has-minus, and_fits}
 use Rattle.board.specs.declared.game.Side.TheVariants as side
-use Rattle.board.specs.declared.game.Unit.{Unit as Man}
-use Rattle.board.specs.Games.{squares_of}
-use Rattle.board.specs.Board.{PlainBoard, unit_on, is_of_side, IsPosition}
-use Rattle.moves.specs.declared.sets.Class.{Class}
-use Rattle.moves.specs.declared.sets.Class.TheVariants.{White, Black, Crowned, Straight, Slanted, Horsed, Foot}
-use Rattle.moves.specs.declared.sets.Sets.{Sets}
-use Rattle.rules.specs.Squares.{Place, Ply, IsOnBoard, square_number, unit_at}
-use Rattle.rules.specs.Moves.{IsPseudoLegal, placed, after}
-use Rattle.cells.specs.Mailbox.{cell_of, place_in, IsCell}
-use Rattle.cells.specs.CellSets.{Has}
-use Rattle.moves.specs.Sets.{IsOf, StandsAs, Holds, Shows, HasMoved, AreMoved, AreAdded, HasNone}
-use Rattle.cells.proofs.CellNumbers.{IsCell-cell_of, place_in-cell_of, cell_of-place_in}
+use Rattle.moves.specs.declared.sets.Class.TheVariants.{White, Black}
 use Rattle.cells.proofs.Reached.{same_cell}
-use Rattle.rules.proofs.Keeps.{to_on_board}
 use Rattle.moves.proofs.Guarding.{own_unit_side, is_own}
 use Rattle.moves.proofs.Pins.{no_unit}
 use Rattle.moves.proofs.Laying.{unit_at-to, unit_at-from, unit_at-other}
-use Rattle.rules.proofs.Listed.{same_number, number_within}
-use Rattle.cells.proofs.Masks.{Has-or, Has-zero, Has-clear, Has-minus, and_fits}
 
 -- ---- units of a side
 
@@ -44,14 +25,14 @@ module _ (b : PlainBoard) (s : Sets) (shows : Shows b s) where
   pub taken-shown : (i : ℕ) → Has (bit_or s.white s.black) i ↔ (IsCell b.game i × (unit_at b (place_in i) ≡ None → ⊥))
   taken-shown i = (
     λ h. elim ((Has-or s.white s.black i).0 h) [
-      | inl w ↦ let (c, at) = (shows.white i).0 w in (c, λ none. no_unit (sym none ∙ at.stands))
-      | inr w ↦ let (c, at) = (shows.black i).0 w in (c, λ none. no_unit (sym none ∙ at.stands))
+      | inl w ↦ let (c, at) = (shows White i).0 w in (c, λ none. no_unit (sym none ∙ at.stands))
+      | inr w ↦ let (c, at) = (shows Black i).0 w in (c, λ none. no_unit (sym none ∙ at.stands))
     ],
     λ (c, some).
         let (u, e) = taken_by (unit_at b (place_in i)) some in
         (Has-or s.white s.black i).1 (elim (side_is u.side) [
-          | inl white ↦ inl ((shows.white i).1 (c, record { unit = u; stands = e; is = white }))
-          | inr black ↦ inr ((shows.black i).1 (c, record { unit = u; stands = e; is = black }))
+          | inl white ↦ inl ((shows White i).1 (c, record { unit = u; stands = e; is = white }))
+          | inr black ↦ inr ((shows Black i).1 (c, record { unit = u; stands = e; is = black }))
         ]),
   )
 
@@ -94,15 +75,7 @@ module _ (b : PlainBoard) (m : Ply) (u : Man) (is : IsPosition b) (p : IsPseudoL
       not_to c far e = far (same_cell b.game i (cell_of m.to) c (IsCell-cell_of b.game m.to to) (e ∙ sym (place_in-cell_of b.game m.to to)))
 
   pub Shows-after : (s t : Sets) → Shows b s → AreMoved s t (cell_of m.from) (cell_of m.to) (placed u m) → Shows (after b m u) t
-  Shows-after s t h a = record {
-    white = Holds-after White s.white t.white h.white a.white;
-    black = Holds-after Black s.black t.black h.black a.black;
-    kings = Holds-after Crowned s.kings t.kings h.kings a.kings;
-    straight = Holds-after Straight s.straight t.straight h.straight a.straight;
-    slanted = Holds-after Slanted s.slanted t.slanted h.slanted a.slanted;
-    knights = Holds-after Horsed s.knights t.knights h.knights a.knights;
-    pawns = Holds-after Foot s.pawns t.pawns h.pawns a.pawns;
-  }
+  Shows-after s t h a = λ class. Holds-after class (set_of s class) (set_of t class) (h class) (a class)
 
 -- ---- a position's units, square by square
 
@@ -110,8 +83,8 @@ module _ (b : PlainBoard) (m : Ply) (u : Man) (is : IsPosition b) (p : IsPseudoL
 abbrev pub HeldBelow : PlainBoard → Class → ℕ → ℕ → Type 0
 HeldBelow b class set n = (i : ℕ) → Has set i ↔ ((IsCell b.game i × StandsAs b class (place_in i)) × (square_number b.game (place_in i) < n))
 
-pub HeldBelow-start : (b : PlainBoard) (class : Class) (n : ℕ) → n ≡ 0 → HeldBelow b class 0 n
-HeldBelow-start b class n e i = (λ h. absurd (Has-zero i h), λ w. let l = w.1 in absurd (omega (arith, l, e)))
+pub HeldBelow-start : (b : PlainBoard) (class : Class) (set : ℕ) → set ≡ 0 → HeldBelow b class set 0
+HeldBelow-start b class set e i = (λ h. absurd (Has-zero i (subst (λ n. Has n i) e h)), λ w. let l = w.1 in absurd (omega (arith, l)))
 
 pub HeldBelow-none : (b : PlainBoard) (class : Class) (set n : ℕ) → unit_on b n ≡ None → HeldBelow b class set n → HeldBelow b class set (n + 1)
 HeldBelow-none b class set n none held i = (
@@ -122,15 +95,15 @@ HeldBelow-none b class set n none held i = (
   ],
 )
 
-pub HeldBelow-unit : (b : PlainBoard) (class : Class) (set more n : ℕ) (s : Place) (u : Man) (R : Type 0) → IsOnBoard b.game s → square_number b.game s ≡ n → unit_on b n ≡ Some u → (R ↔ IsOf class u)
-    → ((i : ℕ) → Has more i ↔ (Has set i ⊎ (R × (cell_of s ≡ i)))) → HeldBelow b class set n → HeldBelow b class more (n + 1)
-HeldBelow-unit b class set more n s u R on number stands is added held i = (
+pub HeldBelow-unit : (b : PlainBoard) (class : Class) (set more n : ℕ) (s : Place) (u : Man) → IsOnBoard b.game s → square_number b.game s ≡ n → unit_on b n ≡ Some u
+    → ((i : ℕ) → Has more i ↔ HasAdded set class (cell_of s) u i) → HeldBelow b class set n → HeldBelow b class more (n + 1)
+HeldBelow-unit b class set more n s u on number stands added held i = (
   λ h. elim ((added i).0 h) [
     | inl x ↦ let w = (held i).0 x in let l = w.1 in (w.0, omega (arith, l))
     | inr (told, same) ↦
         let place : place_in i ≡ s = ap place_in (sym same) ∙ place_in-cell_of b.game s on in
         let at : square_number b.game (place_in i) ≡ n = ap (square_number b.game) place ∙ number in (
-          (subst (IsCell b.game) same (IsCell-cell_of b.game s on), record { unit = u; stands = ap (unit_on b) at ∙ stands; is = is.0 told }),
+          (subst (IsCell b.game) same (IsCell-cell_of b.game s on), record { unit = u; stands = ap (unit_on b) at ∙ stands; is = told }),
           omega (arith, at),
         )
   ],
@@ -138,7 +111,7 @@ HeldBelow-unit b class set more n s u R on number stands is added held i = (
     | inl same ↦
         let place : place_in i ≡ s = same_number b.game (place_in i) s w.0.0.on_board on (same ∙ sym number) in
         let there : u ≡ w.0.1.unit = same_Some u w.0.1.unit (sym stands ∙ ap (unit_on b) (sym same) ∙ w.0.1.stands) in
-        (added i).1 (inr (is.1 (subst (IsOf class) (sym there) w.0.1.is), ap cell_of (sym place) ∙ cell_of-place_in b.game i w.0.0))
+        (added i).1 (inr (subst (IsOf class) (sym there) w.0.1.is, ap cell_of (sym place) ∙ cell_of-place_in b.game i w.0.0))
     | inr other ↦ let l = w.1 in (added i).1 (inl ((held i).1 (w.0, omega (arith, l, other))))
   ],
 )
@@ -152,65 +125,8 @@ HeldBelow-all b class set n all held i = (
 -- ---- all classes
 
 -- each set has the cells of its class on the squares numbered below n
-pub record ShownBelow (b : PlainBoard) (s : Sets) (n : ℕ) : Type 0 where
-  pub white : HeldBelow b White s.white n
-  pub black : HeldBelow b Black s.black n
-  pub kings : HeldBelow b Crowned s.kings n
-  pub straight : HeldBelow b Straight s.straight n
-  pub slanted : HeldBelow b Slanted s.slanted n
-  pub knights : HeldBelow b Horsed s.knights n
-  pub pawns : HeldBelow b Foot s.pawns n
-
-held_start : (b : PlainBoard) (class : Class) (set : ℕ) → set ≡ 0 → HeldBelow b class set 0
-held_start b class set e = subst (λ x. HeldBelow b class x 0) (sym e) (HeldBelow-start b class 0 refl)
-
-pub ShownBelow-start : (b : PlainBoard) (s : Sets) → HasNone s → ShownBelow b s 0
-ShownBelow-start b s e = record {
-  white = held_start b White s.white e.white;
-  black = held_start b Black s.black e.black;
-  kings = held_start b Crowned s.kings e.kings;
-  straight = held_start b Straight s.straight e.straight;
-  slanted = held_start b Slanted s.slanted e.slanted;
-  knights = held_start b Horsed s.knights e.knights;
-  pawns = held_start b Foot s.pawns e.pawns;
-}
-
-pub ShownBelow-none : (b : PlainBoard) (s : Sets) (n : ℕ) → unit_on b n ≡ None → ShownBelow b s n → ShownBelow b s (n + 1)
-ShownBelow-none b s n none h = record {
-  white = HeldBelow-none b White s.white n none h.white;
-  black = HeldBelow-none b Black s.black n none h.black;
-  kings = HeldBelow-none b Crowned s.kings n none h.kings;
-  straight = HeldBelow-none b Straight s.straight n none h.straight;
-  slanted = HeldBelow-none b Slanted s.slanted n none h.slanted;
-  knights = HeldBelow-none b Horsed s.knights n none h.knights;
-  pawns = HeldBelow-none b Foot s.pawns n none h.pawns;
-}
-
-module _ (b : PlainBoard) (s t : Sets) (n : ℕ) (at : Place) (u : Man) (on : IsOnBoard b.game at) (number : square_number b.game at ≡ n) (stands : unit_on b n ≡ Some u) (h : ShownBelow b s n) where
-  held_unit : (class : Class) (set more : ℕ) → ((i : ℕ) → Has more i ↔ (Has set i ⊎ (IsOf class u × (cell_of at ≡ i)))) → HeldBelow b class set n → HeldBelow b class more (n + 1)
-  held_unit class set more added held = HeldBelow-unit b class set more n at u (IsOf class u) on number stands (λ x. x, λ x. x) added held
-
-  pub ShownBelow-unit : AreAdded s t (cell_of at) u → ShownBelow b t (n + 1)
-  ShownBelow-unit a = record {
-    white = held_unit White s.white t.white a.white h.white;
-    black = held_unit Black s.black t.black a.black h.black;
-    kings = held_unit Crowned s.kings t.kings a.kings h.kings;
-    straight = held_unit Straight s.straight t.straight a.straight h.straight;
-    slanted = held_unit Slanted s.slanted t.slanted a.slanted h.slanted;
-    knights = held_unit Horsed s.knights t.knights a.knights h.knights;
-    pawns = held_unit Foot s.pawns t.pawns a.pawns h.pawns;
-  }
-
-pub ShownBelow-all : (b : PlainBoard) (s : Sets) (n : ℕ) → n ≡ squares_of b.game → ShownBelow b s n → Shows b s
-ShownBelow-all b s n all h = record {
-  white = HeldBelow-all b White s.white n all h.white;
-  black = HeldBelow-all b Black s.black n all h.black;
-  kings = HeldBelow-all b Crowned s.kings n all h.kings;
-  straight = HeldBelow-all b Straight s.straight n all h.straight;
-  slanted = HeldBelow-all b Slanted s.slanted n all h.slanted;
-  knights = HeldBelow-all b Horsed s.knights n all h.knights;
-  pawns = HeldBelow-all b Foot s.pawns n all h.pawns;
-}
+abbrev pub ShownBelow : PlainBoard → Sets → ℕ → Type 0
+ShownBelow b s n = (class : Class) → HeldBelow b class (set_of s class) n
 
 -- ---- a class after a move
 

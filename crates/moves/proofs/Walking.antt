@@ -1,21 +1,10 @@
 -- A walk over cells in the order of their squares' numbers, as a set's cells are taken from the lowest on.
-use Rattle.std.proofs.Common.{◌≡◌, ◌≢◌, ℕ, ◌+◌, ◌<◌, ◌≤◌, ap, arith, inl, inr, ◌↔◌}
-use Rattle.std.proofs.lemmas.Bool.{cases_order}
-use Rattle.board.specs.declared.game.Game.{Game}
-use Rattle.board.specs.declared.game.Game.TheVariants.{LosAlamos, Gardner}
-use Rattle.board.specs.Games.{squares_of}
-use Rattle.rules.specs.Squares.{square_number}
-use Rattle.cells.specs.Mailbox.{place_in, IsCell}
-use Rattle.rules.proofs.Listed.{number_within}
+use Rattle.moves.proofs.Common.{◌≡◌, ◌≢◌, ℕ, ◌+◌, ◌<◌, ◌≤◌, ap, arith, inl, inr, ◌↔◌, cases_order, Game, LosAlamos, Gardner, squares_of, square_number, place_in, IsCell, number_within}
 
 -- cells are ordered as their squares' numbers are
-cell_order : (g : Game) (i j : ℕ) → IsCell g i → IsCell g j → square_number g (place_in i) < square_number g (place_in j) → i < j
-cell_order LosAlamos i j a b h = let x = a.on_board.file in let y = b.on_board.file in let p = a.above in let q = b.above in omega arith
-cell_order Gardner i j a b h = let x = a.on_board.file in let y = b.on_board.file in let p = a.above in let q = b.above in omega arith
-
-number_order : (g : Game) (i j : ℕ) → IsCell g i → IsCell g j → i < j → square_number g (place_in i) < square_number g (place_in j)
-number_order LosAlamos i j a b h = let x = a.on_board.file in let y = b.on_board.file in let p = a.above in let q = b.above in omega arith
-number_order Gardner i j a b h = let x = a.on_board.file in let y = b.on_board.file in let p = a.above in let q = b.above in omega arith
+cell_order : (g : Game) (i j : ℕ) → IsCell g i → IsCell g j → (square_number g (place_in i) < square_number g (place_in j)) ↔ (i < j)
+cell_order LosAlamos i j a b = let x = a.on_board.file in let y = b.on_board.file in let p = a.above in let q = b.above in (λ h. omega arith, λ h. omega arith)
+cell_order Gardner i j a b = let x = a.on_board.file in let y = b.on_board.file in let p = a.above in let q = b.above in (λ h. omega arith, λ h. omega arith)
 
 -- the cells with P on squares numbered from `upto` on are left, and H holds up to there
 pub record IsWalked (g : Game) (P L H : ℕ → Type 0) : Type 0 where
@@ -44,7 +33,7 @@ module _ (g : Game) (P L H : ℕ → Type 0) (cell : (i : ℕ) → P i → IsCel
     next_holds =
         let last = number_within g (place_in to) (cell to next).on_board in
         jump s.upto (square_number g (place_in to)) ((s.left to).0 there).1 (omega (arith, last))
-        (λ i p low high. least i (cell_order g i to (cell i p) (cell to next) high) ((s.left i).1 (p, low))) s.holds
+        (λ i p low high. least i ((cell_order g i to (cell i p) (cell to next)).0 high) ((s.left i).1 (p, low))) s.holds
 
     -- once it is taken the others are left
     pub walked_more : (M K : ℕ → Type 0) → ((i : ℕ) → M i ↔ (L i × (i ≢ to))) → K (square_number g (place_in to) + 1) → IsWalked g P M K
@@ -65,7 +54,7 @@ module _ (g : Game) (P L H : ℕ → Type 0) (cell : (i : ℕ) → P i → IsCel
         later i p l other = elim (cases_order i to) [
           | inl same ↦ absurd (other same)
           | inr (inl below) ↦ absurd (least i below l)
-          | inr (inr above) ↦ let e = number_order g to i (cell to next) (cell i p) above in omega (arith, e)
+          | inr (inr above) ↦ let e = (cell_order g to i (cell to next) (cell i p)).1 above in omega (arith, e)
         ]
 
         apart : (i : ℕ) → square_number g (place_in to) + 1 ≤ square_number g (place_in i) → i ≢ to

@@ -68,9 +68,7 @@ pub(crate) fn has_move(board: &Board, guard: Guard) -> bool
     if guard.checked && has_king_move(board, guard) {
         return true;
     }
-    any_cell(board.of_side(board.mover()), |cell| {
-        has_move_in(board, guard, cell)
-    })
+    any_cell(board.own(), |cell| { has_move_in(board, guard, cell) })
 }
 
 /// Whether the mover is mated. Most kings in check can go, so that is asked before where other units must come.

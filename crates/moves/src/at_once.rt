@@ -17,12 +17,12 @@ use crate::checks::{Watch, checking, watch_of};
 use crate::escapes::escapes;
 use crate::look::{is_checked, mover_in_check};
 use crate::packed::Board;
-use crate::safe::{is_calm, may_go};
+use crate::safe::{is_calm, is_named, may_go};
 use crate::sweep::any_cell;
 use crate::targets::targets;
 use board::Unit;
 use cells::square_in;
-use rules::{Goal, Move, PROMOTIONS, is_king, is_promoted_well};
+use rules::{Goal, Move, PROMOTIONS, is_king};
 
 /// The goal, a watch on the other king, if that isn't attacked already, and what the mover's king asks of each move, but for a mate
 /// under a watch: mates are so few that one is asked last whether it leaves the own king attacked.
@@ -56,7 +56,7 @@ fn attains(board: &Board, quest: Quest, m: Move, unit: Unit) -> bool
     requires pseudo { IsNamed board.now.game unit m → IsPseudoLegal board.now m unit }
     ensures { IsTrue result ↔ Attains quest.goal board.now m }
 {
-    if !is_promoted_well(board.game(), unit, m) {
+    if !is_named(board, unit, m) {
         return false;
     }
     if let Some(watch) = quest.watch {
@@ -161,9 +161,7 @@ pub fn reaches_at_once(board: &Board, goal: Goal) -> bool
         _ => Some(guard_of(board)),
     };
     let quest = Quest { goal, guard, watch };
-    any_cell(board.of_side(board.mover()), |cell| {
-        attains_in(board, quest, cell)
-    })
+    any_cell(board.own(), |cell| { attains_in(board, quest, cell) })
 }
 
 /// Whether some lawful move of the side to move mates.

@@ -6,24 +6,26 @@ ghost use Rattle.board.specs.Games.{other_side};
 ghost use Rattle.cells.specs.Mailbox.{place_in, IsCell};
 ghost use Rattle.cells.specs.CellSets.{Has};
 ghost use Rattle.moves.specs.Looking.{IsSwept, AreAttacked};
+ghost use Rattle.moves.specs.Sets.{Owns};
 ghost use Rattle.moves.specs.Safe.{IsCalm};
 ghost use Rattle.moves.specs.Targets.{IsTarget};
 
 use crate::packed::Board;
 use crate::seen::seen;
-use crate::sets::Class;
+use crate::sets::class_of;
 use crate::sweep::take_lowest;
 use crate::targets::targets;
 use board::{Kind, Side, Unit};
 use cells::except;
 
-/// The cells where units of the kind would take from these.
+/// The cells on which those of the side's units that go as the kind does would take so.
 // One kind a call, so that no turn of the loop asks which.
 #[inline(always)]
-fn swept(board: &Board, side: Side, kind: Kind, units: u64) -> u64
-    requires { (i : ℕ) → Has units i → IsCell board.now.game i }
-    ensures { (j : ℕ) → Has result j ↔ IsSwept board.now (record { side = side; kind = kind }) units j }
+fn swept(board: &Board, side: Side, kind: Kind, own: u64) -> u64
+    requires { Owns board.now side own }
+    ensures { (j : ℕ) → Has result j ↔ IsSwept board.now side kind j }
 {
+    let units = own & board.set(class_of(kind));
     let mut left = units;
     let mut set = 0;
     'units: while left != 0 {
@@ -40,11 +42,11 @@ pub(crate) fn attacked(board: &Board, side: Side) -> u64
 {
     let other = side.other();
     let foes = board.of_side(other);
-    swept(board, other, Kind::Rook, foes & board.set(Class::Straight))
-        | swept(board, other, Kind::Bishop, foes & board.set(Class::Slanted))
-        | swept(board, other, Kind::Knight, foes & board.set(Class::Horsed))
-        | swept(board, other, Kind::King, foes & board.set(Class::Crowned))
-        | swept(board, other, Kind::Pawn, foes & board.set(Class::Foot))
+    swept(board, other, Kind::Rook, foes)
+        | swept(board, other, Kind::Bishop, foes)
+        | swept(board, other, Kind::Knight, foes)
+        | swept(board, other, Kind::King, foes)
+        | swept(board, other, Kind::Pawn, foes)
 }
 
 /// Of the cells that the side's king reaches from this one, those where no king stands and that the other side doesn't attack.
@@ -59,8 +61,5 @@ pub(crate) fn calm_steps(board: &Board, side: Side, king: u8, attacked: u64) -> 
         side,
         kind: Kind::King,
     };
-    except(
-        targets(board, unit, king),
-        attacked | board.set(Class::Crowned),
-    )
+    except(targets(board, unit, king), attacked | board.kings())
 }

@@ -101,7 +101,7 @@ pub fn list_lawful(board: &Board, moves: &mut ArrayVec<Move, 512>)
 {
     let guard = guard_of(board);
     moves.clear();
-    let mut left = board.of_side(board.mover());
+    let mut left = board.own();
     'units: while left != 0 {
         let cell = take_lowest(&mut left);
         push_in(board, guard, cell, moves);

@@ -53,7 +53,7 @@ pub fn count_lawful(board: &Board) -> u16
     ensures { CountsLawful board.now result }
 {
     let guard = guard_of(board);
-    let mut left = board.of_side(board.mover());
+    let mut left = board.own();
     let mut count = 0;
     'units: while left != 0 {
         let cell = take_lowest(&mut left);

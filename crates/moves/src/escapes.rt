@@ -13,9 +13,9 @@ ghost use Rattle.moves.specs.Checking.{Watches};
 use crate::checks::Watch;
 use crate::look::open_lines;
 use crate::packed::Board;
-use crate::sets::Class;
+use crate::seen::lines;
 use board::{Side, Unit};
-use cells::{cell_of, except, has, single, slanted_lines, straight_lines};
+use cells::{cell_of, except, has, single};
 use rules::Move;
 
 /// The cells on the lines of this one, if a rider of the other side stands on them too.
@@ -23,9 +23,8 @@ fn opened(board: &Board, side: Side, cell: u8) -> u64
     requires { IsCell board.now.game cell }
     ensures { (i : ℕ) → IsCell board.now.game i → IsPinned board.now side (place_in i) (place_in cell) → Has result i }
 {
-    let riders = board.of_side(side.other())
-        & (board.set(Class::Straight) | board.set(Class::Slanted));
-    let lines = straight_lines(board.game(), cell) | slanted_lines(board.game(), cell);
+    let riders = board.foes_of(side) & board.riders();
+    let lines = lines(board, cell);
     if riders & lines == 0 { 0 } else { lines }
 }
 

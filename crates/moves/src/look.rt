@@ -8,11 +8,12 @@ ghost use Rattle.rules.specs.Reach.{AttacksFrom, IsAttacked, IsInCheck};
 ghost use Rattle.rules.specs.Moves.{IsLawful, GivesCheck};
 ghost use Rattle.cells.specs.Mailbox.{place_in, IsCell};
 ghost use Rattle.cells.specs.CellSets.{Has};
-ghost use Rattle.moves.specs.Looking.{Aims};
+ghost use Rattle.moves.specs.Looking.{Aims, TakesAs};
+ghost use Rattle.moves.specs.Sets.{Owns};
 
 use crate::packed::{Board, after};
 use crate::seen::seen;
-use crate::sets::Class;
+use crate::sets::{Class, class_of};
 use board::{Game, Kind, Side};
 use cells::{king_leaps, knight_leaps, lowest, pawn_captures, slanted_lines, straight_lines};
 use rules::Move;
@@ -34,13 +35,15 @@ pub(crate) fn open_lines(game: Game, side: Side, kind: Kind, cell: u8) -> u64
     }
 }
 
-/// Those of the cells where a unit of the kind would take from this one.
+/// The cells of those foes that go as the kind does and would take on this one so.
 #[inline(always)]
-fn struck(board: &Board, side: Side, kind: Kind, cell: u8, among: u64) -> u64
-    requires { IsCell board.now.game cell }
-    ensures { (i : ℕ) → Has result i ↔ (Has among i × IsCell board.now.game i
-        × Aims board.now (record { side = side; kind = kind }) (place_in cell) (place_in i)) }
+fn struck(board: &Board, side: Side, kind: Kind, cell: u8, foes: u64) -> u64
+    requires cell { IsCell board.now.game cell }
+    requires foes { Owns board.now (other_side side) foes }
+    ensures { (i : ℕ) → Has result i
+        ↔ (IsCell board.now.game i × TakesAs board.now (other_side side) kind (place_in i) (place_in cell)) }
 {
+    let among = foes & board.set(class_of(kind));
     if among == 0 {
         return 0;
     }
@@ -57,32 +60,12 @@ pub(crate) fn attackers(board: &Board, cell: u8, side: Side) -> u64
     ensures { (i : ℕ) → Has result i
         ↔ (IsCell board.now.game i × AttacksFrom board.now (other_side side) (place_in i) (place_in cell)) }
 {
-    let foes = board.of_side(side.other());
-    struck(
-        board,
-        side,
-        Kind::Rook,
-        cell,
-        foes & board.set(Class::Straight),
-    ) | struck(
-        board,
-        side,
-        Kind::Bishop,
-        cell,
-        foes & board.set(Class::Slanted),
-    ) | struck(
-        board,
-        side,
-        Kind::Knight,
-        cell,
-        foes & board.set(Class::Horsed),
-    ) | struck(
-        board,
-        side,
-        Kind::King,
-        cell,
-        foes & board.set(Class::Crowned),
-    ) | struck(board, side, Kind::Pawn, cell, foes & board.set(Class::Foot))
+    let foes = board.foes_of(side);
+    struck(board, side, Kind::Rook, cell, foes)
+        | struck(board, side, Kind::Bishop, cell, foes)
+        | struck(board, side, Kind::Knight, cell, foes)
+        | struck(board, side, Kind::King, cell, foes)
+        | struck(board, side, Kind::Pawn, cell, foes)
 }
 
 /// Whether some unit of the other side attacks the cell. Stops at the first kind that does.
@@ -91,25 +74,20 @@ pub(crate) fn is_attacked(board: &Board, cell: u8, side: Side) -> bool
     requires position { IsPosition board.now }
     ensures { IsTrue result ↔ IsAttacked board.now (place_in cell) (other_side side) }
 {
-    let foes = board.of_side(side.other());
-    let straight = foes & board.set(Class::Straight);
-    if struck(board, side, Kind::Rook, cell, straight) != 0 {
+    let foes = board.foes_of(side);
+    if struck(board, side, Kind::Rook, cell, foes) != 0 {
         return true;
     }
-    let slanted = foes & board.set(Class::Slanted);
-    if struck(board, side, Kind::Bishop, cell, slanted) != 0 {
+    if struck(board, side, Kind::Bishop, cell, foes) != 0 {
         return true;
     }
-    let knights = foes & board.set(Class::Horsed);
-    if struck(board, side, Kind::Knight, cell, knights) != 0 {
+    if struck(board, side, Kind::Knight, cell, foes) != 0 {
         return true;
     }
-    let kings = foes & board.set(Class::Crowned);
-    if struck(board, side, Kind::King, cell, kings) != 0 {
+    if struck(board, side, Kind::King, cell, foes) != 0 {
         return true;
     }
-    let pawns = foes & board.set(Class::Foot);
-    struck(board, side, Kind::Pawn, cell, pawns) != 0
+    struck(board, side, Kind::Pawn, cell, foes) != 0
 }
 
 /// The cell of the side's king.
@@ -118,7 +96,7 @@ pub(crate) fn king_cell(board: &Board, side: Side) -> Option<u8>
         ((i : ℕ) → IsCell board.now.game i → unit_at board.now (place_in i) ≡ Some (record { side = side; kind = King }) → ⊥)
         (λ i. IsCell board.now.game i × (unit_at board.now (place_in i) ≡ Some (record { side = side; kind = King }))) }
 {
-    let kings = board.set(Class::Crowned) & board.of_side(side);
+    let kings = board.of_side(side) & board.set(Class::Crowned);
     if kings == 0 {
         return None;
     }

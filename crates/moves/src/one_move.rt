@@ -1,15 +1,15 @@
 //! Whether one move is lawful on a board, and the board after it. No list is made.
-ghost use Rattle.std.specs.Prelude.{◌↔◌, IsTrue, MatchOption, Some};
+ghost use Rattle.std.specs.Prelude.{◌≡◌, ◌↔◌, IsTrue, MatchOption, Some};
 ghost use Rattle.rules.specs.Squares.{IsOnBoard, unit_at};
-ghost use Rattle.rules.specs.Moves.{IsMove, IsLawful};
+ghost use Rattle.rules.specs.Moves.{IsPseudoLegal, IsMove, IsLawful};
 
 use crate::look::is_checked;
 use crate::packed::Board;
-use crate::sets::Class;
+use crate::safe::is_named;
 use crate::targets::targets;
-use board::Game;
+use board::{Game, Unit};
 use cells::{cell_of, has};
-use rules::{Move, is_promoted_well};
+use rules::Move;
 
 /// Whether the board has both squares of the move.
 fn has_squares(game: Game, m: Move) -> bool
@@ -18,28 +18,36 @@ fn has_squares(game: Game, m: Move) -> bool
     m.from.is_on_board(game) && m.to.is_on_board(game)
 }
 
+/// Whether the unit on its first square may make the move, but for its own king's safety.
+fn is_pseudo_legal(board: &Board, m: Move, unit: Unit) -> bool
+    requires squares { IsOnBoard board.now.game m.from × IsOnBoard board.now.game m.to }
+    requires stands { unit_at board.now m.from ≡ Some unit }
+    ensures { IsTrue result ↔ IsPseudoLegal board.now m unit }
+{
+    if unit.side != board.mover() {
+        return false;
+    }
+    let to = cell_of(m.to);
+    if !has(targets(board, unit, cell_of(m.from)), to) {
+        return false;
+    }
+    if board.has_king(to) {
+        return false;
+    }
+    is_named(board, unit, m)
+}
+
 /// The board after the move, if the move is lawful.
 pub fn after_if_lawful(board: &Board, m: Move) -> Option<Board>
     ensures { MatchOption result (IsLawful board.now m → ⊥) (λ next. IsMove board.now m next) }
 {
-    let game = board.game();
-    if !has_squares(game, m) {
+    if !has_squares(board.game(), m) {
         return None;
     }
     let Some(unit) = board.unit_at(m.from) else {
         return None;
     };
-    if unit.side != board.mover() {
-        return None;
-    }
-    let to = cell_of(m.to);
-    if !has(targets(board, unit, cell_of(m.from)), to) {
-        return None;
-    }
-    if has(board.set(Class::Crowned), to) {
-        return None;
-    }
-    if !is_promoted_well(game, unit, m) {
+    if !is_pseudo_legal(board, m, unit) {
         return None;
     }
     let next = board.moved(m, unit);

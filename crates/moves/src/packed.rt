@@ -1,21 +1,21 @@
 //! A position in three words.
-ghost use Rattle.std.specs.Prelude.{◌≡◌, ◌<◌, ◌+◌, ◌*◌, ◌↔◌, ℕ, Some, None, true, IsTrue};
+ghost use Rattle.std.specs.Prelude.{◌≡◌, ◌<◌, ◌+◌, ◌*◌, ◌↔◌, ℕ, Some, None, IsTrue};
 ghost use Rattle.board.specs.declared.game.Kind.TheVariants.{King};
-ghost use Rattle.board.specs.Board.{board_of, unit_on, is_of_side, IsPosition};
-ghost use Rattle.board.specs.Games.{squares_of};
+ghost use Rattle.board.specs.Board.{board_of, unit_on, IsPosition};
+ghost use Rattle.board.specs.Games.{squares_of, other_side};
 ghost use Rattle.moves.specs.Words.{unpacked, IsPacked};
 ghost use Rattle.rules.specs.Squares.{IsOnBoard, unit_at};
 ghost use Rattle.cells.specs.Mailbox.{place_in, IsCell};
 ghost use Rattle.cells.specs.CellSets.{Has};
-ghost use Rattle.moves.specs.Sets.{Holds};
+ghost use Rattle.moves.specs.Sets.{Holds, HasRider, Owns};
 ghost use Rattle.moves.specs.Pawns.{HasPawn};
-ghost use Rattle.rules.specs.Moves.{IsPseudoLegal, IsMove, IsLawful, after};
+ghost use Rattle.rules.specs.Moves.{IsSomeKing, IsPseudoLegal, IsMove, IsLawful, after};
 
 use crate::codec::{read_words, write_units};
 use crate::sets::{Class, Sets};
 use crate::words::{code_of, code_on, put, turned, unit_of};
 use board::{Game, Position, Side, Unit};
-use cells::{cell_of, cells, lowest, square_in};
+use cells::{cell_of, cells, has, lowest, square_in};
 use rules::{Move, Square};
 use std::marker::Model;
 
@@ -118,7 +118,7 @@ impl Board {
         ensures on_board { IsOnBoard self.now.game result }
         ensures king { unit_at self.now result ≡ Some (record { side = side; kind = King }) }
     {
-        square_in(lowest(self.sets.kings & self.of_side(side)))
+        square_in(lowest(self.of_side(side) & self.sets.kings))
     }
 
     /// Whether a square has a pawn.
@@ -148,26 +148,54 @@ impl Board {
     pub(crate) fn set(&self, class: Class) -> u64
         ensures { Holds self.now class result }
     {
-        match class {
-            Class::White => self.sets.white,
-            Class::Black => self.sets.black,
-            Class::Crowned => self.sets.kings,
-            Class::Straight => self.sets.straight,
-            Class::Slanted => self.sets.slanted,
-            Class::Horsed => self.sets.knights,
-            Class::Foot => self.sets.pawns,
-        }
+        self.sets.of_class(class)
+    }
+
+    /// The cells of the riders.
+    pub(crate) fn riders(&self) -> u64
+        ensures { (i : ℕ) → Has result i ↔ (IsCell self.now.game i × HasRider self.now (place_in i)) }
+    {
+        self.set(Class::Straight) | self.set(Class::Slanted)
+    }
+
+    /// The cells of the kings.
+    pub(crate) fn kings(&self) -> u64
+        ensures { (i : ℕ) → Has result i ↔ (IsCell self.now.game i × IsSomeKing (unit_at self.now (place_in i))) }
+    {
+        self.set(Class::Crowned)
+    }
+
+    /// Whether a king stands in the cell.
+    pub(crate) fn has_king(&self, cell: u8) -> bool
+        requires { IsCell self.now.game cell }
+        ensures { IsTrue result ↔ IsSomeKing (unit_at self.now (place_in cell)) }
+    {
+        has(self.kings(), cell)
     }
 
     /// The cells of a side's units.
     pub(crate) fn of_side(&self, side: Side) -> u64
-        ensures { (i : ℕ) → Has result i
-            ↔ (IsCell self.now.game i × (is_of_side side (unit_at self.now (place_in i)) ≡ true)) }
+        ensures { Owns self.now side result }
     {
         match side {
             Side::White => self.set(Class::White),
             Side::Black => self.set(Class::Black),
         }
+    }
+
+    /// The cells of the mover's units.
+    pub(crate) fn own(&self) -> u64
+        ensures cells { Owns self.now self.now.mover result }
+        ensures position { IsPosition self.now }
+    {
+        self.of_side(self.mover())
+    }
+
+    /// The cells of the other side's units.
+    pub(crate) fn foes_of(&self, side: Side) -> u64
+        ensures { Owns self.now (other_side side) result }
+    {
+        self.of_side(side.other())
     }
 
     /// The cells of all units.

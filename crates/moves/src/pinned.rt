@@ -9,10 +9,9 @@ ghost use Rattle.cells.specs.CellSets.{Has};
 ghost use Rattle.cells.specs.Ways.{Rides};
 
 use crate::packed::Board;
-use crate::seen::along;
-use crate::sets::Class;
+use crate::seen::{along, lines};
 use board::Side;
-use cells::{WAYS, Way, lowest, ray, slanted_lines, straight_lines, without};
+use cells::{WAYS, Way, lowest, ray, without};
 
 /// The cell of the first unit that way from the king, if one of the riders stands next behind it.
 fn pinned_along(board: &Board, way: Way, cell: u8, riders: u64) -> u64
@@ -39,7 +38,7 @@ pub(crate) fn shadow(board: &Board, king: u8, checkers: u64) -> u64
     ensures { (i : ℕ) → IsCell board.now.game i → IsPinned board.now board.now.mover (place_in i) (place_in king)
         → Has result i }
 {
-    let riders = checkers & (board.set(Class::Straight) | board.set(Class::Slanted));
+    let riders = checkers & board.riders();
     if riders == 0 {
         return 0;
     }
@@ -47,7 +46,7 @@ pub(crate) fn shadow(board: &Board, king: u8, checkers: u64) -> u64
     if without(riders, cell) != 0 {
         return u64::MAX;
     }
-    straight_lines(board.game(), cell) | slanted_lines(board.game(), cell)
+    lines(board, cell)
 }
 
 /// The cells of the units that are pinned to the side's king, which stands in the cell; of enemies too, which are no matter.
@@ -55,11 +54,8 @@ pub(crate) fn pinned(board: &Board, side: Side, cell: u8) -> u64
     requires { IsCell board.now.game cell }
     ensures { (i : ℕ) → IsCell board.now.game i → IsPinned board.now side (place_in cell) (place_in i) → Has result i }
 {
-    let riders = board.of_side(side.other())
-        & (board.set(Class::Straight) | board.set(Class::Slanted));
-    let game = board.game();
-    let lines = straight_lines(game, cell) | slanted_lines(game, cell);
-    if riders & lines == 0 {
+    let riders = board.foes_of(side) & board.riders();
+    if riders & lines(board, cell) == 0 {
         return 0;
     }
     let mut set = 0;

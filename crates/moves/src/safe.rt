@@ -13,12 +13,11 @@ use crate::attacked::calm_steps;
 use crate::board_list::Guard;
 use crate::look::{is_attacked, is_checked};
 use crate::packed::Board;
-use crate::sets::Class;
 use crate::sweep::take_lowest;
 use crate::targets::targets;
 use board::{Game, Kind, Side, Unit};
 use cells::{common, except, has, square_in, with_cell};
-use rules::{Move, Square, is_king, promotes};
+use rules::{Move, Square, is_king, is_promoted_well, promotes};
 
 /// A move between the squares: a pawn that comes to its last rank becomes a queen.
 fn queening(game: Game, unit: Unit, from: Square, to: Square) -> Move
@@ -38,13 +37,20 @@ fn queening(game: Game, unit: Unit, from: Square, to: Square) -> Move
     }
 }
 
+/// Whether the move names a promotion where it must, and one of the game's.
+pub(crate) fn is_named(board: &Board, unit: Unit, m: Move) -> bool
+    ensures { IsTrue result ↔ IsNamed board.now.game unit m }
+{
+    is_promoted_well(board.game(), unit, m)
+}
+
 /// Whether no king stands in the cell, and no unit of the other side attacks it.
 pub(crate) fn is_calm(board: &Board, cell: u8, side: Side) -> bool
     requires position { IsPosition board.now }
     requires cell { IsCell board.now.game cell }
     ensures { IsTrue result ↔ IsCalm board.now (place_in cell) side }
 {
-    !has(board.set(Class::Crowned), cell) && !is_attacked(board, cell, side)
+    !board.has_king(cell) && !is_attacked(board, cell, side)
 }
 
 /// Whether the unit's moves to a cell that it reaches are lawful: all are, or none.
@@ -58,7 +64,7 @@ pub(crate) fn may_go(board: &Board, guard: Guard, unit: Unit, from: u8, to: u8) 
     ensures { (m : Ply) → m.from ≡ place_in from → m.to ≡ place_in to → IsNamed board.now.game unit m
         → IsTrue result ↔ IsLawful board.now m }
 {
-    if has(board.set(Class::Crowned), to) {
+    if board.has_king(to) {
         return false;
     }
     if is_king(Some(unit)) {
@@ -137,7 +143,7 @@ pub(crate) fn free_cells(board: &Board, guard: Guard, unit: Unit, from: u8) -> O
         return None;
     }
     let reached = targets(board, unit, from);
-    Some(except(reached, board.set(Class::Crowned)))
+    Some(except(reached, board.kings()))
 }
 
 /// The cells to which the unit moves lawfully.

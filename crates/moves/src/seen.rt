@@ -1,15 +1,20 @@
 //! What a unit sees from a cell: where it would take.
 ghost use Rattle.std.specs.Prelude.{◌<◌, ◌↔◌, ℕ};
 ghost use Rattle.std.specs.Int.{bit_at};
+ghost use Rattle.board.specs.declared.terms.Atom.TheVariants.{Wazir, Ferz};
 ghost use Rattle.cells.specs.Mailbox.{place_in, IsCell};
 ghost use Rattle.cells.specs.CellSets.{Has};
 ghost use Rattle.moves.specs.Looking.{Aims};
-ghost use Rattle.cells.specs.Ways.{Rides};
-ghost use Rattle.moves.specs.Sets.{RidesStraight, RidesSlanted};
+ghost use Rattle.cells.specs.declared.tables.Way.{Way};
+ghost use Rattle.cells.specs.Ways.{IsOnRay, Rides};
+ghost use Rattle.moves.specs.Sets.{RidesBy};
 
 use crate::packed::Board;
 use board::{Kind, Side};
-use cells::{Way, down_to_highest, king_leaps, knight_leaps, pawn_captures, ray, up_to_lowest};
+use cells::{
+    Way, down_to_highest, king_leaps, knight_leaps, pawn_captures, ray, slanted_lines,
+    straight_lines, up_to_lowest,
+};
 
 /// The cells to which a rider comes that way from the cell.
 pub(crate) fn along(board: &Board, way: Way, cell: u8) -> u64
@@ -24,10 +29,19 @@ pub(crate) fn along(board: &Board, way: Way, cell: u8) -> u64
     }
 }
 
+/// The cells on the lines through this one.
+pub(crate) fn lines(board: &Board, cell: u8) -> u64
+    requires { IsCell board.now.game cell }
+    ensures { (i : ℕ) → Has result i ↔ ((way : Way) × IsOnRay board.now.game way cell i) }
+{
+    let game = board.game();
+    straight_lines(game, cell) | slanted_lines(game, cell)
+}
+
 /// The cells to which a rider comes from the cell along its rank and its file.
 fn straight(board: &Board, cell: u8) -> u64
     requires { IsCell board.now.game cell }
-    ensures { (j : ℕ) → Has result j ↔ RidesStraight board.now cell j }
+    ensures { (j : ℕ) → Has result j ↔ RidesBy board.now Wazir cell j }
 {
     along(board, Way::North, cell)
         | along(board, Way::South, cell)
@@ -38,7 +52,7 @@ fn straight(board: &Board, cell: u8) -> u64
 /// The cells to which a rider comes from the cell along its diagonals.
 fn slanted(board: &Board, cell: u8) -> u64
     requires { IsCell board.now.game cell }
-    ensures { (j : ℕ) → Has result j ↔ RidesSlanted board.now cell j }
+    ensures { (j : ℕ) → Has result j ↔ RidesBy board.now Ferz cell j }
 {
     along(board, Way::NorthEast, cell)
         | along(board, Way::SouthWest, cell)

@@ -5,7 +5,8 @@ ghost use Rattle.rules.specs.Squares.{unit_at};
 ghost use Rattle.rules.specs.Moves.{IsPseudoLegal, placed, after};
 ghost use Rattle.cells.specs.Mailbox.{cell_of, place_in, IsCell};
 ghost use Rattle.cells.specs.CellSets.{Has};
-ghost use Rattle.moves.specs.Sets.{IsOf, Shows, HasMoved, AreMoved, HasAdded, AreAdded, HasNone};
+ghost use Rattle.moves.specs.Looking.{class_of};
+ghost use Rattle.moves.specs.Sets.{IsOf, set_of, Shows, HasMoved, AreMoved, HasAdded, AreAdded, HasNone};
 
 use board::{Game, Kind, Side, Unit};
 use cells::{cell_of, with_cell};
@@ -33,6 +34,20 @@ pub(crate) struct Sets {
     pub(crate) slanted: u64,
     pub(crate) knights: u64,
     pub(crate) pawns: u64,
+}
+
+/// The class of the units that go as the kind does: a queen goes as a rook and as a bishop.
+#[inline(always)]
+pub(crate) fn class_of(kind: Kind) -> Class
+    ensures { result ≡ class_of kind }
+{
+    match kind {
+        Kind::King => Class::Crowned,
+        Kind::Queen | Kind::Rook => Class::Straight,
+        Kind::Bishop => Class::Slanted,
+        Kind::Knight => Class::Horsed,
+        Kind::Pawn => Class::Foot,
+    }
 }
 
 /// Whether the unit is of the class.
@@ -82,6 +97,21 @@ impl Sets {
             }
         }
         sets
+    }
+
+    /// The set of a class.
+    pub(crate) fn of_class(&self, class: Class) -> u64
+        ensures { result ≡ set_of self.now class }
+    {
+        match class {
+            Class::White => self.white,
+            Class::Black => self.black,
+            Class::Crowned => self.kings,
+            Class::Straight => self.straight,
+            Class::Slanted => self.slanted,
+            Class::Horsed => self.knights,
+            Class::Foot => self.pawns,
+        }
     }
 
     /// The sets of no units.

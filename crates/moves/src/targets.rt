@@ -48,7 +48,7 @@ pub(crate) fn targets(board: &Board, unit: Unit, cell: u8) -> u64
 {
     let seen = seen(board, unit.side, unit.kind, cell);
     match unit.kind {
-        Kind::Pawn => (seen & board.of_side(unit.side.other())) | pushed(board, unit.side, cell),
+        Kind::Pawn => (seen & board.foes_of(unit.side)) | pushed(board, unit.side, cell),
         _ => seen & !board.of_side(unit.side),
     }
 }

@@ -1,19 +1,10 @@
-use Rattle.std.proofs.Common.{rules, ◌≡◌, ℕ, ◌↔◌, IsTrue, Bool, true, false, refl, sym, subst, inl, inr}
-use Rattle.std.proofs.lemmas.Bool.{cases_Bool}
-use Rattle.board.specs.Board.{is_of_side}
-use Rattle.rules.specs.Squares.{Ply, unit_at}
-use Rattle.rules.specs.Moves.{IsLawful}
-use Rattle.cells.specs.Mailbox.{cell_of, place_in, IsCell}
-use Rattle.cells.specs.CellSets.{Has}
-use Rattle.cells.proofs.CellNumbers.{place_in-cell_of}
-use Rattle.rules.proofs.Lists.{IsNumbered-lawful}
-use Rattle.moves.proofs.Gathering.{IsOwn, own_left}
+use Rattle.moves.proofs.Common.{rules, ◌≡◌, ℕ, IsTrue, Bool, true, false, refl, sym, inl, inr, cases_Bool, Ply, IsLawful, cell_of, place_in, Has, place_in-cell_of, IsNumbered-lawful}
+use Rattle.moves.proofs.Gathering.{own_left}
 use Rattle.moves.proofs.any_move.has_move.Goals as goal
 
 pub returns : goal.returns
 returns c =
-    let b = c.args.board.now in
-    let own : (i : ℕ) → Has c.of_side.result i ↔ IsOwn b i = subst (λ s. (i : ℕ) → Has c.of_side.result i ↔ (IsCell b.game i × (is_of_side s (unit_at b (place_in i)) ≡ true))) c.mover.ensures.value c.of_side.ensures in (
+    let b = c.args.board.now in (
       λ found.
           let (i, there, told) = c.any_cell.ensures.found found in
           let moves : IsTrue true → (m : Ply) × IsLawful b m = search rules in
@@ -21,8 +12,8 @@ returns c =
       λ (m, l). elim (cases_Bool c.any_cell.result) [
         | inl found ↦ found
         | inr none ↦
-            let stays : (i : ℕ) → Has c.of_side.result i → (r : Bool) × (false ≡ r) × (r ≡ false → (n : Ply) → n.from ≡ place_in i → IsLawful b n → ⊥) = λ i there. let told = c.any_cell.ensures.none none i there in search rules in
-            let (r, same, tells) = stays (cell_of m.from) ((own (cell_of m.from)).1 (own_left b m l)) in
+            let stays : (i : ℕ) → Has c.own.result i → (r : Bool) × (false ≡ r) × (r ≡ false → (n : Ply) → n.from ≡ place_in i → IsLawful b n → ⊥) = λ i there. let told = c.any_cell.ensures.none none i there in search rules in
+            let (r, same, tells) = stays (cell_of m.from) ((c.own.ensures.cells (cell_of m.from)).1 (own_left b m l)) in
             absurd (tells (sym same) m (sym (place_in-cell_of b.game m.from (IsNumbered-lawful b m l).from)) l)
       ],
     )

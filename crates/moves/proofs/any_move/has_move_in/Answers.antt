@@ -1,6 +1,4 @@
-use Rattle.std.proofs.Common.{arith}
-use Rattle.cells.specs.Mailbox.{place_in}
-use Rattle.cells.proofs.Masks.{not-zero}
+use Rattle.moves.proofs.Common.{arith, place_in, not-zero}
 use Rattle.moves.proofs.SafeCells.{some_safe}
 use Rattle.moves.proofs.any_move.has_move_in.Goals as goal
 

@@ -1,12 +1,4 @@
-use Rattle.std.proofs.Common.{rules, ◌≡◌, ℕ, ◌↔◌, IsTrue, Bool, true, false, Some, refl, sym, ap, ◌∙◌}
-use Rattle.std.proofs.lemmas.Bool.{false≢true}
-use Rattle.rules.specs.Squares.{Ply, unit_at}
-use Rattle.rules.specs.Moves.{IsLawful}
-use Rattle.cells.specs.Mailbox.{cell_of, place_in}
-use Rattle.cells.specs.CellSets.{Has}
-use Rattle.moves.specs.Safe.{IsNamed}
-use Rattle.cells.proofs.CellNumbers.{place_in-cell_of}
-use Rattle.rules.proofs.Lists.{IsNumbered-lawful}
+use Rattle.moves.proofs.Common.{rules, ◌≡◌, ℕ, ◌↔◌, IsTrue, Bool, true, false, Some, refl, sym, ap, ◌∙◌, false≢true, Ply, unit_at, IsLawful, cell_of, place_in, Has, IsNamed, place_in-cell_of, IsNumbered-lawful}
 use Rattle.moves.proofs.SafeCells.{named_move, lawful_named}
 use Rattle.moves.proofs.any_move.has_tested_move.Goals as goal
 

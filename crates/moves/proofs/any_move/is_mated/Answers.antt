@@ -1,15 +1,12 @@
-use Rattle.std.proofs.Common.{not, sym, ap, ◌∙◌}
-use Rattle.std.proofs.lemmas.Bool.{false≢true}
+use Rattle.moves.proofs.Common.{not, sym, ap, ◌∙◌, false≢true, not_so}
 use Rattle.moves.proofs.Attacking.{unattacked}
 use Rattle.moves.proofs.AtOnce.{mated_exactly}
 use Rattle.moves.proofs.any_move.is_mated.Goals as goal
 
 pub returns-then-not-has : goal.returns-then-not-has
 returns-then-not-has c =
-    let e = c.mover_king-king.ensures in (
-      λ never. absurd (false≢true never),
-      λ mated. absurd (unattacked c.args.board.now c.requires c.mover_king-king.result.0 c.mover_king-king.result.1 e.cell e.king e.attacked (λ h. false≢true (sym c.if-not-has.true ∙ c.has.ensures.1 h)) mated.check),
-    )
+    let e = c.mover_king-king.ensures in
+    not_so (λ mated. unattacked c.args.board.now c.requires c.mover_king-king.result.0 c.mover_king-king.result.1 e.cell e.king e.attacked (λ h. false≢true (sym c.if-not-has.true ∙ c.has.ensures.1 h)) mated.check)
 
 pub returns-then-not-has_king_move : goal.returns-then-not-has_king_move
 returns-then-not-has_king_move c =

@@ -1,59 +1,34 @@
-use Rattle.std.proofs.Common.{◌≡◌, ◌↔◌, IsSome, IfSome, sym, subst, ◌∙◌}
-use Rattle.std.proofs.lemmas.Bool.{false≢true}
-use Rattle.board.specs.Board.{PlainBoard}
-use Rattle.rules.specs.Reach.{IsInCheck}
-use Rattle.rules.specs.Moves.{Promotes, IsPromotion, IsLawful, after}
-use Rattle.rules.specs.Forces.{IsReached}
-use Rattle.rules.proofs.Keeps.{one_after}
+use Rattle.moves.proofs.Common.{◌≡◌, sym, subst, ◌∙◌, false≢true, PlainBoard, IsInCheck, IsLawful, after, IsReached, one_after, not_so, not-is}
 use Rattle.moves.proofs.AtOnce.{move_by, no_move_at}
-use Rattle.moves.proofs.Guarding.{promotes_well, not_attacked_safe}
+use Rattle.moves.proofs.SafeCells.{lawful_named}
 use Rattle.moves.proofs.at_once.attains.Goals as goal
 
-pub returns-then-not-is_promoted_well : goal.returns-then-not-is_promoted_well
-returns-then-not-is_promoted_well c =
-    let b = c.args.board.now in
-    let m = c.args.m in
-    let u = c.args.unit in (
-      λ never. absurd (false≢true never),
-      λ w. absurd (false≢true (sym c.if-not-is_promoted_well.true ∙ c.is_promoted_well.ensures.1
-          (subst (λ g. (IsSome m.promotion ↔ Promotes g u m.to) × IfSome m.promotion (IsPromotion g)) (sym c.game.ensures.value) (promotes_well b m u c.requires.stands (w.next, w.move))))),
-    )
+pub returns-then-not-is_named : goal.returns-then-not-is_named
+returns-then-not-is_named c = not_so (λ w. false≢true (sym c.if-not-is_named.true ∙ c.is_named.ensures.1 (lawful_named c.args.board.now c.args.m c.args.unit c.requires.stands (w.next, w.move))))
 
 pub escapes-requires-clause-pseudo : goal.escapes-requires-clause-pseudo
-escapes-requires-clause-pseudo c =
-    let m = c.args.m in
-    let u = c.args.unit in
-    let well = subst (λ g. (IsSome m.promotion ↔ Promotes g u m.to) × IfSome m.promotion (IsPromotion g)) c.game.ensures.value (c.is_promoted_well.ensures.0 c.if-not-is_promoted_well.false) in
-    c.requires.pseudo (record { named = well.0; allowed = well.1 })
+escapes-requires-clause-pseudo c = c.requires.pseudo (c.is_named.ensures.0 c.if-not-is_named.false)
 
 pub returns-then-escapes : goal.returns-then-escapes
-returns-then-escapes c = (
-  λ never. absurd (false≢true never),
-  λ w.
-      let b = c.args.board.now in
-      let m = c.args.m in
-      let u = c.args.unit in
-      let same : w.next ≡ after b m u = one_after b m w.next _ w.move (move_by b m u c.requires.stands (w.next, w.move)) in
-      let step = c.escapes.ensures c.if-escapes.true in
-      absurd (no_move_at c.args.quest.goal w.next w.reached step.0 (subst (λ q. IsLawful q step.0) (sym same) step.1)),
-)
-
-pub moved-next-requires : goal.moved-next-requires
-moved-next-requires c =
+returns-then-escapes c = not_so (λ w.
+    let b = c.args.board.now in
     let m = c.args.m in
     let u = c.args.unit in
-    let well = subst (λ g. (IsSome m.promotion ↔ Promotes g u m.to) × IfSome m.promotion (IsPromotion g)) c.game.ensures.value (c.is_promoted_well.ensures.0 c.if-not-is_promoted_well.false) in
-    c.requires.pseudo (record { named = well.0; allowed = well.1 })
+    let same : w.next ≡ after b m u = one_after b m w.next _ w.move (move_by b m u c.requires.stands (w.next, w.move)) in
+    let step = c.escapes.ensures c.if-escapes.true in
+    no_move_at c.args.quest.goal w.next w.reached step.0 (subst (λ q. IsLawful q step.0) (sym same) step.1))
+
+pub moved-next-requires : goal.moved-next-requires
+moved-next-requires c = c.requires.pseudo (c.is_named.ensures.0 c.if-not-is_named.false)
 
 pub returns-then-is_reached : goal.returns-then-is_reached
 returns-then-is_reached c =
     let b = c.args.board.now in
     let m = c.args.m in
     let u = c.args.unit in
-    let well = subst (λ g. (IsSome m.promotion ↔ Promotes g u m.to) × IfSome m.promotion (IsPromotion g)) c.game.ensures.value (c.is_promoted_well.ensures.0 c.if-not-is_promoted_well.false) in
-    let p = c.requires.pseudo (record { named = well.0; allowed = well.1 }) in
+    let p = c.requires.pseudo (c.is_named.ensures.0 c.if-not-is_named.false) in
     let next = c.moved-next.result in
-    let own = not_attacked_safe c.is_checked.result next u.side c.is_checked.ensures in (
+    let own = not-is c.is_checked.result c.is_checked.ensures in (
       λ yes. record {
         next = next;
         move = record { unit = u; pseudo = p; leads = c.moved-next.ensures; safe = λ check. own.0 yes (subst (IsInCheck next) (sym p.owner) check) };

@@ -1,10 +1,4 @@
-use Rattle.std.proofs.Common.{rules, ◌≡◌, ℕ, IsTrue, Bool, true, false, refl, sym}
-use Rattle.rules.specs.Squares.{Ply}
-use Rattle.cells.specs.Mailbox.{cell_of, place_in}
-use Rattle.cells.specs.CellSets.{Has}
-use Rattle.moves.specs.Checking.{Attains}
-use Rattle.cells.proofs.CellNumbers.{place_in-cell_of}
-use Rattle.rules.proofs.Lists.{IsNumbered-lawful}
+use Rattle.moves.proofs.Common.{rules, ◌≡◌, ℕ, IsTrue, Bool, true, false, refl, sym, Ply, cell_of, place_in, Has, Attains, place_in-cell_of, IsNumbered-lawful}
 use Rattle.moves.proofs.at_once.attains_in.Goals as goal
 
 pub returns-clause-found : goal.returns-clause-found

@@ -1,10 +1,4 @@
-use Rattle.std.proofs.Common.{◌≡◌, get_or, None, Some, sym, ap, ◌∙◌, arith, subst, inl, inr}
-use Rattle.std.proofs.lemmas.Bool.{false≢true, cases_lt}
-use Rattle.rules.specs.declared.list.TheConstants.{PROMOTIONS}
-use Rattle.rules.specs.Squares.{unit_at}
-use Rattle.rules.specs.Moves.{Promotes}
-use Rattle.rules.specs.Order.{promotion_number}
-use Rattle.moves.specs.Checking.{Attains}
+use Rattle.moves.proofs.Common.{◌≡◌, get_or, None, Some, sym, ap, ◌∙◌, arith, subst, inl, inr, false≢true, cases_lt, PROMOTIONS, unit_at, Promotes, promotion_number, Attains}
 use Rattle.moves.proofs.AtOnce.{promotion_at, promotion_tried}
 use Rattle.moves.proofs.at_once.attains_to.Goals as goal
 

@@ -1,6 +1,4 @@
-use Rattle.std.proofs.Common.{◌<◌, ℕ, None, get_or}
-use Rattle.rules.specs.declared.list.TheConstants.{PROMOTIONS}
-use Rattle.moves.specs.Checking.{Attains}
+use Rattle.moves.proofs.Common.{◌<◌, ℕ, None, get_or, PROMOTIONS, Attains}
 use Rattle.moves.proofs.at_once.attains_to.Given as given
 
 -- no promotion so far attains the goal

@@ -1,12 +1,4 @@
-use Rattle.std.proofs.Common.{◌≡◌, Some, ap, subst, ◌∙◌}
-use Rattle.board.specs.Board.{PlainBoard}
-use Rattle.rules.specs.declared.goal.Goal.{Goal}
-use Rattle.rules.specs.Squares.{unit_at}
-use Rattle.rules.specs.Reach.{IsInCheck}
-use Rattle.rules.specs.Forces.{IsReached}
-use Rattle.cells.specs.Mailbox.{cell_of}
-use Rattle.moves.specs.Targets.{IsTarget}
-use Rattle.rules.proofs.Keeps.{one_after}
+use Rattle.moves.proofs.Common.{◌≡◌, Some, ap, subst, ◌∙◌, PlainBoard, Goal, unit_at, IsInCheck, IsReached, cell_of, IsTarget, one_after}
 use Rattle.moves.proofs.AtOnce.{pseudo_by, move_by}
 use Rattle.moves.proofs.Checking.{IsTarget-move}
 use Rattle.moves.proofs.at_once.hopeful.Goals as goal

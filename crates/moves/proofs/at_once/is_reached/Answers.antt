@@ -1,6 +1,4 @@
-use Rattle.std.proofs.Common.{◌↔◌, IsTrue, sym, subst}
-use Rattle.rules.specs.declared.goal.Goal.{Goal}
-use Rattle.rules.specs.Forces.{IsReached}
+use Rattle.moves.proofs.Common.{◌↔◌, IsTrue, sym, subst, Goal, IsReached}
 use Rattle.moves.proofs.AtOnce.{stale_if}
 use Rattle.moves.proofs.at_once.is_reached.Goals as goal
 

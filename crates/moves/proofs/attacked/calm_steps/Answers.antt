@@ -1,19 +1,16 @@
-use Rattle.cells.specs.Mailbox.{place_in}
-use Rattle.cells.proofs.Masks.{Has-or}
-use Rattle.std.proofs.Common.{inl, inr}
-use Rattle.moves.proofs.SafeCells.{some_crowned, crowned_king}
+use Rattle.moves.proofs.Common.{inl, inr, Has-or}
 use Rattle.moves.proofs.attacked.calm_steps.Goals as goal
 
 pub returns : goal.returns
 returns c = λ i.
     let b = c.args.board.now in
-    let or = Has-or c.args.attacked c.set.result i in (
+    let or = Has-or c.args.attacked c.kings.result i in (
       λ h.
           let w = (c.except.ensures i).0 h in
           let target = (c.targets.ensures i).0 w.0 in (
             target,
             record {
-              no_king = λ there. w.1 (or.1 (inr ((c.set.ensures i).1 (target.0, some_crowned b (place_in i) there))));
+              no_king = λ there. w.1 (or.1 (inr ((c.kings.ensures i).1 (target.0, there))));
               safe = λ a. w.1 (or.1 (inl ((c.requires.attacked i).1 (target.0, a))));
             },
           ),
@@ -21,7 +18,7 @@ returns c = λ i.
         (c.targets.ensures i).1 target,
         λ h. elim (or.0 h) [
           | inl a ↦ calm.safe ((c.requires.attacked i).0 a).1
-          | inr k ↦ calm.no_king (crowned_king b (place_in i) ((c.set.ensures i).0 k).1)
+          | inr k ↦ calm.no_king ((c.kings.ensures i).0 k).1
         ],
       ),
     )

@@ -1,5 +1,4 @@
-use Rattle.std.proofs.Common.{sym, ◌∙◌}
-use Rattle.std.proofs.lemmas.Bool.{false≢true}
+use Rattle.moves.proofs.Common.{sym, ◌∙◌, false≢true}
 use Rattle.moves.proofs.blocks.between.Goals as goal
 
 pub returns-then-has : goal.returns-then-has

@@ -1,10 +1,4 @@
-use Rattle.std.proofs.Common.{◌≡◌, All, take, inl, inr, refl, subst, arith}
-use Rattle.std.specs.Int.RustNames.{bit_or}
-use Rattle.std.proofs.lemmas.List.{take_all}
-use Rattle.std.proofs.lemmas.List.Elements.{All-more, All-contains}
-use Rattle.cells.specs.declared.tables.Way.{Way}
-use Rattle.cells.specs.declared.tables.TheConstants.{WAYS}
-use Rattle.cells.proofs.Masks.{Has-or}
+use Rattle.moves.proofs.Common.{◌≡◌, All, take, inl, inr, refl, subst, arith, bit_or, take_all, All-more, All-contains, Way, WAYS, Has-or}
 use Rattle.moves.proofs.Pinning.{ways-all}
 use Rattle.moves.proofs.Blocking.{HoldsBetween, HasBlocks-way}
 use Rattle.moves.proofs.blocks.blocks.Goals as goal

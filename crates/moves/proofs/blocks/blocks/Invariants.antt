@@ -1,6 +1,4 @@
-use Rattle.std.proofs.Common.{All, take}
-use Rattle.cells.specs.declared.tables.Way.{Way}
-use Rattle.cells.specs.CellSets.{Has}
+use Rattle.moves.proofs.Common.{All, take, Way, Has}
 use Rattle.moves.proofs.Blocking.{HoldsBetween}
 use Rattle.moves.proofs.blocks.blocks.Given as given
 

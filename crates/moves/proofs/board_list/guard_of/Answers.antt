@@ -1,7 +1,4 @@
-use Rattle.std.proofs.Common.{sym, subst, ◌∙◌}
-use Rattle.std.proofs.lemmas.Bool.{false≢true}
-use Rattle.cells.specs.Mailbox.{place_in}
-use Rattle.moves.specs.Pinned.{IsPinned}
+use Rattle.moves.proofs.Common.{sym, subst, ◌∙◌, false≢true, place_in, IsPinned, not_so}
 use Rattle.moves.proofs.Kings.{check_from}
 use Rattle.moves.proofs.Blocking.{HasBlocks-all}
 use Rattle.moves.proofs.Attacking.{unattacked}
@@ -18,7 +15,7 @@ returns-clause-guards c =
       cell = e.cell;
       king = e.king;
       attacked = e.attacked;
-      checked = (λ never. absurd (false≢true never), λ check. absurd (out check));
+      checked = not_so out;
       pins = λ _ i cell w. c.pinned.ensures i cell (subst (λ s. IsPinned b s (place_in k) (place_in i)) (sym c.mover.ensures.value) w);
       blocks = HasBlocks-all b;
       shadow = λ i cell w. absurd (out (check_from b b.mover (place_in k) e.cell.on_board e.king (w.from, pinned_attacks b e.position b.mover (place_in i) (place_in k) w)));

@@ -1,26 +1,18 @@
-use Rattle.std.proofs.Common.{rules, ◌≡◌, ℕ, ◌↔◌, true, sym, subst, []}
-use Rattle.board.specs.Board.{is_of_side}
-use Rattle.rules.specs.Squares.{unit_at}
-use Rattle.cells.specs.Mailbox.{place_in, IsCell}
-use Rattle.cells.specs.CellSets.{Has}
-use Rattle.moves.proofs.Gathering.{IsOwn, IsGathered, gathered_start, gathered_end, gathered_next, gathered_lists, gathered_more}
+use Rattle.moves.proofs.Common.{rules, ◌≡◌, sym, subst, []}
+use Rattle.moves.proofs.Gathering.{IsGathered, gathered_start, gathered_end, gathered_lists, gathered_more}
 use Rattle.moves.proofs.board_list.list_lawful.Goals as goal
 
 pub units-init : goal.units-init
 units-init c =
     let b = c.args.board.now in
-    let own : (i : ℕ) → Has c.of_side-left.result i ↔ IsOwn b i = subst (λ s. (i : ℕ) → Has c.of_side-left.result i ↔ (IsCell b.game i × (is_of_side s (unit_at b (place_in i)) ≡ true))) c.mover.ensures.value c.of_side-left.ensures in
     let empty : c.clear.new.self.items ≡ [] = search rules in
-    subst (IsGathered b c.of_side-left.result) (sym empty) (gathered_start b c.of_side-left.result own)
+    subst (IsGathered b c.own-left.result) (sym empty) (gathered_start b c.own-left.result c.own-left.ensures.cells)
 
-pub push_in-requires-clause-cell : goal.push_in-requires-clause-cell
-push_in-requires-clause-cell c = (gathered_next c.args.board.now c.units.left c.units.moves.items c.units.invariant c.take_lowest-cell.result c.take_lowest-cell.ensures.there c.take_lowest-cell.ensures.least).0
-
-pub push_in-requires-clause-own : goal.push_in-requires-clause-own
-push_in-requires-clause-own c = (gathered_next c.args.board.now c.units.left c.units.moves.items c.units.invariant c.take_lowest-cell.result c.take_lowest-cell.ensures.there c.take_lowest-cell.ensures.least).1
-
-pub push_in-requires-clause-before : goal.push_in-requires-clause-before
-push_in-requires-clause-before c = gathered_lists c.args.board.now c.units.left c.units.moves.items c.units.invariant c.take_lowest-cell.result c.take_lowest-cell.ensures.there c.take_lowest-cell.ensures.least
+pub push_in-requires : goal.push_in-requires
+push_in-requires c =
+    let (cell, own) = ((c.units.invariant.left c.take_lowest-cell.result).0 c.take_lowest-cell.ensures.there).0 in
+    let before = gathered_lists c.args.board.now c.units.left c.units.moves.items c.units.invariant c.take_lowest-cell.result c.take_lowest-cell.ensures.there c.take_lowest-cell.ensures.least in
+    record { position = c.guard_of-guard.ensures.position; guards = c.guard_of-guard.ensures.guards; cell = cell; own = own; before = before }
 
 pub units-preserved : goal.units-preserved
 units-preserved c =

@@ -1,6 +1,4 @@
-use Rattle.std.proofs.Common.{ap, subst, ◌∙◌}
-use Rattle.board.specs.Games.{other_side}
-use Rattle.moves.specs.Looking.{AreAttacked}
+use Rattle.moves.proofs.Common.{ap, subst, ◌∙◌, other_side, AreAttacked}
 use Rattle.moves.proofs.Kings.{king_of}
 use Rattle.moves.proofs.Guarding.{no_kingless}
 use Rattle.moves.proofs.board_list.mover_king.Goals as goal

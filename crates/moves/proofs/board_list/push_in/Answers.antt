@@ -1,8 +1,5 @@
-use Rattle.std.proofs.Common.{◌+◌, ◌*◌, sym, subst, ◌∙◌, arith}
-use Rattle.rules.specs.Squares.{IsOnBoard, square_number}
-use Rattle.rules.specs.Listing.{ListsBelow}
-use Rattle.cells.specs.Mailbox.{place_in}
-use Rattle.moves.proofs.Scanning.{scan_start, scan_next, scan_lists, scan_room, scan_more, scan_end}
+use Rattle.moves.proofs.Common.{◌+◌, ◌*◌, sym, subst, ◌∙◌, arith, IsOnBoard, square_number, ListsBelow, place_in}
+use Rattle.moves.proofs.Scanning.{scan_start, scan_lists, scan_room, scan_more, scan_end}
 use Rattle.moves.proofs.Gathering.{unit_room, unit_more}
 use Rattle.moves.proofs.board_list.push_in.Goals as goal
 
@@ -10,14 +7,11 @@ pub cells-init : goal.cells-init
 cells-init c = scan_start c.args.board.now c.in-Some.unit (place_in c.args.cell) c.requires.cell.on_board c.safe_cells-left.result c.safe_cells-left.ensures c.args.moves.now.items _ c.requires.before.lists
 
 pub push_to-requires-clause-to_on_board : goal.push_to-requires-clause-to_on_board
-push_to-requires-clause-to_on_board c =
-    let there = scan_next c.args.board.now c.in-Some.unit (place_in c.args.cell) c.requires.cell.on_board c.safe_cells-left.result c.safe_cells-left.ensures c.cells.left c.cells.moves.items _ _ c.cells.invariant c.take_lowest-to.result c.take_lowest-to.ensures.there c.take_lowest-to.ensures.least in
-    subst (IsOnBoard c.args.board.now.game) (sym c.square_in.ensures) (c.safe_cells-left.ensures.cells c.take_lowest-to.result there).0.on_board
+push_to-requires-clause-to_on_board c = subst (IsOnBoard c.args.board.now.game) (sym c.square_in.ensures) (c.safe_cells-left.ensures.cells c.take_lowest-to.result ((c.cells.invariant.left c.take_lowest-to.result).0 c.take_lowest-to.ensures.there).0).0.on_board
 
 pub push_to-requires-clause-lawful : goal.push_to-requires-clause-lawful
-push_to-requires-clause-lawful c = λ m from to named.
-    let there = scan_next c.args.board.now c.in-Some.unit (place_in c.args.cell) c.requires.cell.on_board c.safe_cells-left.result c.safe_cells-left.ensures c.cells.left c.cells.moves.items _ _ c.cells.invariant c.take_lowest-to.result c.take_lowest-to.ensures.there c.take_lowest-to.ensures.least in
-    c.safe_cells-left.ensures.lawful c.take_lowest-to.result m there (from ∙ c.square_in-from.ensures) (to ∙ c.square_in.ensures) named
+push_to-requires-clause-lawful c = λ m from to.
+    c.safe_cells-left.ensures.lawful c.take_lowest-to.result m ((c.cells.invariant.left c.take_lowest-to.result).0 c.take_lowest-to.ensures.there).0 (from ∙ c.square_in-from.ensures) (to ∙ c.square_in.ensures)
 
 pub push_to-requires-clause-room : goal.push_to-requires-clause-room
 push_to-requires-clause-room c =

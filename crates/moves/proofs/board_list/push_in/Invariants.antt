@@ -1,5 +1,4 @@
-use Rattle.arrayvec.specs.ArrayVec.{array_vec_len}
-use Rattle.cells.specs.Mailbox.{place_in}
+use Rattle.moves.proofs.Common.{array_vec_len, place_in}
 use Rattle.moves.proofs.Scanning.{IsScanned}
 use Rattle.moves.proofs.board_list.push_in.Given as given
 

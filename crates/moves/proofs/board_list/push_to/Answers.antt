@@ -1,12 +1,5 @@
-use Rattle.std.proofs.Common.{◌≡◌, ◌↔◌, IsSome, IfSome, ℕ, ◌+◌, ◌*◌, ◌<◌, get_or, None, refl, subst, sym, ap, ◌∙◌, arith, add_assoc}
-use Rattle.std.proofs.lemmas.Bool.{false≢true}
-use Rattle.rules.specs.declared.list.TheConstants.{PROMOTIONS}
-use Rattle.rules.specs.Squares.{Ply, square_number}
-use Rattle.rules.specs.Moves.{Promotes, IsPromotion, IsLawful}
-use Rattle.moves.proofs.Guarding.{promotes_well}
-use Rattle.rules.specs.Order.{promotion_number}
-use Rattle.rules.specs.Listing.{ply_number}
-use Rattle.rules.proofs.Lists.{IsNumbered, numbered_promotion, ListsBelow-skip, ListsBelow-push, ListsBelow-promoted, first_promotion}
+use Rattle.moves.proofs.Common.{◌≡◌, ◌↔◌, IsSome, IfSome, ℕ, ◌+◌, ◌*◌, ◌<◌, get_or, None, refl, subst, sym, ap, ◌∙◌, arith, add_assoc, false≢true, PROMOTIONS, Ply, square_number, Promotes, IsPromotion, IsLawful, promotion_number, ply_number, IsNumbered, numbered_promotion, ListsBelow-skip, ListsBelow-push, ListsBelow-promoted, first_promotion}
+use Rattle.moves.proofs.AtOnce.{pseudo_by}
 use Rattle.moves.proofs.board_list.push_to.Goals as goal
 use Rattle.moves.proofs.board_list.push_to.Goals.{then-is_promoted_well, else-is_promoted_well}
 
@@ -35,7 +28,7 @@ loop-i-preserved c =
           }
       | else-is_promoted_well w ↦
           let unlawful : IsLawful b m → ⊥ = λ l. false≢true (sym w.if-is_promoted_well.false ∙ c.is_promoted_well.ensures.1
-          (subst (λ g. (IsSome m.promotion ↔ Promotes g u m.to) × IfSome m.promotion (IsPromotion g)) (sym game) (promotes_well b m u c.requires.stands l))) in
+          (subst (λ g. (IsSome m.promotion ↔ Promotes g u m.to) × IfSome m.promotion (IsPromotion g)) (sym game) (let p = pseudo_by b m u c.requires.stands l in (p.named, p.allowed)))) in
           record {
             lists = rw (w.moves-is, ← add_assoc n i 1) (ListsBelow-skip b (n + i) c.loop-i.moves.items m c.loop-i.invariant.lists numbered here unlawful);
             few = rw w.moves-is (omega arith);

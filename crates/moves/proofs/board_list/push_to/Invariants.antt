@@ -1,8 +1,4 @@
-use Rattle.std.proofs.Common.{◌≡◌, ◌+◌, ◌*◌, ◌≤◌, min}
-use Rattle.arrayvec.specs.ArrayVec.{array_vec_len}
-use Rattle.board.specs.declared.game.Kind.TheVariants.{Pawn}
-use Rattle.rules.specs.Squares.{square_number}
-use Rattle.rules.specs.Listing.{ListsBelow}
+use Rattle.moves.proofs.Common.{◌≡◌, ◌+◌, ◌*◌, ◌≤◌, min, array_vec_len, Pawn, square_number, ListsBelow}
 use Rattle.moves.proofs.board_list.push_to.Given as given
 
 abbrev pub invariant-loop-i : given.invariant-loop-i

@@ -1,9 +1,4 @@
-use Rattle.std.proofs.Common.{sym, subst, ◌∙◌, arith}
-use Rattle.std.proofs.lemmas.Bool.{false≢true}
-use Rattle.std.proofs.lemmas.List.{take_all}
-use Rattle.rules.specs.Squares.{Ply}
-use Rattle.rules.specs.Moves.{GivesCheck}
-use Rattle.rules.specs.Order.{IsPlyBefore, ListsLawful}
+use Rattle.moves.proofs.Common.{sym, subst, ◌∙◌, arith, false≢true, take_all, Ply, GivesCheck, IsPlyBefore, ListsLawful}
 use Rattle.moves.proofs.Picking.{Picks, keep, skip}
 use Rattle.moves.proofs.check_list.list_checks.Goals as goal
 use Rattle.moves.proofs.check_list.list_checks.Goals.{then-gives_check, else-gives_check}

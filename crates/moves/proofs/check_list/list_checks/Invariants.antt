@@ -1,7 +1,4 @@
-use Rattle.std.proofs.Common.{◌≤◌, take, length}
-use Rattle.rules.specs.Squares.{Ply}
-use Rattle.rules.specs.Moves.{GivesCheck}
-use Rattle.rules.specs.Order.{IsPlyBefore}
+use Rattle.moves.proofs.Common.{◌≤◌, take, length, Ply, GivesCheck, IsPlyBefore}
 use Rattle.moves.proofs.Picking.{InOrder, Picks}
 use Rattle.moves.proofs.check_list.list_checks.Given as goal
 

@@ -1,9 +1,4 @@
-use Rattle.std.proofs.Common.{sym, subst}
-use Rattle.board.specs.Games.{other_side}
-use Rattle.cells.specs.Mailbox.{cell_of, place_in}
-use Rattle.cells.proofs.CellNumbers.{IsCell-cell_of, place_in-cell_of}
-use Rattle.rules.proofs.Keeps.{to_on_board}
-use Rattle.moves.specs.Looking.{Aims}
+use Rattle.moves.proofs.Common.{sym, subst, other_side, cell_of, place_in, IsCell-cell_of, place_in-cell_of, to_on_board, Aims}
 use Rattle.moves.proofs.Looking.{Aims-back}
 use Rattle.moves.proofs.Checking.{knight_seen}
 use Rattle.moves.proofs.checks.aiming.Goals as goal

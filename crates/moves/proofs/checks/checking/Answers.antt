@@ -1,11 +1,4 @@
-use Rattle.std.proofs.Common.{inl, inr, sym, subst, ◌∙◌}
-use Rattle.std.proofs.lemmas.Bool.{false≢true}
-use Rattle.board.specs.Games.{other_side}
-use Rattle.rules.specs.Squares.{unit_at}
-use Rattle.rules.specs.Reach.{Reaches}
-use Rattle.cells.specs.Mailbox.{cell_of, place_in}
-use Rattle.moves.specs.Pinned.{IsPinned}
-use Rattle.moves.specs.Targets.{IsTarget}
+use Rattle.moves.proofs.Common.{inl, inr, sym, subst, ◌∙◌, false≢true, other_side, unit_at, Reaches, cell_of, place_in, IsPinned, IsTarget}
 use Rattle.moves.proofs.Checking.{who_checks, IsTarget-move}
 use Rattle.moves.proofs.checks.checking.Goals as goal
 

@@ -1,14 +1,4 @@
-use Rattle.std.proofs.Common.{◌≡◌, ℕ, Some, sym, ap, subst, ◌∙◌}
-use Rattle.std.proofs.lemmas.Bool.{false≢true}
-use Rattle.board.specs.declared.game.Kind.TheVariants.{King, Knight}
-use Rattle.board.specs.Games.{other_side}
-use Rattle.rules.specs.Squares.{unit_at}
-use Rattle.rules.specs.Reach.{IsInCheck}
-use Rattle.cells.specs.Mailbox.{place_in, IsCell}
-use Rattle.moves.specs.Pinned.{IsPinned}
-use Rattle.moves.specs.Safe.{IsCalm}
-use Rattle.moves.specs.Targets.{IsTarget}
-use Rattle.cells.specs.CellSets.{Has}
+use Rattle.moves.proofs.Common.{◌≡◌, ℕ, Some, sym, ap, subst, ◌∙◌, false≢true, King, Knight, other_side, unit_at, IsInCheck, place_in, IsCell, IsPinned, IsCalm, IsTarget, Has}
 use Rattle.moves.proofs.Kings.{check_at}
 use Rattle.moves.proofs.checks.watch_of.Goals as goal
 

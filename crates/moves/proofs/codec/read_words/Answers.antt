@@ -1,10 +1,4 @@
-use Rattle.std.proofs.Common.{◌≡◌, ◌<◌, ◌∙◌, ℕ, List, Option, Some, None, sym, ap, subst, arith, IfSome, IfNone}
-use Rattle.board.specs.declared.game.Game.{Game}
-use Rattle.board.specs.declared.game.Side.{Side}
-use Rattle.board.specs.declared.game.Unit.{Unit as Man}
-use Rattle.board.specs.Games.{squares_of}
-use Rattle.board.specs.Board.{PlainBoard, board_of, IsPosition}
-use Rattle.moves.specs.Words.{man_of, code_on, Spells}
+use Rattle.moves.proofs.Common.{◌≡◌, ◌<◌, ◌∙◌, ℕ, List, Option, Some, None, sym, ap, subst, arith, IfSome, IfNone, Game, Side, Man, squares_of, PlainBoard, board_of, IsPosition, man_of, code_on, Spells}
 use Rattle.moves.proofs.Packing.{IsRead, IsRead-start, IsRead-more, IsRead-whole, within_36}
 use Rattle.moves.proofs.codec.read_words.Goals as goal
 
@@ -31,11 +25,7 @@ refused (Some p) g mover words units read none = tt
 
 made : (o : Option PlainBoard) (g : Game) (mover : Side) (words : List ℕ) (units : List (Option Man)) → IsRead g words units (squares_of g) → IfSome o (λ p. p ≡ board_of g mover units) → IfSome o (λ b. (b.game ≡ g) × (b.mover ≡ mover) × Spells b words)
 made None g mover words units read e = tt
-made (Some p) g mover words units read e = (
-  ap (λ (b : PlainBoard). b.game) e,
-  ap (λ (b : PlainBoard). b.mover) e,
-  subst (λ (b : PlainBoard). Spells b words) (sym e) read.below,
-)
+made (Some p) g mover words units read e = (ap (λ (b : PlainBoard). b.game) e, ap (λ (b : PlainBoard). b.mover) e, subst (λ (b : PlainBoard). Spells b words) (sym e) read.below)
 
 pub returns-clause-refused : goal.returns-clause-refused
 returns-clause-refused c = refused c.of.result c.args.game c.args.mover c.args.words.now c.loop-number.units (all_read c) c.of.ensures.refused

@@ -1,5 +1,4 @@
-use Rattle.std.proofs.Common.{sym, ◌∙◌, subst}
-use Rattle.board.specs.Board.{IsPosition, board_of}
+use Rattle.moves.proofs.Common.{sym, ◌∙◌, subst, IsPosition, board_of}
 use Rattle.moves.proofs.codec.write_words.Goals as goal
 
 pub write_units-requires : goal.write_units-requires

@@ -1,13 +1,10 @@
-use Rattle.std.proofs.Common.{◌≡◌, ◌*◌, ◌≤◌, sym, subst, arith, Some, count_ones, rules}
-use Rattle.rules.specs.Squares.{unit_at}
-use Rattle.rules.specs.Reach.{Reaches}
-use Rattle.cells.specs.Mailbox.{place_in}
-use Rattle.moves.proofs.Counts.{counted_all, few_ones, product_most}
+use Rattle.moves.proofs.Common.{◌≡◌, ◌*◌, ◌≤◌, sym, subst, arith, Some, count_ones, rules, unit_at, Reaches, place_in, mul-le}
+use Rattle.moves.proofs.Counts.{counted_all, few_ones}
 use Rattle.moves.proofs.counting.count_from.Goals as goal
 
 pub overflow_mul-result : goal.overflow_mul-result
 overflow_mul-result c =
-    let most : count_ones c.safe_cells-safe.result * c.moves_to_each.result ≤ 256 = product_most _ _ (few_ones c.safe_cells-safe.result c.safe_cells-safe.type_inv) c.moves_to_each.ensures.few in
+    let most : count_ones c.safe_cells-safe.result * c.moves_to_each.result ≤ 256 = mul-le _ _ 64 4 (few_ones c.safe_cells-safe.result c.safe_cells-safe.type_inv) c.moves_to_each.ensures.few in
     omega (arith, most)
 
 pub returns : goal.returns

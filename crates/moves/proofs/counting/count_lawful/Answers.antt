@@ -1,22 +1,14 @@
-use Rattle.std.proofs.Common.{◌≡◌, ℕ, ◌↔◌, true, subst, arith}
-use Rattle.board.specs.Board.{is_of_side}
-use Rattle.rules.specs.Squares.{unit_at}
-use Rattle.cells.specs.Mailbox.{place_in, IsCell}
-use Rattle.cells.specs.CellSets.{Has}
-use Rattle.moves.proofs.Gathering.{IsOwn, tallied_start, tallied_end, tallied_next, tallied_few, tallied_more}
+use Rattle.moves.proofs.Common.{arith}
+use Rattle.moves.proofs.Gathering.{tallied_start, tallied_end, tallied_few, tallied_more}
 use Rattle.moves.proofs.counting.count_lawful.Goals as goal
 
 pub units-init : goal.units-init
-units-init c =
-    let b = c.args.board.now in
-    let own : (i : ℕ) → Has c.of_side-left.result i ↔ IsOwn b i = subst (λ s. (i : ℕ) → Has c.of_side-left.result i ↔ (IsCell b.game i × (is_of_side s (unit_at b (place_in i)) ≡ true))) c.mover.ensures.value c.of_side-left.ensures in
-    tallied_start b c.of_side-left.result own
+units-init c = tallied_start c.args.board.now c.own-left.result c.own-left.ensures.cells
 
-pub count_from-count-requires-clause-cell : goal.count_from-count-requires-clause-cell
-count_from-count-requires-clause-cell c = (tallied_next c.args.board.now c.units.left c.units.count c.units.invariant c.take_lowest-cell.result c.take_lowest-cell.ensures.there c.take_lowest-cell.ensures.least).0
-
-pub count_from-count-requires-clause-own : goal.count_from-count-requires-clause-own
-count_from-count-requires-clause-own c = (tallied_next c.args.board.now c.units.left c.units.count c.units.invariant c.take_lowest-cell.result c.take_lowest-cell.ensures.there c.take_lowest-cell.ensures.least).1
+pub count_from-count-requires : goal.count_from-count-requires
+count_from-count-requires c =
+    let (cell, own) = ((c.units.invariant.left c.take_lowest-cell.result).0 c.take_lowest-cell.ensures.there).0 in
+    record { position = c.guard_of-guard.ensures.position; guards = c.guard_of-guard.ensures.guards; cell = cell; own = own }
 
 pub overflow_add-count : goal.overflow_add-count
 overflow_add-count c =

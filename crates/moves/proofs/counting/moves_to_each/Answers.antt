@@ -1,5 +1,4 @@
-use Rattle.std.proofs.Common.{sym, ap, ◌∙◌, inl}
-use Rattle.moves.specs.Safe.{promotions_of}
+use Rattle.moves.proofs.Common.{sym, ap, ◌∙◌, inl, promotions_of}
 use Rattle.moves.proofs.counting.moves_to_each.Goals as goal
 
 pub returns-in-LosAlamos-clause-each : goal.returns-in-LosAlamos-clause-each

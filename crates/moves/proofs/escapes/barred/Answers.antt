@@ -1,14 +1,4 @@
-use Rattle.std.proofs.Common.{◌≡◌, inl, inr, sym, ap, subst, ◌∙◌, unwrap_or}
-use Rattle.board.specs.declared.game.Unit.{Unit as Man}
-use Rattle.board.specs.Games.{other_side}
-use Rattle.rules.specs.Squares.{Ply}
-use Rattle.rules.specs.Moves.{placed}
-use Rattle.rules.proofs.Keeps.{to_on_board}
-use Rattle.cells.specs.Mailbox.{cell_of, place_in, IsCell}
-use Rattle.cells.proofs.CellNumbers.{IsCell-cell_of, place_in-cell_of}
-use Rattle.cells.proofs.Masks.{Has-four}
-use Rattle.moves.specs.Looking.{Aims}
-use Rattle.moves.specs.Pinned.{IsPinned}
+use Rattle.moves.proofs.Common.{◌≡◌, inl, inr, sym, ap, subst, ◌∙◌, unwrap_or, Man, other_side, Ply, placed, to_on_board, cell_of, place_in, IsCell, IsCell-cell_of, place_in-cell_of, Has-four, Aims, IsPinned}
 use Rattle.moves.proofs.escapes.barred.Goals as goal
 
 pub open_lines-aims-requires : goal.open_lines-aims-requires

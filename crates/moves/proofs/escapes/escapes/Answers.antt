@@ -1,12 +1,4 @@
-use Rattle.std.proofs.Common.{◌≡◌, sym, ap, subst, ◌∙◌}
-use Rattle.std.proofs.lemmas.Bool.{false≢true}
-use Rattle.board.specs.Games.{other_side}
-use Rattle.rules.specs.Squares.{Ply}
-use Rattle.cells.specs.Mailbox.{cell_of, place_in}
-use Rattle.cells.specs.CellSets.{Has}
-use Rattle.cells.proofs.CellNumbers.{IsCell-cell_of, place_in-cell_of, cell_of-place_in}
-use Rattle.cells.proofs.Masks.{lowest-has, not-zero}
-use Rattle.moves.specs.Pinned.{IsPinned}
+use Rattle.moves.proofs.Common.{◌≡◌, sym, ap, subst, ◌∙◌, false≢true, other_side, Ply, cell_of, place_in, Has, IsCell-cell_of, place_in-cell_of, cell_of-place_in, lowest-has, not-zero, IsPinned}
 use Rattle.moves.proofs.Escaping.{lawful_step}
 use Rattle.moves.proofs.escapes.escapes.Goals as goal
 

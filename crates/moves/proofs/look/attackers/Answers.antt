@@ -1,17 +1,11 @@
-use Rattle.std.proofs.Common.{◌≡◌, ℕ, ◌↔◌, true, subst}
-use Rattle.board.specs.Games.{other_side}
-use Rattle.board.specs.Board.{is_of_side}
-use Rattle.rules.specs.Squares.{unit_at}
-use Rattle.cells.specs.Mailbox.{place_in, IsCell}
-use Rattle.cells.specs.CellSets.{Has}
-use Rattle.moves.proofs.Attacking.{attackers-are}
+use Rattle.moves.proofs.Common.{ℕ, Kind, other_side, place_in, IsCell, TakesAs, via}
+use Rattle.moves.proofs.Attacking.{five-are, attackers-are}
 use Rattle.moves.proofs.look.attackers.Goals as goal
 
 pub returns : goal.returns
-returns c =
+returns c = λ i.
     let b = c.args.board.now in
-    let owns : (j : ℕ) → Has c.of_side-foes.result j ↔ (IsCell b.game j × (is_of_side (other_side c.args.side) (unit_at b (place_in j)) ≡ true)) =
-    subst (λ s. (j : ℕ) → Has c.of_side-foes.result j ↔ (IsCell b.game j × (is_of_side s (unit_at b (place_in j)) ≡ true))) c.other.ensures c.of_side-foes.ensures in
-    attackers-are b c.requires.position c.args.side c.args.cell c.requires.cell c.of_side-foes.result owns
-    c.set.result c.set-2.result c.set-3.result c.set-4.result c.set-5.result c.set.ensures c.set-2.ensures c.set-3.ensures c.set-4.ensures c.set-5.ensures
-    c.struck.result c.struck-2.result c.struck-3.result c.struck-4.result c.struck-5.result c.struck.ensures c.struck-2.ensures c.struck-3.ensures c.struck-4.ensures c.struck-5.ensures
+    let k = place_in c.args.cell in
+    let side = other_side c.args.side in
+    via (five-are (λ (q : Kind) (j : ℕ). IsCell b.game j × TakesAs b side q (place_in j) k) _ _ _ _ _ c.struck.ensures c.struck-2.ensures c.struck-3.ensures c.struck-4.ensures c.struck-5.ensures i)
+    (attackers-are b c.requires.position side k i)

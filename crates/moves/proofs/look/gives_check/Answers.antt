@@ -1,7 +1,4 @@
-use Rattle.std.proofs.Common.{subst}
-use Rattle.board.specs.Board.{PlainBoard}
-use Rattle.rules.specs.Reach.{IsInCheck}
-use Rattle.rules.proofs.Keeps.{one_after}
+use Rattle.moves.proofs.Common.{subst, PlainBoard, IsInCheck, one_after}
 use Rattle.moves.proofs.look.gives_check.Goals as goal
 
 pub returns : goal.returns

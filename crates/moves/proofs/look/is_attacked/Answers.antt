@@ -1,65 +1,31 @@
-use Rattle.std.proofs.Common.{◌≡◌, ℕ, ◌↔◌, true, refl, subst}
-use Rattle.std.specs.Int.RustNames.{bit_or}
-use Rattle.board.specs.declared.game.Kind.TheVariants.{King, Rook, Bishop, Knight, Pawn}
-use Rattle.board.specs.declared.game.Side.{Side}
-use Rattle.board.specs.Games.{other_side}
-use Rattle.board.specs.Board.{PlainBoard, is_of_side}
-use Rattle.rules.specs.Squares.{unit_at}
-use Rattle.cells.specs.Mailbox.{place_in, IsCell}
-use Rattle.cells.specs.CellSets.{Has}
-use Rattle.cells.proofs.Masks.{not-zero}
-use Rattle.moves.specs.declared.sets.Class.TheVariants.{Crowned, Straight, Slanted, Horsed, Foot}
-use Rattle.moves.proofs.Attacking.{attackers-are, none-attacks, struck-attacks, line_too, slant_too, kind_too}
+use Rattle.moves.proofs.Common.{ℕ, bit_or, Kind, Rook, Bishop, Knight, King, Pawn, other_side, place_in, IsCell, TakesAs, not-zero, via, so}
+use Rattle.moves.proofs.Attacking.{five-are, attackers-are, none-attacks, some_attack}
 use Rattle.moves.proofs.look.is_attacked.Goals as goal
-
-abbrev Owns : PlainBoard → Side → ℕ → Type 0
-Owns b s foes = (j : ℕ) → Has foes j ↔ (IsCell b.game j × (is_of_side s (unit_at b (place_in j)) ≡ true))
 
 pub returns-then-struck-ne0 : goal.returns-then-struck-ne0
 returns-then-struck-ne0 c =
-    let b = c.args.board.now in
-    let owns : Owns b (other_side c.args.side) c.of_side-foes.result = subst (λ s. Owns b s c.of_side-foes.result) c.other.ensures c.of_side-foes.ensures in
-    let found = struck-attacks b c.requires.position c.args.side c.args.cell c.requires.cell c.of_side-foes.result owns Straight Rook c.set.result c.struck.result c.set.ensures
-    (line_too b c.requires.position c.args.side c.args.cell c.requires.cell) c.struck.type_inv c.struck.ensures c.if-struck-ne0.true in
-    (λ _. found, λ _. refl)
+    so (some_attack c.args.board.now c.requires.position (other_side c.args.side) (place_in c.args.cell) Rook (λ e. cc) _ c.struck.type_inv c.struck.ensures c.if-struck-ne0.true)
 
 pub returns-then-struck-ne0-2 : goal.returns-then-struck-ne0-2
 returns-then-struck-ne0-2 c =
-    let b = c.args.board.now in
-    let owns : Owns b (other_side c.args.side) c.of_side-foes.result = subst (λ s. Owns b s c.of_side-foes.result) c.other.ensures c.of_side-foes.ensures in
-    let found = struck-attacks b c.requires.position c.args.side c.args.cell c.requires.cell c.of_side-foes.result owns Slanted Bishop c.set-2.result c.struck-2.result c.set-2.ensures
-    (slant_too b c.requires.position c.args.side c.args.cell c.requires.cell) c.struck-2.type_inv c.struck-2.ensures c.if-struck-ne0-2.true in
-    (λ _. found, λ _. refl)
+    so (some_attack c.args.board.now c.requires.position (other_side c.args.side) (place_in c.args.cell) Bishop (λ e. cc) _ c.struck-2.type_inv c.struck-2.ensures c.if-struck-ne0-2.true)
 
 pub returns-then-struck-ne0-3 : goal.returns-then-struck-ne0-3
 returns-then-struck-ne0-3 c =
-    let b = c.args.board.now in
-    let owns : Owns b (other_side c.args.side) c.of_side-foes.result = subst (λ s. Owns b s c.of_side-foes.result) c.other.ensures c.of_side-foes.ensures in
-    let found = struck-attacks b c.requires.position c.args.side c.args.cell c.requires.cell c.of_side-foes.result owns Horsed Knight c.set-3.result c.struck-3.result c.set-3.ensures
-    (kind_too b c.requires.position c.args.side c.args.cell c.requires.cell c.of_side-foes.result owns Horsed Knight (λ u e. e)) c.struck-3.type_inv c.struck-3.ensures c.if-struck-ne0-3.true in
-    (λ _. found, λ _. refl)
+    so (some_attack c.args.board.now c.requires.position (other_side c.args.side) (place_in c.args.cell) Knight (λ e. cc) _ c.struck-3.type_inv c.struck-3.ensures c.if-struck-ne0-3.true)
 
 pub returns-then-struck-ne0-4 : goal.returns-then-struck-ne0-4
 returns-then-struck-ne0-4 c =
-    let b = c.args.board.now in
-    let owns : Owns b (other_side c.args.side) c.of_side-foes.result = subst (λ s. Owns b s c.of_side-foes.result) c.other.ensures c.of_side-foes.ensures in
-    let found = struck-attacks b c.requires.position c.args.side c.args.cell c.requires.cell c.of_side-foes.result owns Crowned King c.set-4.result c.struck-4.result c.set-4.ensures
-    (kind_too b c.requires.position c.args.side c.args.cell c.requires.cell c.of_side-foes.result owns Crowned King (λ u e. e)) c.struck-4.type_inv c.struck-4.ensures c.if-struck-ne0-4.true in
-    (λ _. found, λ _. refl)
+    so (some_attack c.args.board.now c.requires.position (other_side c.args.side) (place_in c.args.cell) King (λ e. cc) _ c.struck-4.type_inv c.struck-4.ensures c.if-struck-ne0-4.true)
 
 pub returns : goal.returns
 returns c =
     let b = c.args.board.now in
-    let s = c.args.side in
-    let i = c.args.cell in
-    let foes = c.of_side-foes.result in
-    let owns : Owns b (other_side s) foes = subst (λ x. Owns b x foes) c.other.ensures c.of_side-foes.ensures in
-    let are = attackers-are b c.requires.position s i c.requires.cell foes owns
-    c.set.result c.set-2.result c.set-3.result c.set-4.result c.set-5.result c.set.ensures c.set-2.ensures c.set-3.ensures c.set-4.ensures c.set-5.ensures
-    c.struck.result c.struck-2.result c.struck-3.result c.struck-4.result c.struck-5.result c.struck.ensures c.struck-2.ensures c.struck-3.ensures c.struck-4.ensures c.struck-5.ensures in
+    let k = place_in c.args.cell in
+    let side = other_side c.args.side in
+    let are = λ (i : ℕ). via (five-are (λ (q : Kind) (j : ℕ). IsCell b.game j × TakesAs b side q (place_in j) k) _ _ _ _ _ c.struck.ensures c.struck-2.ensures c.struck-3.ensures c.struck-4.ensures c.struck-5.ensures i) (attackers-are b c.requires.position side k i) in
     let w = not-zero c.struck-5.result in (
-      λ h. struck-attacks b c.requires.position s i c.requires.cell foes owns Foot Pawn c.set-5.result c.struck-5.result c.set-5.ensures
-          (kind_too b c.requires.position s i c.requires.cell foes owns Foot Pawn (λ u e. e)) c.struck-5.type_inv c.struck-5.ensures (w.0 h),
-      λ a. w.1 (λ zero. none-attacks b c.requires.position s i c.requires.cell _ are
+      λ h. some_attack b c.requires.position side k Pawn (λ e. cc) _ c.struck-5.type_inv c.struck-5.ensures (w.0 h),
+      λ a. w.1 (λ zero. none-attacks b c.requires.position side k _ are
           (λ t. bit_or (bit_or (bit_or (bit_or (c.if-struck-ne0.false t) (c.if-struck-ne0-2.false t)) (c.if-struck-ne0-3.false t)) (c.if-struck-ne0-4.false t)) (zero t)) a),
     )

@@ -1,5 +1,4 @@
-use Rattle.std.proofs.lemmas.Bool.{false≢true}
-use Rattle.cells.specs.Mailbox.{place_in}
+use Rattle.moves.proofs.Common.{place_in, not_so}
 use Rattle.moves.proofs.Kings.{check_at, check_from, no_check}
 use Rattle.moves.proofs.look.is_checked.Goals as goal
 
@@ -11,4 +10,4 @@ returns-in-Some c =
     )
 
 pub returns-in-None : goal.returns-in-None
-returns-in-None c = (λ never. absurd (false≢true never), λ check. absurd (no_check c.args.board.now c.args.side c.in-None.ensures check))
+returns-in-None c = not_so (no_check c.args.board.now c.args.side c.in-None.ensures)

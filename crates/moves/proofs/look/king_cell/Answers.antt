@@ -1,11 +1,9 @@
-use Rattle.std.proofs.Common.{subst}
-use Rattle.cells.specs.CellSets.{Has}
-use Rattle.cells.proofs.Masks.{Has-zero}
-use Rattle.moves.proofs.KingCells.{king_in, has_king}
+use Rattle.moves.proofs.Common.{subst, Has, Has-zero}
+use Rattle.moves.proofs.Owned.{kings-are}
 use Rattle.moves.proofs.look.king_cell.Goals as goal
 
 pub returns-then-kings-eq0 : goal.returns-then-kings-eq0
-returns-then-kings-eq0 c = λ i cell stands. Has-zero i (subst (λ n. Has n i) c.if-kings-eq0.true (has_king c.args.board.now c.args.side c.set.result c.of_side.result c.set.ensures c.of_side.ensures i cell stands))
+returns-then-kings-eq0 c = λ i cell stands. Has-zero i (subst (λ n. Has n i) c.if-kings-eq0.true ((kings-are c.args.board.now c.args.side _ _ c.of_side.ensures c.set.ensures i).1 (cell, stands)))
 
 pub returns : goal.returns
-returns c = king_in c.args.board.now c.args.side c.set.result c.of_side.result c.set.ensures c.of_side.ensures c.lowest.result c.lowest.ensures.there
+returns c = (kings-are c.args.board.now c.args.side _ _ c.of_side.ensures c.set.ensures c.lowest.result).0 c.lowest.ensures.there

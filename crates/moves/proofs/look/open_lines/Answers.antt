@@ -1,70 +1,49 @@
-use Rattle.std.proofs.Common.{ℕ, inl, inr, subst, sym}
-use Rattle.board.specs.declared.game.Kind.TheVariants.{King, Knight, Pawn}
-use Rattle.board.specs.Board.{PlainBoard}
-use Rattle.cells.specs.declared.tables.Way.TheVariants.{North, South, East, West, NorthEast, SouthWest, NorthWest, SouthEast}
-use Rattle.cells.specs.Mailbox.{place_in, IsCell}
-use Rattle.cells.specs.Ways.{IsOnStraight, IsOnSlanted}
-use Rattle.cells.specs.Leaps.{IsLeapt}
-use Rattle.cells.proofs.Masks.{Has-or}
-use Rattle.moves.specs.Looking.{Aims}
-use Rattle.moves.specs.Sets.{RidesStraight, RidesSlanted}
+use Rattle.moves.proofs.Common.{◌≡◌, ℕ, inl, inr, refl, subst, sym, Game, Side, Kind, King, Queen, Rook, Bishop, Knight, Pawn, Wazir, Ferz, Way, PlainBoard, place_in, IsCell, IsOnStraight, IsOnSlanted, IsOnRay, IsLeapt, Has-or, Aims, RidesBy}
 use Rattle.moves.proofs.Riding.{rides-ray}
-use Rattle.moves.proofs.Seeing.{Sees-rook, Sees-bishop, Sees-queen, Sees-leaper, king_leaps_all, knight_leaps_all, pawn_leaps_all}
+use Rattle.moves.proofs.Seeing.{Sees, IsLeaper, wazir_ways, ferz_ways, Sees-rook, Sees-bishop, Sees-queen, Sees-leaper}
 use Rattle.moves.proofs.look.open_lines.Goals as goal
 
-straight : (b : PlainBoard) (i j : ℕ) → RidesStraight b i j → IsOnStraight b.game i j
-straight b i j (inl r) = inl (rides-ray b North i j r)
-straight b i j (inr (inl r)) = inr (inl (rides-ray b South i j r))
-straight b i j (inr (inr (inl r))) = inr (inr (inl (rides-ray b East i j r)))
-straight b i j (inr (inr (inr r))) = inr (inr (inr (rides-ray b West i j r)))
+module _ (side : Side) (kind : Kind) (game : Game) (i : ℕ) (cell : IsCell game i) (b : PlainBoard) (j : ℕ) (same : b.game ≡ game) (to : IsCell game j) (aims : Aims b (record { side = side; kind = kind }) (place_in i) (place_in j)) where
+  here : IsCell b.game i
+  here = subst (λ g. IsCell g i) (sym same) cell
 
-slanted : (b : PlainBoard) (i j : ℕ) → RidesSlanted b i j → IsOnSlanted b.game i j
-slanted b i j (inl r) = inl (rides-ray b NorthEast i j r)
-slanted b i j (inr (inl r)) = inr (inl (rides-ray b SouthWest i j r))
-slanted b i j (inr (inr (inl r))) = inr (inr (inl (rides-ray b NorthWest i j r)))
-slanted b i j (inr (inr (inr r))) = inr (inr (inr (rides-ray b SouthEast i j r)))
+  sees : (q : Kind) → kind ≡ q → Sees b side i j q
+  sees q is = (subst (λ g. IsCell g j) (sym same) to, subst (λ k. Aims b (record { side = side; kind = k }) (place_in i) (place_in j)) is aims)
+
+  leapt : (q : Kind) → kind ≡ q → IsLeaper q → IsLeapt game side q i j
+  leapt q is all = subst (λ g. IsLeapt g side q i j) same ((Sees-leaper b side i j here q all).1 (sees q is))
+
+  on_straight : RidesBy b Wazir i j → IsOnStraight game i j
+  on_straight r = subst (λ g. IsOnStraight g i j) same ((wazir_ways (λ (way : Way). IsOnRay b.game way i j)).1 (record { way = r.way; leap = r.leap; holds = rides-ray b r.way i j r.holds }))
+
+  on_slanted : RidesBy b Ferz i j → IsOnSlanted game i j
+  on_slanted r = subst (λ g. IsOnSlanted g i j) same ((ferz_ways (λ (way : Way). IsOnRay b.game way i j)).1 (record { way = r.way; leap = r.leap; holds = rides-ray b r.way i j r.holds }))
+
+  straight : kind ≡ Rook → IsOnStraight game i j
+  straight is = on_straight ((Sees-rook b side i j here).1 (sees Rook is))
+
+  slanted : kind ≡ Bishop → IsOnSlanted game i j
+  slanted is = on_slanted ((Sees-bishop b side i j here).1 (sees Bishop is))
 
 pub returns-in-King : goal.returns-in-King
-returns-in-King c = λ b j same cell aims.
-    let here : IsCell b.game c.args.cell = subst (λ g. IsCell g c.args.cell) (sym same) c.requires in
-    let there : IsCell b.game j = subst (λ g. IsCell g j) (sym same) cell in
-    let w = subst (λ k. Aims b (record { side = c.args.side; kind = k }) (place_in c.args.cell) (place_in j)) c.in-King.is aims in
-    (c.king_leaps.ensures c.args.side j).1 (subst (λ g. IsLeapt g c.args.side King c.args.cell j) same ((Sees-leaper b c.args.side c.args.cell j here King king_leaps_all).1 (there, w)))
+returns-in-King c = λ b j same to aims. (c.king_leaps.ensures c.args.side j).1 (leapt c.args.side c.args.kind c.args.game c.args.cell c.requires b j same to aims King c.in-King.is refl)
 
 pub returns-in-Knight : goal.returns-in-Knight
-returns-in-Knight c = λ b j same cell aims.
-    let here : IsCell b.game c.args.cell = subst (λ g. IsCell g c.args.cell) (sym same) c.requires in
-    let there : IsCell b.game j = subst (λ g. IsCell g j) (sym same) cell in
-    let w = subst (λ k. Aims b (record { side = c.args.side; kind = k }) (place_in c.args.cell) (place_in j)) c.in-Knight.is aims in
-    (c.knight_leaps.ensures c.args.side j).1 (subst (λ g. IsLeapt g c.args.side Knight c.args.cell j) same ((Sees-leaper b c.args.side c.args.cell j here Knight knight_leaps_all).1 (there, w)))
+returns-in-Knight c = λ b j same to aims. (c.knight_leaps.ensures c.args.side j).1 (leapt c.args.side c.args.kind c.args.game c.args.cell c.requires b j same to aims Knight c.in-Knight.is refl)
 
 pub returns-in-Pawn : goal.returns-in-Pawn
-returns-in-Pawn c = λ b j same cell aims.
-    let here : IsCell b.game c.args.cell = subst (λ g. IsCell g c.args.cell) (sym same) c.requires in
-    let there : IsCell b.game j = subst (λ g. IsCell g j) (sym same) cell in
-    let w = subst (λ k. Aims b (record { side = c.args.side; kind = k }) (place_in c.args.cell) (place_in j)) c.in-Pawn.is aims in
-    (c.pawn_captures.ensures j).1 (subst (λ g. IsLeapt g c.args.side Pawn c.args.cell j) same ((Sees-leaper b c.args.side c.args.cell j here Pawn pawn_leaps_all).1 (there, w)))
+returns-in-Pawn c = λ b j same to aims. (c.pawn_captures.ensures j).1 (leapt c.args.side c.args.kind c.args.game c.args.cell c.requires b j same to aims Pawn c.in-Pawn.is refl)
 
 pub returns-in-Queen : goal.returns-in-Queen
-returns-in-Queen c = λ b j same cell aims.
-    let here : IsCell b.game c.args.cell = subst (λ g. IsCell g c.args.cell) (sym same) c.requires in
-    let there : IsCell b.game j = subst (λ g. IsCell g j) (sym same) cell in
-    let w = subst (λ k. Aims b (record { side = c.args.side; kind = k }) (place_in c.args.cell) (place_in j)) c.in-Queen.is aims in
-    (Has-or c.straight_lines.result c.slanted_lines.result j).1 (elim ((Sees-queen b c.args.side c.args.cell j here).1 (there, w)) [
-      | inl r ↦ inl ((c.straight_lines.ensures j).1 (subst (λ g. IsOnStraight g c.args.cell j) same (straight b c.args.cell j r)))
-      | inr r ↦ inr ((c.slanted_lines.ensures j).1 (subst (λ g. IsOnSlanted g c.args.cell j) same (slanted b c.args.cell j r)))
+returns-in-Queen c = λ b j same to aims.
+    let sees = (Sees-queen b c.args.side c.args.cell j (here c.args.side c.args.kind c.args.game c.args.cell c.requires b j same to aims)).1 (sees c.args.side c.args.kind c.args.game c.args.cell c.requires b j same to aims Queen c.in-Queen.is) in
+    (Has-or c.straight_lines.result c.slanted_lines.result j).1 (elim sees [
+      | inl r ↦ inl ((c.straight_lines.ensures j).1 (on_straight c.args.side c.args.kind c.args.game c.args.cell c.requires b j same to aims r))
+      | inr r ↦ inr ((c.slanted_lines.ensures j).1 (on_slanted c.args.side c.args.kind c.args.game c.args.cell c.requires b j same to aims r))
     ])
 
 pub returns-in-Rook : goal.returns-in-Rook
-returns-in-Rook c = λ b j same cell aims.
-    let here : IsCell b.game c.args.cell = subst (λ g. IsCell g c.args.cell) (sym same) c.requires in
-    let there : IsCell b.game j = subst (λ g. IsCell g j) (sym same) cell in
-    let w = subst (λ k. Aims b (record { side = c.args.side; kind = k }) (place_in c.args.cell) (place_in j)) c.in-Rook.is aims in
-    (c.straight_lines-in-Rook.ensures j).1 (subst (λ g. IsOnStraight g c.args.cell j) same (straight b c.args.cell j ((Sees-rook b c.args.side c.args.cell j here).1 (there, w))))
+returns-in-Rook c = λ b j same to aims. (c.straight_lines-in-Rook.ensures j).1 (straight c.args.side c.args.kind c.args.game c.args.cell c.requires b j same to aims c.in-Rook.is)
 
 pub returns-in-Bishop : goal.returns-in-Bishop
-returns-in-Bishop c = λ b j same cell aims.
-    let here : IsCell b.game c.args.cell = subst (λ g. IsCell g c.args.cell) (sym same) c.requires in
-    let there : IsCell b.game j = subst (λ g. IsCell g j) (sym same) cell in
-    let w = subst (λ k. Aims b (record { side = c.args.side; kind = k }) (place_in c.args.cell) (place_in j)) c.in-Bishop.is aims in
-    (c.slanted_lines-in-Bishop.ensures j).1 (subst (λ g. IsOnSlanted g c.args.cell j) same (slanted b c.args.cell j ((Sees-bishop b c.args.side c.args.cell j here).1 (there, w))))
+returns-in-Bishop c = λ b j same to aims. (c.slanted_lines-in-Bishop.ensures j).1 (slanted c.args.side c.args.kind c.args.game c.args.cell c.requires b j same to aims c.in-Bishop.is)

@@ -1,5 +1,4 @@
-use Rattle.std.proofs.Common.{All, take}
-use Rattle.cells.specs.declared.tables.Way.{Way}
+use Rattle.moves.proofs.Common.{All, take, Way}
 use Rattle.moves.proofs.Pinning.{HoldsPins}
 use Rattle.moves.proofs.pinned.pinned.Given as given
 

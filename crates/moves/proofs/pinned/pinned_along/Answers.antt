@@ -1,11 +1,4 @@
-use Rattle.std.proofs.Common.{◌≡◌, ℕ, ◌↔◌, subst}
-use Rattle.std.specs.Int.RustNames.{bit_and}
-use Rattle.board.specs.declared.game.Game.{Game}
-use Rattle.board.specs.Board.{PlainBoard}
-use Rattle.cells.specs.declared.tables.Way.{Way}
-use Rattle.cells.specs.CellSets.{Has}
-use Rattle.cells.specs.Ways.{IsOnRay, Rides}
-use Rattle.cells.proofs.Masks.{Has-and, Has-zero}
+use Rattle.moves.proofs.Common.{◌≡◌, ℕ, ◌↔◌, subst, bit_and, Game, PlainBoard, Way, Has, IsOnRay, Rides, Has-and, Has-zero}
 use Rattle.moves.proofs.Riding.{cell-rides, ray-beyond, ray-of, rides-ray}
 use Rattle.moves.proofs.Pinning.{one_unit}
 use Rattle.moves.proofs.pinned.pinned_along.Goals as goal

@@ -1,13 +1,4 @@
-use Rattle.std.proofs.Common.{◌≡◌, inl, inr, sym, subst, ◌∙◌, arith}
-use Rattle.std.specs.Int.{bit_at}
-use Rattle.std.specs.Int.RustNames.{bit_or}
-use Rattle.std.proofs.lemmas.Bool.{cases_eq}
-use Rattle.std.proofs.lemmas.Nat.Bits.{bit_at_ones}
-use Rattle.cells.specs.Mailbox.{IsCell}
-use Rattle.cells.specs.CellSets.{Has}
-use Rattle.cells.specs.Ways.{IsOnStraight, IsOnSlanted}
-use Rattle.cells.proofs.CellNumbers.{cell_small}
-use Rattle.cells.proofs.Masks.{Has-and, Has-or, Has-zero}
+use Rattle.moves.proofs.Common.{◌≡◌, inl, inr, subst, ◌∙◌, arith, Way, bit_at, cases_eq, bit_at_ones, IsOnRay, Has, cell_small, Has-and, Has-zero}
 use Rattle.moves.proofs.Shadows.{comes_through, riding}
 use Rattle.moves.proofs.pinned.shadow.Goals as goal
 
@@ -15,20 +6,13 @@ pub returns-then-riders-eq0 : goal.returns-then-riders-eq0
 returns-then-riders-eq0 c = λ i cell w.
     let b = c.args.board.now in
     let t = comes_through b c.requires.position b.mover c.args.king i c.requires.cell cell w in
-    absurd (Has-zero t.rider (subst (λ n. Has n t.rider) c.if-riders-eq0.true (riding b c.args.king i c.args.checkers c.set.result c.set-2.result c.requires.checkers c.set.ensures c.set-2.ensures t)))
+    absurd (Has-zero t.rider (subst (λ n. Has n t.rider) c.if-riders-eq0.true (riding b c.args.king i c.args.checkers c.riders.result c.requires.checkers c.riders.ensures t)))
 
 pub returns-then-without-ne0 : goal.returns-then-without-ne0
 returns-then-without-ne0 c = λ i cell w. let small = cell_small c.args.board.now.game i cell in bit_at_ones 64 i (omega (arith, small))
 
-pub straight_lines-requires : goal.straight_lines-requires
-straight_lines-requires c =
-    let there = (Has-and c.args.checkers (bit_or c.set.result c.set-2.result) c.lowest-cell.result).0 c.lowest-cell.ensures.there in
-    subst (λ g. IsCell g c.lowest-cell.result) (sym c.game.ensures.value) ((c.requires.checkers c.lowest-cell.result).0 there.0).0
-
-pub slanted_lines-requires : goal.slanted_lines-requires
-slanted_lines-requires c =
-    let there = (Has-and c.args.checkers (bit_or c.set.result c.set-2.result) c.lowest-cell.result).0 c.lowest-cell.ensures.there in
-    subst (λ g. IsCell g c.lowest-cell.result) (sym c.game-2.ensures.value) ((c.requires.checkers c.lowest-cell.result).0 there.0).0
+pub lines-requires : goal.lines-requires
+lines-requires c = ((c.riders.ensures c.lowest-cell.result).0 ((Has-and c.args.checkers c.riders.result c.lowest-cell.result).0 c.lowest-cell.ensures.there).1).0
 
 pub returns : goal.returns
 returns c = λ i cell w.
@@ -38,10 +22,7 @@ returns c = λ i cell w.
     let same : t.rider ≡ c.lowest-cell.result = elim (cases_eq t.rider c.lowest-cell.result) [
       | inl e ↦ e
       | inr other ↦
-          let kept : bit_at c.without.result t.rider ≡ 1 = c.without.ensures.others t.rider (omega (arith, small)) other ∙ riding b c.args.king i c.args.checkers c.set.result c.set-2.result c.requires.checkers c.set.ensures c.set-2.ensures t in
+          let kept : bit_at c.without.result t.rider ≡ 1 = c.without.ensures.others t.rider (omega (arith, small)) other ∙ riding b c.args.king i c.args.checkers c.riders.result c.requires.checkers c.riders.ensures t in
           absurd (Has-zero t.rider (subst (λ n. Has n t.rider) c.if-without-ne0.false kept))
     ] in
-    (Has-or c.straight_lines.result c.slanted_lines.result i).1 (elim t.lines [
-      | inl on ↦ inl ((c.straight_lines.ensures i).1 (subst (λ n. IsOnStraight c.game.result n i) same (subst (λ g. IsOnStraight g t.rider i) (sym c.game.ensures.value) on)))
-      | inr on ↦ inr ((c.slanted_lines.ensures i).1 (subst (λ n. IsOnSlanted c.game-2.result n i) same (subst (λ g. IsOnSlanted g t.rider i) (sym c.game-2.ensures.value) on)))
-    ])
+    (c.lines.ensures i).1 (subst (λ r. (way : Way) × IsOnRay b.game way r i) same (t.way, t.on))

@@ -1,9 +1,5 @@
-use Rattle.std.proofs.Common.{sym, subst, ◌∙◌}
-use Rattle.std.proofs.lemmas.Bool.{false≢true}
-use Rattle.cells.specs.Mailbox.{place_in}
-use Rattle.board.specs.Games.{other_side}
-use Rattle.moves.specs.Looking.{AreAttacked}
-use Rattle.moves.proofs.SafeCells.{calm_safe, free_safe, some_crowned, crowned_king}
+use Rattle.moves.proofs.Common.{sym, subst, ◌∙◌, false≢true, place_in, other_side, AreAttacked}
+use Rattle.moves.proofs.SafeCells.{calm_safe, free_safe}
 use Rattle.moves.proofs.safe.free_cells.Goals as goal
 
 pub calm_steps-requires-clause-attacked : goal.calm_steps-requires-clause-attacked
@@ -21,6 +17,6 @@ returns c =
     free_safe b c.args.unit (place_in c.args.from) (place_in c.args.guard.king) c.requires.position c.requires.cell.on_board c.requires.stands c.requires.owner (λ e. false≢true (sym c.if-is_king.false ∙ c.is_king.ensures.1 e))
     g.cell.on_board g.king (λ check. false≢true (sym c.if-guard.false ∙ g.checked.1 check)) (λ pin. false≢true (sym c.if-has.false ∙ c.has.ensures.1 (g.pins c.if-guard.false c.args.from c.requires.cell pin)))
     c.except.result (λ j. (
-      λ h. let w = (c.except.ensures j).0 h in let t = (c.targets-reached.ensures j).0 w.0 in (t, λ there. w.1 ((c.set.ensures j).1 (t.0, some_crowned b (place_in j) there))),
-      λ w. (c.except.ensures j).1 ((c.targets-reached.ensures j).1 w.0, λ there. w.1 (crowned_king b (place_in j) ((c.set.ensures j).0 there).1)),
+      λ h. let w = (c.except.ensures j).0 h in let t = (c.targets-reached.ensures j).0 w.0 in (t, λ there. w.1 ((c.kings.ensures j).1 (t.0, there))),
+      λ w. (c.except.ensures j).1 ((c.targets-reached.ensures j).1 w.0, λ there. w.1 ((c.kings.ensures j).0 there).1),
     ))

@@ -1,12 +1,4 @@
-use Rattle.std.proofs.Common.{◌≡◌, Some, sym, ap, subst, ◌∙◌, inl, inr}
-use Rattle.std.proofs.lemmas.Bool.{cases_eq}
-use Rattle.rules.specs.Squares.{unit_at}
-use Rattle.cells.specs.Mailbox.{cell_of, place_in}
-use Rattle.cells.specs.CellSets.{Has}
-use Rattle.moves.specs.Targets.{IsTarget}
-use Rattle.cells.proofs.CellNumbers.{place_in-cell_of}
-use Rattle.cells.proofs.Masks.{Has-zero}
-use Rattle.rules.proofs.Lists.{IsNumbered-lawful}
+use Rattle.moves.proofs.Common.{◌≡◌, Some, sym, ap, subst, ◌∙◌, inl, inr, cases_eq, unit_at, cell_of, place_in, Has, IsTarget, place_in-cell_of, Has-zero, IsNumbered-lawful}
 use Rattle.moves.proofs.SafeCells.{lawful_named}
 use Rattle.moves.proofs.safe.sifted.Goals as goal
 

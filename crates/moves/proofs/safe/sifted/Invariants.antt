@@ -1,10 +1,4 @@
-use Rattle.std.proofs.Common.{◌≡◌, ◌⊎◌, ℕ}
-use Rattle.rules.specs.Squares.{Ply}
-use Rattle.cells.specs.Mailbox.{cell_of, place_in}
-use Rattle.cells.specs.CellSets.{Has}
-use Rattle.moves.specs.Targets.{IsTarget}
-use Rattle.rules.specs.Moves.{IsLawful}
-use Rattle.moves.specs.Safe.{IsNamed}
+use Rattle.moves.proofs.Common.{◌≡◌, ◌⊎◌, ℕ, Ply, cell_of, place_in, Has, IsTarget, IsLawful, IsNamed}
 use Rattle.moves.proofs.safe.sifted.Given as given
 
 -- the unit reaches what is left, moves lawfully to what is safe, and to no other cell

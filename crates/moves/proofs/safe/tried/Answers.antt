@@ -1,11 +1,4 @@
-use Rattle.std.proofs.Common.{◌≡◌, Some, sym, ap, subst, ◌∙◌}
-use Rattle.std.proofs.lemmas.Bool.{false≢true}
-use Rattle.board.specs.declared.game.Kind.TheVariants.{King}
-use Rattle.board.specs.Games.{other_side}
-use Rattle.rules.specs.Squares.{unit_at}
-use Rattle.cells.specs.Mailbox.{cell_of, place_in}
-use Rattle.moves.specs.Looking.{AreAttacked}
-use Rattle.moves.specs.Targets.{IsTarget}
+use Rattle.moves.proofs.Common.{◌≡◌, Some, sym, ap, subst, ◌∙◌, false≢true, King, other_side, unit_at, cell_of, place_in, AreAttacked, IsTarget}
 use Rattle.moves.proofs.SafeCells.{calm_target, calm_all}
 use Rattle.moves.proofs.AtOnce.{pseudo_by, move_by}
 use Rattle.moves.proofs.Checking.{IsTarget-move}
@@ -14,13 +7,13 @@ use Rattle.moves.proofs.safe.tried.Goals as goal
 pub calm_steps-requires-clause-attacked : goal.calm_steps-requires-clause-attacked
 calm_steps-requires-clause-attacked c = subst (λ s. AreAttacked c.args.board.now (other_side s) c.args.guard.attacked) (sym c.requires.owner) c.requires.guards.attacked
 
-pub returns-then-is_king-clause-reached : goal.returns-then-is_king-clause-reached
-returns-then-is_king-clause-reached c =
-    calm_target c.args.board.now c.args.unit (place_in c.args.from) c.requires.position (c.is_king.ensures.0 c.if-is_king.true) c.requires.owner c.requires.stands c.calm_steps.result c.calm_steps.ensures
-
-pub returns-then-is_king-clause-all : goal.returns-then-is_king-clause-all
-returns-then-is_king-clause-all c =
-    calm_all c.args.board.now c.args.unit (place_in c.args.from) c.requires.position (c.is_king.ensures.0 c.if-is_king.true) c.requires.owner c.requires.stands c.calm_steps.result c.calm_steps.ensures
+pub returns-then-is_king : goal.returns-then-is_king
+returns-then-is_king c =
+    let king = c.is_king.ensures.0 c.if-is_king.true in
+    record {
+      reached = calm_target c.args.board.now c.args.unit (place_in c.args.from) c.requires.position king c.requires.owner c.requires.stands c.calm_steps.result c.calm_steps.ensures;
+      all = calm_all c.args.board.now c.args.unit (place_in c.args.from) c.requires.position king c.requires.owner c.requires.stands c.calm_steps.result c.calm_steps.ensures;
+    }
 
 pub returns-clause-all : goal.returns-clause-all
 returns-clause-all c = λ m at l.

@@ -1,21 +1,12 @@
-use Rattle.std.proofs.Common.{◌≡◌, ◌⊎◌, true, false, inl, inr, ap}
-use Rattle.cells.specs.declared.tables.Way.{Way}
-use Rattle.cells.specs.declared.tables.Way.TheVariants.{North, South, East, West, NorthEast, NorthWest, SouthEast, SouthWest}
-use Rattle.cells.specs.Ways.{rises}
+use Rattle.moves.proofs.Common.{◌≡◌, ◌⊎◌, true, false, inl, inr, ap, Way, North, South, East, West, NorthEast, NorthWest, SouthEast, SouthWest, rises}
 use Rattle.moves.proofs.Riding.{ray-of, cut-up, cut-down}
 use Rattle.moves.proofs.seen.along.Goals as goal
 
 up : (way : Way) → (way ≡ North) ⊎ ((way ≡ East) ⊎ ((way ≡ NorthEast) ⊎ (way ≡ NorthWest))) → rises way ≡ true
-up way (inl e) = ap rises e
-up way (inr (inl e)) = ap rises e
-up way (inr (inr (inl e))) = ap rises e
-up way (inr (inr (inr e))) = ap rises e
+up way w = elim w [ inl e ↦ ap rises e | inr (inl e) ↦ ap rises e | inr (inr (inl e)) ↦ ap rises e | inr (inr (inr e)) ↦ ap rises e ]
 
 down : (way : Way) → (way ≡ South) ⊎ ((way ≡ West) ⊎ ((way ≡ SouthEast) ⊎ (way ≡ SouthWest))) → rises way ≡ false
-down way (inl e) = ap rises e
-down way (inr (inl e)) = ap rises e
-down way (inr (inr (inl e))) = ap rises e
-down way (inr (inr (inr e))) = ap rises e
+down way w = elim w [ inl e ↦ ap rises e | inr (inl e) ↦ ap rises e | inr (inr (inl e)) ↦ ap rises e | inr (inr (inr e)) ↦ ap rises e ]
 
 pub returns-in-North : goal.returns-in-North
 returns-in-North c =

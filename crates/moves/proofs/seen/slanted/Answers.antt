@@ -1,10 +1,8 @@
-use Rattle.cells.specs.declared.tables.Way.TheVariants.{NorthEast, SouthWest, NorthWest, SouthEast}
-use Rattle.cells.specs.Ways.{Rides}
-use Rattle.cells.proofs.Masks.{four-are}
+use Rattle.moves.proofs.Common.{Way, NorthEast, SouthWest, NorthWest, SouthEast, Rides, four-are, via}
+use Rattle.moves.proofs.Seeing.{ferz_ways}
 use Rattle.moves.proofs.seen.slanted.Goals as goal
 
 pub returns : goal.returns
-returns c =
-    let b = c.args.board.now in
-    let i = c.args.cell in
-    four-are (Rides b NorthEast i) (Rides b SouthWest i) (Rides b NorthWest i) (Rides b SouthEast i) c.along.result c.along-2.result c.along-3.result c.along-4.result c.along.ensures c.along-2.ensures c.along-3.ensures c.along-4.ensures
+returns c = λ j.
+    let r = λ (way : Way). Rides c.args.board.now way c.args.cell in
+    via (four-are (r NorthEast) (r SouthWest) (r NorthWest) (r SouthEast) _ _ _ _ c.along.ensures c.along-2.ensures c.along-3.ensures c.along-4.ensures j) (ferz_ways (λ (way : Way). Rides c.args.board.now way c.args.cell j))

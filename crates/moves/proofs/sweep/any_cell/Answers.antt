@@ -1,7 +1,4 @@
-use Rattle.std.proofs.Common.{sym, subst, inl, inr, false}
-use Rattle.std.proofs.lemmas.Bool.{cases_eq}
-use Rattle.cells.specs.CellSets.{Has}
-use Rattle.cells.proofs.Masks.{Has-zero}
+use Rattle.moves.proofs.Common.{sym, subst, inl, inr, false, cases_eq, Has, Has-zero}
 use Rattle.moves.proofs.sweep.any_cell.Goals as goal
 
 pub cells-init : goal.cells-init

@@ -1,5 +1,4 @@
-use Rattle.std.proofs.Common.{◌⊎◌, ℕ, false}
-use Rattle.cells.specs.CellSets.{Has}
+use Rattle.moves.proofs.Common.{◌⊎◌, ℕ, false, Has}
 use Rattle.moves.proofs.sweep.any_cell.Given as given
 
 -- the cells of the set that aren't left didn't pass

@@ -1,5 +1,4 @@
-use Rattle.std.proofs.Common.{arith}
-use Rattle.cells.proofs.Masks.{Has-clear, less_cleared}
+use Rattle.moves.proofs.Common.{arith, Has-clear, less_cleared}
 use Rattle.moves.proofs.sweep.take_lowest.Goals as goal
 
 pub returns-clause-least : goal.returns-clause-least

@@ -1,7 +1,4 @@
-use Rattle.std.proofs.Common.{◌+◌, ◌-◌, sym, subst}
-use Rattle.cells.specs.Ways.{IsNext, ahead_way}
-use Rattle.cells.specs.declared.tables.Way.TheVariants.{North, South}
-use Rattle.cells.proofs.OnRays.{is-next}
+use Rattle.moves.proofs.Common.{◌+◌, ◌-◌, sym, subst, IsNext, ahead_way, North, South, is-next}
 use Rattle.moves.proofs.targets.ahead.Goals as goal
 
 pub returns-in-White : goal.returns-in-White

@@ -1,7 +1,4 @@
-use Rattle.std.proofs.Common.{sym}
-use Rattle.cells.specs.Ways.{ahead_way}
-use Rattle.cells.proofs.OnRays.{next-is}
-use Rattle.cells.proofs.CellNumbers.{cell_small}
+use Rattle.moves.proofs.Common.{sym, ahead_way, next-is, cell_small}
 use Rattle.moves.proofs.Reaching.{pushed-next}
 use Rattle.moves.proofs.targets.pushed.Goals as goal
 

@@ -1,16 +1,12 @@
-use Rattle.std.proofs.Common.{◌≡◌, ◌<◌, refl, subst, sym}
-use Rattle.std.proofs.lemmas.Nat.{xor_lt}
-use Rattle.std.specs.Int.RustNames.{bit_xor}
-use Rattle.moves.specs.Words.{digit}
+use Rattle.moves.proofs.Common.{◌≡◌, ◌<◌, refl, subst, sym, xor_lt, bit_xor, digit}
 use Rattle.moves.proofs.Digits.{digit_there, digit_other}
 use Rattle.moves.proofs.words.with_digit.Goals as goal
 
-pub returns-clause-there : goal.returns-clause-there
-returns-clause-there c =
+pub returns : goal.returns
+returns c =
     let e : c.from.result ≡ bit_xor (digit c.args.word c.args.place) c.args.code = rw c.digit.ensures.value at c.from.ensures in
-    digit_there c.args.word c.args.place c.args.code c.from.result _ c.requires.place c.requires.code e (subst (λ n. n < 16) (sym c.from.ensures) (xor_lt 4 _ _ c.digit.ensures.small c.requires.code)) refl
-
-pub returns-clause-elsewhere : goal.returns-clause-elsewhere
-returns-clause-elsewhere c =
-    let e : c.from.result ≡ bit_xor (digit c.args.word c.args.place) c.args.code = rw c.digit.ensures.value at c.from.ensures in
-    digit_other c.args.word c.args.place c.args.code c.from.result _ c.requires.place c.requires.code e (subst (λ n. n < 16) (sym c.from.ensures) (xor_lt 4 _ _ c.digit.ensures.small c.requires.code)) refl
+    let small = subst (λ n. n < 16) (sym c.from.ensures) (xor_lt 4 _ _ c.digit.ensures.small c.requires.code) in
+    record {
+      there = digit_there c.args.word c.args.place c.args.code c.from.result _ c.requires.place c.requires.code e small refl;
+      elsewhere = digit_other c.args.word c.args.place c.args.code c.from.result _ c.requires.place c.requires.code e small refl;
+    }

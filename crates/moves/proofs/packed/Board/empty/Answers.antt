@@ -1,6 +1,4 @@
-use Rattle.std.proofs.Common.{ℕ, ◌↔◌, subst}
-use Rattle.cells.specs.Mailbox.{IsCell}
-use Rattle.cells.specs.CellSets.{Has}
+use Rattle.moves.proofs.Common.{ℕ, ◌↔◌, subst, IsCell, Has}
 use Rattle.moves.proofs.Shown.{empty-shown}
 use Rattle.moves.proofs.packed.Board.empty.Goals as goal
 

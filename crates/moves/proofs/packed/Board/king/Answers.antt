@@ -1,38 +1,23 @@
-use Rattle.std.proofs.Common.{◌≡◌, arith, rules, sym, subst, ap, ◌∙◌, bit_and}
-use mathlib.Core.Logic.{dite}
-use native.Mathlib.Decide.{ℕ_discrete}
-use Rattle.board.specs.Board.{IsPosition}
-use Rattle.rules.specs.Squares.{IsOnBoard, unit_at}
-use Rattle.cells.specs.Mailbox.{place_in, IsCell}
-use Rattle.cells.specs.CellSets.{Has}
-use Rattle.cells.proofs.Masks.{Has-zero}
-use Rattle.moves.specs.declared.sets.Class.TheVariants.{Crowned}
-use Rattle.moves.specs.Sets.{Holds, Shows}
+use Rattle.moves.proofs.Common.{◌≡◌, ◌↔◌, ℕ, arith, rules, sym, subst, ap, ◌∙◌, inl, inr, bit_and, cases_eq, IsPosition, IsOnBoard, unit_at, place_in, IsCell, Has, Has-zero, Shows, Crowned}
 use Rattle.moves.proofs.Guarding.{no_kingless}
 use Rattle.moves.proofs.Kings.{king_of}
-use Rattle.moves.proofs.KingCells.{king_in, has_king}
+use Rattle.moves.proofs.Owned.{kings-are}
 use Rattle.moves.proofs.packed.Board.king.Goals as goal
 
-crowned : (c : goal.After-of_side) → Holds c.args.self.now Crowned c.self.inside.sets.kings
-crowned c = (subst (λ b. Shows b c.self.inside.sets) c.self.view_is c.self.invariant.shows).kings
-
-there : (c : goal.After-lowest) → IsCell c.args.self.now.game c.lowest.result × (unit_at c.args.self.now (place_in c.lowest.result) ≡ king_of c.args.side)
-there c = king_in c.args.self.now c.args.side c.self.inside.sets.kings c.of_side.result (crowned c.before) c.of_side.ensures c.lowest.result c.lowest.ensures.there
+kings : (c : goal.After-self) (i : ℕ) → Has (bit_and c.of_side.result c.self.inside.sets.kings) i ↔ (IsCell c.args.self.now.game i × (unit_at c.args.self.now (place_in i) ≡ king_of c.args.side))
+kings c = kings-are c.args.self.now c.args.side _ _ c.of_side.ensures (subst (λ b. Shows b c.self.inside.sets) c.self.view_is c.self.invariant.shows Crowned)
 
 pub lowest-requires : goal.lowest-requires
-lowest-requires c =
-    dite (ℕ_discrete (bit_and c.self.inside.sets.kings c.of_side.result) 0)
-    (λ none. absurd (no_kingless c.args.self.now (subst IsPosition c.self.view_is c.self.invariant.packed.position) c.args.side (λ i cell stands. Has-zero i (subst (λ n. Has n i) none (has_king c.args.self.now c.args.side c.self.inside.sets.kings c.of_side.result (crowned c) c.of_side.ensures i cell stands)))))
-    (λ some. omega (arith, some))
+lowest-requires c = elim (cases_eq (bit_and c.of_side.result c.self.inside.sets.kings) 0) [
+  | inl none ↦ absurd (no_kingless c.args.self.now (subst IsPosition c.self.view_is c.self.invariant.packed.position) c.args.side (λ i cell stands. Has-zero i (subst (λ n. Has n i) none ((kings c i).1 (cell, stands)))))
+  | inr some ↦ omega (arith, some)
+]
 
-pub square_in-requires-clause-above : goal.square_in-requires-clause-above
-square_in-requires-clause-above c = (there c).0.above
+there : (c : goal.After-lowest) → IsCell c.args.self.now.game c.lowest.result × (unit_at c.args.self.now (place_in c.lowest.result) ≡ king_of c.args.side)
+there c = (kings c.before c.lowest.result).0 c.lowest.ensures.there
 
-pub square_in-requires-clause-file : goal.square_in-requires-clause-file
-square_in-requires-clause-file c = let cell = (there c).0 in search rules
-
-pub square_in-requires-clause-rank : goal.square_in-requires-clause-rank
-square_in-requires-clause-rank c = let cell = (there c).0 in search rules
+pub square_in-requires : goal.square_in-requires
+square_in-requires c = let cell = (there c).0 in record { above = cell.above; file = search rules; rank = search rules }
 
 pub returns-clause-on_board : goal.returns-clause-on_board
 returns-clause-on_board c = subst (IsOnBoard c.args.self.now.game) (sym c.square_in.ensures) (there c.before).0.on_board

@@ -1,16 +1,6 @@
-use Rattle.std.proofs.Common.{◌≡◌, ◌≢◌, ◌<◌, ℕ, set, Some, unwrap_or, sym, ap, subst, ◌∙◌}
-use Rattle.board.specs.Board.{PlainBoard, IsPosition}
-use Rattle.board.specs.Games.{squares_of}
-use Rattle.board.specs.declared.game.Unit.{Unit as Man}
-use Rattle.rules.specs.Squares.{Ply, square_number}
-use Rattle.cells.specs.Mailbox.{cell_of}
-use Rattle.moves.specs.Sets.{Shows, AreMoved}
+use Rattle.moves.proofs.Common.{◌≡◌, Some, set, unwrap_or, sym, ap, subst, ◌∙◌, Game, Man, Ply, square_number, cell_of, Shows, AreMoved, placed, after, to_on_board, man_of, unpacked, IsPacked}
 use Rattle.moves.proofs.Shown.{Shows-after}
-use Rattle.rules.proofs.Listed.{number_within}
-use Rattle.rules.specs.Moves.{placed, after}
-use Rattle.rules.proofs.Keeps.{to_on_board, other_square, IsPosition-after}
-use Rattle.moves.specs.Words.{man_of, game_of, unpacked, IsPacked}
-use Rattle.moves.proofs.Packing.{IsPut, made, unpacked_end, IsPacked-end}
+use Rattle.moves.proofs.Packing.{IsPut, unpacked_after, IsPacked-after}
 use Rattle.moves.proofs.packed.Board.moved.Goals as goal
 
 pub put-requires-2-clause-square : goal.put-requires-2-clause-square
@@ -19,80 +9,52 @@ put-requires-2-clause-square c =
     rw (c.game-game.ensures.value, to) (to_on_board c.args.self.now c.args.m c.args.unit c.requires)
 
 module _ (c : goal.After-moved-sets) where
-  n_from : ℕ
-  n_from = square_number c.game-game.result c.m.inside.from
+  first : IsPut c.args.self.now.game c.self.inside.words c.put.new.words (square_number c.args.self.now.game c.args.m.from) 0
+  first =
+      let put : IsPut c.game-game.result c.self.inside.words c.put.new.words (square_number c.game-game.result c.m.inside.from) 0 = record { there = c.put.ensures.there; elsewhere = c.put.ensures.elsewhere } in
+      subst (λ (x : Ply). IsPut c.args.self.now.game c.self.inside.words c.put.new.words (square_number c.args.self.now.game x.from) 0) c.m.view_is
+      (subst (λ (g : Game). IsPut g c.self.inside.words c.put.new.words (square_number g c.m.inside.from) 0) c.game-game.ensures.value put)
 
-  n_to : ℕ
-  n_to = square_number c.game-game.result c.m.inside.to
+  second : IsPut c.args.self.now.game c.put.new.words c.put-2.new.words (square_number c.args.self.now.game c.args.m.to) c.code_of.result
+  second =
+      let put : IsPut c.game-game.result c.put.new.words c.put-2.new.words (square_number c.game-game.result c.m.inside.to) c.code_of.result = record { there = c.put-2.ensures.there; elsewhere = c.put-2.ensures.elsewhere } in
+      subst (λ (x : Ply). IsPut c.args.self.now.game c.put.new.words c.put-2.new.words (square_number c.args.self.now.game x.to) c.code_of.result) c.m.view_is
+      (subst (λ (g : Game). IsPut g c.put.new.words c.put-2.new.words (square_number g c.m.inside.to) c.code_of.result) c.game-game.ensures.value put)
 
-  from_is : n_from ≡ square_number c.args.self.now.game c.args.m.from
-  unfolding n_from
-  from_is = λ i. square_number (c.game-game.ensures.value i) ((c.m.view_is i).from)
+  man : Man
+  man = record { side = c.args.unit.side; kind = c.unwrap_or.result }
 
-  to_is : n_to ≡ square_number c.args.self.now.game c.args.m.to
-  unfolding n_to
-  to_is = λ i. square_number (c.game-game.ensures.value i) ((c.m.view_is i).to)
+  placed_is : man ≡ placed c.args.unit c.args.m
+  unfolding man
+  placed_is = λ i. record { side = c.args.unit.side; kind = (c.unwrap_or.ensures ∙ ap (λ (x : Ply). unwrap_or x.promotion c.args.unit.kind) c.m.view_is) i }
 
-  from_within : n_from < squares_of c.game-game.result
-  from_within = rw (from_is, c.game-game.ensures.value) (number_within c.args.self.now.game c.args.m.from c.requires.on_board)
-
-  to_within : n_to < squares_of c.game-game.result
-  to_within = rw (to_is, c.game-game.ensures.value) (number_within c.args.self.now.game c.args.m.to (to_on_board c.args.self.now c.args.m c.args.unit c.requires))
-
-  placed_is : man_of c.code_of.result ≡ Some (placed c.args.unit c.args.m)
-  placed_is =
-      let kind : c.unwrap_or.result ≡ unwrap_or c.args.m.promotion c.args.unit.kind =
-      c.unwrap_or.ensures ∙ λ i. unwrap_or ((c.m.view_is i).promotion) c.args.unit.kind in
-      c.code_of.ensures.value ∙ λ i. Some (record { side = c.args.unit.side; kind = kind i })
-
-  first : IsPut c.game-game.result c.self.inside.words c.put.new.words n_from 0
-  unfolding n_from
-  first = record { there = c.put.ensures.there; elsewhere = c.put.ensures.elsewhere }
-
-  second : IsPut c.game-game.result c.put.new.words c.put-2.new.words n_to c.code_of.result
-  unfolding n_to
-  second = record { there = c.put-2.ensures.there; elsewhere = c.put-2.ensures.elsewhere }
-
-  apart : n_from ≢ n_to
-  apart e = other_square c.args.self.now c.args.m c.args.unit c.requires (sym from_is ∙ e ∙ to_is)
-
-  same : game_of c.self.inside.words ≡ c.game-game.result
-  same = ap (λ (x : PlainBoard). x.game) c.self.view_is ∙ sym c.game-game.ensures.value
-
-  made_is : made (unpacked c.self.inside.words) n_from n_to (placed c.args.unit c.args.m) ≡ after c.args.self.now c.args.m c.args.unit
-  made_is = λ i. made (c.self.view_is i) (from_is i) (to_is i) (placed c.args.unit c.args.m)
+  stands : man_of c.code_of.result ≡ Some (placed c.args.unit c.args.m)
+  unfolding man
+  stands = c.code_of.ensures.value ∙ ap Some placed_is
 
   pub view_after : unpacked (set c.put-2.new.words 0 c.turned.result) ≡ after c.args.self.now c.args.m c.args.unit
   view_after =
-      unpacked_end c.game-game.result c.self.inside.words c.put.new.words c.put-2.new.words c.turned.result n_from n_to c.code_of.result
-      first second apart c.put-2.array_long c.turned.ensures.flags c.turned.ensures.elsewhere same c.self.invariant.packed from_within to_within (placed c.args.unit c.args.m) placed_is
-      ∙ made_is
+      unpacked_after c.args.self.now c.args.m c.args.unit c.game-game.ensures.position c.requires c.self.inside.words c.put.new.words c.put-2.new.words c.turned.result c.code_of.result
+      c.self.invariant.packed c.self.view_is first second stands c.code_of.ensures.code c.put-2.array_long c.turned.ensures.flags c.turned.ensures.elsewhere
 
   pub packed_after : IsPacked (set c.put-2.new.words 0 c.turned.result)
   packed_after =
-      IsPacked-end c.game-game.result c.self.inside.words c.put.new.words c.put-2.new.words c.turned.result n_from n_to c.code_of.result
-      first second apart c.put-2.array_long c.turned.ensures.flags c.turned.ensures.elsewhere same c.self.invariant.packed from_within to_within (placed c.args.unit c.args.m) placed_is
-      c.code_of.ensures.code (subst IsPosition (sym made_is) (IsPosition-after c.args.self.now c.args.m c.args.unit c.game-game.ensures.position c.requires))
+      IsPacked-after c.args.self.now c.args.m c.args.unit c.game-game.ensures.position c.requires c.self.inside.words c.put.new.words c.put-2.new.words c.turned.result c.code_of.result
+      c.self.invariant.packed c.self.view_is first second stands c.code_of.ensures.code c.put-2.array_long c.turned.ensures.flags c.turned.ensures.elsewhere
 
-shows_before : (c : goal.After-moved-sets) → Shows c.args.self.now c.self.inside.sets
-shows_before c = subst (λ b. Shows b c.self.inside.sets) c.self.view_is c.self.invariant.shows
-
-sets_after : (c : goal.After-moved-sets) → AreMoved c.self.inside.sets c.moved-sets.result (cell_of c.args.m.from) (cell_of c.args.m.to) (placed c.args.unit c.args.m)
-sets_after c =
-    let s = c.self.inside.sets in
-    let t = c.moved-sets.result in
-    let from : c.cell_of.result ≡ cell_of c.args.m.from = c.cell_of.ensures.value ∙ ap (λ (x : Ply). cell_of x.from) c.m.view_is in
-    let to : c.cell_of-2.result ≡ cell_of c.args.m.to = c.cell_of-2.ensures.value ∙ ap (λ (x : Ply). cell_of x.to) c.m.view_is in
-    let kind : c.unwrap_or.result ≡ unwrap_or c.args.m.promotion c.args.unit.kind = c.unwrap_or.ensures ∙ λ i. unwrap_or ((c.m.view_is i).promotion) c.args.unit.kind in
-    let man : Man = record { side = c.args.unit.side; kind = c.unwrap_or.result } in
-    let same : man ≡ placed c.args.unit c.args.m = λ i. record { side = c.args.unit.side; kind = kind i } in
-    subst (AreMoved s t (cell_of c.args.m.from) (cell_of c.args.m.to)) same
-    (subst (λ x. AreMoved s t (cell_of c.args.m.from) x man) to (subst (λ x. AreMoved s t x c.cell_of-2.result man) from c.moved-sets.ensures))
+  sets_after : AreMoved c.self.inside.sets c.moved-sets.result (cell_of c.args.m.from) (cell_of c.args.m.to) (placed c.args.unit c.args.m)
+  unfolding man
+  sets_after =
+      let from : c.cell_of.result ≡ cell_of c.args.m.from = c.cell_of.ensures.value ∙ ap (λ (x : Ply). cell_of x.from) c.m.view_is in
+      let to : c.cell_of-2.result ≡ cell_of c.args.m.to = c.cell_of-2.ensures.value ∙ ap (λ (x : Ply). cell_of x.to) c.m.view_is in
+      subst (AreMoved c.self.inside.sets c.moved-sets.result (cell_of c.args.m.from) (cell_of c.args.m.to)) placed_is
+      (subst (λ x. AreMoved c.self.inside.sets c.moved-sets.result (cell_of c.args.m.from) x man) to (subst (λ x. AreMoved c.self.inside.sets c.moved-sets.result x c.cell_of-2.result man) from c.moved-sets.ensures))
 
 pub invariant_of-result : goal.invariant_of-result
 invariant_of-result c = record {
   packed = packed_after c;
-  shows = subst (λ b. Shows b c.moved-sets.result) (sym (view_after c)) (Shows-after c.args.self.now c.args.m c.args.unit c.game-game.ensures.position c.requires c.self.inside.sets c.moved-sets.result (shows_before c) (sets_after c));
+  shows = subst (λ b. Shows b c.moved-sets.result) (sym (view_after c)) (Shows-after c.args.self.now c.args.m c.args.unit c.game-game.ensures.position c.requires c.self.inside.sets c.moved-sets.result
+      (subst (λ b. Shows b c.self.inside.sets) c.self.view_is c.self.invariant.shows) (sets_after c));
 }
 
 pub returns : goal.returns

@@ -1,5 +1,4 @@
-use Rattle.std.proofs.Common.{sym, ◌∙◌, subst}
-use Rattle.board.specs.Board.{IsPosition, board_of}
+use Rattle.moves.proofs.Common.{sym, ◌∙◌, subst, IsPosition, board_of}
 use Rattle.moves.proofs.packed.Board.of.Goals as goal
 
 pub of_units-requires : goal.of_units-requires

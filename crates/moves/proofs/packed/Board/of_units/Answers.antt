@@ -1,5 +1,4 @@
-use Rattle.std.proofs.Common.{sym, subst}
-use Rattle.moves.specs.Sets.{Shows}
+use Rattle.moves.proofs.Common.{sym, subst, Shows}
 use Rattle.moves.proofs.packed.Board.of_units.Goals as goal
 
 pub invariant_of-result : goal.invariant_of-result

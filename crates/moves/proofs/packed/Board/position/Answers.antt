@@ -1,8 +1,4 @@
-use Rattle.std.proofs.Common.{◌≡◌, ℕ, List, Option, Some, None, IfNone, IsSome, refl, sym, subst, ◌∙◌}
-use Rattle.board.specs.declared.game.Game.{Game}
-use Rattle.board.specs.declared.game.Side.{Side}
-use Rattle.board.specs.Board.{PlainBoard, IsPosition}
-use Rattle.moves.specs.Words.{Spells, unpacked}
+use Rattle.moves.proofs.Common.{◌≡◌, ℕ, List, Option, Some, None, IfNone, IsSome, refl, sym, subst, ◌∙◌, Game, Side, PlainBoard, IsPosition, Spells, unpacked}
 use Rattle.moves.proofs.Packing.{units_in-at, within_36, one_spelled}
 use Rattle.moves.proofs.packed.Board.position.Goals as goal
 

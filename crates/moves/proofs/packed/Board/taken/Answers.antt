@@ -1,5 +1,4 @@
-use Rattle.std.proofs.Common.{subst}
-use Rattle.moves.specs.Sets.{Shows}
+use Rattle.moves.proofs.Common.{subst, Shows}
 use Rattle.moves.proofs.Shown.{taken-shown}
 use Rattle.moves.proofs.packed.Board.taken.Goals as goal
 

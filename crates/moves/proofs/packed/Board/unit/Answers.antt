@@ -1,6 +1,4 @@
-use Rattle.std.proofs.Common.{sym, ap, ◌∙◌}
-use Rattle.board.specs.Board.{unit_on}
-use Rattle.rules.specs.Squares.{square_number}
+use Rattle.moves.proofs.Common.{sym, ap, ◌∙◌, unit_on, square_number}
 use Rattle.moves.proofs.packed.Board.unit.Goals as goal
 
 pub returns : goal.returns

@@ -1,8 +1,4 @@
-use Rattle.std.proofs.Common.{◌≡◌, sym, ap, ◌∙◌}
-use Rattle.board.specs.Board.{PlainBoard, unit_on}
-use Rattle.rules.specs.Squares.{square_number}
-use Rattle.moves.specs.Words.{code_on, man_of, game_of}
-use Rattle.rules.proofs.Listed.{number_within}
+use Rattle.moves.proofs.Common.{◌≡◌, sym, ap, ◌∙◌, PlainBoard, unit_on, square_number, code_on, man_of, game_of, number_within}
 use Rattle.moves.proofs.Packing.{units_in-at, within_36}
 use Rattle.moves.proofs.packed.Board.unit_at.Goals as goal
 

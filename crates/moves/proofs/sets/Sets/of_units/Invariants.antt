@@ -1,4 +1,4 @@
-use Rattle.board.specs.Board.{board_of}
+use Rattle.moves.proofs.Common.{board_of}
 use Rattle.moves.proofs.Shown.{ShownBelow}
 use Rattle.moves.proofs.sets.Sets.of_units.Given as goal
 
