@@ -1,7 +1,7 @@
 //! What standard error is told of a refusal: one sentence, which says what to write instead.
 ghost use Rattle.std.specs.Prelude.{◌≡◌, ◌≢◌, ℕ, OnOk, IfSome};
 ghost use Rattle.std.specs.Io.KnownBytes.{Appends};
-ghost use Rattle.refusals.specs.Sentences.{AppendsLine, AppendsText, AppendsSentence, AppendsSentenceLine, beginning_of, grammar_sentence, sentence_of};
+ghost use Rattle.refusals.specs.Sentences.{AppendsLine, AppendsText, AppendsSentence, AppendsSentenceLine, beginning_of, sentence_of};
 ghost use Rattle.refusals.specs.declared.refusal.Refusal.TheVariants.{Grammar};
 
 use crate::board_text::{Board, count_of, split_run};
@@ -67,7 +67,13 @@ pub fn write_sentence<E: Write>(errors: &mut E, refused: &Refused<'_>) -> io::Re
         (E.contents errors.old) (E.contents errors.new)) }
 {
     match refused.refusal {
-        Refusal::Grammar(offset) => write_grammar(errors, offset),
+        Refusal::Grammar(0) => errors.write_all(
+            b"the input begins with no move: where `tree` wrote no tree, there is none to check",
+        ),
+        Refusal::Grammar(offset) => write!(
+            errors,
+            "after its first {offset} bytes the input is no tree: a tree is a move with # or =, or with replies, as c4c5{{a6a5:b1a1#}}"
+        ),
         Refusal::Fields | Refusal::Shape | Refusal::Letter | Refusal::Run | Refusal::Side => {
             write_told(errors, &position_sentence(refused))
         }
@@ -132,20 +138,6 @@ fn answer_advice(asking: Asking<'_>) -> &'static str {
     }
 }
 
-fn write_grammar<E: Write>(errors: &mut E, offset: usize) -> io::Result<()>
-    ensures { OnOk result (Appends (E.contents errors.old) (E.contents errors.new) (grammar_sentence offset)) }
-{
-    match offset {
-        0 => errors.write_all(
-            b"the input begins with no move: where `tree` wrote no tree, there is none to check",
-        ),
-        _ => write!(
-            errors,
-            "after its first {offset} bytes the input is no tree: a tree is a move with # or =, or with replies, as c4c5{{a6a5:b1a1#}}"
-        ),
-    }
-}
-
 const SIDES: &str = "the side to move is w or b: here is '%'";
 
 const RANKS: &str = "here are % squares: write % ranks, as % has%";
@@ -198,11 +190,12 @@ fn position_sentence<'a>(refused: &Refused<'a>) -> Sentence<'a> {
 /// ranks, two at most.
 fn shape_sentence<'a>(board: &Board<'a>) -> Sentence<'a> {
     let ranks = board.ranks;
-    for width in [6, 5] {
+    for (width, game) in [(6, "Los Alamos chess"), (5, "Gardner minichess")] {
         if ranks > 1 && board.uneven(width, ranks).is_none() {
-            let (here, game) = (Pair(ranks, " ranks of ", width), Text(game_of(width)));
-            let fault = Fault(!board.has_letters_of(width));
-            return Sentence(RANKS, (here, Number(width), game, fault));
+            let (here, text) = (Pair(ranks, " ranks of ", width), board.text);
+            let whole = Board { text, ranks: width };
+            let fault = whole.foreign_letter().is_some() || whole.split_digits().is_some();
+            return Sentence(RANKS, (here, Number(width), Text(game), Fault(fault)));
         }
     }
     if let Some(width) = board.other_width() {
@@ -223,27 +216,22 @@ fn shape_sentence<'a>(board: &Board<'a>) -> Sentence<'a> {
     }
 }
 
-fn game_of(ranks: usize) -> &'static str {
-    match ranks {
-        6 => "Los Alamos chess",
-        _ => "Gardner minichess",
-    }
-}
-
 /// Which letter is no unit's, or which run of empty squares is no single digit, or which units are too few or too many, or stand
 /// where they can't.
 fn units_sentence<'a>(refusal: Refusal, board: &Board<'a>) -> Sentence<'a> {
-    let (text, ranks, game) = (board.text, board.ranks, Text(game_of(board.ranks)));
-    let (bishop, most) = if ranks == 6 { ("", 12) } else { (" B", 10) };
-    let (bishop, most, last) = (Text(bishop), Number(most), Number(ranks));
+    let (text, ranks) = (board.text, board.ranks);
+    let (game, bishop, most) = match ranks {
+        6 => (Text("Los Alamos chess"), Text(""), Number(12)),
+        _ => (Text("Gardner minichess"), Text(" B"), Number(10)),
+    };
     match refusal {
         Refusal::Letter => match board.foreign_letter() {
             Some((rank, letter)) => Sentence(LETTER, (Number(rank), Bytes(letter), game, bishop)),
             None => Sentence(LETTERS, (game, bishop, NO, NO)),
         },
         Refusal::Run => match board.split_digits() {
-            Some((rank, run)) => Sentence(RUN, (Number(rank), Bytes(run), last, NO)),
-            None => Sentence(RUNS, (last, NO, NO, NO)),
+            Some((rank, run)) => Sentence(RUN, (Number(rank), Bytes(run), Number(ranks), NO)),
+            None => Sentence(RUNS, (Number(ranks), NO, NO, NO)),
         },
         Refusal::Kings => {
             let (white, black) = (count_of(text, b'K', b'K'), count_of(text, b'k', b'k'));
@@ -254,7 +242,11 @@ fn units_sentence<'a>(refusal: Refusal, board: &Board<'a>) -> Sentence<'a> {
             Sentence(UNITS, (most, game, Number(white), Number(black)))
         }
         _ => {
-            let (rank, most) = (board.pawn_rank(), ranks.saturating_sub(1));
+            let mut on_first = false;
+            for c in text {
+                on_first = *c != b'/' && (on_first || matches!(*c, b'P' | b'p'));
+            }
+            let (rank, most) = (if on_first { 1 } else { ranks }, ranks.saturating_sub(1));
             Sentence(PAWNS, (Number(rank), Number(most), NO, NO))
         }
     }

@@ -92,16 +92,9 @@ impl<'a> Board<'a> {
         matches!(self.ranks, 5 | 6) && self.uneven(self.ranks, self.ranks).is_none()
     }
 
-    /// Whether it has the letters of the game of so many ranks, and each run of empty squares is one digit.
-    pub fn has_letters_of(&self, ranks: usize) -> bool {
-        let text = self.text;
-        let board = Board { text, ranks };
-        board.foreign_letter().is_none() && board.split_digits().is_none()
-    }
-
     /// Whether it is a board of units, whatever these are.
     pub fn is_well(&self) -> bool {
-        self.has_shape() && self.has_letters_of(self.ranks)
+        self.has_shape() && self.foreign_letter().is_none() && self.split_digits().is_none()
     }
 
     /// The first byte that is no unit's, behind the number of its rank.
@@ -134,18 +127,5 @@ impl<'a> Board<'a> {
             }
         }
         None
-    }
-
-    /// The first rank if a pawn stands there, or else the last one.
-    pub fn pawn_rank(&self) -> usize {
-        let mut rank = self.ranks;
-        for c in self.text {
-            match *c {
-                b'/' => rank = self.ranks,
-                b'P' | b'p' => rank = 1,
-                _ => {}
-            }
-        }
-        rank
     }
 }

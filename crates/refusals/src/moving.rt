@@ -7,7 +7,7 @@ ghost use Rattle.refusals.specs.Sentences.{AppendsLine, error_beginning, over_te
 use crate::sentence::Part::{Bytes, Moves, On, Text};
 use crate::sentence::{NO, Sentence, write_line};
 use board::{Position, Side};
-use moves::{Move, Square, in_check, lawful, read_move, read_sound};
+use moves::{Move, in_check, lawful, read_move, read_sound};
 use std::io::{self, Write};
 
 fn side_word(side: Side) -> &'static str
@@ -24,22 +24,11 @@ const NOWHERE: &str = "'%': there is no position to play at";
 const NO_MOVE: &str =
     "'%': a move is two squares of the board, and what a pawn becomes, as c4c5 or c5c6q";
 
-const NOTHING: &str = "'%': nothing stands on %";
-
 const OTHERS: &str = "'%': % is to move, and the unit on % is %'s";
 
 const LAWFUL: &str = "'%': that isn't lawful: write one of%";
 
 const STUCK: &str = "'%': the unit on % has no lawful move";
-
-fn has_move_from(moves: &[Move], from: Square) -> bool {
-    for m in moves {
-        if m.from == from {
-            return true;
-        }
-    }
-    false
-}
 
 /// Why none of the lawful moves has this name.
 fn move_sentence<'a>(position: &Position, moves: &'a [Move], name: &'a [u8]) -> Sentence<'a> {
@@ -50,16 +39,19 @@ fn move_sentence<'a>(position: &Position, moves: &'a [Move], name: &'a [u8]) -> 
     };
     let square = On(from);
     match position.unit(from.number(game)) {
-        None => Sentence(NOTHING, (told, square, NO, NO)),
+        None => return Sentence("'%': nothing stands on %", (told, square, NO, NO)),
         Some(unit) if unit.side != mover => {
             let (side, other) = (Text(side_word(mover)), Text(side_word(unit.side)));
-            Sentence(OTHERS, (told, side, square, other))
+            return Sentence(OTHERS, (told, side, square, other));
         }
-        Some(_) if has_move_from(moves, from) => {
-            Sentence(LAWFUL, (told, Moves(moves, from), NO, NO))
-        }
-        Some(_) => Sentence(STUCK, (told, square, NO, NO)),
+        Some(_) => {}
     }
+    for m in moves {
+        if m.from == from {
+            return Sentence(LAWFUL, (told, Moves(moves, from), NO, NO));
+        }
+    }
+    Sentence(STUCK, (told, square, NO, NO))
 }
 
 /// Tells in one sentence why no lawful move has this name at a sound position.
@@ -71,18 +63,6 @@ pub fn advise_move<E: Write>(errors: &mut E, fen: &[u8], name: &[u8]) -> io::Res
     };
     let moves = lawful(&position);
     write_line(errors, &move_sentence(&position, moves.as_slice(), name))
-}
-
-/// How the game ended for the side to move, which has no lawful move.
-fn end_word(position: &Position) -> &'static str
-    ensures mated { IsInCheck position.now position.now.mover → result.now ≡ codes "mated" }
-    ensures stalemated { (IsInCheck position.now position.now.mover → ⊥) → result.now ≡ codes "stalemated" }
-{
-    if in_check(position, position.mover()) {
-        "mated"
-    } else {
-        "stalemated"
-    }
 }
 
 fn write_end<E: Write>(errors: &mut E, line: Option<u64>, side: Side, what: &str) -> io::Result<()>
@@ -109,5 +89,9 @@ pub fn advise_over<E: Write>(
     ensures stalemated { (IsInCheck position.now position.now.mover → ⊥) → OnOk result (Appends (E.contents errors.old)
         (E.contents errors.new) (over_text line position.now.mover (codes "stalemated"))) }
 {
-    write_end(errors, line, position.mover(), end_word(position))
+    if in_check(position, position.mover()) {
+        write_end(errors, line, position.mover(), "mated")
+    } else {
+        write_end(errors, line, position.mover(), "stalemated")
+    }
 }

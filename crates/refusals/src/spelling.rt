@@ -50,10 +50,6 @@ const STUCK: &str = "the side to move is w or b: leave out '%' behind it%";
 const FIELDS: &str =
     "a position has two fields, the board and the side: here are %; leave out '%'%";
 
-fn is_side(word: &[u8]) -> bool {
-    matches!(word, b"w" | b"b")
-}
-
 /// The number that is said behind a side in another way than a batch reads it, as `;dm 2`, ` ; dm 02` or EPD's ` - - dm 2;`.
 fn moves_of(tail: &[u8]) -> Option<u32> {
     let (_, words) = split_run(tail, IDLE, true);
@@ -68,12 +64,6 @@ fn moves_of(tail: &[u8]) -> Option<u32> {
     } else {
         None
     }
-}
-
-/// That a board and a side are to be parted by one space alone.
-fn parted<'a>(what: &'a str, board: &'a [u8], side: &'a [u8]) -> Sentence<'a> {
-    let fault = Fault(!Board::of(board).is_well());
-    Sentence(PARTED, (Text(what), Bytes(board), Bytes(side), fault))
 }
 
 /// The number of fields where so many stand behind the second, in a word where there are few.
@@ -121,7 +111,7 @@ fn joins_well(text: &[u8]) -> bool {
     for _ in 0..text.len() {
         let (_, words) = split_run(text, BLANKS, true);
         let (word, behind) = split_run(words, BLANKS, false);
-        if count > 0 && is_side(word) {
+        if count > 0 && matches!(word, [b'w' | b'b']) {
             break;
         }
         let end = count.saturating_add(word.len());
@@ -135,21 +125,6 @@ fn joins_well(text: &[u8]) -> bool {
 }
 
 impl<'a> Layout<'a> {
-    /// How board and side are parted, where not by one space alone.
-    fn parting(self) -> Option<&'static str> {
-        let (_, behind) = split_run(self.rest, BLANKS, true);
-        let (spaces, _) = split_run(self.gap, b" ", true);
-        if spaces.len() != self.gap.len() {
-            Some("a tab or a line end stands behind the board")
-        } else if self.gap.len() > 1 {
-            Some("several spaces stand behind the board")
-        } else if !self.before.is_empty() || (behind.is_empty() && !self.rest.is_empty()) {
-            Some("blanks stand around the position")
-        } else {
-            None
-        }
-    }
-
     /// What stands behind the side's letter: a sign and what follows, or else the words behind the second.
     fn behind_side(self, is_line: bool) -> Option<Sentence<'a>> {
         let fault = Fault(!Board::of(self.board).is_well());
@@ -168,15 +143,36 @@ impl<'a> Layout<'a> {
         Some(Sentence(text, told))
     }
 
+    /// How board and side are parted, where not by one space alone, or else what stands behind the side.
+    fn parting(self, is_line: bool) -> Option<Sentence<'a>> {
+        let (spaces, others) = split_run(self.gap, b" ", true);
+        let (_, behind) = split_run(self.rest, BLANKS, true);
+        let what = if !others.is_empty() {
+            "a tab or a line end stands behind the board"
+        } else if spaces.len() > 1 {
+            "several spaces stand behind the board"
+        } else if !self.before.is_empty() || (behind.is_empty() && !self.rest.is_empty()) {
+            "blanks stand around the position"
+        } else {
+            return self.behind_side(is_line);
+        };
+        let fault = Fault(!Board::of(self.board).is_well());
+        let parts = (Text(what), Bytes(self.board), Bytes(self.side), fault);
+        Some(Sentence(PARTED, parts))
+    }
+
     /// What is wrong with text that is ASCII.
     fn slip(self, text: &'a [u8], is_line: bool) -> Option<Sentence<'a>> {
         let board = Board::of(self.board);
         let (stuck, letter) = self.board.split_at(self.board.len().saturating_sub(1));
         let (_, behind) = split_run(self.rest, BLANKS, true);
+        let has_side = matches!(self.side, [b'w' | b'b']);
         // More of the board has a slash, or is no side, and one stands behind it.
-        let is_more = self.side.contains(&b'/') || (!is_side(self.side) && is_side(behind));
-        if is_side(letter) && !is_side(self.side) && Board::of(stuck).has_shape() {
-            return Some(parted("no space stands behind the board", stuck, letter));
+        let is_more = self.side.contains(&b'/') || (!has_side && matches!(behind, [b'w' | b'b']));
+        if matches!(letter, [b'w' | b'b']) && !has_side && Board::of(stuck).has_shape() {
+            let fault = Fault(!Board::of(stuck).is_well());
+            let what = Text("no space stands behind the board");
+            return Some(Sentence(PARTED, (what, Bytes(stuck), Bytes(letter), fault)));
         }
         let (text, is_well) = if self.board.is_empty() {
             (NOTHING, true)
@@ -187,10 +183,7 @@ impl<'a> Layout<'a> {
         } else if is_more && !board.has_shape() {
             (SPLIT, joins_well(text))
         } else {
-            return match self.parting() {
-                Some(what) => Some(parted(what, self.board, self.side)),
-                None => self.behind_side(is_line),
-            };
+            return self.parting(is_line);
         };
         Some(Sentence(text, (Fault(!is_well), NO, NO, NO)))
     }
