@@ -1,16 +1,15 @@
 //! What standard error is told of a refusal: one sentence, which says what to write instead.
 ghost use Rattle.std.specs.Prelude.{◌≡◌, ◌≢◌, ℕ, OnOk, IfSome};
 ghost use Rattle.std.specs.Io.KnownBytes.{Appends};
-ghost use Rattle.refusals.specs.Sentences.{AppendsLine, AppendsText, AppendsSentence, AppendsSentenceLine, beginning_of, grammar_sentence, sentence_of};
+ghost use Rattle.refusals.specs.Sentences.{AppendsLine, AppendsText, AppendsSentence, AppendsSentenceLine, beginning_of, sentence_of};
 ghost use Rattle.refusals.specs.declared.refusal.Refusal.TheVariants.{Grammar};
 
-use crate::board_text::{Board, count_of, cut_at};
+use crate::board_text::{Board, count_of, split_run};
 use crate::kings::check_sentence;
 use crate::refusal::Refusal;
-use crate::sentence::Part::{Bytes, Number, Pair, Text};
-use crate::sentence::Sentence::{Four, One, Plain, Three, Two};
-use crate::sentence::{Sentence, write_told};
-use crate::spelling::{other_fault, slip_of};
+use crate::sentence::Part::{Bytes, Fault, Number, Pair, Text};
+use crate::sentence::{NO, Sentence, write_told};
+use crate::spelling::slip_of;
 use moves::Goal;
 use std::io::{self, Write};
 
@@ -68,16 +67,19 @@ pub fn write_sentence<E: Write>(errors: &mut E, refused: &Refused<'_>) -> io::Re
         (E.contents errors.old) (E.contents errors.new)) }
 {
     match refused.refusal {
-        Refusal::Grammar(offset) => write_grammar(errors, offset),
-        Refusal::Fields
-        | Refusal::Shape
-        | Refusal::Letter
-        | Refusal::Run
-        | Refusal::Side
-        | Refusal::Kings
-        | Refusal::Units
-        | Refusal::PawnRank
-        | Refusal::OtherInCheck => write_told(errors, &position_sentence(refused)),
+        Refusal::Grammar(0) => errors.write_all(
+            b"the input begins with no move: where `tree` wrote no tree, there is none to check",
+        ),
+        Refusal::Grammar(offset) => write!(
+            errors,
+            "after its first {offset} bytes the input is no tree: a tree is a move with # or =, or with replies, as c4c5{{a6a5:b1a1#}}"
+        ),
+        Refusal::Fields | Refusal::Shape | Refusal::Letter | Refusal::Run | Refusal::Side => {
+            write_told(errors, &position_sentence(refused))
+        }
+        Refusal::Kings | Refusal::Units | Refusal::PawnRank | Refusal::OtherInCheck => {
+            write_told(errors, &position_sentence(refused))
+        }
         other => errors.write_all(plain_advice(other, refused.asking).as_bytes()),
     }
 }
@@ -118,8 +120,8 @@ fn answer_advice(asking: Asking<'_>) -> &'static str {
         Asking::Proof(goal, text) => (goal, text),
         _ => (Goal::Mate, b"".as_slice()),
     };
-    let (line, _) = cut_at(text, b'\n');
-    let has_feed = line.len() < text.len();
+    let (line, behind) = split_run(text, b"\n", false);
+    let has_feed = !behind.is_empty();
     match goal {
         Goal::Mate if line.starts_with(b"goal ") =>
             "the first line is an answer for the other goal: add --goal stale",
@@ -136,158 +138,116 @@ fn answer_advice(asking: Asking<'_>) -> &'static str {
     }
 }
 
-fn write_grammar<E: Write>(errors: &mut E, offset: usize) -> io::Result<()>
-    ensures { OnOk result (Appends (E.contents errors.old) (E.contents errors.new) (grammar_sentence offset)) }
-{
-    match offset {
-        0 => errors.write_all(
-            b"the input begins with no move: where `tree` wrote no tree, there is none to check",
-        ),
-        _ => write!(
-            errors,
-            "after its first {offset} bytes the input is no tree: a tree is a move with # or =, or with replies, as c4c5{{a6a5:b1a1#}}"
-        ),
-    }
-}
+const SIDES: &str = "the side to move is w or b: here is '%'";
+
+const RANKS: &str = "here are % squares: write % ranks, as % has%";
+
+const BOARDS: &str =
+    "a board has six ranks of six squares or five of five, with / between them: here are %";
+
+const WIDTHS: &str =
+    "a board has six ranks of six squares or five of five, with / between them: here are %, most of % squares";
+
+const UNEVEN: &str = "a board of % squares in each: here rank %";
+
+const TWO_UNEVEN: &str = "a board of % squares in each: here rank %, and rank %";
+
+const LETTER: &str = "rank % has '%': the units of % are K Q R% N P, and in lower case Black's";
+
+const LETTERS: &str = "the units of % are K Q R% N P, and in lower case Black's";
+
+const RUN: &str = "rank % has '%': write each run of empty squares as one digit from 1 to %";
+
+const RUNS: &str = "write each run of empty squares as one digit from 1 to %";
+
+const KINGS: &str = "each side has one king, K and k: here are % K and % k";
+
+const UNITS: &str = "a side has at most % units in %: here White has % and Black %";
+
+const PAWNS: &str = "rank % has a pawn: pawns stand on ranks 2 to % alone";
 
 /// What is wrong with a position's text: how it is written, or else its board or its side.
 fn position_sentence<'a>(refused: &Refused<'a>) -> Sentence<'a> {
-    let (fen, board) = (refused.fen, Board::of(refused.fen));
-    if let Refusal::Fields | Refusal::Shape | Refusal::Letter | Refusal::Side = refused.refusal {
+    let (fen, refusal, board) = (refused.fen, refused.refusal, Board::of(refused.fen));
+    if let Refusal::Fields | Refusal::Shape | Refusal::Letter | Refusal::Side = refusal {
         if let Some(slip) = slip_of(fen, matches!(refused.asking, Asking::Line(_))) {
             return slip;
         }
     }
-    match refused.refusal {
+    match refusal {
         Refusal::Shape => shape_sentence(&board),
-        Refusal::Letter => letter_sentence(&board),
-        Refusal::Run => run_sentence(&board),
-        Refusal::Kings => kings_sentence(&board),
-        Refusal::Units => units_sentence(&board),
-        Refusal::PawnRank => pawn_sentence(&board),
         Refusal::OtherInCheck => check_sentence(fen),
-        _ => {
-            let (_, side) = cut_at(fen, b' ');
-            One("the side to move is w or b: here is '%'", Bytes(side))
+        Refusal::Fields | Refusal::Side => {
+            let (_, behind) = split_run(fen, b" ", false);
+            let (_, side) = behind.split_at(behind.len().min(1));
+            Sentence(SIDES, (Bytes(side), NO, NO, NO))
         }
+        _ => units_sentence(refusal, &board),
     }
 }
 
-/// That there are too few ranks, or too many, of the squares that a game has, or else which ranks hadn't as many as there are ranks.
+/// That there are too few ranks, or too many, of the squares that a game has, or else which ranks hadn't as many as there are
+/// ranks, two at most.
 fn shape_sentence<'a>(board: &Board<'a>) -> Sentence<'a> {
     let ranks = board.ranks;
-    if let Some(width) = board.width() {
-        let (game, fault) = (
-            Text(game_of(width)),
-            other_fault(board.has_letters_of(width)),
-        );
-        return Four(
-            "here are % squares: write % ranks, as % has%",
-            (Pair(ranks, " ranks of ", width), Number(width), game, fault),
-        );
-    }
-    match (board.other_width(), board.uneven(ranks)) {
-        (Some(width), _) => Two(
-            "a board has six ranks of six squares or five of five, with / between them: here are %, most of % squares",
-            (Number(ranks), Number(width)),
-        ),
-        (_, Some((rank, width))) if matches!(ranks, 5 | 6) => {
-            uneven_sentence(board, rank, width)
+    for (width, game) in [(6, "Los Alamos chess"), (5, "Gardner minichess")] {
+        if ranks > 1 && board.uneven(width, ranks).is_none() {
+            let (here, text) = (Pair(ranks, " ranks of ", width), board.text);
+            let whole = Board { text, ranks: width };
+            let fault = whole.foreign_letter().is_some() || whole.split_digits().is_some();
+            return Sentence(RANKS, (here, Number(width), Text(game), Fault(fault)));
         }
-        _ => One(
-            "a board has six ranks of six squares or five of five, with / between them: here are %",
-            Number(ranks),
-        ),
     }
-}
-
-/// Which ranks hadn't as many squares as there are ranks, two at most.
-fn uneven_sentence<'a>(board: &Board<'a>, rank: usize, width: usize) -> Sentence<'a> {
-    let ranks = board.ranks;
-    match board.uneven(rank.saturating_sub(1)) {
-        Some((below, other)) => Three(
-            "a board of % squares in each: here rank %, and rank %",
-            (
-                Pair(ranks, " ranks has ", ranks),
-                Pair(rank, " has ", width),
-                Pair(below, " has ", other),
-            ),
-        ),
-        None => Two(
-            "a board of % squares in each: here rank %",
-            (
-                Pair(ranks, " ranks has ", ranks),
-                Pair(rank, " has ", width),
-            ),
-        ),
+    if let Some(width) = board.other_width() {
+        return Sentence(WIDTHS, (Number(ranks), Number(width), NO, NO));
     }
-}
-
-fn game_of(ranks: usize) -> &'static str {
-    match ranks {
-        6 => "Los Alamos chess",
-        _ => "Gardner minichess",
-    }
-}
-
-/// Which letter is no unit's, and where, and which the units are.
-fn letter_sentence<'a>(board: &Board<'a>) -> Sentence<'a> {
-    let units = match board.ranks {
-        6 => "the units of Los Alamos chess are K Q R N P, and in lower case Black's",
-        _ => "the units of Gardner minichess are K Q R B N P, and in lower case Black's",
+    let (Some((rank, width)), 5 | 6) = (board.uneven(ranks, ranks), ranks) else {
+        return Sentence(BOARDS, (Number(ranks), NO, NO, NO));
     };
-    match board.foreign_letter() {
-        Some((rank, letter)) => Three(
-            "rank % has '%': %",
-            (Number(rank), Bytes(letter), Text(units)),
-        ),
-        None => Plain(units),
+    let (each, first) = (
+        Pair(ranks, " ranks has ", ranks),
+        Pair(rank, " has ", width),
+    );
+    match board.uneven(ranks, rank.saturating_sub(1)) {
+        Some((below, other)) => {
+            Sentence(TWO_UNEVEN, (each, first, Pair(below, " has ", other), NO))
+        }
+        None => Sentence(UNEVEN, (each, first, NO, NO)),
     }
 }
 
-/// Which run of empty squares is no single digit, and where.
-fn run_sentence<'a>(board: &Board<'a>) -> Sentence<'a> {
-    match board.split_run() {
-        Some((rank, run)) => Three(
-            "rank % has '%': write each run of empty squares as one digit from 1 to %",
-            (Number(rank), Bytes(run), Number(board.ranks)),
-        ),
-        None => One(
-            "write each run of empty squares as one digit from 1 to %",
-            Number(board.ranks),
-        ),
+/// Which letter is no unit's, or which run of empty squares is no single digit, or which units are too few or too many, or stand
+/// where they can't.
+fn units_sentence<'a>(refusal: Refusal, board: &Board<'a>) -> Sentence<'a> {
+    let (text, ranks) = (board.text, board.ranks);
+    let (game, bishop, most) = match ranks {
+        6 => (Text("Los Alamos chess"), Text(""), Number(12)),
+        _ => (Text("Gardner minichess"), Text(" B"), Number(10)),
+    };
+    match refusal {
+        Refusal::Letter => match board.foreign_letter() {
+            Some((rank, letter)) => Sentence(LETTER, (Number(rank), Bytes(letter), game, bishop)),
+            None => Sentence(LETTERS, (game, bishop, NO, NO)),
+        },
+        Refusal::Run => match board.split_digits() {
+            Some((rank, run)) => Sentence(RUN, (Number(rank), Bytes(run), Number(ranks), NO)),
+            None => Sentence(RUNS, (Number(ranks), NO, NO, NO)),
+        },
+        Refusal::Kings => {
+            let (white, black) = (count_of(text, b'K', b'K'), count_of(text, b'k', b'k'));
+            Sentence(KINGS, (Number(white), Number(black), NO, NO))
+        }
+        Refusal::Units => {
+            let (white, black) = (count_of(text, b'A', b'Z'), count_of(text, b'a', b'z'));
+            Sentence(UNITS, (most, game, Number(white), Number(black)))
+        }
+        _ => {
+            let mut on_first = false;
+            for c in text {
+                on_first = *c != b'/' && (on_first || matches!(*c, b'P' | b'p'));
+            }
+            let (rank, most) = (if on_first { 1 } else { ranks }, ranks.saturating_sub(1));
+            Sentence(PAWNS, (Number(rank), Number(most), NO, NO))
+        }
     }
-}
-
-fn kings_sentence<'a>(board: &Board<'a>) -> Sentence<'a> {
-    let (white, black) = (
-        count_of(board.text, b'K', b'K'),
-        count_of(board.text, b'k', b'k'),
-    );
-    Two(
-        "each side has one king, K and k: here are % K and % k",
-        (Number(white), Number(black)),
-    )
-}
-
-fn units_sentence<'a>(board: &Board<'a>) -> Sentence<'a> {
-    let most = if board.ranks == 6 { 12 } else { 10 };
-    let game = Text(game_of(board.ranks));
-    let (white, black) = (
-        count_of(board.text, b'A', b'Z'),
-        count_of(board.text, b'a', b'z'),
-    );
-    Four(
-        "a side has at most % units in %: here White has % and Black %",
-        (Number(most), game, Number(white), Number(black)),
-    )
-}
-
-fn pawn_sentence<'a>(board: &Board<'a>) -> Sentence<'a> {
-    let last = board.ranks;
-    let rank = if board.first_rank_has_pawn() { 1 } else { last };
-    Two(
-        "rank % has a pawn: pawns stand on ranks 2 to % alone",
-        (Number(rank), Number(last.saturating_sub(1))),
-    )
 }

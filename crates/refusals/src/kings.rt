@@ -1,7 +1,6 @@
 //! What is wrong with a position whose side to move could take the king.
 use crate::sentence::Part::{On, Text};
-use crate::sentence::Sentence;
-use crate::sentence::Sentence::{Plain, Three, Two};
+use crate::sentence::{NO, Sentence};
 use board::{Kind, Position, Side, Unit, read_fen};
 use moves::{Square, in_check};
 
@@ -19,39 +18,33 @@ fn king_square(position: &Position, side: Side) -> Option<Square> {
     None
 }
 
-fn touch(one: Square, other: Square) -> bool {
-    one.file.abs_diff(other.file) <= 1 && one.rank.abs_diff(other.rank) <= 1
-}
+const TOUCHING: &str = "the kings stand next to each other, on % and %: move one of them away";
 
-/// That the king of the other side is in check: with that side to move the position is taken.
-fn other_in_check<'a>(mover: Side) -> Sentence<'a> {
-    let (mover, other, side) = match mover {
-        Side::White => (Text("White"), Text("Black"), Text("b")),
-        Side::Black => (Text("Black"), Text("White"), Text("w")),
-    };
-    Three(
-        "% is in check, and % is to move: write % for the side, or move a unit",
-        (other, mover, side),
-    )
-}
+const BOTH: &str =
+    "both kings are in check: move the king of the side that is not to move, or what checks it";
 
-/// Why a text is refused for a check.
+const OTHER: &str = "% is in check, and % is to move: write % for the side, or move a unit";
+
+/// Why a text is refused for a check: with the other side to move the position is taken, if that isn't in check too.
 pub fn check_sentence(fen: &[u8]) -> Sentence<'_> {
+    let mut mover = Side::White;
     // A text that is refused for a check is a position's.
-    let Ok(position) = read_fen(fen) else {
-        return other_in_check(Side::White);
-    };
-    match (
-        king_square(&position, Side::White),
-        king_square(&position, Side::Black),
-    ) {
-        (Some(white), Some(black)) if touch(white, black) => Two(
-            "the kings stand next to each other, on % and %: move one of them away",
-            (On(white), On(black)),
-        ),
-        _ if in_check(&position, position.mover()) => Plain(
-            "both kings are in check: move the king of the side that is not to move, or what checks it",
-        ),
-        _ => other_in_check(position.mover()),
+    if let Ok(position) = read_fen(fen) {
+        mover = position.mover();
+        let white = king_square(&position, Side::White);
+        let black = king_square(&position, Side::Black);
+        if let (Some(white), Some(black)) = (white, black) {
+            if white.file.abs_diff(black.file) <= 1 && white.rank.abs_diff(black.rank) <= 1 {
+                return Sentence(TOUCHING, (On(white), On(black), NO, NO));
+            }
+        }
+        if in_check(&position, mover) {
+            return Sentence(BOTH, (NO, NO, NO, NO));
+        }
     }
+    let (mover, other, side) = match mover {
+        Side::White => ("White", "Black", "b"),
+        Side::Black => ("Black", "White", "w"),
+    };
+    Sentence(OTHER, (Text(other), Text(mover), Text(side), NO))
 }

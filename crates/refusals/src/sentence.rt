@@ -17,19 +17,18 @@ pub enum Part<'a> {
     On(Square),
     /// Bytes that someone wrote: those are escaped that are no printable ASCII.
     Bytes(&'a [u8]),
+    /// That the board has another fault, if so.
+    Fault(bool),
     /// Those of the moves that are from this square, each behind a blank.
     Moves(&'a [Move], Square),
 }
 
-/// A sentence: a text, and the parts that stand in it for each `%` in turn.
+/// What is put where a sentence names less than four things.
+pub const NO: Part<'static> = Part::Text("");
+
+/// A sentence: a text, and the parts that stand in it for each `%` in turn. It is told without those for which it has none.
 #[derive(Clone, Copy)]
-pub enum Sentence<'a> {
-    Plain(&'a str),
-    One(&'a str, Part<'a>),
-    Two(&'a str, (Part<'a>, Part<'a>)),
-    Three(&'a str, (Part<'a>, Part<'a>, Part<'a>)),
-    Four(&'a str, (Part<'a>, Part<'a>, Part<'a>, Part<'a>)),
-}
+pub struct Sentence<'a>(pub &'a str, pub (Part<'a>, Part<'a>, Part<'a>, Part<'a>));
 
 fn write_escaped<E: Write>(errors: &mut E, bytes: &[u8]) -> io::Result<()>
     ensures { OnOk result (AppendsText (E.contents errors.old) (E.contents errors.new)) }
@@ -40,22 +39,15 @@ fn write_escaped<E: Write>(errors: &mut E, bytes: &[u8]) -> io::Result<()>
     Ok(())
 }
 
-/// Writes the move behind a blank, if it is from this square.
-fn write_move<E: Write>(errors: &mut E, m: &Move, from: Square) -> io::Result<()>
-    ensures { OnOk result (AppendsText (E.contents errors.old) (E.contents errors.new)) }
-{
-    if m.from == from {
-        write!(errors, " {m}")
-    } else {
-        Ok(())
-    }
-}
-
+/// Writes those of the moves that are from this square, each behind a blank.
 fn write_moves<E: Write>(errors: &mut E, moves: &[Move], from: Square) -> io::Result<()>
     ensures { OnOk result (AppendsText (E.contents errors.old) (E.contents errors.new)) }
 {
     for m in moves {
-        write_move(errors, m, from)?;
+        if m.from != from {
+            continue;
+        }
+        write!(errors, " {m}")?;
     }
     Ok(())
 }
@@ -71,6 +63,8 @@ fn write_part<E: Write>(errors: &mut E, part: &Part<'_>) -> io::Result<()>
         Part::Pair(number, between, next) => write!(errors, "{number}{between}{next}"),
         Part::On(square) => write!(errors, "{square}"),
         Part::Bytes(bytes) => write_escaped(errors, bytes),
+        Part::Fault(true) => errors.write_all(b"; the board has a fault too"),
+        Part::Fault(false) => Ok(()),
         Part::Moves(moves, from) => write_moves(errors, moves, *from),
     }
 }
@@ -79,53 +73,24 @@ fn write_part<E: Write>(errors: &mut E, part: &Part<'_>) -> io::Result<()>
 fn write_next<'a, E: Write>(errors: &mut E, text: &'a str, part: &Part<'_>) -> io::Result<&'a str>
     ensures { OnOk result (AppendsText (E.contents errors.old) (E.contents errors.new)) }
 {
-    let (before, behind) = match text.split_once('%') {
-        Some(cut) => cut,
-        None => (text, ""),
+    let Some((before, behind)) = text.split_once('%') else {
+        return Ok(text);
     };
     errors.write_all(before.as_bytes())?;
     write_part(errors, part)?;
     Ok(behind)
 }
 
-/// The same for two parts.
-fn write_two<'a, E: Write>(
-    errors: &mut E,
-    text: &'a str,
-    part: &Part<'_>,
-    next: &Part<'_>,
-) -> io::Result<&'a str>
-    ensures { OnOk result (AppendsText (E.contents errors.old) (E.contents errors.new)) }
-{
-    let behind = write_next(errors, text, part)?;
-    write_next(errors, behind, next)
-}
-
-/// Writes a sentence up to its last part. Answers what follows.
-fn write_parts<'a, E: Write>(errors: &mut E, sentence: &Sentence<'a>) -> io::Result<&'a str>
-    ensures { OnOk result (AppendsText (E.contents errors.old) (E.contents errors.new)) }
-{
-    match sentence {
-        Sentence::Plain(text) => Ok(text),
-        Sentence::One(text, a) => write_next(errors, text, a),
-        Sentence::Two(text, (a, b)) => write_two(errors, text, a, b),
-        Sentence::Three(text, (a, b, c)) => {
-            let behind = write_two(errors, text, a, b)?;
-            write_next(errors, behind, c)
-        }
-        Sentence::Four(text, (a, b, c, d)) => {
-            let behind = write_two(errors, text, a, b)?;
-            write_two(errors, behind, c, d)
-        }
-    }
-}
-
 /// Writes a sentence, without an end of the line.
 pub fn write_told<E: Write>(errors: &mut E, sentence: &Sentence<'_>) -> io::Result<()>
     ensures { OnOk result (AppendsText (E.contents errors.old) (E.contents errors.new)) }
 {
-    let behind = write_parts(errors, sentence)?;
-    errors.write_all(behind.as_bytes())
+    let Sentence(text, (first, second, third, fourth)) = sentence;
+    let text = write_next(errors, text, first)?;
+    let text = write_next(errors, text, second)?;
+    let text = write_next(errors, text, third)?;
+    let text = write_next(errors, text, fourth)?;
+    errors.write_all(text.as_bytes())
 }
 
 /// Writes a sentence as an error, on a line of its own.

@@ -4,322 +4,259 @@ ghost use Rattle.std.specs.Io.KnownBytes.{Appends};
 ghost use Rattle.refusals.specs.Sentences.{AppendsLine, error_beginning, limits_text};
 
 use crate::sentence::Part::{Behind, Text};
-use crate::sentence::Sentence::{Four, One, Plain, Three, Two};
-use crate::sentence::{Sentence, write_line};
+use crate::sentence::{NO, Sentence, write_line};
 use std::io::{self, Write};
 
-/// Whether it searches, at a position of the line or at many.
-fn is_search(command: &str) -> bool {
-    matches!(
-        command,
-        "solve" | "keys" | "tree" | "solution" | "certify" | "batch"
-    )
+/// The commands that search, at a position of the line or at many.
+const SEARCHES: &[&str] = &["solve", "keys", "tree", "solution", "certify", "batch"];
+
+const COMMANDS: &[&str] = &[
+    "solve", "keys", "tree", "solution", "certify", "batch", "check", "verify", "moves", "show",
+    "after",
+];
+
+/// The options that have no value.
+const FLAGS: &[&str] = &[
+    "--progress",
+    "--echo",
+    "--keys",
+    "--json",
+    "--set",
+    "--tries",
+    "--figurines",
+    "--short",
+    "--svg",
+    "--unicode",
+    "--black",
+];
+
+/// What an option takes: how far to search, another number of a search, a goal, or a number that a batch alone takes.
+#[derive(Clone, Copy)]
+enum Takes {
+    Limit,
+    Number,
+    Goal,
+    Lines,
 }
 
-fn is_command(word: &str) -> bool {
-    matches!(word, "check" | "verify" | "moves" | "show" | "after") || is_search(word)
-}
+/// An option that has a value: its name and how few bytes of it stand for it, another word for it, what it takes, in which range, and
+/// one such value.
+#[derive(Clone, Copy)]
+struct Known<'a>(&'a str, usize, &'a str, Takes, &'a str, &'a str);
 
-fn is_limit(option: &str) -> bool {
-    matches!(option, "--limit" | "--mate")
-}
+const OPTIONS: [Known<'static>; 7] = [
+    Known("--limit", 3, "", Takes::Limit, "from 1 to 63", "3"),
+    Known("--mate", 3, "--moves", Takes::Limit, "from 1 to 32", "2"),
+    Known(
+        "--workers",
+        3,
+        "--threads",
+        Takes::Number,
+        "from 1 to 16",
+        "2",
+    ),
+    Known(
+        "--slots",
+        4,
+        "",
+        Takes::Number,
+        "from 1 to 1048576",
+        "1048573",
+    ),
+    Known("--goal", 3, "", Takes::Goal, "", "mate"),
+    Known(
+        "--lines",
+        7,
+        "",
+        Takes::Lines,
+        "from 0 to 4294967295",
+        "100",
+    ),
+    Known("--skip", 6, "", Takes::Lines, "from 0 to 4294967295", "100"),
+];
 
-/// Whether it is an option of a search that has a number.
-fn is_search_number(word: &str) -> bool {
-    matches!(word, "--limit" | "--mate" | "--workers" | "--slots")
-}
-
-/// Whether it is an option that has no value.
-fn is_flag(word: &str) -> bool {
-    matches!(
-        word,
-        "--progress" | "--echo" | "--keys" | "--json" | "--set" | "--tries" | "--figurines"
-    ) || matches!(word, "--short" | "--svg" | "--unicode" | "--black")
-}
-
-fn is_number(word: &str) -> bool {
-    word.parse::<u32>().is_ok()
-}
-
-/// Whether it is no value, but another word of a line.
-fn is_no_value(word: &str) -> bool {
-    word.is_empty() || word.starts_with("--") || word.contains("/")
-}
-
-/// What an option of a search is called here: by its own name, the beginning of it alone or another word for it.
-fn whole(option: &str) -> Option<&'static str> {
-    match option {
-        "--limit" | "--l" | "--li" | "--lim" | "--limi" => Some("--limit"),
-        "--mate" | "--moves" | "--m" | "--ma" | "--mat" => Some("--mate"),
-        "--workers" | "--threads" => Some("--workers"),
-        "--w" | "--wo" | "--wor" | "--work" | "--worke" | "--worker" => Some("--workers"),
-        "--slots" | "--sl" | "--slo" | "--slot" => Some("--slots"),
-        "--goal" | "--g" | "--go" | "--goa" => Some("--goal"),
-        "--lines" => Some("--lines"),
-        "--skip" => Some("--skip"),
-        _ => None,
-    }
-}
-
-/// Whether it is called so here.
-fn is_whole(option: &str) -> bool {
-    match whole(option) {
-        Some(name) => name == option,
-        None => false,
-    }
-}
-
-/// Whether the two options say the same.
-fn says_same(one: &str, other: &str) -> bool {
-    match (whole(one), whole(other)) {
-        (Some(one), Some(other)) => one == other || (is_limit(one) && is_limit(other)),
-        _ => false,
-    }
-}
-
-/// What an option takes, and one such value.
-fn values_of(option: &str) -> (&'static str, &'static str) {
-    match option {
-        "--limit" => ("a number from 1 to 63", "3"),
-        "--mate" => ("a number from 1 to 32", "2"),
-        "--workers" => ("a number from 1 to 16", "2"),
-        "--slots" => ("a number from 1 to 1048576", "1048573"),
-        "--goal" => ("mate or stale", "mate"),
-        _ => ("a number from 0 to 4294967295", "100"),
-    }
+/// A word of a line, read as an option.
+#[derive(Clone, Copy)]
+struct Word<'a> {
+    text: &'a str,
+    /// The name in the word, as of `--limit=3`, or else the whole word.
+    name: &'a str,
+    /// The value in the word, or else the word behind it.
+    value: &'a str,
+    has_number: bool,
+    /// The number behind an option, if one stands there as a word of its own.
+    behind: &'a str,
+    option: Option<Known<'a>>,
+    /// Whether it is called so here.
+    is_whole: bool,
 }
 
 /// The word at this place, and none behind the last.
-fn word_at(words: &[String], place: usize) -> &str {
+fn text_at(words: &[String], place: usize) -> &str {
     match words.get(place) {
         Some(word) => word.as_str(),
         None => "",
     }
 }
 
-/// The name of the option in a word, as of `--limit=3`, or else the whole word.
-fn name_of(word: &str) -> &str {
-    match word.split_once('=') {
-        Some((name, _)) => name,
-        None => word,
-    }
-}
-
-/// The value of the option at this place: in its word, or else the word behind it.
-fn value_at(words: &[String], place: usize) -> &str {
-    match word_at(words, place).split_once('=') {
-        Some((_, value)) => value,
-        None => word_at(words, place.saturating_add(1)),
-    }
-}
-
-/// The number behind an option, if one stands there as a word of its own.
-fn number_behind(words: &[String], place: usize) -> &str {
-    let next = word_at(words, place.saturating_add(1));
-    if is_number(next) && !word_at(words, place).contains("=") {
-        next
-    } else {
-        ""
-    }
-}
-
-/// The word here and the one before, if they are the parts of a position.
-fn cut_position(words: &[String], place: usize) -> Option<Sentence<'_>> {
-    let (board, side) = (
-        word_at(words, place.saturating_sub(1)),
-        word_at(words, place),
-    );
-    if board.contains("/") && !board.contains(" ") && matches!(side, "w" | "b") {
-        Some(Two(
-            "a position is one word, so quote it: '% %'",
-            (Text(board), Text(side)),
-        ))
-    } else {
-        None
-    }
-}
-
-/// Whether one of the words is a command's name.
-fn has_command(words: &[String]) -> bool {
-    for word in words {
-        if is_command(word.as_str()) {
-            return true;
+/// The option that is written so.
+fn option_of<'a>(name: &str) -> Option<Known<'a>> {
+    for option in OPTIONS {
+        let Known(own, least, other, ..) = option;
+        let is_other = other.len() == name.len() && other.starts_with(name);
+        if least <= name.len() && (is_other || own.starts_with(name)) {
+            return Some(option);
         }
     }
-    false
+    None
 }
 
-/// What the first word means, which is no command. Of words whose command nobody knows nothing is told.
-fn of_first(words: &[String]) -> Option<Sentence<'_>> {
-    let first = word_at(words, 1);
-    match first.strip_prefix("--") {
-        Some(name) if is_command(name) => Some(One(
-            "% is a command: write it without dashes",
-            Text(name),
-        )),
-        Some(_) if has_command(words) => Some(One(
-            "options stand behind the command: write it before %",
-            Text(first),
-        )),
-        _ => None,
-    }
-}
-
-/// What a word means that is no option.
-fn of_lone(words: &[String], place: usize) -> Option<Sentence<'_>> {
-    let (command, word) = (word_at(words, 1), word_at(words, place));
-    let last = word_at(words, place.saturating_sub(1));
-    // As far as one can tell of an option that there isn't, the word is its value.
-    let is_value = last.starts_with("-") && !last.contains("=") && !is_flag(last);
-    if is_value || word.starts_with("-") || !is_search(command) {
-        return None;
-    }
-    if is_number(word) {
-        if has_limit(words) {
-            return None;
-        }
-        return Some(Two(
-            "a limit stands behind its option: write '--limit %' in place of '%'",
-            (Text(word), Text(word)),
-        ));
-    }
-    match word {
-        _ if command != "batch" => None,
-        "mate" | "stale" => None,
-        _ if word.contains("/") && word.contains(" ") => Some(Plain(
-            "batch reads positions from its input: write solve in place of batch for one position",
-        )),
-        _ => Some(Two(
-            "batch reads positions from its input: write '< %' in place of '%'",
-            (Text(word), Text(word)),
-        )),
-    }
-}
-
-/// Whether one of the words says how far to search.
-fn has_limit(words: &[String]) -> bool {
-    for word in words {
-        if says_same(name_of(word.as_str()), "--limit") {
-            return true;
-        }
-    }
-    false
-}
-
-/// How an option is written that is called otherwise here.
-fn called<'a>(name: &'a str, option: &'a str, is_missing: bool) -> Sentence<'a> {
-    let counted = match option {
-        "--moves" => "moves of the attacker are counted by --mate: ",
-        "--threads" => "threads are counted by --workers: ",
-        _ => "",
+fn word_at(words: &[String], place: usize) -> Word<'_> {
+    let text = text_at(words, place);
+    let (name, value, is_one) = match text.split_once('=') {
+        Some((name, value)) => (name, value, true),
+        None => (text, text_at(words, place.saturating_add(1)), false),
     };
-    let (_, value) = values_of(name);
-    let value = Behind(if is_missing { value } else { "" });
-    Four(
-        "%write %% in place of %",
-        (Text(counted), Text(name), value, Text(option)),
-    )
+    let (option, has_number) = (option_of(name), value.parse::<u32>().is_ok());
+    let is_whole = match option {
+        Some(Known(own, ..)) => own == name,
+        None => false,
+    };
+    let is_behind = has_number && !is_one && option.is_some();
+    let behind = if is_behind { value } else { "" };
+    Word {
+        text,
+        name,
+        value,
+        has_number,
+        behind,
+        option,
+        is_whole,
+    }
 }
 
-/// What an option means behind a command that searches.
-fn of_option(words: &[String], place: usize) -> Option<Sentence<'_>> {
-    let word = word_at(words, place);
-    let (option, value) = (name_of(word), value_at(words, place));
-    let name = whole(option)?;
-    if name != option {
-        return Some(called(name, option, is_no_value(value)));
-    }
-    let is_of_batch = matches!(option, "--lines" | "--skip") && word_at(words, 1) == "batch";
-    if is_number(value) || !(is_search_number(option) || is_of_batch) {
+/// What a word means that is no option, behind a command that searches.
+fn of_lone(words: &[String], place: usize) -> Option<Sentence<'_>> {
+    let (word, last) = (
+        text_at(words, place),
+        text_at(words, place.saturating_sub(1)),
+    );
+    // As far as one can tell of an option that there isn't, the word is its value.
+    let is_value = last.starts_with("-") && !last.contains("=") && !FLAGS.contains(&last);
+    if is_value || word.starts_with("-") {
         return None;
     }
-    let (values, number) = values_of(option);
-    let (option_part, values, number) = (Text(option), Text(values), Text(number));
-    if is_no_value(value) && word == option {
-        Some(Three("% is %: write % behind it", (option_part, values, number)))
-    } else {
-        Some(Four(
-            "% is %: write % in place of '%'",
-            (option_part, values, number, Text(value)),
-        ))
-    }
-}
-
-/// Whether an option of a search stands behind this place.
-fn has_more(words: &[String], place: usize) -> bool {
-    for i in place.saturating_add(1)..words.len() {
-        let option = name_of(word_at(words, i));
-        if is_search_number(option) || option == "--progress" {
-            return true;
+    let parts = (Text(word), Text(word), NO, NO);
+    if word.parse::<u32>().is_ok() {
+        for i in 0..words.len() {
+            if let Some(Known(_, _, _, Takes::Limit, ..)) = word_at(words, i).option {
+                return None;
+            }
         }
+        return Some(Sentence(LONE_NUMBER, parts));
     }
-    false
+    if text_at(words, 1) != "batch" || matches!(word, "mate" | "stale") {
+        return None;
+    }
+    let is_position = word.contains("/") && word.contains(" ");
+    Some(Sentence(if is_position { NO_INPUT } else { INPUT }, parts))
 }
 
-/// What an option means behind a command that makes no search.
+const LONE_NUMBER: &str = "a limit stands behind its option: write '--limit %' in place of '%'";
+
+const INPUT: &str = "batch reads positions from its input: write '< %' in place of '%'";
+
+const NO_INPUT: &str =
+    "batch reads positions from its input: write solve in place of batch for one position";
+
+/// What a word means behind a command that searches.
+fn of_search(words: &[String], place: usize) -> Option<Sentence<'_>> {
+    let word = word_at(words, place);
+    let Some(Known(name, _, _, takes, range, value)) = word.option else {
+        return of_lone(words, place);
+    };
+    let (own, is_one) = (word.value, word.text != word.name);
+    let is_missing = own.is_empty() || own.starts_with("--") || own.contains("/");
+    if !word.is_whole {
+        let text = match word.name {
+            "--moves" => "moves of the attacker are counted by --mate: write %% in place of %",
+            "--threads" => "threads are counted by --workers: write %% in place of %",
+            _ => "write %% in place of %",
+        };
+        let value = Behind(if is_missing { value } else { "" });
+        return Some(Sentence(text, (Text(name), value, Text(word.name), NO)));
+    }
+    let is_taken = match takes {
+        Takes::Limit | Takes::Number => true,
+        Takes::Goal => false,
+        Takes::Lines => text_at(words, 1) == "batch",
+    };
+    if word.has_number || !is_taken {
+        return None;
+    }
+    let parts = (Text(name), Text(range), Text(value), Text(own));
+    if is_missing && !is_one {
+        Some(Sentence("% is a number %: write % behind it", parts))
+    } else {
+        Some(Sentence("% is a number %: write % in place of '%'", parts))
+    }
+}
+
+/// What an option of every search, one that has a number or the sign of life, means behind a command that makes none.
 fn of_idle(words: &[String], place: usize) -> Option<Sentence<'_>> {
     let word = word_at(words, place);
-    let number = match name_of(word) {
-        "--progress" => "",
-        option if is_search_number(option) => number_behind(words, place),
-        _ => return None,
-    };
-    let more = if has_more(words, place) {
-        ", and the other options of a search"
+    let parts = (
+        Text(text_at(words, 1)),
+        Text(word.text),
+        Behind(word.behind),
+        NO,
+    );
+    let mut has_more = false;
+    for i in place..words.len() {
+        let word = word_at(words, i);
+        let is_of_search = match word.option {
+            Some(Known(_, _, _, Takes::Limit | Takes::Number, ..)) => word.is_whole,
+            Some(_) => false,
+            None => word.name == "--progress",
+        };
+        if i == place && !is_of_search {
+            return None;
+        }
+        has_more = has_more || (i > place && is_of_search);
+    }
+    if has_more {
+        Some(Sentence(IDLE, parts))
     } else {
-        ""
-    };
-    Some(Four(
-        "% makes no search: leave out %%%",
-        (
-            Text(word_at(words, 1)),
-            Text(word),
-            Behind(number),
-            Text(more),
-        ),
-    ))
-}
-
-/// What a word means behind its command.
-fn of_word(words: &[String], place: usize) -> Option<Sentence<'_>> {
-    let option = if is_search(word_at(words, 1)) {
-        of_option(words, place)
-    } else {
-        of_idle(words, place)
-    };
-    match option {
-        Some(sentence) => Some(sentence),
-        None => of_lone(words, place),
+        Some(Sentence("% makes no search: leave out %%", parts))
     }
 }
 
-/// Whether an option is called as it is here, and has its value.
-fn is_right(words: &[String], place: usize) -> bool {
-    let option = name_of(word_at(words, place));
-    is_whole(option) && (option == "--goal" || is_number(value_at(words, place)))
-}
+const IDLE: &str = "% makes no search: leave out %%, and the other options of a search";
 
-/// Which of two options that say the same is to be left out: the one that is wrong, or else the second.
-fn surplus(words: &[String], first: usize, second: usize) -> Sentence<'_> {
-    let is_second = is_right(words, first)
-        || (!is_right(words, second) && is_whole(name_of(word_at(words, first))));
-    let (stays, goes) = if is_second {
-        (first, second)
-    } else {
-        (second, first)
+/// Of two options that say the same the one that is wrong is to be left out, or else the second.
+fn surplus<'a>(first: &Word<'a>, second: &Word<'a>) -> Option<Sentence<'a>> {
+    let is_same = match (first.option?, second.option?) {
+        (Known(_, _, _, Takes::Limit, ..), Known(_, _, _, Takes::Limit, ..)) => true,
+        (Known(one, ..), Known(other, ..)) => one == other,
     };
-    let (option, number) = (name_of(word_at(words, stays)), number_behind(words, goes));
-    Three(
-        "% stands there already: leave out %%",
-        (Text(option), Text(word_at(words, goes)), Behind(number)),
-    )
+    if !is_same {
+        return None;
+    }
+    let is_right = first.is_whole && (first.has_number || first.name == "--goal");
+    let is_next_right = second.is_whole && (second.has_number || second.name == "--goal");
+    let is_second = is_right || (!is_next_right && first.is_whole);
+    let stays = if is_second { first } else { second };
+    let goes = if is_second { second } else { first };
+    let parts = (Text(stays.name), Text(goes.text), Behind(goes.behind), NO);
+    Some(Sentence("% stands there already: leave out %%", parts))
 }
 
 /// An option before this place that says the same as the one here.
 fn again_before(words: &[String], place: usize) -> Option<Sentence<'_>> {
     for i in 2..place {
-        if says_same(name_of(word_at(words, i)), name_of(word_at(words, place))) {
-            return Some(surplus(words, i, place));
+        let found = surplus(&word_at(words, i), &word_at(words, place));
+        if found.is_some() {
+            return found;
         }
     }
     None
@@ -338,11 +275,13 @@ enum Turn {
 
 /// The first that is found of what is looked for.
 fn first_found(words: &[String], turn: Turn) -> Option<Sentence<'_>> {
+    let searches = SEARCHES.contains(&text_at(words, 1));
     for i in 2..words.len() {
         let found = match turn {
             Turn::Parts => cut_position(words, i),
             Turn::Again => again_before(words, i),
-            Turn::Word => of_word(words, i),
+            Turn::Word if searches => of_search(words, i),
+            Turn::Word => of_idle(words, i),
         };
         if found.is_some() {
             return found;
@@ -351,18 +290,46 @@ fn first_found(words: &[String], turn: Turn) -> Option<Sentence<'_>> {
     None
 }
 
-/// What is to be changed first.
-fn change_of(words: &[String]) -> Option<Sentence<'_>> {
-    let command = word_at(words, 1);
-    match first_found(words, Turn::Parts) {
-        Some(parts) => Some(parts),
-        None if !is_command(command) => of_first(words),
-        None => match first_found(words, Turn::Again) {
-            Some(again) if is_search(command) => Some(again),
-            _ => first_found(words, Turn::Word),
-        },
+/// The word here and the one before, if they are the parts of a position.
+fn cut_position(words: &[String], place: usize) -> Option<Sentence<'_>> {
+    let (board, side) = (
+        text_at(words, place.saturating_sub(1)),
+        text_at(words, place),
+    );
+    if !board.contains("/") || board.contains(" ") || !matches!(side, "w" | "b") {
+        return None;
     }
+    let parts = (Text(board), Text(side), NO, NO);
+    Some(Sentence("a position is one word, so quote it: '% %'", parts))
 }
+
+/// What is to be changed first. Of words whose command nobody knows nothing is told.
+fn change_of(words: &[String]) -> Option<Sentence<'_>> {
+    let command = text_at(words, 1);
+    let parts = first_found(words, Turn::Parts);
+    if parts.is_some() {
+        return parts;
+    }
+    if COMMANDS.contains(&command) {
+        return match first_found(words, Turn::Again) {
+            Some(again) if SEARCHES.contains(&command) => Some(again),
+            _ => first_found(words, Turn::Word),
+        };
+    }
+    let name = command.strip_prefix("--")?;
+    if COMMANDS.contains(&name) {
+        let parts = (Text(name), NO, NO, NO);
+        return Some(Sentence("% is a command: write it without dashes", parts));
+    }
+    for word in words {
+        if COMMANDS.contains(&word.as_str()) {
+            return Some(Sentence(BEFORE, (Text(command), NO, NO, NO)));
+        }
+    }
+    None
+}
+
+const BEFORE: &str = "options stand behind the command: write it before %";
 
 /// Tells of words that are refused what is to be written instead, where that can be seen.
 pub fn advise_words<E: Write>(errors: &mut E, words: &[String]) -> io::Result<()>
