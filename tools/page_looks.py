@@ -40,7 +40,7 @@ SPOKEN = [
     ("#tree .fold", "button", "1 reply"),
     ('.move[data-path="c4c5"]', "button", "White Kc5"),
     ('.move[data-path="c4c5 a6a5 b1a1"]', "button", "White Ra1, mate"),
-    (".ply", "button", "1. Kc5"),
+    (".ply", "button", "1.Kc5"),
     ('[data-square="c5"]', "gridcell", "c5 white king, last move"),
     ('[data-square="e5"]', "gridcell", "e5 empty"),
 ]
@@ -208,11 +208,11 @@ def by_keyboard(drive):
     drive.waited("document.querySelector('.tree')", "Enter in the position solves")
     tab.value("document.querySelector('.move').focus()")
     tab.key("Enter", 13, "\r")
-    drive.same("Enter plays a move of the tree", drive.line(), "1. Kc5 |")
+    drive.same("Enter plays a move of the tree", drive.line(), "1.Kc5 |")
     tab.value("document.querySelector('[data-square][tabindex=\"0\"]').focus()")
     drive.same("a square has the focus", tab.value("document.activeElement.dataset.square.length"), 2)
     place = tab.value("document.activeElement.dataset.square")
     tab.key("ArrowRight", 39)
     reached = tab.value("document.activeElement.dataset.square")
-    drive.note(reached != place and drive.line() == "1. Kc5 |", "by the keyboard the arrows go from square to square")
+    drive.note(reached != place and drive.line() == "1.Kc5 |", "by the keyboard the arrows go from square to square")
     tab.value("document.activeElement.blur()")

@@ -62,15 +62,15 @@ def play_through(drive):
     tab.key("Enter", 13, "\r")
     drive.expect("mate", "turn", "Black is mated")
     drive.same("the rook has moved", drive.label("a1"), "a1 white rook, last move")
-    drive.same("the line in full", drive.line(), "1. Kc5 Ka5 2. Ra1# |")
+    drive.same("the line in full", drive.line(), "1.Kc5 Ka5 2.Ra1# |")
     drive.shot("played_through")
     drive.press("#first")
     drive.expect("back at the problem", "turn", "White to move")
     drive.press("#next")
     drive.expect("one move on", "turn", "Black to move")
-    drive.same("the line stays", drive.line(), "1. Kc5 | Ka5 2. Ra1#")
+    drive.same("the line stays", drive.line(), "1.Kc5 | Ka5 2.Ra1#")
     drive.press(".ply:nth-child(2)")
-    drive.same("a press on a move of the line", (drive.line(), drive.label("a5")), ("1. Kc5 Ka5 | 2. Ra1#", "a5 black king, last move"))
+    drive.same("a press on a move of the line", (drive.line(), drive.label("a5")), ("1.Kc5 Ka5 | 2.Ra1#", "a5 black king, last move"))
     drive.press("#first")
     drive.square("b1")
     drive.same("dots for the rook's moves", tab.value("document.querySelectorAll('#board .dot, #board .ring').length"), 10)
@@ -78,9 +78,9 @@ def play_through(drive):
     tab.key("ArrowUp", 38)
     tab.key("Enter", 13, "\r")
     drive.same("a move by the keyboard", drive.label("b2"), "b2 white rook, last move")
-    drive.same("another line from there", drive.line(), "1. Rb2 |")
+    drive.same("another line from there", drive.line(), "1.Rb2 |")
     drive.drag('[data-square="a6"]', '[data-square="a5"]')
-    drive.same("a move by a drag", drive.line(), "1. Rb2 Ka5 |")
+    drive.same("a move by a drag", drive.line(), "1.Rb2 Ka5 |")
 
 
 def promoted(drive):
@@ -88,7 +88,7 @@ def promoted(drive):
     tab = drive.tab
     drive.mode("play")
     drive.go("k5/2P3/6/6/6/5K w")
-    for chosen, text, letter in (("queen", "1. c6=Q+ |", 1), ("knight", "1. c6=N |", 3)):
+    for chosen, text, letter in (("queen", "1.c6=Q+ |", 1), ("knight", "1.c6=N |", 3)):
         drive.square("c5")
         drive.square("c6")
         drive.same("what the pawn may become", drive.texts("dialog button"), ["queen", "rook", "knight"])
@@ -101,14 +101,14 @@ def promoted(drive):
     drive.square("b1")
     drive.same("what can be taken", drive.label("b3"), "b3 black pawn, can be reached")
     drive.square("b3")
-    drive.same("it is taken", (drive.label("b3"), drive.line()), ("b3 white rook, last move", "1. Rxb3 |"))
+    drive.same("it is taken", (drive.label("b3"), drive.line()), ("b3 white rook, last move", "1.Rxb3 |"))
     drive.press("#back")
     drive.same("it is back", drive.label("b3"), "b3 black pawn")
     drive.press("#next")
     drive.same("and taken again", drive.label("b3"), "b3 white rook, last move")
     drive.go("5r/6/6/1k4/6/K5 b")
     drive.play("f6f1")
-    drive.same("Black's first move", drive.line(), "1... Rf1# |")
+    drive.same("Black's first move", drive.line(), "1...Rf1# |")
     drive.same("nothing was thrown", tab.faults(), [])
 
 
@@ -128,7 +128,7 @@ def set_otherwise(drive):
     drive.note("goal=stale&limit=1" in tab.value("location.hash"), "the address has the goal and the limit")
     drive.expect("the limit in moves", "within", "= 1 move")
     drive.solve()
-    drive.expect("stalemate is as good", "answer", "Mate or stalemate in 1 move (1 ply): 1. Rb5=")
+    drive.expect("stalemate is as good", "answer", "Mate or stalemate in 1 move (1 ply): 1.Rb5=")
     drive.same("the board is in Play again", tab.value("document.querySelector('input[name=\"mode\"]:checked').value"), "play")
     drive.note(tab.value("document.getElementById('setting').hidden"), "the tray is away")
     drive.mode("set")
@@ -152,7 +152,7 @@ def set_up_behind_moves(drive):
     drive.square("f1")
     drive.same("the board with a knight", (drive.fen(), drive.line()), ("k5/2K3/6/6/6/1R3N b", ""))
     drive.press("#undo")
-    drive.comes("the problem and its line", lambda: (drive.fen(), drive.line()), (THIRD, "1. Kc5 |"))
+    drive.comes("the problem and its line", lambda: (drive.fen(), drive.line()), (THIRD, "1.Kc5 |"))
     drive.mode("play")
 
 
@@ -163,7 +163,7 @@ def listed(drive):
     values = [tab.value(VALUE.format(name)) for name in ("fen", "goal", "limit")]
     drive.same("a listed problem", values, [ONE_PAWN, "mate", "1"])
     drive.solve("keys")
-    drive.same("its two keys", drive.texts("#keylist button"), ["1. c5=Q# in 1 move", "1. c5=R# in 1 move"])
+    drive.same("its two keys", drive.texts("#keylist button"), ["1.c5=Q# in 1 move", "1.c5=R# in 1 move"])
     named = VALUE.format("problems")
     drive.same("the list names it", tab.value(named), "2")
     tab.write("#fen", "k5/6/1K4/6/6/4R1 w")

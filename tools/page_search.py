@@ -27,16 +27,16 @@ def solved(drive):
     """The answer, the tree and the keys."""
     drive.go(THIRD)
     drive.solve()
-    drive.expect("the answer", "answer", "Mate in 2 moves (3 plies): 1. Kc5")
-    drive.same("the tree", drive.texts(".move"), ["1. Kc5", "1... Ka5", "2. Ra1#"])
+    drive.expect("the answer", "answer", "Mate in 2 moves (3 plies): 1.Kc5")
+    drive.same("the tree", drive.texts(".move"), ["1.Kc5", "1...Ka5", "2.Ra1#"])
     drive.shot("solved")
     drive.solve("keys")
-    drive.same("the keys", drive.texts("#keylist button"), ["1. Kc5 in 2 moves"])
-    drive.expect("their number", "answer", "Mate in 2 moves (3 plies): 1. Kc5. One key")
+    drive.same("the keys", drive.texts("#keylist button"), ["1.Kc5 in 2 moves"])
+    drive.expect("their number", "answer", "Mate in 2 moves (3 plies): 1.Kc5. One key")
     drive.go("1r4/6/6/2k3/6/K5 b")
     drive.solve()
-    drive.expect("Black's answer", "answer", "Mate in 2 moves (3 plies): 1... Kc2")
-    drive.same("Black's tree", drive.texts(".move"), ["1... Kc2", "2. Ka2", "Ra6#"])
+    drive.expect("Black's answer", "answer", "Mate in 2 moves (3 plies): 1...Kc2")
+    drive.same("Black's tree", drive.texts(".move"), ["1...Kc2", "2.Ka2", "Ra6#"])
     label = "document.querySelector('.move:last-child').getAttribute('aria-label')"
     drive.same("as it is read out", drive.tab.value(label.replace("last-child", "nth-child(3)")), "Black Ra6, mate")
 
@@ -46,24 +46,24 @@ def solved_behind_moves(drive):
     drive.go(THIRD)
     drive.play("c4c5", "a6a5")
     drive.solve()
-    drive.expect("the answer there", "answer", "Mate in 1 move (1 ply): 2. Ra1#")
-    drive.expect("it is told where", "about", "After 1. Kc5 Ka5")
-    drive.same("the line stays", drive.line(), "1. Kc5 Ka5 |")
+    drive.expect("the answer there", "answer", "Mate in 1 move (1 ply): 2.Ra1#")
+    drive.expect("it is told where", "about", "After 1.Kc5 Ka5")
+    drive.same("the line stays", drive.line(), "1.Kc5 Ka5 |")
     drive.same("the problem stays", drive.fen(), THIRD)
     drive.solve("keys")
-    drive.same("the keys there", drive.texts("#keylist button"), ["2. Ra1# in 1 move", "2. Rb4 in 2 moves"])
+    drive.same("the keys there", drive.texts("#keylist button"), ["2.Ra1# in 1 move", "2.Rb4 in 2 moves"])
     drive.press("#keylist button")
     drive.expect("a key is played", "turn", "Black is mated")
     drive.waited(f"!({RUNS})", "its tree is there")
     drive.press("#first")
-    drive.same("back at the problem", (drive.label("c4"), drive.line()), ("c4 white king", "1. Kc5 Ka5 2. Ra1#"))
-    drive.expect("the answer is still told", "answer", "Mate in 1 move (1 ply): 2. Ra1#. 2 keys")
+    drive.same("back at the problem", (drive.label("c4"), drive.line()), ("c4 white king", "1.Kc5 Ka5 2.Ra1#"))
+    drive.expect("the answer is still told", "answer", "Mate in 1 move (1 ply): 2.Ra1#. 2 keys")
     drive.press("#there")
-    drive.same("and to the answer's position", drive.line(), "1. Kc5 Ka5 | 2. Ra1#")
+    drive.same("and to the answer's position", drive.line(), "1.Kc5 Ka5 | 2.Ra1#")
     drive.tab.write("#fen", KINGS)
-    drive.expect("of another position", "about", f"This is the answer of {THIRD}, after 1. Kc5 Ka5")
+    drive.expect("of another position", "about", f"This is the answer of {THIRD}, after 1.Kc5 Ka5")
     drive.press("#there")
-    drive.same("its problem is back", (drive.fen(), drive.line()), (THIRD, "1. Kc5 Ka5 |"))
+    drive.same("its problem is back", (drive.fen(), drive.line()), (THIRD, "1.Kc5 Ka5 |"))
     drive.shot("behind_moves")
 
 
@@ -74,13 +74,13 @@ def keys_shown(drive):
     drive.same("arrows of both keys", drive.arrows(), ["hand c4c5q"])
     drive.press("#keylist button:nth-child(2)")
     drive.waited("document.querySelector('.tree')", "the tree of the second key")
-    drive.same("it is the key's", (drive.texts(".move"), drive.label("c5")), (["1. c5=R#"], "c5 white rook, last move"))
-    drive.same("the key is marked", drive.texts('#keylist [aria-pressed="true"]'), ["1. c5=R# in 1 move"])
+    drive.same("it is the key's", (drive.texts(".move"), drive.label("c5")), (["1.c5=R#"], "c5 white rook, last move"))
+    drive.same("the key is marked", drive.texts('#keylist [aria-pressed="true"]'), ["1.c5=R# in 1 move"])
     drive.go(FIVE, limit=5)
     drive.solve("keys")
-    drive.same("two keys", drive.texts("#keylist button"), ["1. Qxc5 in 3 moves", "1. Nxc5+ in 3 moves"])
+    drive.same("two keys", drive.texts("#keylist button"), ["1.Qxc5 in 3 moves", "1.Nxc5+ in 3 moves"])
     drive.comes("an arrow each", drive.arrows, ["hand c1c5", "key d3c5"])
-    for number, first in ((2, "1. Nxc5+"), (1, "1. Qxc5")):
+    for number, first in ((2, "1.Nxc5+"), (1, "1.Qxc5")):
         drive.press(f"#keylist button:nth-child({number})")
         drive.comes("its tree comes", lambda: drive.texts(".move")[:1], [first])
         drive.waited("document.getElementById('stop').disabled", "the search for it has ended")
@@ -124,7 +124,7 @@ def height_of(fen, lines, depths):
 
 def moves_of(line):
     """The moves of a line without their numbers."""
-    return [word for word in line.split() if not re.fullmatch(r"\d+\.(\.\.)?", word)]
+    return [re.sub(r"^\d+\.(\.\.)?", "", word) for word in line.split()]
 
 
 def arrows_seen(drive):
@@ -187,14 +187,14 @@ def walked(drive):
     drive.go(THIRD)
     drive.solve()
     tab.value("document.activeElement.blur()")
-    lines = ["1. Kc5 |", "1. Kc5 Ka5 |", "1. Kc5 Ka5 2. Ra1# |"]
+    lines = ["1.Kc5 |", "1.Kc5 Ka5 |", "1.Kc5 Ka5 2.Ra1# |"]
     for line in lines:
         tab.key("ArrowRight", 39)
         drive.same("right goes on", drive.line(), line)
     tab.key("ArrowRight", 39)
     drive.same("and ends", drive.line(), lines[-1])
     tab.key("ArrowLeft", 37)
-    drive.same("left goes back", drive.line(), "1. Kc5 Ka5 | 2. Ra1#")
+    drive.same("left goes back", drive.line(), "1.Kc5 Ka5 | 2.Ra1#")
     for where in ("#flip", "#flip", '[data-square="d3"]', ".move[data-path='c4c5']", "#solve"):
         if where == "#solve":
             tab.value("document.getElementById('solve').focus()")
@@ -202,11 +202,11 @@ def walked(drive):
             drive.press(where)
         tab.key("ArrowRight", 39)
         tab.key("ArrowLeft", 37)
-        at = "1. Kc5 | Ka5 2. Ra1#" if where.startswith(".move") or where == "#solve" else "1. Kc5 Ka5 | 2. Ra1#"
+        at = "1.Kc5 | Ka5 2.Ra1#" if where.startswith(".move") or where == "#solve" else "1.Kc5 Ka5 | 2.Ra1#"
         drive.same(f"to and fro from {where}", drive.line(), at)
     tab.value("document.getElementById('fen').focus()")
     tab.key("ArrowLeft", 37)
-    drive.same("not from the text of the position", drive.line(), "1. Kc5 | Ka5 2. Ra1#")
+    drive.same("not from the text of the position", drive.line(), "1.Kc5 | Ka5 2.Ra1#")
     tab.value("document.activeElement.blur()")
 
 
@@ -227,7 +227,7 @@ def onward(drive):
     drive.expect("nothing within two", "answer", "No mate within 2 plies (1 move)")
     drive.press("#onward button")
     drive.waited(DONE, "the answer behind them")
-    drive.expect("found by going on", "answer", "Mate in 2 moves (3 plies): 1. Kc5")
+    drive.expect("found by going on", "answer", "Mate in 2 moves (3 plies): 1.Kc5")
     drive.same("no more offers", drive.texts("#onward button"), [])
     drive.go("k5/1Q4/1K4/6/6/6 b", limit=1)
     drive.solve()
@@ -293,7 +293,7 @@ def searched_again(drive):
     tab.key("Escape", 27)
     drive.go(THIRD)
     drive.solve()
-    drive.expect("another search after it", "answer", "Mate in 2 moves (3 plies): 1. Kc5")
+    drive.expect("another search after it", "answer", "Mate in 2 moves (3 plies): 1.Kc5")
 
 
 def bare_kings(drive):

@@ -47,10 +47,10 @@ def linked(drive):
     drive.same("the link", link, drive.url + address(THIRD, "mate", 3, "&line=c4c5_a6a5&at=1"))
     first, drive.tab = drive.tab, drive.opened(link.removeprefix(drive.url))
     drive.same("the link's problem", [drive.tab.value(VALUE.format(name)) for name in ("fen", "goal", "limit")], [THIRD, "mate", "3"])
-    drive.same("the link's line", drive.line(), "1. Kc5 | Ka5")
+    drive.same("the link's line", drive.line(), "1.Kc5 | Ka5")
     drive.press("#next")
     drive.solve()
-    drive.expect("it is solved from there", "answer", "Mate in 1 move (1 ply): 2. Ra1#")
+    drive.expect("it is solved from there", "answer", "Mate in 1 move (1 ply): 2.Ra1#")
     drive.same("no fault of the second tab", drive.tab.faults(), [])
     drive.tab = first
     drive.tab.ask("Page.bringToFront")
@@ -170,7 +170,7 @@ def solutions(drive):
         drive.waited("document.querySelector('.tree')", "the key's tree")
         _, data = saved(drive, folder, "savetext")
         lines = data.decode().split("\n\n")
-        drive.same("keys and solution", lines[1:], ["White to move: mate in 1 move (1 ply)\nKeys: 1. c5=Q# in 1 move, 1. c5=R# in 1 move", "1. c5=Q#\n"])
+        drive.same("keys and solution", lines[1:], ["White to move: mate in 1 move (1 ply)\nKeys: 1.c5=Q# in 1 move, 1.c5=R# in 1 move", "1.c5=Q#\n"])
 
 
 def without_network(drive):
@@ -183,7 +183,7 @@ def without_network(drive):
     drive.tab.ask("Page.navigate", url=server.url + "?again" + address(THIRD))
     drive.waited("location.search === '?again' && document.documentElement?.dataset.ready", "the page opens without its server")
     drive.solve()
-    drive.expect("it solves", "answer", "Mate in 2 moves (3 plies): 1. Kc5")
+    drive.expect("it solves", "answer", "Mate in 2 moves (3 plies): 1.Kc5")
     drive.same("its style is there", drive.tab.value("getComputedStyle(document.getElementById('board')).touchAction"), "none")
     drive.tab, drive.url = first, url
     drive.tab.ask("Page.bringToFront")
@@ -214,9 +214,9 @@ def from_file(drive):
         drive.url = f"file://{path}"
         drive.tab = drive.opened(address(THIRD))
         drive.solve()
-        drive.expect("one file solves", "answer", "Mate in 2 moves (3 plies): 1. Kc5")
+        drive.expect("one file solves", "answer", "Mate in 2 moves (3 plies): 1.Kc5")
         drive.press(".move")
-        drive.same("and plays", drive.line(), "1. Kc5 |")
+        drive.same("and plays", drive.line(), "1.Kc5 |")
         drive.press("#undo")
         drive.comes("and undoes", drive.line, "")
         drive.same("no fault of it", drive.tab.faults(), [])

@@ -1,4 +1,4 @@
-// Moves as people write them, with the fewest letters: `1. Kc5`, `1... Qxd5`, `c6=Q`, `Rac2+`, `Ra1#`.
+// Moves as people write them, with the fewest letters: `1.Kc5`, `1...Qxd5`, `c6=Q`, `Rac2+`, `Ra1#`.
 import { letterAt, rowsOf, sideOf } from "./positions.js";
 
 /** A move without its number. The end is how the line ends with it, where that is known: `#`, `=` or nothing. */
@@ -29,15 +29,15 @@ function apart(rules, fen, rows, move) {
   return rivals.every((start) => start[1] !== from[1]) ? from[1] : from;
 }
 
-/** The number before a move, so many plies behind the first one: `2. ` for White, `2... ` for Black, where Black's needs one. */
+/** The number before a move, so many plies behind the first one: `2.` for White, `2...` for Black, where Black's needs one. */
 export function numbered(firstSide, ply, isFirstOfLine) {
   const halves = ply + (firstSide === "b" ? 1 : 0);
   const number = Math.floor(halves / 2) + 1;
-  if (halves % 2 === 0) return `${number}. `;
-  return isFirstOfLine ? `${number}... ` : "";
+  if (halves % 2 === 0) return `${number}.`;
+  return isFirstOfLine ? `${number}...` : "";
 }
 
-/** The moves of a line, each with its number where it has one: `1. Kc5`, `Ka5`, `2. Ra1#`. */
+/** The moves of a line, each with its number where it has one: `1.Kc5`, `Ka5`, `2.Ra1#`. */
 export function lineWritten(rules, fen, moves) {
   const side = sideOf(fen);
   let here = fen;
