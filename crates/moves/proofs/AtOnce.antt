@@ -68,14 +68,7 @@ module _ (b : PlainBoard) (m : Ply) (u : Man) (stands : unit_at b m.from ≡ Som
   pseudo_by (q, move) = subst (IsPseudoLegal b m) (same_Some move.unit u (sym move.pseudo.stands ∙ stands)) move.pseudo
 
   pub move_by : (l : IsLawful b m) → IsMove b m (after b m u)
-  move_by (q, move) =
-      let same : move.unit ≡ u = same_Some move.unit u (sym move.pseudo.stands ∙ stands) in
-      record {
-        unit = u;
-        pseudo = subst (IsPseudoLegal b m) same move.pseudo;
-        leads = refl;
-        safe = λ check. move.safe (subst (λ x. IsInCheck x b.mover) (ap (after b m) (sym same) ∙ sym move.leads) check);
-      }
+  move_by (q, move) = subst (IsMove b m) (move.leads ∙ ap (after b m) (same_Some move.unit u (sym move.pseudo.stands ∙ stands))) move
 
 -- ---- moves that are lawful but for their own king's safety
 
