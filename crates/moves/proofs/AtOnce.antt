@@ -67,15 +67,11 @@ module _ (b : PlainBoard) (m : Ply) (u : Man) (stands : unit_at b m.from ≡ Som
   pub pseudo_by : IsLawful b m → IsPseudoLegal b m u
   pseudo_by (q, move) = subst (IsPseudoLegal b m) (same_Some move.unit u (sym move.pseudo.stands ∙ stands)) move.pseudo
 
+  pub next_by : (q : PlainBoard) → IsMove b m q → q ≡ after b m u
+  next_by q move = move.leads ∙ ap (after b m) (same_Some move.unit u (sym move.pseudo.stands ∙ stands))
+
   pub move_by : (l : IsLawful b m) → IsMove b m (after b m u)
-  move_by (q, move) =
-      let same : move.unit ≡ u = same_Some move.unit u (sym move.pseudo.stands ∙ stands) in
-      record {
-        unit = u;
-        pseudo = subst (IsPseudoLegal b m) same move.pseudo;
-        leads = refl;
-        safe = λ check. move.safe (subst (λ x. IsInCheck x b.mover) (ap (after b m) (sym same) ∙ sym move.leads) check);
-      }
+  move_by (q, move) = subst (IsMove b m) (next_by q move) move
 
 -- ---- moves that are lawful but for their own king's safety
 

@@ -151,8 +151,7 @@ module _ (b : PlainBoard) (u : Man) (from : Place) (on : IsOnBoard b.game from) 
         let (before, lists, count) = next_holds b.game (Has set) (λ i. Has set i × (k ≤ i)) (Counted k) (safe_cell b u from on set safe) (jump k) s k (h, omega arith) least in
         let (more, listed, grown) = take_each b u from (place_in k) on (safe.cells k h).0.on_board stands before (λ m f t named. safe.lawful k m h f t named) each (eachly k h) lists in
         let same : (square_number b.game from * 36 + n + 1) * 5 ≡ (square_number b.game from * 36 + (n + 1)) * 5 = omega arith in
-        let one : bit_at set k ≡ 1 = h in
-        let product : (bits_below set k + bit_at set k) * each ≡ bits_below set k * each + each = ap (λ x. (bits_below set k + x) * each) one ∙ distributed (bits_below set k) in
+        let product : (bits_below set k + bit_at set k) * each ≡ bits_below set k * each + each = ap (λ x. (bits_below set k + x) * each) h ∙ distributed (bits_below set k) in
         walked_more b.game (Has set) (λ i. Has set i × (k ≤ i)) (Counted k) (safe_cell b u from on set safe) (jump k) s k (h, omega arith) least (λ i. Has set i × (suc k ≤ i)) (Counted (suc k))
         (λ i. (
           λ w. let above = w.1 in ((w.0, omega (arith, above)), λ e. omega (arith, above, e)),

@@ -1,5 +1,5 @@
 -- Steps of a king that are lawful after a move of the other side.
-use Rattle.moves.proofs.Common.{◌≡◌, ℕ, refl, sym, ap, subst, ◌∙◌, inl, inr, false, Some, None, false≢true, same_Some, King, Man, Side, Step, other_side, PlainBoard, IsPosition, Place, Ply, IsOnBoard, unit_at, Leads, Allows, Reaches, AttacksFrom, IsAttacked, IsInCheck, once, again, IsSomeKing, IsPseudoLegal, IsLawful, placed, after, IsPosition-after, own_or_other, place_in, IsCell, Way, IsOnRay, Aims, IsPinned, IsCalm}
+use Rattle.moves.proofs.Common.{◌≡◌, ℕ, refl, sym, ap, subst, ◌∙◌, inl, inr, Some, None, false≢true, same_Some, King, Man, Side, other_side, PlainBoard, IsPosition, Place, Ply, IsOnBoard, unit_at, Allows, Reaches, AttacksFrom, IsAttacked, IsInCheck, once, IsSomeKing, IsPseudoLegal, IsLawful, placed, after, IsPosition-after, own_or_other, place_in, IsCell, Way, IsOnRay, Aims, IsPinned, IsCalm, single_step}
 use Rattle.moves.proofs.Laying.{unit_at-other}
 use Rattle.moves.proofs.Kings.{king_of, check_at, check_from}
 use Rattle.moves.proofs.Guarding.{king_moved}
@@ -16,16 +16,8 @@ over_lines b side k i on cell w =
     (way.way, rides-ray b way.way k i (Rides-leads b w.rider.side way.way w.step way.goes k i on cell w.to_king))
 
 module _ (b : PlainBoard) (m : Ply) (u : Man) (is : IsPosition b) (p : IsPseudoLegal b m u) where
-  -- a step at once is one on any board
-  single_after : (side : Side) (step : Step) (s t : Place) → step.rider ≡ false → Leads b side step s t → Leads (after b m u) side step s t
-  single_after side step s t r (once o a) = once o a
-  single_after side step s t r (again r' o a e l) = absurd (false≢true (sym r ∙ r'))
-
   module _ (k f : Place) (on : IsOnBoard b.game k) (king : unit_at b k ≡ king_of (other_side b.mover)) (to : IsOnBoard b.game f)
       (reach : Reaches b (record { side = other_side b.mover; kind = King }) k f (unit_at b f)) (away : f ≡ m.from → ⊥) (apart : f ≡ m.to → ⊥) (calm : IsCalm b f (other_side b.mover)) where
-    foe : Man
-    foe = record { side = other_side b.mover; kind = King }
-
     not_from : k ≡ m.from → ⊥
     not_from e = own_or_other b.mover (sym p.owner ∙ ap (λ (x : Man). x.side) (same_Some u (record { side = other_side b.mover; kind = King }) (sym p.stands ∙ ap (unit_at b) (sym e) ∙ king)))
 
@@ -46,7 +38,7 @@ module _ (b : PlainBoard) (m : Ply) (u : Man) (is : IsPosition b) (p : IsPseudoL
         denoted = reach.denoted;
         reaches = record {
           allows = subst (Allows reach.step.mode (other_side b.mover)) (sym same_target) reach.reaches.allows;
-          leads = single_after (other_side b.mover) reach.step k f (king_single reach.step reach.denoted) reach.reaches.leads;
+          leads = once to (single_step b (other_side b.mover) reach.step k f (king_single reach.step reach.denoted) reach.reaches.leads);
         };
       };
       no_king = λ w. calm.no_king (subst IsSomeKing same_target w);

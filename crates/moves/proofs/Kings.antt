@@ -24,15 +24,12 @@ module _ (b : PlainBoard) (is : IsPosition b) (side : Side) where
   king_at : (s : Place) → unit_at b s ≡ king_of side → is_king_of side (get_or b.units (square_number b.game s) None) ≡ true
   king_at s e = ap (is_king_of side) e ∙ is_king side
 
-  low : (s : Place) → IsOnBoard b.game s → square_number b.game s < length b.units
-  low s on = let n = number_within b.game s on in let few = squares_36 b.game in omega (arith, n, few, is.places)
-
   -- two squares that have the king are one
   pub one_king : (s t : Place) → IsOnBoard b.game s → IsOnBoard b.game t → unit_at b s ≡ king_of side → unit_at b t ≡ king_of side → s ≡ t
   one_king s t on on' e f = elim (cases_order (square_number b.game s) (square_number b.game t)) [
     | inl same ↦ same_number b.game s t on on' same
-    | inr (inl before) ↦ absurd (once_only (is_king_of side) b.units _ _ None (is.armies side).king before (low t on') (king_at s e) (king_at t f))
-    | inr (inr after) ↦ absurd (once_only (is_king_of side) b.units _ _ None (is.armies side).king after (low s on) (king_at t f) (king_at s e))
+    | inr (inl before) ↦ absurd (once_only (is_king_of side) b.units _ _ None (is.armies side).king before (omega (arith, number_within b.game t on', squares_36 b.game, is.places)) (king_at s e) (king_at t f))
+    | inr (inr after) ↦ absurd (once_only (is_king_of side) b.units _ _ None (is.armies side).king after (omega (arith, number_within b.game s on, squares_36 b.game, is.places)) (king_at t f) (king_at s e))
   ]
 
   -- check is an attack on the king's square

@@ -1,5 +1,5 @@
 -- What a unit reaches is what it sees, but for its own units, and a pawn's step.
-use Rattle.moves.proofs.Common.{◌≡◌, ℕ, ◌^◌, ◌<◌, ◌≤◌, w64, zero, suc, refl, sym, ap, subst, ◌∙◌, arith, ◌↔◌, ◌⊎◌, inl, inr, Bool, true, false, ℤ, pos, ◌<ℤ◌, Option, Some, None, list_all, bit_not, unsigned_abs, bit_and, bit_or, ints, false≢true, Side, White, Black, Kind, King, Queen, Rook, Bishop, Knight, Pawn, Man, Mode, Move, Capture, Both, Step, Wazir, Term, IsAtomLeap, terms_of, Denotes, other_side, IsPlayed, PlainBoard, is_of_side, unit_at, ahead_of, IsShift, IsStep, Allows, once, table_of, place_in, IsAway, IsCell, Aims, Has, IsTarget, IsNext, ahead_way, shift_in, Has-and, Has-or, Has-minus, next_of, next-is, is-next, single_step as single, own_or_other}
+use Rattle.moves.proofs.Common.{◌≡◌, ℕ, ◌^◌, ◌<◌, ◌≤◌, w64, zero, suc, refl, sym, ap, subst, ◌∙◌, arith, ◌↔◌, ◌⊎◌, inl, inr, Bool, true, false, ℤ, pos, ◌<ℤ◌, Option, Some, None, bit_not, unsigned_abs, bit_and, bit_or, ints, false≢true, Side, White, Black, Kind, King, Queen, Rook, Bishop, Knight, Pawn, Man, Mode, Move, Capture, Both, Step, Wazir, Term, IsAtomLeap, terms_of, Denotes, other_side, IsPlayed, PlainBoard, is_of_side, unit_at, ahead_of, IsShift, IsStep, Allows, once, place_in, IsAway, IsCell, Aims, Has, IsTarget, IsNext, ahead_way, shift_in, Has-and, Has-or, Has-minus, next_of, next-is, is-next, single_step as single, own_or_other}
 use Rattle.moves.proofs.Guarding.{own_unit_side, is_own}
 use Rattle.moves.proofs.Seeing.{zero_of, by_table}
 
@@ -38,16 +38,13 @@ both_is Both e = refl
 abbrev all_both : Step → Bool
 all_both s = is_both s.mode
 
-both_modes : (k : Kind) → (k ≡ Pawn → ⊥) → list_all all_both (table_of k) ≡ true
-both_modes King h = refl
-both_modes Queen h = refl
-both_modes Rook h = refl
-both_modes Bishop h = refl
-both_modes Knight h = refl
-both_modes Pawn h = absurd (h refl)
-
 mode_both : (k : Kind) → (k ≡ Pawn → ⊥) → (step : Step) → Denotes (terms_of k) step → step.mode ≡ Both
-mode_both k other step denoted = both_is step.mode (by_table all_both k (both_modes k other) step denoted)
+mode_both King other step d = both_is step.mode (by_table all_both King refl step d)
+mode_both Queen other step d = both_is step.mode (by_table all_both Queen refl step d)
+mode_both Rook other step d = both_is step.mode (by_table all_both Rook refl step d)
+mode_both Bishop other step d = both_is step.mode (by_table all_both Bishop refl step d)
+mode_both Knight other step d = both_is step.mode (by_table all_both Knight refl step d)
+mode_both Pawn other step d = absurd (other refl)
 
 module _ (b : PlainBoard) (u : Man) (i : ℕ) (played : IsPlayed b.game u.kind) where
   -- what it sees and doesn't hold is what it reaches

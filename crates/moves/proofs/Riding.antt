@@ -9,20 +9,16 @@ abbrev pub IsSooner : Bool → ℕ → ℕ → Type 0
 IsSooner true j k = j < k
 IsSooner false j k = k < j
 
--- what goes for each way
-record IsWay (way : Way) : Type 0 where
-  sooner : (i j : ℕ) → IsNext way i j → IsSooner (rises way) i j
-  small : unsigned_abs (files_of way) ≤ 2
-
-is_way : (way : Way) → IsWay way
-is_way North = record { sooner = λ i j e. omega (arith, ints, e); small = omega arith }
-is_way South = record { sooner = λ i j e. omega (arith, ints, e); small = omega arith }
-is_way East = record { sooner = λ i j e. omega (arith, ints, e); small = omega arith }
-is_way West = record { sooner = λ i j e. omega (arith, ints, e); small = omega arith }
-is_way NorthEast = record { sooner = λ i j e. omega (arith, ints, e); small = omega arith }
-is_way SouthWest = record { sooner = λ i j e. omega (arith, ints, e); small = omega arith }
-is_way NorthWest = record { sooner = λ i j e. omega (arith, ints, e); small = omega arith }
-is_way SouthEast = record { sooner = λ i j e. omega (arith, ints, e); small = omega arith }
+-- a way leads to what lies later on it, and by two files at most
+is_way : (way : Way) → ((i j : ℕ) → IsNext way i j → IsSooner (rises way) i j) × (unsigned_abs (files_of way) ≤ 2)
+is_way North = ((λ i j e. omega (arith, ints, e)), omega arith)
+is_way South = ((λ i j e. omega (arith, ints, e)), omega arith)
+is_way East = ((λ i j e. omega (arith, ints, e)), omega arith)
+is_way West = ((λ i j e. omega (arith, ints, e)), omega arith)
+is_way NorthEast = ((λ i j e. omega (arith, ints, e)), omega arith)
+is_way SouthWest = ((λ i j e. omega (arith, ints, e)), omega arith)
+is_way NorthWest = ((λ i j e. omega (arith, ints, e)), omega arith)
+is_way SouthEast = ((λ i j e. omega (arith, ints, e)), omega arith)
 
 sooner-trans : (r : Bool) (i j k : ℕ) → IsSooner r i j → IsSooner r j k → IsSooner r i k
 sooner-trans true i j k a b = omega (arith, a, b)
@@ -40,8 +36,8 @@ one-next : (way : Way) (i j k : ℕ) → IsNext way i j → IsNext way i k → j
 one-next way i j k a b = omega (arith, ints, a, b)
 
 pub sooner-ray : (g : Game) (way : Way) (i j : ℕ) → IsOnRay g way i j → IsSooner (rises way) i j
-sooner-ray g way i j (next a c) = (is_way way).sooner i j a
-sooner-ray g way i j (beyond {k = k} a c r) = sooner-trans (rises way) i k j ((is_way way).sooner i k a) (sooner-ray g way k j r)
+sooner-ray g way i j (next a c) = (is_way way).0 i j a
+sooner-ray g way i j (beyond {k = k} a c r) = sooner-trans (rises way) i k j ((is_way way).0 i k a) (sooner-ray g way k j r)
 
 pub cell-ray : (g : Game) (way : Way) (i j : ℕ) → IsOnRay g way i j → IsCell g j
 cell-ray g way i j (next a c) = c
@@ -90,7 +86,7 @@ pub record Goes (side : Side) (way : Way) (step : Step) : Type 0 where
 module _ (b : PlainBoard) (side : Side) (way : Way) (step : Step) (goes : Goes side way step) where
   step-next : (i j : ℕ) → IsCell b.game i → IsCell b.game j → IsNext way i j → IsStep side step (place_in i) (place_in j)
   step-next i j c d a =
-      let s = shift_in b.game (files_of way) (ranks_of way) i j c (is_way way).small a d in
+      let s = shift_in b.game (files_of way) (ranks_of way) i j c (is_way way).1 a d in
       subst (λ x. IsShift x (ahead_of side step.dy) (place_in i) (place_in j)) (sym goes.files) (subst (λ y. IsShift (files_of way) y (place_in i) (place_in j)) (sym goes.ranks) s)
 
   next-step : (i : ℕ) (t : Place) → IsCell b.game i → IsOnBoard b.game t → IsStep side step (place_in i) t → IsNext way i (cell_of t)

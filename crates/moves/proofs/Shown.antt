@@ -122,8 +122,6 @@ HeldBelow-all b class set n all held i = (
   λ w. (held i).1 (w, subst (λ k. square_number b.game (place_in i) < k) (sym all) (number_within b.game (place_in i) w.0.on_board)),
 )
 
--- ---- all classes
-
 -- each set has the cells of its class on the squares numbered below n
 abbrev pub ShownBelow : PlainBoard → Sets → ℕ → Type 0
 ShownBelow b s n = (class : Class) → HeldBelow b class (set_of s class) n

@@ -26,19 +26,16 @@ module _ (g : Game) (P L H : ℕ → Type 0) (cell : (i : ℕ) → P i → IsCel
 
   -- the lowest cell that is left is the next
   module _ (to : ℕ) (there : L to) (least : (i : ℕ) → i < to → L i → ⊥) where
-    pub next : P to
-    next = ((s.left to).0 there).0
-
     pub next_holds : H (square_number g (place_in to))
     next_holds =
-        let last = number_within g (place_in to) (cell to next).on_board in
+        let last = number_within g (place_in to) (cell to ((s.left to).0 there).0).on_board in
         jump s.upto (square_number g (place_in to)) ((s.left to).0 there).1 (omega (arith, last))
-        (λ i p low high. least i ((cell_order g i to (cell i p) (cell to next)).0 high) ((s.left i).1 (p, low))) s.holds
+        (λ i p low high. least i ((cell_order g i to (cell i p) (cell to ((s.left to).0 there).0)).0 high) ((s.left i).1 (p, low))) s.holds
 
     -- once it is taken the others are left
     pub walked_more : (M K : ℕ → Type 0) → ((i : ℕ) → M i ↔ (L i × (i ≢ to))) → K (square_number g (place_in to) + 1) → IsWalked g P M K
     walked_more M K rest after =
-        let last = number_within g (place_in to) (cell to next).on_board in
+        let last = number_within g (place_in to) (cell to ((s.left to).0 there).0).on_board in
         let first = ((s.left to).0 there).1 in
         record {
           upto = square_number g (place_in to) + 1;
@@ -54,7 +51,7 @@ module _ (g : Game) (P L H : ℕ → Type 0) (cell : (i : ℕ) → P i → IsCel
         later i p l other = elim (cases_order i to) [
           | inl same ↦ absurd (other same)
           | inr (inl below) ↦ absurd (least i below l)
-          | inr (inr above) ↦ let e = (cell_order g to i (cell to next) (cell i p)).1 above in omega (arith, e)
+          | inr (inr above) ↦ let e = (cell_order g to i (cell to ((s.left to).0 there).0) (cell i p)).1 above in omega (arith, e)
         ]
 
         apart : (i : ℕ) → square_number g (place_in to) + 1 ≤ square_number g (place_in i) → i ≢ to

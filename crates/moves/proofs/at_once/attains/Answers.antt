@@ -1,5 +1,5 @@
-use Rattle.moves.proofs.Common.{◌≡◌, sym, subst, ◌∙◌, false≢true, PlainBoard, IsInCheck, IsLawful, after, IsReached, one_after, not_so, not-is}
-use Rattle.moves.proofs.AtOnce.{move_by, no_move_at}
+use Rattle.moves.proofs.Common.{sym, subst, ◌∙◌, false≢true, PlainBoard, IsInCheck, IsLawful, after, IsReached, not_so, not-is}
+use Rattle.moves.proofs.AtOnce.{move_by, next_by, no_move_at}
 use Rattle.moves.proofs.SafeCells.{lawful_named}
 use Rattle.moves.proofs.at_once.attains.Goals as goal
 
@@ -11,12 +11,8 @@ escapes-requires-clause-pseudo c = c.requires.pseudo (c.is_named.ensures.0 c.if-
 
 pub returns-then-escapes : goal.returns-then-escapes
 returns-then-escapes c = not_so (λ w.
-    let b = c.args.board.now in
-    let m = c.args.m in
-    let u = c.args.unit in
-    let same : w.next ≡ after b m u = one_after b m w.next _ w.move (move_by b m u c.requires.stands (w.next, w.move)) in
     let step = c.escapes.ensures c.if-escapes.true in
-    no_move_at c.args.quest.goal w.next w.reached step.0 (subst (λ q. IsLawful q step.0) (sym same) step.1))
+    no_move_at c.args.quest.goal w.next w.reached step.0 (subst (λ q. IsLawful q step.0) (sym (next_by c.args.board.now c.args.m c.args.unit c.requires.stands w.next w.move)) step.1))
 
 pub moved-next-requires : goal.moved-next-requires
 moved-next-requires c = c.requires.pseudo (c.is_named.ensures.0 c.if-not-is_named.false)
@@ -40,10 +36,5 @@ returns-then-is_reached c =
 pub returns-else-is_reached : goal.returns-else-is_reached
 returns-else-is_reached c = (
   λ yes. absurd (false≢true (sym c.if-is_reached.false ∙ yes)),
-  λ w.
-      let b = c.args.board.now in
-      let m = c.args.m in
-      let u = c.args.unit in
-      let move = move_by b m u c.requires.stands (w.next, w.move) in
-      absurd (false≢true (sym c.if-is_reached.false ∙ c.is_reached.ensures.1 (subst (IsReached c.args.quest.goal) (one_after b m w.next _ w.move move ∙ sym c.moved-next.ensures) w.reached))),
+  λ w. absurd (false≢true (sym c.if-is_reached.false ∙ c.is_reached.ensures.1 (subst (IsReached c.args.quest.goal) (next_by c.args.board.now c.args.m c.args.unit c.requires.stands w.next w.move ∙ sym c.moved-next.ensures) w.reached))),
 )

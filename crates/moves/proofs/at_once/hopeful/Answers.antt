@@ -1,5 +1,5 @@
-use Rattle.moves.proofs.Common.{◌≡◌, Some, ap, subst, ◌∙◌, PlainBoard, Goal, unit_at, IsInCheck, IsReached, cell_of, IsTarget, one_after}
-use Rattle.moves.proofs.AtOnce.{pseudo_by, move_by}
+use Rattle.moves.proofs.Common.{◌≡◌, Some, ap, subst, ◌∙◌, PlainBoard, Goal, unit_at, IsInCheck, IsReached, cell_of, IsTarget}
+use Rattle.moves.proofs.AtOnce.{pseudo_by, next_by}
 use Rattle.moves.proofs.Checking.{IsTarget-move}
 use Rattle.moves.proofs.at_once.hopeful.Goals as goal
 
@@ -10,7 +10,7 @@ returns-in-Mate-Some-clause-all c = λ m at w.
     let stands : unit_at b m.from ≡ Some u = ap (unit_at b) at ∙ c.requires.stands in
     let mated = subst (λ (g : Goal). IsReached g w.next) c.in-Mate-Some.is-0 w.reached in
     c.checking.ensures.all m (pseudo_by b m u stands (w.next, w.move)) at
-    (subst (λ (q : PlainBoard). IsInCheck q q.mover) (one_after b m w.next _ w.move (move_by b m u stands (w.next, w.move))) mated.check)
+    (subst (λ (q : PlainBoard). IsInCheck q q.mover) (next_by b m u stands w.next w.move) mated.check)
 
 pub returns-in_default-clause-all : goal.returns-in_default-clause-all
 returns-in_default-clause-all c = λ m at w.
