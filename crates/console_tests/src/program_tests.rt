@@ -544,6 +544,16 @@ fn explains_moves(rt: HostRuntime) {
             "a move is two squares of the board, and what a pawn becomes, as c4c5 or c5c6q",
         ),
         ("k5/6/2K3/6/6/1R4 w", "d4d5", "nothing stands on d4"),
+        ("k5/6/2K3/6/6/1R4 w", "Kc5!", "write the move as c4c5"),
+        ("k4/2P2/1K3/5/5 w", "c5=N", "write the move as c4c5n"),
+        ("k4/2P2/1K3/5/5 w", "c5=Q#", "write the move as c4c5q"),
+        ("1k4/5R/6/6/6/2R2K w", "Rcc5", "write the move as c1c5"),
+        ("6/1k3n/4R1/5R/6/K5 w", "Rxf5+", "write the move as f3f5"),
+        (
+            "k5/6/2K3/6/6/1R4 w",
+            "Qc5",
+            "a move is two squares of the board, and what a pawn becomes, as c4c5 or c5c6q",
+        ),
         (
             "k5/6/2K3/6/6/1R4 w",
             "a6a5",
@@ -572,7 +582,7 @@ fn explains_moves(rt: HostRuntime) {
     }
 }
 
-// A search for a side that has no move says why it has none, beside its answer; another command says nothing.
+// A search for a side that has no move says why it has none, beside its answer, and so does the list of its moves; another command says nothing.
 #[test]
 fn tells_of_a_side_without_moves(rt: HostRuntime) {
     let mated = tell(&rt, "minimate,solve,--limit,3", "k4R/6/1K4/6/6/6 b");
@@ -614,8 +624,11 @@ fn tells_of_a_side_without_moves(rt: HostRuntime) {
         &tell(&rt, "minimate,moves", "k4R/6/1K4/6/6/6 b"),
         0,
         "",
-        "",
+        "Black is mated already\n",
     );
+    let drawing = " 6  k . . . . R\n 5  . . . . . .\n 4  . K . . . .\n 3  . . . . . .\n 2  . . . . . .\n 1  . . . . . .\n    a b c d e f      Black to move\n";
+    let drawn = tell(&rt, "minimate,show", "k4R/6/1K4/6/6/6 b");
+    expect(&rt, &drawn, 0, drawing, "");
     let refused = tell(
         &rt,
         "minimate,solve,--limit,3,--workers,0",

@@ -2,6 +2,7 @@
 #![tactic(auto, using(crate::proofs::Telling::telling))]
 
 mod advice;
+mod algebra;
 mod board_text;
 mod kings;
 mod moving;

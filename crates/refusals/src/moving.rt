@@ -4,7 +4,8 @@ ghost use Rattle.std.specs.Io.KnownBytes.{Appends};
 ghost use Rattle.rules.specs.Reach.{IsInCheck};
 ghost use Rattle.refusals.specs.Sentences.{AppendsLine, error_beginning, over_text, side_text};
 
-use crate::sentence::Part::{Bytes, Moves, On, Text};
+use crate::algebra::named_so;
+use crate::sentence::Part::{Bytes, Moves, On, Played, Text};
 use crate::sentence::{NO, Sentence, write_line};
 use board::{Position, Side};
 use moves::{Move, in_check, lawful, read_move, read_sound};
@@ -24,6 +25,8 @@ const NOWHERE: &str = "'%': there is no position to play at";
 const NO_MOVE: &str =
     "'%': a move is two squares of the board, and what a pawn becomes, as c4c5 or c5c6q";
 
+const BY_SQUARES: &str = "'%': write the move as %";
+
 const OTHERS: &str = "'%': % is to move, and the unit on % is %'s";
 
 const LAWFUL: &str = "'%': that isn't lawful: write one of%";
@@ -35,7 +38,10 @@ fn move_sentence<'a>(position: &Position, moves: &'a [Move], name: &'a [u8]) -> 
     let (game, mover, told) = (position.game(), position.mover(), Bytes(name));
     let from = match read_move(name) {
         Some(m) if m.from.is_on_board(game) && m.to.is_on_board(game) => m.from,
-        _ => return Sentence(NO_MOVE, (told, NO, NO, NO)),
+        _ => match named_so(position, moves, name) {
+            Some(m) => return Sentence(BY_SQUARES, (told, Played(m), NO, NO)),
+            None => return Sentence(NO_MOVE, (told, NO, NO, NO)),
+        },
     };
     let square = On(from);
     match position.unit(from.number(game)) {

@@ -19,6 +19,8 @@ pub enum Part<'a> {
     Bytes(&'a [u8]),
     /// That the board has another fault, if so.
     Fault(bool),
+    /// A move by its squares.
+    Played(Move),
     /// Those of the moves that are from this square, each behind a blank.
     Moves(&'a [Move], Square),
 }
@@ -65,6 +67,7 @@ fn write_part<E: Write>(errors: &mut E, part: &Part<'_>) -> io::Result<()>
         Part::Bytes(bytes) => write_escaped(errors, bytes),
         Part::Fault(true) => errors.write_all(b"; the board has a fault too"),
         Part::Fault(false) => Ok(()),
+        Part::Played(m) => write!(errors, "{m}"),
         Part::Moves(moves, from) => write_moves(errors, moves, *from),
     }
 }
