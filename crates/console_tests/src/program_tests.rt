@@ -626,7 +626,8 @@ fn tells_of_a_side_without_moves(rt: HostRuntime) {
         "",
         "Black is mated already\n",
     );
-    let drawing = " 6  k . . . . R\n 5  . . . . . .\n 4  . K . . . .\n 3  . . . . . .\n 2  . . . . . .\n 1  . . . . . .\n    a b c d e f      Black to move\n";
+    let drawing =
+        " 6  k . . . . R\n 5  . . . . . .\n 4  . K . . . .\n 3  . . . . . .\n 2  . . . . . .\n 1  . . . . . .\n    a b c d e f      Black to move\n";
     let drawn = tell(&rt, "minimate,show", "k4R/6/1K4/6/6/6 b");
     expect(&rt, &drawn, 0, drawing, "");
     let refused = tell(

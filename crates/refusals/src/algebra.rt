@@ -77,7 +77,10 @@ fn is_written(written: &Written<'_>, kind: Kind, m: Move) -> bool {
         (None, None) => true,
         _ => false,
     };
-    promoted && kind == written.kind && letters_of(m.to) == written.to && hint_at(written.hints, m.from)
+    promoted
+        && kind == written.kind
+        && letters_of(m.to) == written.to
+        && hint_at(written.hints, m.from)
 }
 
 /// The first of the moves that has this name.
