@@ -76,4 +76,6 @@ def svg(position, is_black_below=False):
     for n in range(width):
         parts.append(sign_svg(RANKS[width - 1 - seen(n)], 6, 39 + 100 * n))
         parts.append(sign_svg(FILES[seen(n)], 79 + 100 * n, 9 + 100 * width))
+    if position.side == "b":
+        parts.append(f'<path d="M11 {26 + 100 * width}a11 11 0 1 0 22 0 11 11 0 1 0-22 0z" fill="{LINE}"/>\n')
     return "".join([*parts, "</svg>\n"])

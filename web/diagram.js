@@ -67,6 +67,7 @@ export function svgOf(fen, isFlipped) {
     ...places.map(([row, column]) => squareOnPaper(rows, isFlipped, row, column)),
     `<path d="M44 4h${board}v${board}H44z" fill="none" stroke="${LINE}" stroke-width="3"/>\n`,
     ...rows.map((_, n) => signs(rows.length, isFlipped, n)),
+    sideOf(fen) === "b" ? `<path d="M11 ${26 + board}a11 11 0 1 0 22 0 11 11 0 1 0-22 0z" fill="${LINE}"/>\n` : "",
     "</svg>\n",
   ].join("");
 }

@@ -1,6 +1,6 @@
 //! A move's name, which is printed.
 use crate::ending::Ending;
-use crate::origin::{Origin, Told};
+use crate::origin::{Departure, Origin};
 use crate::symbols::Symbols;
 use board::Kind;
 use rules::Square;
@@ -27,7 +27,7 @@ impl fmt::Display for Name {
 
     fn fmt<W: fmt::Write>(&self, f: &mut fmt::Formatter<W>) -> fmt::Result {
         let letter = self.symbols.kind_text(self.kind);
-        let told = Told {
+        let told = Departure {
             origin: self.origin,
             square: self.from,
         };

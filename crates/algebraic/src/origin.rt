@@ -13,12 +13,12 @@ pub(crate) enum Origin {
 
 /// What is told of a square.
 #[derive(Clone, Copy)]
-pub(crate) struct Told {
+pub(crate) struct Departure {
     pub(crate) origin: Origin,
     pub(crate) square: Square,
 }
 
-impl fmt::Display for Told {
+impl fmt::Display for Departure {
     ghost use Rattle.std.specs.Prelude.{Some};
     ghost use Rattle.algebraic.specs.Text.{origin_text};
 

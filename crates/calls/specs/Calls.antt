@@ -10,7 +10,7 @@ use Rattle.replies.specs.Playing.{IsAfterReply}
 use Rattle.refusals.specs.Reply.{Reply, refused}
 use Rattle.refusals.specs.declared.refusal.Refusal.TheVariants.{NoMemory}
 use Rattle.verdicts.specs.Verdict.{IsVerdict}
-use Rattle.calls.specs.declared.asked.Terms.{Terms}
+use Rattle.calls.specs.declared.asked.SearchTerms.{SearchTerms}
 use Rattle.calls.specs.declared.asked.Call.{Call}
 use Rattle.calls.specs.declared.asked.Call.TheVariants as call
 use Rattle.calls.specs.Playing.{IsFaultReply}
@@ -22,11 +22,11 @@ goal_of false = Mate
 goal_of true = MateOrStale
 
 -- the limits of a search with one worker
-abbrev pub limits_of : Terms → Limits
+abbrev pub limits_of : SearchTerms → Limits
 limits_of terms = record { limit = terms.limit; workers = 1; slots = terms.slots }
 
 -- the terms with these values
-abbrev pub search_terms : Bool → ℕ → ℕ → Terms
+abbrev pub search_terms : Bool → ℕ → ℕ → SearchTerms
 search_terms stale limit slots = record { stale = stale; limit = limit; slots = slots }
 
 -- the reply to a call at the position of a text: the program's to its line, or what is told of the text, of a move or of a certificate

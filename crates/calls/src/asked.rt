@@ -8,7 +8,7 @@ use moves::Goal;
 /// What a search is to find, and within what: whether stalemate is a goal too, the limit in plies, and the slots of its table.
 #[derive(Clone, Copy)]
 #[repr(C)]
-pub struct Terms {
+pub struct SearchTerms {
     pub stale: bool,
     pub limit: u32,
     pub slots: u32,
@@ -28,11 +28,11 @@ pub enum Call<'a> {
     /// What `minimate verify` writes of this input, which is a certificate.
     Verify { stale: bool, certificate: &'a [u8] },
     /// What `minimate solve` writes.
-    Solve(Terms),
+    Solve(SearchTerms),
     /// What `minimate keys` writes.
-    Keys(Terms),
+    Keys(SearchTerms),
     /// What `minimate tree` writes.
-    Tree(Terms),
+    Tree(SearchTerms),
 }
 
 /// The goal that a caller names: mate, or stalemate too.
@@ -43,7 +43,7 @@ pub fn goal_of(stale: bool) -> Goal
 }
 
 /// The limits of a search with one worker, by which the program would refuse none for its workers.
-pub(crate) fn limits_of(terms: Terms) -> Limits
+pub(crate) fn limits_of(terms: SearchTerms) -> Limits
     ensures { result ≡ limits_of terms }
 {
     Limits {

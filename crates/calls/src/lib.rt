@@ -10,4 +10,4 @@ mod text;
 mod verdict;
 
 pub use answering::{no_memory, reply};
-pub use asked::{Call, Terms, goal_of};
+pub use asked::{Call, SearchTerms, goal_of};

@@ -413,10 +413,10 @@ const OBJECTS: Argument = Argument {
     form: Form::Flag,
     help: "Write each reply as a JSON object",
     more: "\
-Writes each reply as a JSON object on a line of its own, with
-position, goal, limit, answer, plies and first, or keys; or with
-position, refused and a sentence. Empty lines and remarks are left
-out.",
+Writes each reply as a JSON object on a line of its own, with the
+input's line, position, goal, limit, answer, plies and first, or
+keys; or with line, position, refused and a sentence. Empty lines
+and remarks are left out.",
 };
 
 const LINES: Argument = Argument {

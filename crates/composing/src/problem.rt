@@ -11,9 +11,9 @@ use board::Position;
 use command_line::{Limits, SolutionOptions, Subject};
 use decision::{Memory, Never, Scout};
 use moves::{Board, Goal, read_sound};
-use problems::{Answer, Root};
+use problems::{Answer, Problem, Root};
 use refusals::Refusal;
-use replies::{Context, none_line, searched_at};
+use replies::{Context, keys, none_line, search_of, searched_at};
 use searcher::{Decider, Halt, Searcher, Table};
 use solution_text::{solution_text, whole_solution};
 use solutions::{Extras, solution_of};
@@ -88,6 +88,20 @@ fn published(
     }
 }
 
+/// All threads seek the keys that take so many plies: what they find stands in the table, and no answer rests on it.
+fn seek_keys<R: Threads + Wait + Eprint + Clock + Sync + AllocGlobal>(
+    context: &Context<'_, R>,
+    table: &mut Table,
+    position: &Position,
+    goal: Goal,
+    limits: Limits,
+) {
+    if let Some(problem) = Problem::of(position, goal, search_of(limits).limit) {
+        let watch = context.watch_of(position, true, limits);
+        let _ = keys(context.rt, table, &problem, watch.as_ref());
+    }
+}
+
 /// The solution of a position, or that nothing is forced within the limit.
 fn solution_at<R: Threads + Wait + Eprint + Clock + Sync + AllocGlobal>(
     context: &Context<'_, R>,
@@ -99,9 +113,14 @@ fn solution_at<R: Threads + Wait + Eprint + Clock + Sync + AllocGlobal>(
     ensures { Gives vec_items (ShowsSolution goal position.now options limits) result }
 {
     let alloc = context.rt.alloc();
-    let found = searched_at(context, position, goal, limits)?;
+    let mut found = searched_at(context, position, goal, limits)?;
     match found.answer {
         Answer::Mate { plies, .. } => {
+            let within = Limits {
+                limit: u32::from(plies),
+                ..limits
+            };
+            seek_keys(context, &mut found.table, position, goal, within);
             let root = Root::on(Board::of(position), goal, plies);
             Ok(published(alloc, found.table, &root, options)?)
         }

@@ -25,10 +25,10 @@ use Rattle.refusals.specs.Refusal.{refusal_of_fen}
 use Rattle.refusals.specs.declared.refusal.Refusal.{Refusal}
 use Rattle.refusals.specs.declared.refusal.Refusal.TheVariants as refusal
 use Rattle.answer_texts.specs.Said.{said_in}
-use Rattle.console.specs.Batch.{AnswersLines, EndsBatch, HasReplyText, IsAskedReply, IsLineReply, RunsBatch, answered_lines, joined, left_out, lines_of, onto}
-use Rattle.console.specs.BatchRun.{Fails, GivesAsked, GivesFound, GivesNext, IsFirstOf, IsAskedRefusal, PassesOver, Step, TakesAnswered, TakesLines, TakesStep, stop_of}
+use Rattle.console.specs.Batch.{AnswersLines, EndsBatch, HasReplyText, IsAskedReply, IsLineReply, IsUnnumberedReply, RefusesBatch, RunsBatch, answered_lines, joined, left_out, lines_of, next_number, numbered, onto, wanting_text, with_number}
+use Rattle.console.specs.BatchRun.{Fails, GivesAsked, GivesFound, GivesNext, IsFirstOf, IsAskedRefusal, PassesOver, RepliesToNext, Step, TakesAnswered, TakesLines, TakesStep, stop_of}
 use Rattle.devices.specs.Lines.{HasNoFeed, IsFed, IsLastOf, IsReadAs, TakesLine, left_of}
-use Rattle.endings.specs.Run.{Ending, Finishes, Refuses, Run, no_memory}
+use Rattle.endings.specs.Run.{Ending, Finishes, Run}
 use Rattle.rounds.specs.declared.fault.SolveFault.{SolveFault}
 use Rattle.console.specs.declared.batch.BatchStop.{BatchStop}
 use Rattle.console.specs.declared.batch.BatchStop.TheVariants.{ReadFailed, WriteFailed, NoMemory}
@@ -100,33 +100,56 @@ zip_all R [] us (y ∷ ys) vs p q = absurd p
 zip_all R (x ∷ xs) us [] vs p q = absurd p
 zip_all R (x ∷ xs) us (y ∷ ys) vs p q = (p.0, zip_all R xs us ys vs p.1 q)
 
+-- ---- numbers
+
+-- the number of the last of the lines, behind a line of this number
+number_behind : ℕ → List (List ℕ) → ℕ
+number_behind number [] = number
+number_behind number (line ∷ lines) = number_behind (next_number number) lines
+
+numbered_all : (number : ℕ) (front rest : List (List ℕ)) → numbered number (front ++ rest) ≡ numbered number front ++ numbered (number_behind number front) rest
+numbered_all number [] rest = refl
+numbered_all number (line ∷ front) rest = ap (λ l. (next_number number, line) ∷ l) (numbered_all (next_number number) front rest)
+
+behind_all : (number : ℕ) (front rest : List (List ℕ)) → number_behind number (front ++ rest) ≡ number_behind (number_behind number front) rest
+behind_all number [] rest = refl
+behind_all number (line ∷ front) rest = behind_all (next_number number) front rest
+
+-- the replies to lines, and then those to others
+zip_numbered : (batch : Batch) (start number : ℕ) (front lines texts others : List (List ℕ)) → number ≡ number_behind start front
+    → AllZip (IsLineReply batch) (numbered start front) texts → AllZip (IsLineReply batch) (numbered number lines) others
+    → AllZip (IsLineReply batch) (numbered start (front ++ lines)) (texts ++ others)
+zip_numbered batch start number front lines texts others behind zip more =
+    subst (λ l. AllZip (IsLineReply batch) l (texts ++ others)) (sym (numbered_all start front lines))
+    (zip_all (IsLineReply batch) (numbered start front) (numbered (number_behind start front) lines) texts others zip
+    (subst (λ n. AllZip (IsLineReply batch) (numbered n lines) others) behind more))
+
 -- ---- lines so far
 
--- the replies to lines with their feeds are written, and those lines are gone
-abbrev pub KeptSoFar : Batch → Option (List ℕ) → Option (List ℕ) → Option (List ℕ) → Option (List ℕ) → Type 0
-KeptSoFar batch left now written written_now = (front : List (List ℕ)) × (texts : List (List ℕ)) × All IsFed front × AllZip (IsLineReply batch) front texts
-    × Consumes left now (joined front) × Appends written written_now (joined texts)
+-- the replies to lines with their feeds are written, the last of this number, and those lines are gone
+abbrev pub KeptSoFar : Batch → ℕ → ℕ → Option (List ℕ) → Option (List ℕ) → Option (List ℕ) → Option (List ℕ) → Type 0
+KeptSoFar batch start number left now written written_now = (front : List (List ℕ)) × (texts : List (List ℕ)) × (number ≡ number_behind start front) × All IsFed front
+    × AllZip (IsLineReply batch) (numbered start front) texts × Consumes left now (joined front) × Appends written written_now (joined texts)
 
-pub kept_first : (batch : Batch) (left written : Option (List ℕ)) → KeptSoFar batch left left written written
-kept_first batch left written = ([], [], All-nil IsFed, tt, Consumes-nil left, Appends-nil written)
+pub kept_first : (batch : Batch) (number : ℕ) (left written : Option (List ℕ)) → KeptSoFar batch number number left left written written
+kept_first batch number left written = ([], [], refl, All-nil IsFed, tt, Consumes-nil left, Appends-nil written)
 
 -- a reply for the same question
-same_reply : (batch later : Batch) (line text : List ℕ) → later ≡ batch → IsLineReply later line text → IsLineReply batch line text
+same_reply : (batch later : Batch) (line : ℕ × List ℕ) (text : List ℕ) → later ≡ batch → IsLineReply later line text → IsLineReply batch line text
 same_reply batch later line text same reply = subst (λ b. IsLineReply b line text) same reply
 
-same_replies : (batch later : Batch) (lines texts : List (List ℕ)) → later ≡ batch → AllZip (IsLineReply later) lines texts → AllZip (IsLineReply batch) lines texts
-same_replies batch later [] [] same zip = tt
-same_replies batch later [] (text ∷ texts) same zip = absurd zip
-same_replies batch later (line ∷ lines) [] same zip = absurd zip
-same_replies batch later (line ∷ lines) (text ∷ texts) same zip = (same_reply batch later line text same zip.0, same_replies batch later lines texts same zip.1)
+same_replies : (batch later : Batch) (lines : List (ℕ × List ℕ)) (texts : List (List ℕ)) → later ≡ batch → AllZip (IsLineReply later) lines texts → AllZip (IsLineReply batch) lines texts
+same_replies batch later lines texts same zip = subst (λ b. AllZip (IsLineReply b) lines texts) same zip
 
-pub kept_more : (batch later : Batch) (left : Option (List ℕ)) (step : Step) (written : Option (List ℕ)) → later ≡ batch → KeptSoFar batch left step.left written step.written
-    → TakesStep later step (Ok true) → KeptSoFar batch left step.left_after written step.written_after
-kept_more batch later left step written same (front, texts, fed, zip, gone, appended) (line, text, feeds, taken, reply, grown, none) = (
+pub kept_more : (batch later : Batch) (start next : ℕ) (left : Option (List ℕ)) (step : Step) (written : Option (List ℕ)) → later ≡ batch → next ≡ next_number step.number
+    → KeptSoFar batch start step.number left step.left written step.written → TakesStep later step (Ok true)
+    → KeptSoFar batch start next left step.left_after written step.written_after
+kept_more batch later start next left step written same counts (front, texts, behind, fed, zip, gone, appended) (line, text, feeds, taken, reply, grown, none) = (
   front ++ line ∷ [],
   texts ++ text ∷ [],
+  counts ∙ ap next_number behind ∙ sym (behind_all start front (line ∷ [])),
   All-push IsFed front line fed feeds,
-  AllZip-push (IsLineReply batch) front texts line text zip (same_reply batch later line text same reply),
+  zip_numbered batch start step.number front (line ∷ []) texts (text ∷ []) behind zip (same_reply batch later (next_number step.number, line) text same reply, tt),
   subst (Consumes left step.left_after) (joined_more front line) (Consumes-trans left step.left step.left_after (joined front) line gone taken),
   subst (Appends written step.written_after) (joined_more texts text) (Appends-trans written step.written step.written_after (joined texts) text appended grown),
 )
@@ -137,38 +160,58 @@ nothing_more : (written mid after : Option (List ℕ)) (text : List ℕ) → App
 nothing_more written mid after text grown none = subst (Appends written after) (append-nil text) (Appends-trans written mid after text [] grown none)
 
 -- the lines that are answered, where others may be left
-front_answered : (batch : Batch) (status : ℕ) (left now : Option (List ℕ)) (front texts : List (List ℕ)) → (status ≡ 0 → ⊥) → All IsFed front
-    → AllZip (IsLineReply batch) front texts → Consumes left now (joined front) → OfInput left (λ input. AnswersLines batch status texts (lines_of input))
-front_answered batch status None now front texts other fed zip gone =
-    (joined front, tt, (front, [], ap lines_of (sym (append-nil (joined front))) ∙ fed_front front [] fed, zip, λ e. absurd (other e)))
-front_answered batch status (Some xs) None front texts other fed zip gone = absurd gone
-front_answered batch status (Some xs) (Some ys) front texts other fed zip gone =
-    (xs, refl, (front, lines_of ys, ap lines_of gone ∙ fed_front front ys fed, zip, λ e. absurd (other e)))
-
--- the same with one line more
-one_answered : (batch : Batch) (status : ℕ) (left now : Option (List ℕ)) (front texts : List (List ℕ)) (line text : List ℕ) → (status ≡ 0 → ⊥) → All IsFed front
-    → AllZip (IsLineReply batch) front texts → Consumes left now (joined front) → IsFirstOf now line → IsLineReply batch line text
-    → OfInput left (λ input. AnswersLines batch status (texts ++ text ∷ []) (lines_of input))
-one_answered batch status None now front texts line text other fed zip gone (one, first) reply = (
-  joined front ++ line,
+front_answered : (batch : Batch) (start status : ℕ) (left now : Option (List ℕ)) (front texts : List (List ℕ)) → (status ≡ 0 → ⊥) → All IsFed front
+    → AllZip (IsLineReply batch) (numbered start front) texts → Consumes left now (joined front)
+    → OfInput left (λ input. AnswersLines batch status texts (numbered start (lines_of input)))
+front_answered batch start status None now front texts other fed zip gone = (
+  joined front,
   tt,
   (
-    front ++ line ∷ [],
+    numbered start front,
     [],
-    fed_front front line fed ∙ ap (λ l. front ++ l) one ∙ sym (append-nil (front ++ line ∷ [])),
-    AllZip-push (IsLineReply batch) front texts line text zip reply,
+    ap (numbered start) (ap lines_of (sym (append-nil (joined front))) ∙ fed_front front [] fed) ∙ numbered_all start front [],
+    zip,
     λ e. absurd (other e),
   ),
 )
-one_answered batch status (Some xs) None front texts line text other fed zip gone first reply = absurd gone
-one_answered batch status (Some xs) (Some ys) front texts line text other fed zip gone (one, (rest, first)) reply = (
+front_answered batch start status (Some xs) None front texts other fed zip gone = absurd gone
+front_answered batch start status (Some xs) (Some ys) front texts other fed zip gone = (
   xs,
   refl,
   (
-    front ++ line ∷ [],
-    rest,
-    ap lines_of gone ∙ fed_front front ys fed ∙ ap (λ l. front ++ l) first ∙ sym (append_assoc front (line ∷ []) rest),
-    AllZip-push (IsLineReply batch) front texts line text zip reply,
+    numbered start front,
+    numbered (number_behind start front) (lines_of ys),
+    ap (numbered start) (ap lines_of gone ∙ fed_front front ys fed) ∙ numbered_all start front (lines_of ys),
+    zip,
+    λ e. absurd (other e),
+  ),
+)
+
+-- the same with one line more
+one_answered : (batch : Batch) (start status : ℕ) (left now : Option (List ℕ)) (front texts : List (List ℕ)) (line text : List ℕ) → (status ≡ 0 → ⊥)
+    → All IsFed front → AllZip (IsLineReply batch) (numbered start (front ++ line ∷ [])) (texts ++ text ∷ []) → Consumes left now (joined front) → IsFirstOf now line
+    → OfInput left (λ input. AnswersLines batch status (texts ++ text ∷ []) (numbered start (lines_of input)))
+one_answered batch start status None now front texts line text other fed zip gone (one, first) = (
+  joined front ++ line,
+  tt,
+  (
+    numbered start (front ++ line ∷ []),
+    [],
+    ap (numbered start) (fed_front front line fed ∙ ap (λ l. front ++ l) one) ∙ sym (append-nil (numbered start (front ++ line ∷ []))),
+    zip,
+    λ e. absurd (other e),
+  ),
+)
+one_answered batch start status (Some xs) None front texts line text other fed zip gone first = absurd gone
+one_answered batch start status (Some xs) (Some ys) front texts line text other fed zip gone (one, (rest, first)) = (
+  xs,
+  refl,
+  (
+    numbered start (front ++ line ∷ []),
+    numbered (number_behind start (front ++ line ∷ [])) rest,
+    ap (numbered start) (ap lines_of gone ∙ fed_front front ys fed ∙ ap (λ l. front ++ l) first ∙ sym (append_assoc front (line ∷ []) rest))
+        ∙ numbered_all start (front ++ line ∷ []) rest,
+    zip,
     λ e. absurd (other e),
   ),
 )
@@ -180,52 +223,53 @@ gone_then_last (Some xs) None gone last is end = absurd is
 gone_then_last (Some xs) (Some ys) gone last is end = is ∙ ap (λ l. gone ++ l) end
 
 -- from the first line to one step: what was seen before and after
-abbrev pub whole_step : Step → Option (List ℕ) → Option (List ℕ) → ℕ → ℕ → Step
-whole_step step left written reads writes = record step { left = left; written = written; failed_reads = reads; failed_writes = writes }
+abbrev pub whole_step : Step → ℕ → Option (List ℕ) → Option (List ℕ) → ℕ → ℕ → Step
+whole_step step number left written reads writes = record step { number = number; left = left; written = written; failed_reads = reads; failed_writes = writes }
 
-fails_since : (step : Step) (left written : Option (List ℕ)) (reads writes m n : ℕ) → step.failed_reads ≡ reads → step.failed_writes ≡ writes → Fails step m n
-    → Fails (whole_step step left written reads writes) m n
-fails_since step left written reads writes m n r w fails = (fails.0 ∙ ap (λ k. k + m) r, fails.1 ∙ ap (λ k. k + n) w)
+fails_since : (step : Step) (number : ℕ) (left written : Option (List ℕ)) (reads writes m n : ℕ) → step.failed_reads ≡ reads → step.failed_writes ≡ writes → Fails step m n
+    → Fails (whole_step step number left written reads writes) m n
+fails_since step number left written reads writes m n r w fails = (fails.0 ∙ ap (λ k. k + m) r, fails.1 ∙ ap (λ k. k + n) w)
 
-pub lines_end : (batch later : Batch) (left : Option (List ℕ)) (step : Step) (written : Option (List ℕ)) (reads writes : ℕ) → later ≡ batch
-    → step.failed_reads ≡ reads → step.failed_writes ≡ writes → KeptSoFar batch left step.left written step.written → TakesStep later step (Ok false)
-    → TakesLines batch (whole_step step left written reads writes) None
-lines_end batch later left step written reads writes same r w (front, texts, fed, zip, gone, appended) (line, text, (none, last), (others, replies, is), grown, fails) = (
+pub lines_end : (batch later : Batch) (start : ℕ) (left : Option (List ℕ)) (step : Step) (written : Option (List ℕ)) (reads writes : ℕ) → later ≡ batch
+    → step.failed_reads ≡ reads → step.failed_writes ≡ writes → KeptSoFar batch start step.number left step.left written step.written → TakesStep later step (Ok false)
+    → TakesLines batch (whole_step step start left written reads writes) None
+lines_end batch later start left step written reads writes same r w (front, texts, behind, fed, zip, gone, appended) (line, text, (none, last), (others, replies, is), grown, fails) = (
   texts ++ others,
   (
     joined front ++ line,
     gone_then_last left step.left (joined front) line gone last,
     (
-      front ++ lines_of line,
+      numbered start (front ++ lines_of line),
       [],
-      fed_front front line fed ∙ sym (append-nil (front ++ lines_of line)),
-      zip_all (IsLineReply batch) front (lines_of line) texts others zip (same_replies batch later (lines_of line) others same replies),
+      ap (numbered start) (fed_front front line fed) ∙ sym (append-nil (numbered start (front ++ lines_of line))),
+      zip_numbered batch start step.number front (lines_of line) texts others behind zip (same_replies batch later (numbered step.number (lines_of line)) others same replies),
       λ _. refl,
     ),
   ),
   (
     subst (Appends written step.written_after) (ap (λ l. joined texts ++ l) is ∙ joined_all texts others)
         (Appends-trans written step.written step.written_after (joined texts) text appended grown),
-    fails_since step left written reads writes 0 0 r w fails,
+    fails_since step start left written reads writes 0 0 r w fails,
   ),
 )
 
-pub lines_stop : (batch later : Batch) (left : Option (List ℕ)) (step : Step) (written : Option (List ℕ)) (reads writes : ℕ) (stop : BatchStop) → later ≡ batch
-    → step.failed_reads ≡ reads → step.failed_writes ≡ writes → KeptSoFar batch left step.left written step.written → TakesStep later step (Err stop)
-    → TakesLines batch (whole_step step left written reads writes) (Some stop)
-lines_stop batch later left step written reads writes ReadFailed same r w (front, texts, fed, zip, gone, appended) (nothing, one) = (
+pub lines_stop : (batch later : Batch) (start : ℕ) (left : Option (List ℕ)) (step : Step) (written : Option (List ℕ)) (reads writes : ℕ) (stop : BatchStop) → later ≡ batch
+    → step.failed_reads ≡ reads → step.failed_writes ≡ writes → KeptSoFar batch start step.number left step.left written step.written → TakesStep later step (Err stop)
+    → TakesLines batch (whole_step step start left written reads writes) (Some stop)
+lines_stop batch later start left step written reads writes ReadFailed same r w (front, texts, behind, fed, zip, gone, appended) (nothing, one) = (
   texts,
-  front_answered batch 4 left step.left front texts (λ e. absurd (omega (arith, e))) fed zip gone,
-  (nothing_more written step.written step.written_after (joined texts) appended nothing, fails_since step left written reads writes 1 0 r w one),
+  front_answered batch start 4 left step.left front texts (λ e. absurd (omega (arith, e))) fed zip gone,
+  (nothing_more written step.written step.written_after (joined texts) appended nothing, fails_since step start left written reads writes 1 0 r w one),
 )
-lines_stop batch later left step written reads writes NoMemory same r w (front, texts, fed, zip, gone, appended) (nothing, none) = (
+lines_stop batch later start left step written reads writes NoMemory same r w (front, texts, behind, fed, zip, gone, appended) (nothing, none) = (
   texts,
-  front_answered batch 3 left step.left front texts (λ e. absurd (omega (arith, e))) fed zip gone,
-  (nothing_more written step.written step.written_after (joined texts) appended nothing, fails_since step left written reads writes 0 0 r w none),
+  front_answered batch start 3 left step.left front texts (λ e. absurd (omega (arith, e))) fed zip gone,
+  (nothing_more written step.written step.written_after (joined texts) appended nothing, fails_since step start left written reads writes 0 0 r w none),
 )
-lines_stop batch later left step written reads writes WriteFailed same r w (front, texts, fed, zip, gone, appended) (line, text, first, reply, (taken, rest, cut, grown), one) = (
+lines_stop batch later start left step written reads writes WriteFailed same r w (front, texts, behind, fed, zip, gone, appended) (line, text, first, reply, (taken, rest, cut, grown), one) = (
   texts ++ text ∷ [],
-  one_answered batch 4 left step.left front texts line text (λ e. absurd (omega (arith, e))) fed zip gone first (same_reply batch later line text same reply),
+  one_answered batch start 4 left step.left front texts line text (λ e. absurd (omega (arith, e))) fed
+      (zip_numbered batch start step.number front (line ∷ []) texts (text ∷ []) behind zip (same_reply batch later (next_number step.number, line) text same reply, tt)) gone first,
   (
     (
       joined texts ++ taken,
@@ -233,7 +277,7 @@ lines_stop batch later left step written reads writes WriteFailed same r w (fron
       sym (joined_more texts text) ∙ ap (λ l. joined texts ++ l) cut ∙ sym (append_assoc (joined texts) taken rest),
       Appends-trans written step.written step.written_after (joined texts) taken appended grown,
     ),
-    fails_since step left written reads writes 0 1 r w one,
+    fails_since step start left written reads writes 0 1 r w one,
   ),
 )
 
@@ -241,7 +285,7 @@ lines_stop batch later left step written reads writes WriteFailed same r w (fron
 
 -- any other is answered by what it says
 pub line_reply : (batch : Batch) (held : Vec ℕ Global) (text line : List ℕ) → IsReadAs line (Line held) → HasReplyText batch (said_in held.items) text
-    → (0 < length line) × IsLineReply batch line text
+    → (0 < length line) × IsUnnumberedReply batch line text
 line_reply batch held text line next reply =
     (next.0, rw (le-ltb 256 (length (without_line_feed line)) next.2) (subst (λ l. HasReplyText batch (said_in l) text) next.1 reply))
 
@@ -271,38 +315,42 @@ step_ended batch step taken (line, how, read) gives grown fails =
       line,
       [],
       empty_last step.left step.left_after taken.is_last line none how,
-      ([], subst (λ l. AllZip (IsLineReply batch) (lines_of l) []) (sym none) tt, refl),
+      ([], subst (λ l. AllZip (IsLineReply batch) (numbered step.number (lines_of l)) []) (sym none) tt, refl),
       grown,
       fails,
     )
 
 -- a line was answered, and no more may come after the last one
-pub step_written : (batch : Batch) (step : Step) (is_last : Bool) (next : Next) (text : Vec ℕ Global) → TakesLine step.left step.left_after (record { next = next; is_last = is_last })
-    → GivesNext batch next (Some text) → Appends step.written step.written_after (vec_items text) → Fails step 0 0 → TakesStep batch step (Ok (not is_last))
-step_written batch step false next text (line, (fed, gone), read) gives grown fails = (line, vec_items text, fed, gone, (gives line read).1, grown, fails)
-step_written batch step true next text (line, (none, last), read) gives grown fails =
+pub step_written : (batch : Batch) (step : Step) (is_last : Bool) (next : Next) (plain : Vec ℕ Global) (text : List ℕ)
+    → TakesLine step.left step.left_after (record { next = next; is_last = is_last }) → GivesNext batch next (Some plain)
+    → text ≡ with_number batch.options.json (next_number step.number) (vec_items plain)
+    → Appends step.written step.written_after text → Fails step 0 0 → TakesStep batch step (Ok (not is_last))
+step_written batch step false next plain text (line, (fed, gone), read) gives is grown fails =
+    (line, text, fed, gone, (vec_items plain, (gives line read).1, is), grown, fails)
+step_written batch step true next plain text (line, (none, last), read) gives is grown fails =
     let (some, reply) = gives line read in (
       line,
-      vec_items text,
+      text,
       (none, last),
       (
-        vec_items text ∷ [],
-        subst (λ l. AllZip (IsLineReply batch) l (vec_items text ∷ [])) (sym (lines_last line some none)) (reply, tt),
-        sym (append-nil (vec_items text)),
+        text ∷ [],
+        subst (λ l. AllZip (IsLineReply batch) (numbered step.number l) (text ∷ [])) (sym (lines_last line some none)) ((vec_items plain, reply, is), tt),
+        sym (append-nil text),
       ),
       grown,
       fails,
     )
 
 -- a failed write ends the batch
-pub step_unwritten : (batch : Batch) (step : Step) (r : Result Bool BatchStop) (taken : Taken) (text : Vec ℕ Global) → IsErr r × IsErrAnd r (λ stop. stop ≡ WriteFailed)
-    → TakesLine step.left step.left_after taken → GivesNext batch taken.next (Some text) → AppendsBeginning step.written step.written_after (vec_items text) → Fails step 0 1
-    → TakesStep batch step r
-step_unwritten batch step (Ok more) taken text err takes gives cut fails = absurd err.1
-step_unwritten batch step (Err stop) taken text err (line, how, read) gives cut fails =
+pub step_unwritten : (batch : Batch) (step : Step) (r : Result Bool BatchStop) (taken : Taken) (plain : Vec ℕ Global) (text : List ℕ)
+    → IsErr r × IsErrAnd r (λ stop. stop ≡ WriteFailed) → TakesLine step.left step.left_after taken → GivesNext batch taken.next (Some plain)
+    → text ≡ with_number batch.options.json (next_number step.number) (vec_items plain)
+    → AppendsBeginning step.written step.written_after text → Fails step 0 1 → TakesStep batch step r
+step_unwritten batch step (Ok more) taken plain text err takes gives is cut fails = absurd err.1
+step_unwritten batch step (Err stop) taken plain text err (line, how, read) gives is cut fails =
     let (some, reply) = gives line read in
     subst (λ x. TakesStep batch step (Err x)) (sym err.1)
-    (line, vec_items text, first_taken step.left step.left_after taken.is_last line some how, reply, cut, fails)
+    (line, text, first_taken step.left step.left_after taken.is_last line some how, (vec_items plain, reply, is), cut, fails)
 
 -- ---- lines that are left out
 
@@ -341,29 +389,33 @@ passed_all count so_many left now after taken less is_last (bytes, front, gone) 
     )
 
 -- the lines behind those that are passed over are those that are answered
-answered_behind : (batch : Batch) (left now : Option (List ℕ)) (status : ℕ) (texts : List (List ℕ)) → PassesOver (left_out batch.options.skip) left now true
-    → OfInput now (λ input. AnswersLines batch status texts (lines_of input)) → OfInput left (Answers batch status texts)
-answered_behind batch left now status texts (bytes, front, gone) (input, same, answers) = (
+answered_behind : (batch : Batch) (number : ℕ) (left now : Option (List ℕ)) (status : ℕ) (texts : List (List ℕ)) → number ≡ left_out batch.options.skip
+    → PassesOver (left_out batch.options.skip) left now true → OfInput now (λ input. AnswersLines batch status texts (numbered number (lines_of input)))
+    → OfInput left (Answers batch status texts)
+answered_behind batch number left now status texts is (bytes, front, gone) (input, same, answers) = (
   bytes ++ input,
   gone_then_last left now bytes input gone same,
-  subst (λ lines. AnswersLines batch status texts lines) (sym (front input)) answers,
+  subst (λ lines. AnswersLines batch status texts (numbered (left_out batch.options.skip) lines)) (sym (front input))
+      (subst (λ n. AnswersLines batch status texts (numbered n (lines_of input))) is answers),
 )
 
-pub batch_behind : (batch : Batch) (left : Option (List ℕ)) (step : Step) (reads : ℕ) (stop : Option BatchStop) → PassesOver (left_out batch.options.skip) left step.left true
-    → step.failed_reads ≡ reads → TakesLines batch step stop → TakesAnswered batch (whole_step step left step.written reads step.failed_writes) stop
-batch_behind batch left step reads None passes r (texts, answers, (written, fails)) =
-    (texts, answered_behind batch left step.left 0 texts passes answers, (written, fails_since step left step.written reads step.failed_writes 0 0 r refl fails))
-batch_behind batch left step reads (Some ReadFailed) passes r (texts, answers, (written, fails)) =
-    (texts, answered_behind batch left step.left 4 texts passes answers, (written, fails_since step left step.written reads step.failed_writes 1 0 r refl fails))
-batch_behind batch left step reads (Some WriteFailed) passes r (texts, answers, (written, fails)) =
-    (texts, answered_behind batch left step.left 4 texts passes answers, (written, fails_since step left step.written reads step.failed_writes 0 1 r refl fails))
-batch_behind batch left step reads (Some NoMemory) passes r (texts, answers, (written, fails)) =
-    (texts, answered_behind batch left step.left 3 texts passes answers, (written, fails_since step left step.written reads step.failed_writes 0 0 r refl fails))
+pub batch_behind : (batch : Batch) (number : ℕ) (left : Option (List ℕ)) (step : Step) (reads : ℕ) (stop : Option BatchStop) → step.number ≡ left_out batch.options.skip
+    → PassesOver (left_out batch.options.skip) left step.left true → step.failed_reads ≡ reads → TakesLines batch step stop
+    → TakesAnswered batch (whole_step step number left step.written reads step.failed_writes) stop
+batch_behind batch number left step reads None is passes r (texts, answers, (written, fails)) =
+    (texts, answered_behind batch step.number left step.left 0 texts is passes answers, (written, fails_since step number left step.written reads step.failed_writes 0 0 r refl fails))
+batch_behind batch number left step reads (Some ReadFailed) is passes r (texts, answers, (written, fails)) =
+    (texts, answered_behind batch step.number left step.left 4 texts is passes answers, (written, fails_since step number left step.written reads step.failed_writes 1 0 r refl fails))
+batch_behind batch number left step reads (Some WriteFailed) is passes r (texts, answers, (written, fails)) =
+    (texts, answered_behind batch step.number left step.left 4 texts is passes answers, (written, fails_since step number left step.written reads step.failed_writes 0 1 r refl fails))
+batch_behind batch number left step reads (Some NoMemory) is passes r (texts, answers, (written, fails)) =
+    (texts, answered_behind batch step.number left step.left 3 texts is passes answers, (written, fails_since step number left step.written reads step.failed_writes 0 0 r refl fails))
 
 -- there are no lines but those that are left out
 pub batch_of_none : (batch : Batch) (step : Step) → PassesOver (left_out batch.options.skip) step.left step.left_after false → Appends step.written step.written_after []
     → Fails step 0 0 → TakesAnswered batch step None
-batch_of_none batch step (input, same, none) grown fails = ([], (input, same, ([], [], none, tt, λ _. refl)), (grown, fails))
+batch_of_none batch step (input, same, none) grown fails =
+    ([], (input, same, ([], [], ap (numbered (left_out batch.options.skip)) none, tt, λ _. refl)), (grown, fails))
 
 -- none of the lines was answered
 unanswered : (batch : Batch) (left : Option (List ℕ)) (status : ℕ) → (status ≡ 0 → ⊥) → OfInput left (Answers batch status [])
@@ -389,25 +441,25 @@ fresh_left u (Some xs) from to = let none : u.to - u.from ≡ 0 = omega (arith, 
 
 -- the limits are searched, and lines were answered
 pub batch_ran : (opened batch : Batch) (run : Run) (left : Option (List ℕ)) (texts : List (List ℕ)) → fault_of opened.limits ≡ None
-    → opened ≡ batch → left ≡ run.input → OfInput left (Answers opened run.ending.status texts) → EndsBatch run (joined texts) → RunsBatch batch run
+    → opened ≡ batch → left ≡ run.input → OfInput left (Answers opened run.ending.status texts) → EndsBatch opened.options.json run (joined texts) → RunsBatch batch run
 batch_ran opened batch run left texts searched same_batch same answers ends =
     let none : fault_of batch.limits ≡ None = subst (λ b. fault_of b.limits ≡ None) same_batch searched in
     rw none (
       texts,
       subst (λ o. OfInput o (Answers batch run.ending.status texts)) same
           (subst (λ b. OfInput left (Answers b run.ending.status texts)) same_batch answers),
-      ends,
+      subst (λ b. EndsBatch b.options.json run (joined texts)) same_batch ends,
     )
 
 -- the limits are refused, or memory is wanting before anything is read
-pub batch_refused : (batch : Batch) (run : Run) (why : Refusal) → run.failed_reads ≡ 0 → IsRefusedWithin batch.limits why → Refuses run.ending why
-    → RunsBatch batch run
-batch_refused batch run why unread is refuses = elim (refused_by batch.limits why is) [
-  | inl (none, memory) ↦ wanting none (elim (subst (Refuses run.ending) memory refuses) [ inl a ↦ a | inr b ↦ b ])
-  | inr (fault, at, same) ↦ rw at (unread, subst (Refuses run.ending) same refuses)
+pub batch_refused : (batch : Batch) (run : Run) (why : Refusal) → run.failed_reads ≡ 0 → IsRefusedWithin batch.limits why
+    → RefusesBatch batch.options.json run.ending why → (why ≡ refusal.NoMemory → Finishes run.ending (wanting_text batch.options.json) 3) → RunsBatch batch run
+batch_refused batch run why unread is refuses memory = elim (refused_by batch.limits why is) [
+  | inl (none, wants) ↦ wanting none (memory wants)
+  | inr (fault, at, same) ↦ rw at (unread, subst (RefusesBatch batch.options.json run.ending) same refuses)
 ]
   where
-    wanting : fault_of batch.limits ≡ None → Finishes run.ending no_memory 3 → RunsBatch batch run
+    wanting : fault_of batch.limits ≡ None → Finishes run.ending (wanting_text batch.options.json) 3 → RunsBatch batch run
     wanting none wrote = rw none ([], of_any run.input _ (λ input. ([], answered_lines batch input, refl, tt, λ e. elim wrote [ inl w ↦ absurd (omega (arith, w.2, e)) | inr w ↦ absurd (omega (arith, w.2, e)) ])), inr (inr (unread, wrote)))
 
 -- want of memory isn't the end of the input

@@ -1,6 +1,7 @@
 -- A batch: what is written for the lines of an input.
-use Rattle.std.specs.Prelude.{◌≡◌, ◌⊎◌, ◌==◌, ◌&&◌, ◌||◌, ℕ, Option, None, Some, not, List, [], ◌∷◌, ◌++◌, length, drop, nat_lt, if◌then◌else◌, MatchBool, MatchOption}
+use Rattle.std.specs.Prelude.{◌≡◌, ◌⊎◌, ◌==◌, ◌&&◌, ◌||◌, ℕ, ◌+◌, ◌-◌, ◌^◌, min, Bool, true, false, Option, None, Some, not, List, [], ◌∷◌, ◌++◌, length, drop, nat_lt, if◌then◌else◌, MatchBool, MatchOption, codes}
 use Rattle.std.specs.List.{AllZip, flat_map}
+use Rattle.std.specs.Fmt.{decimal}
 use Rattle.board.specs.Board.{PlainBoard}
 use Rattle.board.specs.declared.fault.FenFault.{FenFault}
 use Rattle.rules.specs.Reading.{IsSoundFault}
@@ -8,15 +9,16 @@ use Rattle.devices.specs.Input.{OfInput, without_line_feed}
 use Rattle.endings.specs.Outcome.{IsSoundText}
 use Rattle.replies.specs.Output.{fault_of, refusal_of_solve}
 use Rattle.refusals.specs.Reply.{line_of}
-use Rattle.refusals.specs.Refusal.{refusal_of_fen}
-use Rattle.refusals.specs.declared.refusal.Refusal.TheVariants.{TooLong}
+use Rattle.refusals.specs.Refusal.{refusal_of_fen, refusal_status}
+use Rattle.refusals.specs.declared.refusal.Refusal.{Refusal}
+use Rattle.refusals.specs.declared.refusal.Refusal.TheVariants.{NoMemory, TooLong}
 use Rattle.answer_texts.specs.Said.{is_remark, said_in}
 use Rattle.answer_texts.specs.Asking.{IsAskedIn, IsFoundAt, limit_of, with_plies}
-use Rattle.answer_texts.specs.Forms.{IsFoundText, IsRefusalText}
+use Rattle.answer_texts.specs.Forms.{IsFoundText, IsRefusalText, refused_object}
 use Rattle.answer_texts.specs.declared.asked.Asked.{Asked}
 use Rattle.answer_texts.specs.declared.asked.Batch.{Batch}
 use Rattle.answer_texts.specs.declared.asked.Found.{Found}
-use Rattle.endings.specs.Run.{Run, Finishes, Refuses, no_memory, EndsUnread}
+use Rattle.endings.specs.Run.{Ending, Run, Finishes, no_memory, EndsUnread}
 
 -- ---- lines
 
@@ -29,6 +31,15 @@ onto x (line ∷ lines) = (x ∷ line) ∷ lines
 abbrev pub lines_of : List ℕ → List (List ℕ)
 lines_of [] = []
 lines_of (x ∷ xs) = if x == 10 then (x ∷ []) ∷ lines_of xs else onto x (lines_of xs)
+
+-- the number of the next line; it stays at the greatest of 64 bits
+abbrev pub next_number : ℕ → ℕ
+next_number number = min (number + 1) (2 ^ 64 - 1)
+
+-- the lines with their numbers, behind a line of this number
+abbrev pub numbered : ℕ → List (List ℕ) → List (ℕ × List ℕ)
+numbered number [] = []
+numbered number (line ∷ lines) = (next_number number, line) ∷ numbered (next_number number) lines
 
 -- ---- replies
 
@@ -63,10 +74,19 @@ with_position batch said text = if batch.options.echo && not (batch.options.json
 abbrev pub HasReplyText : Batch → List ℕ → List ℕ → Type 0
 HasReplyText batch said text = (plain : List ℕ) × IsReplyText batch said plain × (text ≡ with_position batch said plain)
 
--- what is written for a line; one of more than 256 bytes, its feed not counted, is too long
-abbrev pub IsLineReply : Batch → List ℕ → List ℕ → Type 0
-IsLineReply batch line text =
+-- what is written for a line, but its number; one of more than 256 bytes, its feed not counted, is too long
+abbrev pub IsUnnumberedReply : Batch → List ℕ → List ℕ → Type 0
+IsUnnumberedReply batch line text =
     MatchBool (nat_lt 256 (length (without_line_feed line))) (IsRefusalText batch.options.json None TooLong text) (HasReplyText batch (said_in line) text)
+
+-- an object of JSON with the number of its line as its first member; other texts, and nothing, as they are
+abbrev pub with_number : Bool → ℕ → List ℕ → List ℕ
+with_number true number (brace ∷ members) = codes "{\"line\":" ++ (decimal number ++ (codes "," ++ members))
+with_number _ number text = text
+
+-- what is written for a line of this number
+abbrev pub IsLineReply : Batch → ℕ × List ℕ → List ℕ → Type 0
+IsLineReply batch line text = (plain : List ℕ) × IsUnnumberedReply batch line.1 plain × (text ≡ with_number batch.options.json line.0 plain)
 
 -- the texts, all in one
 abbrev pub joined : List (List ℕ) → List ℕ
@@ -79,24 +99,35 @@ abbrev pub left_out : Option ℕ → ℕ
 left_out None = 0
 left_out (Some count) = count
 
--- the lines of the input that are answered: all but those at its beginning that are left out
-abbrev pub answered_lines : Batch → List ℕ → List (List ℕ)
-answered_lines batch input = drop (left_out batch.options.skip) (lines_of input)
+-- the lines of the input that are answered, with their numbers: all but those at its beginning that are left out
+abbrev pub answered_lines : Batch → List ℕ → List (ℕ × List ℕ)
+answered_lines batch input = let count = left_out batch.options.skip in numbered count (drop count (lines_of input))
 
 -- the texts are the replies to the first of the lines, one each, and to all of them where the status is 0
-abbrev pub AnswersLines : Batch → ℕ → List (List ℕ) → List (List ℕ) → Type 0
+abbrev pub AnswersLines : Batch → ℕ → List (List ℕ) → List (ℕ × List ℕ) → Type 0
 AnswersLines batch status texts lines =
-    (front : List (List ℕ)) × (rest : List (List ℕ)) × (lines ≡ front ++ rest) × AllZip (IsLineReply batch) front texts
+    (front : List (ℕ × List ℕ)) × (rest : List (ℕ × List ℕ)) × (lines ≡ front ++ rest) × AllZip (IsLineReply batch) front texts
     × (status ≡ 0 → rest ≡ [])
 
+-- what is written for want of memory: a line, or an object among JSON
+abbrev pub wanting_text : Bool → List ℕ
+wanting_text false = no_memory
+wanting_text true = refused_object (codes "null") NoMemory (codes "\"memory is wanting\"")
+
 -- how the writing of the text ended: well, by a failed read, or for want of memory; the first and the last perhaps by a failed write
-abbrev pub EndsBatch : Run → List ℕ → Type 0
-EndsBatch run text =
-    ((run.failed_reads ≡ 0) × Finishes run.ending text 0) ⊎ EndsUnread run text ⊎ ((run.failed_reads ≡ 0) × Finishes run.ending (text ++ no_memory) 3)
+abbrev pub EndsBatch : Bool → Run → List ℕ → Type 0
+EndsBatch json run text =
+    ((run.failed_reads ≡ 0) × Finishes run.ending text 0) ⊎ EndsUnread run text ⊎ ((run.failed_reads ≡ 0) × Finishes run.ending (text ++ wanting_text json) 3)
+
+-- how the refusal of a whole batch was written: as it is, which stands at no line, or as want of memory
+abbrev pub RefusesBatch : Bool → Ending → Refusal → Type 0
+RefusesBatch json ending why =
+    ((text : List ℕ) × IsRefusalText json None why text × Finishes ending text (refusal_status why)) ⊎ Finishes ending (wanting_text json) 3
 
 -- the run is one of the batch: the limits are refused, or its lines are answered as far as it came
 abbrev pub RunsBatch : Batch → Run → Type 0
 RunsBatch batch run = MatchOption (fault_of batch.limits)
     ((texts : List (List ℕ))
-    × OfInput run.input (λ input. AnswersLines batch run.ending.status texts (answered_lines batch input)) × EndsBatch run (joined texts))
-    (λ fault. (run.failed_reads ≡ 0) × Refuses run.ending (refusal_of_solve fault))
+    × OfInput run.input (λ input. AnswersLines batch run.ending.status texts (answered_lines batch input))
+    × EndsBatch batch.options.json run (joined texts))
+    (λ fault. (run.failed_reads ≡ 0) × RefusesBatch batch.options.json run.ending (refusal_of_solve fault))

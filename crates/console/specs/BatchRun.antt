@@ -20,7 +20,7 @@ use Rattle.refusals.specs.declared.refusal.Refusal.TheVariants as refusal
 use Rattle.devices.specs.declared.transfer.InputFault.{InputFault}
 use Rattle.devices.specs.declared.transfer.InputFault.TheVariants as input
 use Rattle.answer_texts.specs.Asking.{IsFoundAt, limit_of, with_plies}
-use Rattle.console.specs.Batch.{AnswersLines, IsAskedReply, IsFoundReply, IsLineReply, answered_lines, joined, lines_of}
+use Rattle.console.specs.Batch.{AnswersLines, IsAskedReply, IsFoundReply, IsLineReply, IsUnnumberedReply, answered_lines, joined, lines_of, next_number, numbered}
 use Rattle.devices.specs.Lines.{IsFed, IsLastOf, IsReadAs, IsUnread, left_of}
 use Rattle.answer_texts.specs.declared.asked.Asked.{Asked}
 use Rattle.answer_texts.specs.declared.asked.Batch.{Batch}
@@ -71,8 +71,9 @@ GivesAsked batch asked (Err why) = (why ≡ refusal.NoMemory) ⊎ IsAskedRefusal
 
 -- ---- steps
 
--- what was seen of the input, of the output and of failures before a step and after it
+-- what was seen of the input, of the output and of failures before a step and after it, and the number of the line before it
 pub record Step : Type 0 where
+  pub number : ℕ
   pub left : Option (List ℕ)
   pub left_after : Option (List ℕ)
   pub written : Option (List ℕ)
@@ -84,6 +85,7 @@ pub record Step : Type 0 where
 
 abbrev pub step_of : {S K : Type 0} → BatchRun → BatchRun → (S → Option (List ℕ)) → (S → ℕ) → S → S → (K → Option (List ℕ)) → (K → ℕ) → K → K → Step
 step_of run run_after remaining read_failures reader reader_after contents write_failures writer writer_after = record {
+  number = run.number;
   left = left_of run.unread (remaining reader);
   left_after = left_of run_after.unread (remaining reader_after);
   written = contents writer;
@@ -98,14 +100,19 @@ step_of run run_after remaining read_failures reader reader_after contents write
 abbrev pub Fails : Step → ℕ → ℕ → Type 0
 Fails step reads writes = (step.failed_reads_after ≡ step.failed_reads + reads) × (step.failed_writes_after ≡ step.failed_writes + writes)
 
--- the text is the reply to what comes next of the input; none comes at its end
+-- the text is, but for its number, the reply to what comes next of the input; none comes at its end
 abbrev pub GivesNext : Batch → Next → Option (Vec ℕ Global) → Type 0
 GivesNext batch next None = (line : List ℕ) → IsReadAs line next → line ≡ []
-GivesNext batch next (Some text) = (line : List ℕ) → IsReadAs line next → (0 < length line) × IsLineReply batch line (vec_items text)
+GivesNext batch next (Some text) = (line : List ℕ) → IsReadAs line next → (0 < length line) × IsUnnumberedReply batch line (vec_items text)
+
+-- the text is the reply to the next line, with its number
+abbrev pub RepliesToNext : Batch → Step → List ℕ → List ℕ → Type 0
+RepliesToNext batch step line text = IsLineReply batch (next_number step.number, line) text
 
 -- the text is the reply to the last line, or is empty where none was left
-abbrev pub RepliesToLast : Batch → List ℕ → List ℕ → Type 0
-RepliesToLast batch line text = (texts : List (List ℕ)) × AllZip (IsLineReply batch) (lines_of line) texts × (text ≡ joined texts)
+abbrev pub RepliesToLast : Batch → Step → List ℕ → List ℕ → Type 0
+RepliesToLast batch step line text =
+    (texts : List (List ℕ)) × AllZip (IsLineReply batch) (numbered step.number (lines_of line)) texts × (text ≡ joined texts)
 
 -- the line is one, and the first of what was left
 abbrev pub IsFirstOf : Option (List ℕ) → List ℕ → Type 0
@@ -114,12 +121,12 @@ IsFirstOf left line = (lines_of line ≡ line ∷ []) × IfSome left (λ told. (
 -- a line with a feed is taken and answered; or the last one, or there is none; or something stops it
 abbrev pub TakesStep : Batch → Step → Result Bool BatchStop → Type 0
 TakesStep batch step (Ok true) = (line : List ℕ) × (text : List ℕ)
-    × IsFed line × Consumes step.left step.left_after line × IsLineReply batch line text × Appends step.written step.written_after text × Fails step 0 0
+    × IsFed line × Consumes step.left step.left_after line × RepliesToNext batch step line text × Appends step.written step.written_after text × Fails step 0 0
 TakesStep batch step (Ok false) = (line : List ℕ) × (text : List ℕ)
-    × IsLastOf step.left line × RepliesToLast batch line text × Appends step.written step.written_after text × Fails step 0 0
+    × IsLastOf step.left line × RepliesToLast batch step line text × Appends step.written step.written_after text × Fails step 0 0
 TakesStep batch step (Err ReadFailed) = Appends step.written step.written_after [] × Fails step 1 0
 TakesStep batch step (Err WriteFailed) = (line : List ℕ) × (text : List ℕ)
-    × IsFirstOf step.left line × IsLineReply batch line text × AppendsBeginning step.written step.written_after text × Fails step 0 1
+    × IsFirstOf step.left line × RepliesToNext batch step line text × AppendsBeginning step.written step.written_after text × Fails step 0 1
 TakesStep batch step (Err NoMemory) = Appends step.written step.written_after [] × Fails step 0 0
 
 -- the status of a batch that ends so
@@ -138,7 +145,7 @@ WritesUntil step (Some NoMemory) text = Appends step.written step.written_after 
 -- lines are taken and answered
 abbrev pub TakesLines : Batch → Step → Option BatchStop → Type 0
 TakesLines batch step stop = (texts : List (List ℕ))
-    × OfInput step.left (λ input. AnswersLines batch (stop_status stop) texts (lines_of input)) × WritesUntil step stop (joined texts)
+    × OfInput step.left (λ input. AnswersLines batch (stop_status stop) texts (numbered step.number (lines_of input))) × WritesUntil step stop (joined texts)
 
 -- these bytes are the first so many lines of what begins with them
 abbrev pub IsFront : ℕ → List ℕ → Type 0

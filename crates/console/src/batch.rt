@@ -4,7 +4,7 @@ ghost use Rattle.devices.specs.Input.{failed_reads};
 ghost use Rattle.devices.specs.Lines.{IsUnread, left_of};
 ghost use Rattle.answer_texts.specs.Asking.{IsFoundAt, with_plies};
 ghost use Rattle.answer_texts.specs.Said.{said_in};
-ghost use Rattle.console.specs.Batch.{HasReplyText, IsAskedReply, IsReplyText, left_out, remark_text, with_position};
+ghost use Rattle.console.specs.Batch.{HasReplyText, IsAskedReply, IsReplyText, left_out, next_number, remark_text, with_number, with_position};
 ghost use Rattle.answer_texts.specs.Forms.{IsRefusalText};
 ghost use Rattle.console.specs.BatchRun.{Finds, GivesAsked, GivesFound, GivesNext, IsBatchRun, IsSearched, OpensBatchRun, PassesOver, TakesAnswered, TakesLines, TakesStep, step_of, stop_of};
 ghost use Rattle.console.specs.declared.batch.BatchStop.TheVariants.{NoMemory, WriteFailed};
@@ -161,15 +161,15 @@ fn answered_text<R: Threads + Wait + Eprint + Clock + Sync + AllocGlobal>(
     position_text(context, table, batch, asked, &position)
 }
 
-/// Tells why a line is refused, in one sentence.
+/// Tells why something is refused, in one sentence.
 fn sentence_of(alloc: Global, why: &Refused<'_>) -> Vec<u8> {
     let mut sentence = Vec::new(alloc);
     let _ = write_sentence(&mut sentence, why);
     sentence
 }
 
-/// The line that says why a line of the input is refused, which standard error is told too.
-fn refusal_line<E: Write>(
+/// What is written of why a line of the input, or the whole batch, is refused; standard error is told of it too.
+pub fn refusal_line<E: Write>(
     alloc: Global,
     json: bool,
     errors: &mut E,
@@ -198,6 +198,21 @@ fn echoed(alloc: Global, batch: &Batch, said: &[u8], plain: Vec<u8>) -> Result<V
     text.push(b'\t')?;
     text.extend_from_slice(plain.as_slice())?;
     Ok(text)
+}
+
+/// The text, if it is an object of JSON with the number of its line as its first member.
+fn with_number(alloc: Global, json: bool, number: u64, text: Vec<u8>) -> Result<Vec<u8>, AllocError>
+    ensures { IfOk result (λ whole. whole.items ≡ with_number json number text.items) }
+{
+    let [_, members @ ..] = text.as_slice() else {
+        return Ok(text);
+    };
+    if !json {
+        return Ok(text);
+    }
+    let mut whole = format!(in alloc; "{{\"line\":{number},")?.into_bytes();
+    whole.extend_from_slice(members)?;
+    Ok(whole)
 }
 
 /// What is written for a line.
@@ -327,6 +342,7 @@ fn answer_next<
     requires writes { K.failures writer.old < u64.MAX }
     ensures run { IsBatchRun run.new }
     ensures same { run.new.batch ≡ run.old.batch }
+    ensures counts { run.new.number ≡ next_number run.old.number }
     ensures step { TakesStep run.old.batch (step_of run.old run.new S.remaining S.failures reader.old reader.new
         K.contents K.failures writer.old writer.new) result }
 {
@@ -339,6 +355,8 @@ fn answer_next<
         context.tally.clear(errors);
         return Ok(false);
     };
+    let json = run.batch.options.json;
+    let text = with_number(context.rt.alloc(), json, run.number, text)?;
     write_all(writer, text.as_slice())?;
     context.tally.tell(context.rt, run.number, errors);
     Ok(!is_last)

@@ -1,16 +1,17 @@
 //! A run of the program over any reader and writer.
 ghost use Rattle.std.specs.Prelude.{◌≡◌, ◌⊎◌, ◌+◌, ◌<◌, None, map, vec_items};
+ghost use Rattle.refusals.specs.declared.refusal.Refusal.TheVariants.{NoMemory};
 ghost use Rattle.replies.specs.Outcome.{GivesReply};
 ghost use Rattle.replies.specs.Output.{fault_of, MayRead};
 ghost use Rattle.endings.specs.Outcome.{reads_failed};
-ghost use Rattle.endings.specs.Run.{ending_of, run_of, EndsReply, MayTell, Refuses};
+ghost use Rattle.endings.specs.Run.{ending_of, run_of, EndsReply, Finishes, MayTell, Refuses};
 ghost use Rattle.endings.specs.Words.{MeansSome, MeansSomeIn, RunsProgram, RunsWords};
-ghost use Rattle.console.specs.Batch.{RunsBatch};
+ghost use Rattle.console.specs.Batch.{RefusesBatch, RunsBatch, wanting_text};
 ghost use Rattle.console.specs.Order.{AsksWhereOver, MayReadOf, RunsOrder, TellsMore};
 ghost use Rattle.console.specs.Playing.{WritesAfter};
 ghost use Rattle.console.specs.Run.{RunsLine};
 
-use crate::batch::{BatchStop, answer_batch, left_out, open_batch};
+use crate::batch::{BatchStop, answer_batch, left_out, open_batch, refusal_line};
 use crate::over::{asking_of, tell_if_line_is_over};
 use crate::watching::watch_of;
 use answer_texts::Batch;
@@ -82,6 +83,44 @@ fn run_line_on<
     }
 }
 
+const WANTING: &[u8] =
+    b"{\"position\":null,\"refused\":\"NoMemory\",\"sentence\":\"memory is wanting\"}\n";
+
+/// Ends a batch for want of memory, without taking memory.
+fn give_up<K: Sink, E: Write>(json: bool, writer: &mut K, errors: &mut E) -> u8
+    requires { K.failures writer.old < u64.MAX }
+    ensures { Finishes (ending_of K.contents K.failures writer.old writer.new result) (wanting_text json) 3 }
+{
+    if json {
+        finish(writer, errors, WANTING, Refusal::NoMemory.status())
+    } else {
+        give_up_for_memory(writer, errors)
+    }
+}
+
+/// Writes why a whole batch is refused, and tells it with a sentence.
+fn refuse_batch<R: AllocGlobal, K: Sink, E: Write>(
+    rt: &R,
+    json: bool,
+    writer: &mut K,
+    errors: &mut E,
+    refusal: Refusal,
+) -> u8
+    requires { K.failures writer.old < u64.MAX }
+    ensures refuses { RefusesBatch json (ending_of K.contents K.failures writer.old writer.new result) refusal }
+    ensures memory { refusal ≡ NoMemory
+        → Finishes (ending_of K.contents K.failures writer.old writer.new result) (wanting_text json) 3 }
+{
+    if refusal.status() == 3 {
+        return give_up(json, writer, errors);
+    }
+    let refused = search_refused(b"", refusal);
+    match refusal_line(rt.alloc(), json, errors, None, &refused) {
+        Ok(text) => finish(writer, errors, text.as_slice(), refusal.status()),
+        Err(_) => give_up(json, writer, errors),
+    }
+}
+
 /// Answers the lines of a batch, or refuses its limits.
 pub fn run_batch<
     R: Threads + Wait + Eprint + Clock + Sync + AllocGlobal,
@@ -98,14 +137,11 @@ pub fn run_batch<
     match open_batch(context.rt.alloc(), batch) {
         Ok(mut opened) => match answer_batch(context, &mut opened, reader, writer, errors) {
             None => ANSWERED,
-            Some(BatchStop::NoMemory) => give_up_for_memory(writer, errors),
+            Some(BatchStop::NoMemory) => give_up(batch.options.json, writer, errors),
             Some(BatchStop::ReadFailed) => fail_to_read(errors),
             Some(BatchStop::WriteFailed) => fail_to_write(errors),
         },
-        Err(refusal) => {
-            let refused = search_refused(b"", refusal);
-            refuse_and_tell(context.rt, writer, errors, &refused)
-        }
+        Err(refusal) => refuse_batch(context.rt, batch.options.json, writer, errors, refusal),
     }
 }
 
@@ -220,7 +256,7 @@ pub fn run<
         }
         Ok(Order::After(played)) => run_after(rt, &played, writer, errors),
         Ok(Order::TreeAfter(played, goal, limits)) => {
-            let reply = first_reply(rt.alloc(), &played, goal, limits);
+            let reply = first_reply(rt, &played, goal, limits);
             write_played(rt, &played, writer, errors, reply)
         }
         // those are answered by programs of their own

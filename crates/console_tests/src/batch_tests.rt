@@ -114,6 +114,22 @@ fn reads_moves_behind_a_position(rt: HostRuntime) {
     expect_batch(&rt, &echo, "k5/6/2K3/6/6/1R4 w ; dm 2", told);
 }
 
+// A refusal of the whole batch stands at no line. Lines that are left out keep their numbers.
+#[test]
+fn writes_objects_of_refused_limits(rt: HostRuntime) {
+    let words = ["minimate", "batch", "--json", "--limit", "64"];
+    let refused =
+        "{\"position\":null,\"refused\":\"Limit\",\"sentence\":\"--limit is 1 to 63 plies: a mate in M moves is --limit 2M-1, or --mate M, 1 to 32\"}\n";
+    expect_with(&rt, &words, b"k5/6/2K3/6/6/1R4 w\n", 1, refused);
+    let behind = ["minimate", "batch", "--json", "--limit", "1", "--skip", "2"];
+    let told =
+        "{\"line\":3,\"position\":\"k5/6/1K4/6/6/5R w\",\"goal\":\"mate\",\"limit\":1,\"answer\":\"mate\",\"plies\":1,\"first\":\"f1f6\"}
+{\"line\":5,\"position\":\"k5/6/1K4/6/6/5R v\",\"refused\":\"Side\",\"sentence\":\"the side to move is w or b: here is 'v'\"}
+";
+    let input = "x\n\nk5/6/1K4/6/6/5R w\n# four\nk5/6/1K4/6/6/5R v";
+    expect_batch(&rt, &behind, input, told);
+}
+
 // Of the bytes that are no UTF-8 each sequence is shown as U+FFFD.
 #[test]
 fn writes_objects(rt: HostRuntime) {
@@ -121,23 +137,23 @@ fn writes_objects(rt: HostRuntime) {
     for (input, output) in [
         (
             "k5/6/2K3/6/6/1R4 w\n# no\n\nk5/6/6/6/6/5K w\n",
-            "{\"position\":\"k5/6/2K3/6/6/1R4 w\",\"goal\":\"mate\",\"limit\":3,\"answer\":\"mate\",\"plies\":3,\"first\":\"c4c5\"}
-{\"position\":\"k5/6/6/6/6/5K w\",\"goal\":\"mate\",\"limit\":3,\"answer\":\"none\",\"plies\":null,\"first\":null}
+            "{\"line\":1,\"position\":\"k5/6/2K3/6/6/1R4 w\",\"goal\":\"mate\",\"limit\":3,\"answer\":\"mate\",\"plies\":3,\"first\":\"c4c5\"}
+{\"line\":4,\"position\":\"k5/6/6/6/6/5K w\",\"goal\":\"mate\",\"limit\":3,\"answer\":\"none\",\"plies\":null,\"first\":null}
 ",
         ),
         (
             "k5/6/1K4/6/6/5R w ; dm 2",
-            "{\"position\":\"k5/6/1K4/6/6/5R w\",\"goal\":\"mate\",\"limit\":3,\"answer\":\"mate\",\"plies\":1,\"first\":\"f1f6\",\"ok\":false}
+            "{\"line\":1,\"position\":\"k5/6/1K4/6/6/5R w\",\"goal\":\"mate\",\"limit\":3,\"answer\":\"mate\",\"plies\":1,\"first\":\"f1f6\",\"ok\":false}
 ",
         ),
         (
             "k5/6/1K4/6/6/5R \"w",
-            "{\"position\":\"k5/6/1K4/6/6/5R \\\"w\",\"refused\":\"Side\",\"sentence\":\"the side to move is w or b: here is '\\\\\\\"w'\"}
+            "{\"line\":1,\"position\":\"k5/6/1K4/6/6/5R \\\"w\",\"refused\":\"Side\",\"sentence\":\"the side to move is w or b: here is '\\\\\\\"w'\"}
 ",
         ),
         (
             "k5/6/1\u{e9}4/6/6/5R w",
-            "{\"position\":\"k5/6/1\u{e9}4/6/6/5R w\",\"refused\":\"Shape\",\"sentence\":\"character 7 is not ASCII: write a letter, a digit, / or a space for '\\\\xc3\\\\xa9'\"}
+            "{\"line\":1,\"position\":\"k5/6/1\u{e9}4/6/6/5R w\",\"refused\":\"Shape\",\"sentence\":\"character 7 is not ASCII: write a letter, a digit, / or a space for '\\\\xc3\\\\xa9'\"}
 ",
         ),
     ] {
@@ -147,21 +163,21 @@ fn writes_objects(rt: HostRuntime) {
         "minimate", "batch", "--json", "--keys", "--goal", "stale", "--limit", "1",
     ];
     let found =
-        "{\"position\":\"k5/6/2K3/6/6/1R4 w\",\"goal\":\"stale\",\"limit\":1,\"keys\":[{\"first\":\"b1b5\",\"plies\":1}]}
+        "{\"line\":1,\"position\":\"k5/6/2K3/6/6/1R4 w\",\"goal\":\"stale\",\"limit\":1,\"keys\":[{\"first\":\"b1b5\",\"plies\":1}]}
 ";
     expect_batch(&rt, &keys, "k5/6/2K3/6/6/1R4 w", found);
     let both =
-        "{\"position\":\"k4/2P2/1K3/5/5 w\",\"goal\":\"mate\",\"limit\":1,\"keys\":[{\"first\":\"c4c5q\",\"plies\":1},{\"first\":\"c4c5r\",\"plies\":1}],\"ok\":true}
+        "{\"line\":1,\"position\":\"k4/2P2/1K3/5/5 w\",\"goal\":\"mate\",\"limit\":1,\"keys\":[{\"first\":\"c4c5q\",\"plies\":1},{\"first\":\"c4c5r\",\"plies\":1}],\"ok\":true}
 ";
     let mates = ["minimate", "batch", "--json", "--keys", "--limit", "3"];
     expect_batch(&rt, &mates, "k4/2P2/1K3/5/5 w ; dm 1", both);
     let long = long_line(&rt, 257, b'x', b"\n#");
     let told =
-        "{\"position\":null,\"refused\":\"TooLong\",\"sentence\":\"a line has at most 256 bytes\"}\n";
+        "{\"line\":1,\"position\":null,\"refused\":\"TooLong\",\"sentence\":\"a line has at most 256 bytes\"}\n";
     expect_with(&rt, &words, long.as_slice(), 0, told);
     let broken = b"\xff w".as_slice();
     let shown =
-        "{\"position\":\"\u{fffd} w\",\"refused\":\"Shape\",\"sentence\":\"character 1 is not ASCII: write a letter, a digit, / or a space for '\\\\xff'\"}\n";
+        "{\"line\":1,\"position\":\"\u{fffd} w\",\"refused\":\"Shape\",\"sentence\":\"character 1 is not ASCII: write a letter, a digit, / or a space for '\\\\xff'\"}\n";
     expect_with(&rt, &words, broken, 0, shown);
 }
 

@@ -27,9 +27,9 @@ drawn_on f n old before new so_far more =
 pub two_drawn : (old one new a b : List ℕ) → one ≡ old ++ a → new ≡ one ++ b → new ≡ old ++ (a ++ b)
 two_drawn old one new a b first second = second ∙ ap (λ l. l ++ b) first ∙ append_assoc old a b
 
--- what was drawn in seven steps, from nothing
-pub seven_drawn : (t u v w x y z end a b c d e f g : List ℕ) → t ≡ [] → u ≡ t ++ a → v ≡ u ++ b → w ≡ v ++ c → x ≡ w ++ d → y ≡ x ++ e → z ≡ y ++ f → end ≡ z ++ g
-    → end ≡ a ++ (b ++ (c ++ (d ++ (e ++ (f ++ g)))))
-seven_drawn t u v w x y z end a b c d e f g none one two three four five six seven =
-    two_drawn t u end a _ one (two_drawn u v end b _ two (two_drawn v w end c _ three (two_drawn w x end d _ four (two_drawn x y end e _ five
-    (two_drawn y z end f g six seven))))) ∙ ap (λ l. l ++ (a ++ (b ++ (c ++ (d ++ (e ++ (f ++ g))))))) none
+-- what was drawn in eight steps, from nothing
+pub eight_drawn : (s t u v w x y z end a b c d e f g h : List ℕ) → s ≡ [] → t ≡ s ++ a → u ≡ t ++ b → v ≡ u ++ c → w ≡ v ++ d → x ≡ w ++ e → y ≡ x ++ f
+    → z ≡ y ++ g → end ≡ z ++ h → end ≡ a ++ (b ++ (c ++ (d ++ (e ++ (f ++ (g ++ h))))))
+eight_drawn s t u v w x y z end a b c d e f g h none one two three four five six seven eight =
+    two_drawn s t end a _ one (two_drawn t u end b _ two (two_drawn u v end c _ three (two_drawn v w end d _ four (two_drawn w x end e _ five
+    (two_drawn x y end f _ six (two_drawn y z end g h seven eight)))))) ∙ ap (λ l. l ++ (a ++ (b ++ (c ++ (d ++ (e ++ (f ++ (g ++ h)))))))) none

@@ -144,8 +144,13 @@ paper side mover =
 abbrev pub frame : ℕ → List ℕ
 frame side = codes "<path d=\"M44 4h" ++ (decimal side ++ (codes "v" ++ (decimal side ++ codes "H44z\" fill=\"none\" stroke=\"#23251f\" stroke-width=\"3\"/>\n")))
 
--- the squares row by row, the frame, the signs of ranks and files, and the arrow
+-- in the corner beside the signs a black disk, where Black moves
+abbrev pub mover_mark : ℕ → Side → List ℕ
+mover_mark side White = []
+mover_mark side Black = codes "<path d=\"M11 " ++ (decimal (26 + side) ++ codes "a11 11 0 1 0 22 0 11 11 0 1 0-22 0z\" fill=\"#23251f\"/>\n")
+
+-- the squares row by row, the frame, the signs of ranks and files, the mark of who moves, and the arrow
 abbrev pub picture : View → Option Ply → List ℕ
 picture v arrow =
     head (48 + 100 * width v) ++ (paper (48 + 100 * width v) (mover_drawn v.board.mover) ++ (rows_picture v ++ (frame (100 * width v)
-    ++ (all_signs_picture v ++ (picture_of (arrow_picture v) arrow ++ codes "</svg>\n")))))
+    ++ (all_signs_picture v ++ (mover_mark (100 * width v) v.board.mover ++ (picture_of (arrow_picture v) arrow ++ codes "</svg>\n"))))))

@@ -1,11 +1,11 @@
 //! A diagram as text.
 ghost use Rattle.std.specs.Prelude.{◌≡◌, ◌++◌, ◌<◌, IfOk, OnOk, string_bytes};
 ghost use Rattle.board.specs.Games.{width_of};
-ghost use Rattle.diagrams.specs.declared.look.Look.TheVariants.{Symbols};
+ghost use Rattle.diagrams.specs.declared.style.Style.TheVariants.{Symbols};
 ghost use Rattle.diagrams.specs.Drawing.{unit_drawn, sign_on, row_drawn, rows_drawn, files_drawn, mover_drawn, board_drawn};
 
-use crate::look::Look;
 use crate::place::{column_of, row_of};
+use crate::style::Style;
 use board::{Game, Kind, Position, Side, Unit};
 use std::alloc::{AllocError, Global};
 use std::fmt::Write;
@@ -30,15 +30,15 @@ fn symbol(unit: Unit) -> &'static str
 }
 
 /// Draws what stands on a square, or a point.
-fn draw_unit(text: &mut String, look: Look, unit: Option<Unit>) -> Result<(), AllocError>
-    ensures { OnOk result (string_bytes text.new ≡ string_bytes text.old ++ sign_on look unit) }
+fn draw_unit(text: &mut String, style: Style, unit: Option<Unit>) -> Result<(), AllocError>
+    ensures { OnOk result (string_bytes text.new ≡ string_bytes text.old ++ sign_on style unit) }
 {
     let Some(unit) = unit else {
         return text.push_str(".");
     };
-    match look {
-        Look::Letters => text.push(unit.letter() as char),
-        Look::Symbols => text.push_str(symbol(unit)),
+    match style {
+        Style::Letters => text.push(unit.letter() as char),
+        Style::Symbols => text.push_str(symbol(unit)),
     }
 }
 
@@ -47,14 +47,14 @@ fn draw_unit(text: &mut String, look: Look, unit: Option<Unit>) -> Result<(), Al
 struct View<'a> {
     position: &'a Position,
     below: Side,
-    look: Look,
+    style: Style,
 }
 
 /// Draws a row: its rank's number, and its squares.
 fn draw_row(text: &mut String, view: &View<'_>, row: u8) -> Result<(), AllocError>
     requires { row < width_of view.now.position.now.game }
     ensures { let v = view.now in OnOk result
-        (string_bytes text.new ≡ string_bytes text.old ++ row_drawn v.look v.below v.position.now row) }
+        (string_bytes text.new ≡ string_bytes text.old ++ row_drawn v.style v.below v.position.now row) }
 {
     let game = view.position.game();
     let rank = row_of(game, view.below, row);
@@ -64,7 +64,7 @@ fn draw_row(text: &mut String, view: &View<'_>, row: u8) -> Result<(), AllocErro
         text.push(' ')?;
         draw_unit(
             text,
-            view.look,
+            view.style,
             view.position.unit(file + game.width() * rank),
         )?;
     }
@@ -73,7 +73,7 @@ fn draw_row(text: &mut String, view: &View<'_>, row: u8) -> Result<(), AllocErro
 
 fn draw_rows(text: &mut String, view: &View<'_>) -> Result<(), AllocError>
     ensures { let v = view.now in OnOk result
-        (string_bytes text.new ≡ string_bytes text.old ++ rows_drawn v.look v.below v.position.now) }
+        (string_bytes text.new ≡ string_bytes text.old ++ rows_drawn v.style v.below v.position.now) }
 {
     for row in 0..view.position.game().width() {
         draw_row(text, view, row)?;
@@ -105,15 +105,15 @@ pub fn board_drawn(
     alloc: Global,
     position: &Position,
     below: Side,
-    look: Look,
+    style: Style,
 ) -> Result<String, AllocError>
-    ensures { IfOk result (λ text. string_bytes text ≡ board_drawn look below position.now) }
+    ensures { IfOk result (λ text. string_bytes text ≡ board_drawn style below position.now) }
 {
     let mut text = String::new(alloc);
     let view = View {
         position,
         below,
-        look,
+        style,
     };
     draw_rows(&mut text, &view)?;
     text.push_str("   ")?;

@@ -3,13 +3,13 @@
 
 mod diagram;
 mod drawing;
-mod look;
 mod place;
 mod shapes;
 mod square;
+mod style;
 mod svg;
 
 pub use diagram::Diagram;
 pub use drawing::board_drawn;
-pub use look::Look;
+pub use style::Style;
 pub use svg::svg_of;

@@ -1,14 +1,15 @@
 //! A diagram as a picture in Scalable Vector Graphics.
-ghost use Rattle.std.specs.Prelude.{◌≡◌, ℕ, ◌++◌, ◌<◌, List, IfOk, OnOk, string_bytes};
+ghost use Rattle.std.specs.Prelude.{◌≡◌, ℕ, ◌++◌, ◌<◌, ◌≤◌, List, IfOk, OnOk, string_bytes};
 ghost use Rattle.board.specs.Games.{width_of};
 ghost use Rattle.rules.specs.Squares.{IsOnBoard};
-ghost use Rattle.diagrams.specs.Pictures.{view_of, width, row_picture, rows_picture, sign_picture, rank_picture, file_picture, all_signs_picture, middle_x, middle_y, AreOnBoard, arrow_between, arrow_picture, picture_of, head, paper, frame, picture};
+ghost use Rattle.diagrams.specs.Pictures.{view_of, width, row_picture, rows_picture, sign_picture, rank_picture, file_picture, all_signs_picture, middle_x, middle_y, AreOnBoard, arrow_between, arrow_picture, picture_of, head, paper, frame, mover_mark, picture};
 
 use crate::diagram::Diagram;
 use crate::drawing::mover_drawn;
 use crate::place::{column_of, row_of};
 use crate::shapes::{file_sign, rank_sign};
 use crate::square::draw_square;
+use board::Side;
 use moves::{Move, Square};
 use std::alloc::{AllocError, Global};
 use std::fmt::Write;
@@ -144,6 +145,22 @@ fn draw_frame(text: &mut String, side: u16) -> Result<(), AllocError>
     )
 }
 
+fn draw_mover(text: &mut String, side: u16, mover: Side) -> Result<(), AllocError>
+    requires { side ≤ 600 }
+    ensures { OnOk result (string_bytes text.new ≡ string_bytes text.old ++ mover_mark side mover) }
+{
+    match mover {
+        Side::White => Ok(()),
+        Side::Black => {
+            let y = 26 + side;
+            write!(
+                text,
+                "<path d=\"M11 {y}a11 11 0 1 0 22 0 11 11 0 1 0-22 0z\" fill=\"#23251f\"/>\n"
+            )
+        }
+    }
+}
+
 /// The diagram as the text of a file that stands alone, of shapes and no fonts.
 pub fn svg_of(alloc: Global, diagram: &Diagram<'_>) -> Result<String, AllocError>
     requires { AreOnBoard (view_of diagram.now) diagram.now.arrow }
@@ -157,6 +174,7 @@ pub fn svg_of(alloc: Global, diagram: &Diagram<'_>) -> Result<String, AllocError
     draw_rows(&mut text, diagram)?;
     draw_frame(&mut text, side)?;
     draw_signs(&mut text, diagram)?;
+    draw_mover(&mut text, side, position.mover())?;
     draw_arrow_of(&mut text, diagram)?;
     text.push_str("</svg>\n")?;
     Ok(text)

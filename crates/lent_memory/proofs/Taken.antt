@@ -5,7 +5,7 @@ use mir.Syntax.{Ty, Width, w8, w16, w32, w64, w128}
 use mir.Val.{Val, vcons, vnil, of_list, bytes}
 use base.Logic.{ent, sep, never, id⊢}
 use base.Fml.{fwand, froom}
-use prog.Memory.{size, capped}
+use prog.Region.{size, capped}
 use prog.Align.{Dv, align_w, align-bytes}
 use prog.Capped.{capped_is, capped_small}
 use types.Logic.{Logic, sem}
@@ -17,7 +17,7 @@ use denote.Shadow.{pure_l}
 use denote.Steps.{only}
 use Rattle.core.specs.contracts.option.Option as option
 use Rattle.lent_memory.specs.Ownership.{IsMemorySize, bytes_at, block_token}
-use Rattle.lent_memory.specs.contracts.memory.Memory as memory
+use Rattle.lent_memory.specs.contracts.memory.Region as memory
 use Rattle.linked_list_allocator.proofs.Values.{sized_val, sized_own, sized_told}
 use Rattle.linked_list_allocator.proofs.Nodes.{retypes}
 

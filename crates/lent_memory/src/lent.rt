@@ -2,7 +2,7 @@
 ghost use Rattle.std.specs.Prelude.{◌≡◌, ◌≤◌, IfSome};
 ghost use Rattle.lent_memory.specs.Ownership.{block_token};
 
-use crate::memory::{Back, Memory};
+use crate::memory::{Back, Region};
 use std::alloc::{AllocError, Allocator};
 use std::cell::Cell;
 use std::mem::ManuallyDrop;
@@ -12,12 +12,12 @@ const MAX_ALIGN: usize = 16;
 /// Gives the whole of its memory to whoever asks first, and again once it came back.
 pub struct Lent {
     size: usize,
-    memory: Cell<Option<Memory>>,
+    memory: Cell<Option<Region>>,
 }
 
 impl Lent {
     /// Over this memory.
-    pub fn new(memory: Memory) -> Lent
+    pub fn new(memory: Region) -> Lent
         ensures { result.size ≡ memory.size }
     {
         let (size, memory) = memory.with_size();
@@ -35,7 +35,7 @@ impl Lent {
     }
 
     /// The whole of it, if it is here and enough.
-    fn take(&self, size: usize, align: usize) -> Option<Memory>
+    fn take(&self, size: usize, align: usize) -> Option<Region>
         ensures { IfSome result (λ m. (m.size ≡ self.now.size) × (size ≤ m.size) × (align ≤ 16)) }
     {
         if align > MAX_ALIGN || size > self.size {
@@ -63,7 +63,7 @@ unsafe impl Allocator for Lent {
 
     fn allocate(&self, size: usize, align: usize) -> Result<*mut u8, AllocError> {
         match self.take(size, align) {
-            Some(Memory { ptr, size: _ }) => Ok(ptr),
+            Some(Region { ptr, size: _ }) => Ok(ptr),
             None => Err(AllocError),
         }
     }

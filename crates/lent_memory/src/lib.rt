@@ -5,4 +5,4 @@ mod lent;
 mod memory;
 
 pub use lent::Lent;
-pub use memory::Memory;
+pub use memory::Region;

@@ -7,34 +7,34 @@ use std::marker::Model;
 
 /// So many bytes, aligned to 16, in which nothing lies.
 #[repr(C)]
-pub struct Memory {
+pub struct Region {
     pub(crate) ptr: *mut u8,
     pub(crate) size: usize,
     pub ghost fits: { IsMemorySize size },
 }
 
-impl Model for Memory {
+impl Model for Region {
     ghost also_owns = { λ m. bytes_at m.ptr m.size };
 }
 
-impl Memory {
+impl Region {
     /// So many bytes of an allocator, which doesn't get them back.
-    pub fn taken<A: Allocator>(alloc: &A, size: usize) -> Option<Memory>
+    pub fn taken<A: Allocator>(alloc: &A, size: usize) -> Option<Region>
         requires { IsMemorySize size }
         ensures { IfSome result (λ m. m.size ≡ size) }
     {
         match alloc.allocate(size, 16) {
-            Ok(ptr) => Some(Memory { ptr, size }),
+            Ok(ptr) => Some(Region { ptr, size }),
             Err(_) => None,
         }
     }
 
     /// How many bytes, and the memory again.
-    pub fn with_size(self) -> (usize, Memory)
+    pub fn with_size(self) -> (usize, Region)
         ensures { (result.0 ≡ self.size) × (result.1 ≡ self) }
     {
-        let Memory { ptr, size } = self;
-        (size, Memory { ptr, size })
+        let Region { ptr, size } = self;
+        (size, Region { ptr, size })
     }
 }
 
@@ -50,11 +50,11 @@ impl Model for Back {
 }
 
 impl Back {
-    pub(crate) fn measured(self, size: usize) -> Memory
+    pub(crate) fn measured(self, size: usize) -> Region
         requires { size ≡ self.size }
         ensures { result.size ≡ size }
     {
         let Back { ptr } = self;
-        Memory { ptr, size }
+        Region { ptr, size }
     }
 }

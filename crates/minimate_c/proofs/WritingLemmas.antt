@@ -15,7 +15,7 @@ use Rattle.searcher.specs.declared.halt.Halt.TheVariants.{Stopped, NoMemory}
 use Rattle.problems.specs.declared.problem.Problem.{Problem}
 use Rattle.solver.specs.declared.solver.Solver.{Solver}
 use Rattle.solver.specs.Stopping.{IsStopped, Hears}
-use Rattle.minimate_c.specs.declared.writing.Told.{Told}
+use Rattle.minimate_c.specs.declared.writing.SolverText.{SolverText}
 use Rattle.calls.specs.Calls.{goal_of}
 use Rattle.minimate_c.specs.Putting.{FindsTold, IsProblemAsked, IsUnasked, PutsTold, number_of, keys_number}
 use Rattle.minimate_c.specs.Written.{KeysTold, some_keys, no_keys, TreeTold, some_tree, no_tree, IsTold, IsWhy, refused, another_limit, stopped, no_memory, WritesTold, written, too_long, untold, no_solver}
@@ -59,7 +59,7 @@ told_as_asked Is text stale limit p number reply (b, is_at, is) right =
 
 -- what a solver that is held finds to tell
 pub finds_told : (Is : Goal → PlainBoard → ℕ → ℕ → List ℕ → Type 0) (text : List ℕ) (stale : Bool) (limit : ℕ) (was held : Option Solver) (before after : Solver)
-    (found : Result Told ℕ) → was ≡ Some before → held ≡ Some after → Hears before after → IfOk found (λ told. IsTold Is text stale limit told.number told.text.items)
+    (found : Result SolverText ℕ) → was ≡ Some before → held ≡ Some after → Hears before after → IfOk found (λ told. IsTold Is text stale limit told.number told.text.items)
     → IfErr found (IsWhy text limit (IsStopped after)) → FindsTold Is text stale limit was held found
 finds_told Is text stale limit was held before after (Ok told) is_before is_after hears right why =
     subst (λ (p : Option Solver × Option Solver). FindsTold Is text stale limit p.0 p.1 (Ok told)) (λ i. (sym is_before i, sym is_after i)) (hears, right)
@@ -73,10 +73,10 @@ none_finds Is text stale limit was held empty = subst (λ (o : Option Solver). F
 
 -- what is told is written, or why nothing is
 pub are_written : (Is : Goal → PlainBoard → ℕ → ℕ → List ℕ → Type 0) (text : List ℕ) (stale : Bool) (limit : ℕ) (old : List ℕ) (was held : Option Solver)
-    (found : Result Told ℕ) (number : ℕ) (new : List ℕ) (long : ℕ)
+    (found : Result SolverText ℕ) (number : ℕ) (new : List ℕ) (long : ℕ)
     → FindsTold Is text stale limit was held found → PutsTold found old number new long → WritesTold Is text stale limit old was held number new long
 are_written Is text stale limit old None held found number new long none puts =
-    let (same, is, zero) = subst (λ (f : Result Told ℕ). PutsTold f old number new long) none puts in
+    let (same, is, zero) = subst (λ (f : Result SolverText ℕ). PutsTold f old number new long) none puts in
     subst (λ (p : ℕ × List ℕ × ℕ). WritesTold Is text stale limit old None held p.0 p.1 p.2) (λ i. (sym is i, sym same i, sym zero i)) no_solver
 are_written Is text stale limit old (Some before) None found number new long finds puts = absurd finds
 are_written Is text stale limit old (Some before) (Some after) (Ok told) number new long (hears, right) (inl fits, is_long) =

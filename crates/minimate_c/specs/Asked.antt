@@ -21,7 +21,7 @@ use Rattle.solver.specs.declared.solver.Solver.{Solver}
 use Rattle.solver.specs.declared.listening.StopSource.{StopSource}
 use Rattle.solver.specs.Stopping.{IsStopped, Hears}
 use Rattle.minimate_c.specs.declared.found.First.{First}
-use Rattle.minimate_c.specs.declared.found.Found.{Found}
+use Rattle.minimate_c.specs.declared.found.Win.{Win}
 
 -- the letter of what a pawn becomes, or 0
 abbrev pub promotion_letter : Option Kind → ℕ
@@ -36,11 +36,11 @@ abbrev pub first_told : Ply → First
 first_told m = record { from_file = m.from.file; from_rank = m.from.rank; to_file = m.to.file; to_rank = m.to.rank; promotion = promotion_letter m.promotion }
 
 -- the plies and the first move in plain numbers
-abbrev pub found_of : ℕ → Ply → Found
+abbrev pub found_of : ℕ → Ply → Win
 found_of plies first = record { plies = plies; first = first_told first }
 
 -- the number and what was found tell of the answer; what was found before stays where nothing is forced
-abbrev pub TellsAnswer : Answer → Found → ℕ → Found → Type 0
+abbrev pub TellsAnswer : Answer → Win → ℕ → Win → Type 0
 TellsAnswer (answer.Mate plies first) old number found = (number ≡ 0) × (found ≡ found_of plies first)
 TellsAnswer (answer.NoneWithin limit) old number found = (number ≡ 1) × (found ≡ old)
 
@@ -49,7 +49,7 @@ abbrev pub IsAt : List ℕ → PlainBoard → Type 0
 IsAt text b = IsFenText text b × IsSound b
 
 -- the number that is the reply to a question, with what was found: the answer, or why there is none
-pub data Replies (text : List ℕ) (goal : Goal) (limit : ℕ) (Stopped : Type 0) (old : Found) : ℕ → Found → Type 0 where
+pub data Replies (text : List ℕ) (goal : Goal) (limit : ℕ) (Stopped : Type 0) (old : Win) : ℕ → Win → Type 0 where
   forced : (b : PlainBoard) {plies : ℕ} {first : Ply} → IsAt text b → IsLimit limit → IsAnswer goal b limit (answer.Mate plies first) → Replies text goal limit Stopped old 0 (found_of plies first)
   none_within : (b : PlainBoard) → IsAt text b → IsLimit limit → IsAnswer goal b limit (answer.NoneWithin limit) → Replies text goal limit Stopped old 1 old
   refused : (fault : FenFault) → IsSoundFault text fault → Replies text goal limit Stopped old 2 old
@@ -57,8 +57,8 @@ pub data Replies (text : List ℕ) (goal : Goal) (limit : ℕ) (Stopped : Type 0
   stopped : Stopped → Replies text goal limit Stopped old 4 old
 
 -- the reply of the solver that a handle holds, which it holds on, or that it holds none
-pub data AsksSolver (text : List ℕ) (stale : Bool) (limit : ℕ) (old : Found) : Option Solver → Option Solver → ℕ → Found → Type 0 where
-  asked : {before after : Solver} {number : ℕ} {found : Found} → Hears before after → Replies text (goal_of stale) limit (IsStopped after) old number found → AsksSolver text stale limit old (Some before) (Some after) number found
+pub data AsksSolver (text : List ℕ) (stale : Bool) (limit : ℕ) (old : Win) : Option Solver → Option Solver → ℕ → Win → Type 0 where
+  asked : {before after : Solver} {number : ℕ} {found : Win} → Hears before after → Replies text (goal_of stale) limit (IsStopped after) old number found → AsksSolver text stale limit old (Some before) (Some after) number found
   no_solver : {held : Option Solver} → AsksSolver text stale limit old None held 5 old
 
 -- a solver over so many slots, and what stops it, which nobody has asked for yet

@@ -14,7 +14,7 @@ use Rattle.solver.specs.declared.solver.Solver.{Solver}
 use Rattle.solver.specs.Stopping.{IsStopped, Hears}
 use Rattle.minimate_c.specs.declared.writing.Telling.{Telling}
 use Rattle.minimate_c.specs.declared.writing.Telling.TheVariants.{Keys, Tree}
-use Rattle.minimate_c.specs.declared.writing.Told.{Told}
+use Rattle.minimate_c.specs.declared.writing.SolverText.{SolverText}
 use Rattle.minimate_c.specs.Asked.{IsAt}
 use Rattle.minimate_c.specs.Written.{IsTold, IsWhy, KeysTold, TreeTold}
 
@@ -42,14 +42,14 @@ TellsText Keys = KeysTold
 TellsText Tree = TreeTold
 
 -- what a solver that is held finds to tell, or the number that says why nothing; it is held on, or there is none
-abbrev pub FindsTold : (Goal → PlainBoard → ℕ → ℕ → List ℕ → Type 0) → List ℕ → Bool → ℕ → Option Solver → Option Solver → Result Told ℕ → Type 0
+abbrev pub FindsTold : (Goal → PlainBoard → ℕ → ℕ → List ℕ → Type 0) → List ℕ → Bool → ℕ → Option Solver → Option Solver → Result SolverText ℕ → Type 0
 FindsTold Is text stale limit None held found = found ≡ Err 5
 FindsTold Is text stale limit (Some before) None found = ⊥
 FindsTold Is text stale limit (Some before) (Some after) found =
     Hears before after × MatchResult found (λ told. IsTold Is text stale limit told.number told.text.items) (IsWhy text limit (IsStopped after))
 
 -- the text stands at the beginning of the room, or is longer than it; or the number says why there is none
-abbrev pub PutsTold : Result Told ℕ → List ℕ → ℕ → List ℕ → ℕ → Type 0
+abbrev pub PutsTold : Result SolverText ℕ → List ℕ → ℕ → List ℕ → ℕ → Type 0
 PutsTold (Ok told) old number new long =
     (((length told.text.items ≤ length old) × (new ≡ told.text.items ++ drop (length told.text.items) old) × (number ≡ told.number))
     ⊎ ((length old < length told.text.items) × (new ≡ old) × (number ≡ 9)))

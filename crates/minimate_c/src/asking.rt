@@ -12,7 +12,7 @@ ghost use Rattle.minimate_c.specs.Asked.{promotion_letter, first_told, TellsAnsw
 ghost use Rattle.minimate_c.specs.Putting.{IsProblemAsked, IsUnasked};
 ghost use Rattle.minimate_c.specs.Stopping.{AsksFor};
 
-use crate::found::{First, Found};
+use crate::found::{First, Win};
 use board::{Kind, Position};
 use calls::goal_of;
 use moves::{Goal, Move, read_sound};
@@ -42,7 +42,7 @@ pub(crate) const ANOTHER: u32 = 8;
 
 /// What a solver is asked: the text of a position, whether stalemate is a goal too, and within how many plies.
 #[derive(Drop)]
-pub(crate) struct Asked<'a> {
+pub(crate) struct Query<'a> {
     pub(crate) fen: &'a [u8],
     pub(crate) stale: bool,
     pub(crate) limit: u32,
@@ -59,7 +59,7 @@ fn problem_of(position: &Position, goal: Goal, limit: u32) -> Option<Problem>
 }
 
 /// The problem that is asked about, or the number that says why there is none.
-pub(crate) fn asked_problem(asked: &Asked<'_>) -> Result<Problem, u32>
+pub(crate) fn asked_problem(asked: &Query<'_>) -> Result<Problem, u32>
     ensures asked { IfOk result (IsProblemAsked asked.now.fen.now (goal_of asked.now.stale) asked.now.limit) }
     ensures why { IfErr result (IsUnasked asked.now.fen.now asked.now.limit) }
 {
@@ -97,12 +97,12 @@ fn first_of(m: Move) -> First
 }
 
 /// An answer in plain numbers.
-fn told(answer: Answer, found: &mut Found) -> u32
+fn told(answer: Answer, found: &mut Win) -> u32
     ensures { TellsAnswer answer found.old result found.new }
 {
     match answer {
         Answer::Mate { plies, first } => {
-            *found = Found {
+            *found = Win {
                 plies: u32::from(plies),
                 first: first_of(first),
             };
@@ -113,7 +113,7 @@ fn told(answer: Answer, found: &mut Found) -> u32
 }
 
 /// The reply to a question that a solver is asked.
-pub(crate) fn replied(solver: &mut Solver, asked: &Asked<'_>, found: &mut Found) -> u32
+pub(crate) fn replied(solver: &mut Solver, asked: &Query<'_>, found: &mut Win) -> u32
     ensures hears { Hears solver.old solver.new }
     ensures reply { Replies asked.now.fen.now (goal_of asked.now.stale) asked.now.limit
         (IsStopped solver.new) found.old result found.new }

@@ -14,7 +14,7 @@ pub struct First {
 /// In how many plies the goal is forced, and by which first move. It is written where the goal is forced, and stays as it was else.
 #[derive(Clone, Copy, PartialEq, Eq, Debug)]
 #[repr(C)]
-pub struct Found {
+pub struct Win {
     pub plies: u32,
     pub first: First,
 }

@@ -16,8 +16,8 @@ mod stop_pointer;
 mod tests;
 mod writing;
 
-use calls::{Call, Terms, reply};
-pub use found::{First, Found};
+use calls::{Call, SearchTerms, reply};
+pub use found::{First, Win};
 pub use handle::{SolverHandle, StopHandle};
 pub use living::{
     minimate_solver_close, minimate_solver_keys, minimate_solver_open, minimate_solver_solve,
@@ -89,7 +89,7 @@ pub extern "C" fn minimate_solve(
 ) -> usize
     ensures { Answers fen.entry (Solve (search_terms stale limit slots)) room.old room.new result }
 {
-    let terms = Terms {
+    let terms = SearchTerms {
         stale,
         limit,
         slots,
@@ -109,7 +109,7 @@ pub extern "C" fn minimate_keys(
 ) -> usize
     ensures { Answers fen.entry (Keys (search_terms stale limit slots)) room.old room.new result }
 {
-    let terms = Terms {
+    let terms = SearchTerms {
         stale,
         limit,
         slots,
@@ -129,7 +129,7 @@ pub extern "C" fn minimate_tree(
 ) -> usize
     ensures { Answers fen.entry (Tree (search_terms stale limit slots)) room.old room.new result }
 {
-    let terms = Terms {
+    let terms = SearchTerms {
         stale,
         limit,
         slots,

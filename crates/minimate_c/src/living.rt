@@ -5,8 +5,8 @@ ghost use Rattle.minimate_c.specs.Asked.{AsksSolver, IsOpenSolver};
 ghost use Rattle.minimate_c.specs.Stopping.{Sets, Looks};
 ghost use Rattle.minimate_c.specs.Written.{KeysTold, TreeTold, WritesTold};
 
-use crate::asking::{ANOTHER, Asked, FORCED, NO_SOLVER, boxed, replied, set_stop};
-use crate::found::Found;
+use crate::asking::{ANOTHER, FORCED, NO_SOLVER, Query, boxed, replied, set_stop};
+use crate::found::Win;
 use crate::handle::{SolverHandle, StopHandle};
 use crate::writing::{Telling, put, told_by};
 use solver::Place;
@@ -48,14 +48,14 @@ pub extern "C" fn minimate_solver_solve(
     fen: &[u8],
     stale: bool,
     limit: u32,
-    found: &mut Found,
+    found: &mut Win,
 ) -> u32
     ensures { AsksSolver fen.now stale limit found.old solver.old.held.value solver.new.held.value result found.new }
 {
     let Some(mut held) = solver.take(alloc) else {
         return NO_SOLVER;
     };
-    let result = replied(&mut held, &Asked { fen, stale, limit }, found);
+    let result = replied(&mut held, &Query { fen, stale, limit }, found);
     solver.put(held);
     result
 }
@@ -74,7 +74,7 @@ pub extern "C" fn minimate_solver_keys(
     ensures { WritesTold KeysTold fen.now stale limit room.old
         solver.old.held.value solver.new.held.value result room.new length.new }
 {
-    let asked = Asked { fen, stale, limit };
+    let asked = Query { fen, stale, limit };
     let told = told_by(alloc, solver, &asked, Telling::Keys);
     put(told, room, length)
 }
@@ -93,7 +93,7 @@ pub extern "C" fn minimate_solver_tree(
     ensures { WritesTold TreeTold fen.now stale limit room.old
         solver.old.held.value solver.new.held.value result room.new length.new }
 {
-    let asked = Asked { fen, stale, limit };
+    let asked = Query { fen, stale, limit };
     let told = told_by(alloc, solver, &asked, Telling::Tree);
     put(told, room, length)
 }

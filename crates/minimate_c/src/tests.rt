@@ -2,7 +2,7 @@
 ghost use Rattle.std.specs.Prelude.{◌≡◌};
 
 use crate::{
-    First, Found, SolverHandle, StopHandle, minimate_after, minimate_check, minimate_fault,
+    First, SolverHandle, StopHandle, Win, minimate_after, minimate_check, minimate_fault,
     minimate_keys, minimate_moves, minimate_solve, minimate_solver_close, minimate_solver_keys,
     minimate_solver_open, minimate_solver_solve, minimate_solver_tree, minimate_stop_close,
     minimate_stop_place, minimate_stop_set, minimate_tree,
@@ -123,7 +123,7 @@ const KEY: First = First {
     promotion: 0,
 };
 
-const NOTHING: Found = Found {
+const NOTHING: Win = Win {
     plies: 0,
     first: First {
         from_file: 0,

@@ -5,7 +5,7 @@ ghost use Rattle.solver.specs.Stopping.{IsStopped, Hears};
 ghost use Rattle.minimate_c.specs.Written.{IsTold, IsWhy, KeysTold, TreeTold};
 ghost use Rattle.minimate_c.specs.Putting.{FindsTold, PutsTold, TellsText, number_of, keys_number};
 
-use crate::asking::{Asked, FORCED, NO_MEMORY, NO_SOLVER, NONE_WITHIN, STOPPED, asked_problem};
+use crate::asking::{FORCED, NO_MEMORY, NO_SOLVER, NONE_WITHIN, Query, STOPPED, asked_problem};
 use crate::handle::SolverHandle;
 use answer_texts::keys_text;
 use problems::{Answer, Key, Problem};
@@ -28,7 +28,7 @@ pub(crate) enum Telling {
 
 /// The text that a search found, and whether something is forced, as a number.
 #[derive(Drop)]
-pub(crate) struct Told {
+pub(crate) struct SolverText {
     pub(crate) number: u32,
     pub(crate) text: Vec<u8>,
 }
@@ -53,7 +53,7 @@ fn number_for(keys: &[Key]) -> u32
 }
 
 /// The keys of a problem, each on a line, or that there are none.
-fn keys_at(alloc: Global, solver: &mut Solver, problem: &Problem) -> Result<Told, Halt>
+fn keys_at(alloc: Global, solver: &mut Solver, problem: &Problem) -> Result<SolverText, Halt>
     ensures hears { Hears solver.old solver.new }
     ensures told { IfOk result (λ told. KeysTold problem.now.goal problem.now.position problem.now.limit
         told.number told.text.items) }
@@ -62,7 +62,7 @@ fn keys_at(alloc: Global, solver: &mut Solver, problem: &Problem) -> Result<Told
     let keys = solver.keys(alloc, problem)?;
     let number = number_for(keys.as_slice());
     match keys_text(alloc, u32::from(problem.limit), keys.as_slice()) {
-        Ok(text) => Ok(Told {
+        Ok(text) => Ok(SolverText {
             number,
             text: text.into_bytes(),
         }),
@@ -71,7 +71,7 @@ fn keys_at(alloc: Global, solver: &mut Solver, problem: &Problem) -> Result<Told
 }
 
 /// The best tree of a problem, on a line, or that there is none.
-fn tree_at(alloc: Global, solver: &mut Solver, problem: &Problem) -> Result<Told, Halt>
+fn tree_at(alloc: Global, solver: &mut Solver, problem: &Problem) -> Result<SolverText, Halt>
     ensures hears { Hears solver.old solver.new }
     ensures told { IfOk result (λ told. TreeTold problem.now.goal problem.now.position problem.now.limit
         told.number told.text.items) }
@@ -81,13 +81,13 @@ fn tree_at(alloc: Global, solver: &mut Solver, problem: &Problem) -> Result<Told
         Some(Answer::Mate { plies, .. }) => {
             let tree = solver.tree(alloc, &problem.position, problem.goal, plies)?;
             let text = tree_line(alloc, &tree)?;
-            Ok(Told {
+            Ok(SolverText {
                 number: FORCED,
                 text,
             })
         }
         Some(Answer::NoneWithin(limit)) => match none_line(alloc, limit) {
-            Ok(text) => Ok(Told {
+            Ok(text) => Ok(SolverText {
                 number: NONE_WITHIN,
                 text,
             }),
@@ -103,7 +103,7 @@ fn told_at(
     solver: &mut Solver,
     problem: &Problem,
     telling: Telling,
-) -> Result<Told, Halt>
+) -> Result<SolverText, Halt>
     ensures hears { Hears solver.old solver.new }
     ensures told { IfOk result (λ told. TellsText telling problem.now.goal problem.now.position problem.now.limit
         told.number told.text.items) }
@@ -119,9 +119,9 @@ fn told_at(
 fn told_of(
     alloc: Global,
     solver: &mut Solver,
-    asked: &Asked<'_>,
+    asked: &Query<'_>,
     telling: Telling,
-) -> Result<Told, u32>
+) -> Result<SolverText, u32>
     ensures hears { Hears solver.old solver.new }
     ensures told { IfOk result (λ told.
         IsTold (TellsText telling) asked.now.fen.now asked.now.stale asked.now.limit told.number told.text.items) }
@@ -141,9 +141,9 @@ fn told_of(
 pub(crate) fn told_by(
     alloc: Global,
     handle: &mut SolverHandle,
-    asked: &Asked<'_>,
+    asked: &Query<'_>,
     telling: Telling,
-) -> Result<Told, u32>
+) -> Result<SolverText, u32>
     ensures { FindsTold (TellsText telling) asked.now.fen.now asked.now.stale asked.now.limit
         handle.old.held.value handle.new.held.value result }
 {
@@ -156,7 +156,7 @@ pub(crate) fn told_by(
 }
 
 /// Copies a text to the beginning of the room, if it fits, and tells its length.
-pub(crate) fn put(found: Result<Told, u32>, room: &mut [u8], length: &mut usize) -> u32
+pub(crate) fn put(found: Result<SolverText, u32>, room: &mut [u8], length: &mut usize) -> u32
     ensures { PutsTold found room.old result room.new length.new }
 {
     let told = match found {

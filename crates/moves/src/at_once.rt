@@ -13,7 +13,7 @@ ghost use Rattle.moves.specs.Checking.{Attains, Seeks};
 
 use crate::any_move::{has_move, is_mated};
 use crate::board_list::{Guard, guard_of, promotion_count};
-use crate::checks::{Watch, checking, watch_of};
+use crate::checks::{CheckInfo, check_info, checking};
 use crate::escapes::escapes;
 use crate::look::{is_checked, mover_in_check};
 use crate::packed::Board;
@@ -24,13 +24,13 @@ use board::Unit;
 use cells::square_in;
 use rules::{Goal, Move, PROMOTIONS, is_king};
 
-/// The goal, a watch on the other king, if that isn't attacked already, and what the mover's king asks of each move, but for a mate
-/// under a watch: mates are so few that one is asked last whether it leaves the own king attacked.
+/// The goal, by what checks to the other king are seen, if that isn't attacked already, and what the mover's king asks of each move, but
+/// for a mate where they are: mates are so few that one is asked last whether it leaves the own king attacked.
 #[derive(Clone, Copy)]
 pub(crate) struct Quest {
     goal: Goal,
     guard: Option<Guard>,
-    watch: Option<Watch>,
+    info: Option<CheckInfo>,
 }
 
 /// Whether the side to move is where the goal wants it.
@@ -59,8 +59,8 @@ fn attains(board: &Board, quest: Quest, m: Move, unit: Unit) -> bool
     if !is_named(board, unit, m) {
         return false;
     }
-    if let Some(watch) = quest.watch {
-        if escapes(board, watch, m, unit) {
+    if let Some(info) = quest.info {
+        if escapes(board, info, m, unit) {
             return false;
         }
     }
@@ -128,8 +128,8 @@ fn hopeful(board: &Board, quest: Quest, unit: Unit, from: u8) -> u64
     ensures reached { (i : ℕ) → Has result i → IsTarget board.now unit (place_in from) i }
     ensures all { (m : Ply) → m.from ≡ place_in from → Attains quest.goal board.now m → Has result (cell_of m.to) }
 {
-    match (quest.goal, quest.watch) {
-        (Goal::Mate, Some(watch)) => checking(board, watch, unit, from),
+    match (quest.goal, quest.info) {
+        (Goal::Mate, Some(info)) => checking(board, info, unit, from),
         _ => targets(board, unit, from),
     }
 }
@@ -155,12 +155,12 @@ fn attains_in(board: &Board, quest: Quest, cell: u8) -> bool
 pub fn reaches_at_once(board: &Board, goal: Goal) -> bool
     ensures { IsTrue result ↔ Forces goal board.now.mover board.now 1 }
 {
-    let watch = watch_of(board);
-    let guard = match (goal, watch) {
+    let info = check_info(board);
+    let guard = match (goal, info) {
         (Goal::Mate, Some(_)) if !mover_in_check(board) => None,
         _ => Some(guard_of(board)),
     };
-    let quest = Quest { goal, guard, watch };
+    let quest = Quest { goal, guard, info };
     any_cell(board.own(), |cell| { attains_in(board, quest, cell) })
 }
 

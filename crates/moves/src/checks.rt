@@ -9,7 +9,7 @@ ghost use Rattle.cells.specs.Mailbox.{cell_of, place_in, IsCell};
 ghost use Rattle.cells.specs.CellSets.{Has};
 ghost use Rattle.moves.specs.Targets.{IsTarget};
 ghost use Rattle.moves.specs.Looking.{Aims};
-ghost use Rattle.moves.specs.Checking.{Watches};
+ghost use Rattle.moves.specs.Checking.{IsCheckInfo};
 
 use crate::attacked::{attacked, calm_steps};
 use crate::look::king_cell;
@@ -24,16 +24,16 @@ use rules::Square;
 /// The cell of the king that isn't the mover's, the cells of the units that alone keep a rider of the mover from it, the cells
 /// to which it steps calmly, and those that a knight of the mover would reach from there.
 #[derive(Clone, Copy)]
-pub(crate) struct Watch {
+pub(crate) struct CheckInfo {
     pub(crate) king: u8,
     pub(crate) uncovers: u64,
     pub(crate) steps: u64,
     pub(crate) leaps: u64,
 }
 
-/// A watch on the king that isn't the mover's, if it isn't attacked already.
-pub(crate) fn watch_of(board: &Board) -> Option<Watch>
-    ensures { IfSome result (λ watch. Watches board.now watch) }
+/// By what checks to the king that isn't the mover's are seen, if it isn't attacked already.
+pub(crate) fn check_info(board: &Board) -> Option<CheckInfo>
+    ensures { IfSome result (λ info. IsCheckInfo board.now info) }
 {
     let own = board.mover();
     let foe = own.other();
@@ -46,7 +46,7 @@ pub(crate) fn watch_of(board: &Board) -> Option<Watch>
         side: own,
         kind: Kind::Knight,
     };
-    Some(Watch {
+    Some(CheckInfo {
         king,
         uncovers: pinned(board, foe, king),
         steps: calm_steps(board, foe, king, attacked),
@@ -55,14 +55,14 @@ pub(crate) fn watch_of(board: &Board) -> Option<Watch>
 }
 
 /// Cells among which are all from which the unit would take on the king's, and to which it may move.
-fn aiming(board: &Board, watch: Watch, unit: Unit) -> u64
-    requires watches { Watches board.now watch }
-    ensures { (m : Ply) → IsPseudoLegal board.now m unit → Aims board.now unit m.to (place_in watch.king)
+fn aiming(board: &Board, info: CheckInfo, unit: Unit) -> u64
+    requires known { IsCheckInfo board.now info }
+    ensures { (m : Ply) → IsPseudoLegal board.now m unit → Aims board.now unit m.to (place_in info.king)
         → Has result (cell_of m.to) }
 {
     match unit.kind {
-        Kind::Knight => watch.leaps,
-        kind => seen(board, unit.side.other(), kind, watch.king),
+        Kind::Knight => info.leaps,
+        kind => seen(board, unit.side.other(), kind, info.king),
     }
 }
 
@@ -81,9 +81,9 @@ pub(crate) fn may_promote(board: &Board, unit: Unit, from: Square) -> bool
 }
 
 /// The cells that the unit reaches, without some to which no move of it gives check.
-pub(crate) fn checking(board: &Board, watch: Watch, unit: Unit, from: u8) -> u64
+pub(crate) fn checking(board: &Board, info: CheckInfo, unit: Unit, from: u8) -> u64
     requires position { IsPosition board.now }
-    requires watches { Watches board.now watch }
+    requires known { IsCheckInfo board.now info }
     requires cell { IsCell board.now.game from }
     requires stands { unit_at board.now (place_in from) ≡ Some unit }
     requires owner { unit.side ≡ board.now.mover }
@@ -92,8 +92,8 @@ pub(crate) fn checking(board: &Board, watch: Watch, unit: Unit, from: u8) -> u64
         → IsInCheck (after board.now m unit) (other_side board.now.mover) → Has result (cell_of m.to) }
 {
     let reached = targets(board, unit, from);
-    if reached == 0 || has(watch.uncovers, from) || may_promote(board, unit, square_in(from)) {
+    if reached == 0 || has(info.uncovers, from) || may_promote(board, unit, square_in(from)) {
         return reached;
     }
-    common(reached, aiming(board, watch, unit))
+    common(reached, aiming(board, info, unit))
 }

@@ -8,9 +8,9 @@ ghost use Rattle.cells.specs.Mailbox.{cell_of, place_in, IsCell};
 ghost use Rattle.cells.specs.CellSets.{Has};
 ghost use Rattle.moves.specs.Looking.{Aims};
 ghost use Rattle.moves.specs.Pinned.{IsPinned};
-ghost use Rattle.moves.specs.Checking.{Watches};
+ghost use Rattle.moves.specs.Checking.{IsCheckInfo};
 
-use crate::checks::Watch;
+use crate::checks::CheckInfo;
 use crate::look::open_lines;
 use crate::packed::Board;
 use crate::seen::lines;
@@ -48,14 +48,14 @@ fn barred(board: &Board, m: Move, unit: Unit) -> u64
 }
 
 /// Whether the other king has a step after the move that is lawful at a glance.
-pub(crate) fn escapes(board: &Board, watch: Watch, m: Move, unit: Unit) -> bool
+pub(crate) fn escapes(board: &Board, info: CheckInfo, m: Move, unit: Unit) -> bool
     requires position { IsPosition board.now }
-    requires watches { Watches board.now watch }
+    requires known { IsCheckInfo board.now info }
     requires pseudo { IsPseudoLegal board.now m unit }
     ensures { IsTrue result → (n : Ply) × IsLawful (after board.now m unit) n }
 {
-    if has(watch.uncovers, cell_of(m.from)) {
+    if has(info.uncovers, cell_of(m.from)) {
         return false;
     }
-    except(watch.steps, barred(board, m, unit)) != 0
+    except(info.steps, barred(board, m, unit)) != 0
 }

@@ -9,11 +9,11 @@ mod arena;
 mod tests;
 
 use crate::arena::arena_over;
-use calls::{Call, Terms, no_memory, reply};
-use lent_memory::Memory;
+use calls::{Call, SearchTerms, no_memory, reply};
+use lent_memory::Region;
 
 /// The reply to a call, over the memory, which is the module's from then on.
-fn reply_over(memory: Memory, fen: &[u8], call: &Call<'_>, room: &mut [u8]) -> usize
+fn reply_over(memory: Region, fen: &[u8], call: &Call<'_>, room: &mut [u8]) -> usize
     ensures { Answers fen.entry call.now room.old room.new result }
 {
     match arena_over(memory) {
@@ -24,7 +24,7 @@ fn reply_over(memory: Memory, fen: &[u8], call: &Call<'_>, room: &mut [u8]) -> u
 
 /// What `minimate moves` writes of the position. The memory is the module's from then on, here and in each call below.
 #[unsafe(no_mangle)]
-pub extern "C" fn page_moves(memory: Memory, fen: &[u8], room: &mut [u8]) -> usize
+pub extern "C" fn page_moves(memory: Region, fen: &[u8], room: &mut [u8]) -> usize
     ensures { Answers fen.entry Moves room.old room.new result }
 {
     reply_over(memory, fen, &Call::Moves, room)
@@ -32,7 +32,7 @@ pub extern "C" fn page_moves(memory: Memory, fen: &[u8], room: &mut [u8]) -> usi
 
 /// Why `minimate` would refuse the position's text, in a line and in a sentence; nothing where it wouldn't.
 #[unsafe(no_mangle)]
-pub extern "C" fn page_fault(memory: Memory, fen: &[u8], room: &mut [u8]) -> usize
+pub extern "C" fn page_fault(memory: Region, fen: &[u8], room: &mut [u8]) -> usize
     ensures { Answers fen.entry Fault room.old room.new result }
 {
     reply_over(memory, fen, &Call::Fault, room)
@@ -40,7 +40,7 @@ pub extern "C" fn page_fault(memory: Memory, fen: &[u8], room: &mut [u8]) -> usi
 
 /// The position after the lawful move that `minimate moves` writes by this name.
 #[unsafe(no_mangle)]
-pub extern "C" fn page_after(memory: Memory, fen: &[u8], name: &[u8], room: &mut [u8]) -> usize
+pub extern "C" fn page_after(memory: Region, fen: &[u8], name: &[u8], room: &mut [u8]) -> usize
     ensures { Answers fen.entry (After name.entry) room.old room.new result }
 {
     reply_over(memory, fen, &Call::After(name), room)
@@ -49,7 +49,7 @@ pub extern "C" fn page_after(memory: Memory, fen: &[u8], name: &[u8], room: &mut
 /// What `minimate check` writes of the position and this input, which is a tree's text.
 #[unsafe(no_mangle)]
 pub extern "C" fn page_check(
-    memory: Memory,
+    memory: Region,
     fen: &[u8],
     stale: bool,
     tree: &[u8],
@@ -63,7 +63,7 @@ pub extern "C" fn page_check(
 /// What `minimate verify` writes of the position and this input, which is a certificate.
 #[unsafe(no_mangle)]
 pub extern "C" fn page_verify(
-    memory: Memory,
+    memory: Region,
     fen: &[u8],
     stale: bool,
     certificate: &[u8],
@@ -76,7 +76,12 @@ pub extern "C" fn page_verify(
 
 /// What `minimate solve` writes of the position, found by one thread.
 #[unsafe(no_mangle)]
-pub extern "C" fn page_solve(memory: Memory, fen: &[u8], terms: Terms, room: &mut [u8]) -> usize
+pub extern "C" fn page_solve(
+    memory: Region,
+    fen: &[u8],
+    terms: SearchTerms,
+    room: &mut [u8],
+) -> usize
     ensures { Answers fen.entry (Solve terms) room.old room.new result }
 {
     reply_over(memory, fen, &Call::Solve(terms), room)
@@ -84,7 +89,12 @@ pub extern "C" fn page_solve(memory: Memory, fen: &[u8], terms: Terms, room: &mu
 
 /// What `minimate keys` writes of the position, found by one thread.
 #[unsafe(no_mangle)]
-pub extern "C" fn page_keys(memory: Memory, fen: &[u8], terms: Terms, room: &mut [u8]) -> usize
+pub extern "C" fn page_keys(
+    memory: Region,
+    fen: &[u8],
+    terms: SearchTerms,
+    room: &mut [u8],
+) -> usize
     ensures { Answers fen.entry (Keys terms) room.old room.new result }
 {
     reply_over(memory, fen, &Call::Keys(terms), room)
@@ -92,7 +102,12 @@ pub extern "C" fn page_keys(memory: Memory, fen: &[u8], terms: Terms, room: &mut
 
 /// What `minimate tree` writes of the position, found by one thread.
 #[unsafe(no_mangle)]
-pub extern "C" fn page_tree(memory: Memory, fen: &[u8], terms: Terms, room: &mut [u8]) -> usize
+pub extern "C" fn page_tree(
+    memory: Region,
+    fen: &[u8],
+    terms: SearchTerms,
+    room: &mut [u8],
+) -> usize
     ensures { Answers fen.entry (Tree terms) room.old room.new result }
 {
     reply_over(memory, fen, &Call::Tree(terms), room)

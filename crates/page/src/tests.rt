@@ -2,8 +2,8 @@
 ghost use Rattle.lent_memory.specs.Ownership.{IsMemorySize};
 
 use crate::{page_after, page_check, page_fault, page_keys, page_moves, page_solve, page_tree};
-use calls::Terms;
-use lent_memory::{Lent, Memory};
+use calls::SearchTerms;
+use lent_memory::{Lent, Region};
 use std::alloc::Global;
 use std::process::Abort;
 use std::test::Fail;
@@ -14,8 +14,8 @@ const PAWN_PROMOTES: &[u8] = b"k5/2P3/6/6/6/5K w";
 
 const ENOUGH: usize = 131072;
 
-const fn mate_within(limit: u32) -> Terms {
-    Terms {
+const fn mate_within(limit: u32) -> SearchTerms {
+    SearchTerms {
         stale: false,
         limit,
         slots: 64,
@@ -23,10 +23,10 @@ const fn mate_within(limit: u32) -> Terms {
 }
 
 /// Memory that the host gives.
-fn lent(rt: &impl Abort, alloc: Global, size: usize) -> Memory
+fn lent(rt: &impl Abort, alloc: Global, size: usize) -> Region
     requires { IsMemorySize size }
 {
-    Memory::taken(&alloc, size).expect(rt, "memory")
+    Region::taken(&alloc, size).expect(rt, "memory")
 }
 
 #[test]
@@ -45,7 +45,7 @@ fn solves_into_the_room(rt: HostRuntime) {
 // Such a table takes some MiB, so the arena has all that is lent.
 #[test]
 fn lends_all_to_the_table(rt: HostRuntime) {
-    let terms = Terms {
+    let terms = SearchTerms {
         stale: false,
         limit: 3,
         slots: 100_000,

@@ -4,8 +4,8 @@ use Rattle.board.specs.declared.game.Side.{Side}
 use Rattle.board.specs.declared.game.Side.TheVariants.{White, Black}
 use Rattle.board.specs.Board.{PlainBoard}
 use Rattle.command_line.specs.declared.line.Drawing.{Drawing}
-use Rattle.diagrams.specs.declared.look.Look.{Look}
-use Rattle.diagrams.specs.declared.look.Look.TheVariants.{Letters, Symbols}
+use Rattle.diagrams.specs.declared.style.Style.{Style}
+use Rattle.diagrams.specs.declared.style.Style.TheVariants.{Letters, Symbols}
 use Rattle.diagrams.specs.Drawing.{board_drawn}
 use Rattle.diagrams.specs.Pictures.{View, picture}
 
@@ -14,8 +14,8 @@ abbrev pub below_of : Drawing → Side
 below_of drawing = if drawing.black then Black else White
 
 -- how units are written
-abbrev pub look_of : Drawing → Look
-look_of drawing = if drawing.unicode then Symbols else Letters
+abbrev pub style_of : Drawing → Style
+style_of drawing = if drawing.unicode then Symbols else Letters
 
 -- the board as the side below sees it
 abbrev pub drawing_view : Drawing → PlainBoard → View
@@ -23,4 +23,4 @@ drawing_view drawing b = record { board = b; below = below_of drawing }
 
 -- a picture with no arrow, or text
 abbrev pub drawn : Drawing → PlainBoard → List ℕ
-drawn drawing b = if drawing.svg then picture (drawing_view drawing b) None else board_drawn (look_of drawing) (below_of drawing) b
+drawn drawing b = if drawing.svg then picture (drawing_view drawing b) None else board_drawn (style_of drawing) (below_of drawing) b

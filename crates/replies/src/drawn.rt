@@ -1,10 +1,10 @@
 //! A board as it is asked for.
 ghost use Rattle.std.specs.Prelude.{◌≡◌, IfOk, string_bytes};
-ghost use Rattle.replies.specs.Drawings.{below_of, look_of, drawn};
+ghost use Rattle.replies.specs.Drawings.{below_of, style_of, drawn};
 
 use board::{Position, Side};
 use command_line::Drawing;
-use diagrams::{Diagram, Look, board_drawn, svg_of};
+use diagrams::{Diagram, Style, board_drawn, svg_of};
 use std::alloc::{AllocError, Global};
 
 fn below_of(drawing: Drawing) -> Side
@@ -17,13 +17,13 @@ fn below_of(drawing: Drawing) -> Side
     }
 }
 
-fn look_of(drawing: Drawing) -> Look
-    ensures { result ≡ look_of drawing }
+fn style_of(drawing: Drawing) -> Style
+    ensures { result ≡ style_of drawing }
 {
     if drawing.unicode {
-        Look::Symbols
+        Style::Symbols
     } else {
-        Look::Letters
+        Style::Letters
     }
 }
 
@@ -37,7 +37,7 @@ pub(crate) fn drawn(
 {
     let below = below_of(drawing);
     if !drawing.svg {
-        return board_drawn(alloc, position, below, look_of(drawing));
+        return board_drawn(alloc, position, below, style_of(drawing));
     }
     let arrow = None;
     let diagram = Diagram {

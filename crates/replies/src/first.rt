@@ -14,7 +14,9 @@ use command_line::{Limits, NamedMove};
 use moves::{Board, Goal, read_move, read_sound};
 use problems::{MOST_LIMIT, Root};
 use refusals::Refusal;
-use std::alloc::Global;
+use std::sync::Wait;
+use std::thread::Threads;
+use std::time::Clock;
 
 /// The number of the lawful move of this name.
 fn named_job(root: &Root, name: &[u8]) -> Option<u16>
@@ -32,34 +34,44 @@ fn named_job(root: &Root, name: &[u8]) -> Option<u16>
 }
 
 /// What is printed of a root's move: its tree, or that it wins within no number of plies up to the limit.
-fn opened_text(alloc: Global, root: &Root, job: u16, limits: Limits) -> Result<Vec<u8>, Refusal>
+fn opened_text<R: Threads + Wait + Eprint + Clock + Sync + AllocGlobal>(
+    rt: &R,
+    root: &Root,
+    job: u16,
+    limits: Limits,
+) -> Result<Vec<u8>, Refusal>
     requires job { IsJobOf root.now job }
     requires limit { fault_of limits ≡ None → root.now.limit ≡ limits.limit }
     ensures { Gives vec_items (ShowsJob root.now job limits) result }
 {
-    let table = table_within(alloc, limits)?;
-    match tree_of(alloc, table, root, job) {
-        Ok(Some(tree)) => Ok(tree_line(alloc, &tree)?),
-        Ok(None) => none_line(alloc, root.limit),
+    let table = table_within(rt.alloc(), limits)?;
+    match tree_of(rt, table, root, job) {
+        Ok(Some(tree)) => Ok(tree_line(rt.alloc(), &tree)?),
+        Ok(None) => none_line(rt.alloc(), root.limit),
         Err(_) => Err(Refusal::NoMemory),
     }
 }
 
 /// The tree of the root's move of this name. A limit of more than 63 plies is refused, once the name is that of a lawful move.
-fn first_shown(alloc: Global, root: &Root, name: &[u8], limits: Limits) -> Result<Vec<u8>, Refusal>
+fn first_shown<R: Threads + Wait + Eprint + Clock + Sync + AllocGlobal>(
+    rt: &R,
+    root: &Root,
+    name: &[u8],
+    limits: Limits,
+) -> Result<Vec<u8>, Refusal>
     requires root { IsRoot root.now }
     requires limit { root.now.limit ≡ min (min limits.limit 255) 63 }
     ensures { Gives vec_items (ShowsFirst root.now.goal root.now.board name.now limits) result }
 {
     match named_job(root, name) {
-        Some(job) => opened_text(alloc, root, job, limits),
+        Some(job) => opened_text(rt, root, job, limits),
         None => Err(Refusal::Move),
     }
 }
 
 /// The tree of the first move of this name, on a line, where it wins within the limit.
-pub fn first_reply(
-    alloc: Global,
+pub fn first_reply<R: Threads + Wait + Eprint + Clock + Sync + AllocGlobal>(
+    rt: &R,
     played: &NamedMove<'_>,
     goal: Goal,
     limits: Limits,
@@ -69,5 +81,5 @@ pub fn first_reply(
     let position = read_sound(played.fen)?;
     let limit = search_of(limits).limit.min(MOST_LIMIT);
     let root = Root::on(Board::of(&position), goal, limit);
-    first_shown(alloc, &root, played.name, limits)
+    first_shown(rt, &root, played.name, limits)
 }

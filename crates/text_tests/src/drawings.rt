@@ -1,6 +1,6 @@
 //! Diagrams, drawn by hand.
 use board::{Position, Side, read_fen};
-use diagrams::{Diagram, Look, board_drawn, svg_of};
+use diagrams::{Diagram, Style, board_drawn, svg_of};
 use moves::{Move, Square};
 use std::process::Abort;
 use std::test::*;
@@ -21,14 +21,14 @@ fn has<R: Abort>(rt: &R, text: &str, part: &str) {
 #[test]
 fn draws_as_either_side_sees_it(rt: HostRuntime) {
     let position = read(&rt, ROOK_MATES_IN_THREE);
-    let Ok(white) = board_drawn(rt.alloc(), &position, Side::White, Look::Letters) else {
+    let Ok(white) = board_drawn(rt.alloc(), &position, Side::White, Style::Letters) else {
         panic!(rt; "no memory")
     };
     assert_eq!(rt;
         white.as_str(),
         " 6  k . . . . .\n 5  . . . . . .\n 4  . . K . . .\n 3  . . . . . .\n 2  . . . . . .\n 1  . R . . . .\n    a b c d e f      White to move\n"
     );
-    let Ok(black) = board_drawn(rt.alloc(), &position, Side::Black, Look::Symbols) else {
+    let Ok(black) = board_drawn(rt.alloc(), &position, Side::Black, Style::Symbols) else {
         panic!(rt; "no memory")
     };
     assert_eq!(rt;
@@ -74,6 +74,7 @@ fn a_picture_has_each_unit_at_its_square(rt: HostRuntime) {
     // a1 is dark, and b1 is light
     has(&rt, picture, "<path d=\"M44 504h100v100h-100z\"");
     assert!(rt; !picture.contains("<path d=\"M144 504h100"));
+    assert!(rt; !picture.contains("<path d=\"M11 "));
 }
 
 #[test]
@@ -89,6 +90,7 @@ fn black_below_turns_the_picture(rt: HostRuntime) {
     };
     let picture = text.as_str();
     has(&rt, picture, "<title>Black to move</title>");
+    has(&rt, picture, "<path d=\"M11 526a11 11");
     has(
         &rt,
         picture,

@@ -10,7 +10,7 @@ loop-init g c = record {
   same = refl;
   reads = refl;
   writes = refl;
-  kept = kept_first c.args.run.now.batch (left_of c.args.run.now.unread (g.S.Source.remaining c.args.reader.now)) (g.K.Sink.contents c.args.writer.now);
+  kept = kept_first c.args.run.now.batch c.args.run.now.number (left_of c.args.run.now.unread (g.S.Source.remaining c.args.reader.now)) (g.K.Sink.contents c.args.writer.now);
 }
 
 pub loop-preserved : goal.loop-preserved
@@ -23,17 +23,17 @@ loop-preserved g c =
       same = c.answer_next.ensures.same ∙ so_far.same;
       reads = omega (arith, none.0, so_far.reads);
       writes = omega (arith, none.1, so_far.writes);
-      kept = kept_more c.args.run.now.batch c.loop.run.batch (left_of c.args.run.now.unread (g.S.Source.remaining c.args.reader.now))
+      kept = kept_more c.args.run.now.batch c.loop.run.batch c.args.run.now.number c.answer_next.new.run.number (left_of c.args.run.now.unread (g.S.Source.remaining c.args.reader.now))
           (step_of c.loop.run c.answer_next.new.run g.S.Source.remaining g.S.Source.failures c.loop.reader c.answer_next.new.reader
           g.K.Sink.contents g.K.Sink.failures c.loop.writer c.answer_next.new.writer)
-          (g.K.Sink.contents c.args.writer.now) so_far.same so_far.kept step;
+          (g.K.Sink.contents c.args.writer.now) so_far.same c.answer_next.ensures.counts so_far.kept step;
     }
 
 pub returns-in-Ok-false : goal.returns-in-Ok-false
 returns-in-Ok-false g c =
     let so_far = c.loop.invariant in
     record {
-      lines = lines_end c.args.run.now.batch c.loop.run.batch (left_of c.args.run.now.unread (g.S.Source.remaining c.args.reader.now))
+      lines = lines_end c.args.run.now.batch c.loop.run.batch c.args.run.now.number (left_of c.args.run.now.unread (g.S.Source.remaining c.args.reader.now))
           (step_of c.loop.run c.answer_next.new.run g.S.Source.remaining g.S.Source.failures c.loop.reader c.answer_next.new.reader
           g.K.Sink.contents g.K.Sink.failures c.loop.writer c.answer_next.new.writer)
           (g.K.Sink.contents c.args.writer.now) (g.S.Source.failures c.args.reader.now) (g.K.Sink.failures c.args.writer.now) so_far.same so_far.reads so_far.writes
@@ -44,7 +44,7 @@ pub returns-in-Err : goal.returns-in-Err
 returns-in-Err g c =
     let so_far = c.loop.invariant in
     record {
-      lines = lines_stop c.args.run.now.batch c.loop.run.batch (left_of c.args.run.now.unread (g.S.Source.remaining c.args.reader.now))
+      lines = lines_stop c.args.run.now.batch c.loop.run.batch c.args.run.now.number (left_of c.args.run.now.unread (g.S.Source.remaining c.args.reader.now))
           (step_of c.loop.run c.answer_next.new.run g.S.Source.remaining g.S.Source.failures c.loop.reader c.answer_next.new.reader
           g.K.Sink.contents g.K.Sink.failures c.loop.writer c.answer_next.new.writer)
           (g.K.Sink.contents c.args.writer.now) (g.S.Source.failures c.args.reader.now) (g.K.Sink.failures c.args.writer.now) c.in-Err.stop so_far.same so_far.reads so_far.writes

@@ -11,6 +11,6 @@ invariant-loop g l = record {
   same : l.run.batch ≡ l.fn.run.batch;
   reads : g.S.Source.failures l.reader ≡ g.S.Source.failures l.fn.reader;
   writes : g.K.Sink.failures l.writer ≡ g.K.Sink.failures l.fn.writer;
-  kept : KeptSoFar l.fn.run.batch (left_of l.fn.run.unread (g.S.Source.remaining l.fn.reader)) (left_of l.run.unread (g.S.Source.remaining l.reader))
+  kept : KeptSoFar l.fn.run.batch l.fn.run.number l.run.number (left_of l.fn.run.unread (g.S.Source.remaining l.fn.reader)) (left_of l.run.unread (g.S.Source.remaining l.reader))
       (g.K.Sink.contents l.fn.writer) (g.K.Sink.contents l.writer);
 }

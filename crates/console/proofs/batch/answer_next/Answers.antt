@@ -10,11 +10,11 @@ returns-in_default-clause-step g c =
 
 pub returns-in_err-write_all-clause-step : goal.returns-in_err-write_all-clause-step
 returns-in_err-write_all-clause-step g c =
-    step_unwritten c.args.run.now.batch _ c.from_residual-in_err-write_all.result _ c.in-Some.text c.from_residual-in_err-write_all.ensures
-    c.in_ok-next.ensures.takes (rw c.in-Some.is at c.in_ok-text.ensures)
+    step_unwritten c.args.run.now.batch _ c.from_residual-in_err-write_all.result _ c.in-Some.text _ c.from_residual-in_err-write_all.ensures
+    c.in_ok-next.ensures.takes (rw c.in-Some.is at c.in_ok-text.ensures) c.in_ok-with_number.ensures
     (rw (← c.as_slice.ensures.value) c.in_err-write_all.ensures.beginning) (omega (arith, c.in_ok-next.ensures.counts), omega (arith, c.in_err-write_all.ensures.err))
 
 pub returns-clause-step : goal.returns-clause-step
 returns-clause-step g c =
-    step_written c.args.run.now.batch _ _ _ c.in-Some.text c.in_ok-next.ensures.takes (rw c.in-Some.is at c.in_ok-text.ensures)
+    step_written c.args.run.now.batch _ _ _ c.in-Some.text _ c.in_ok-next.ensures.takes (rw c.in-Some.is at c.in_ok-text.ensures) c.in_ok-with_number.ensures
     (rw (← c.as_slice.ensures.value) c.in_ok-write_all.ensures.all) (omega (arith, c.in_ok-next.ensures.counts), omega (arith, c.in_ok-write_all.ensures.ok))

@@ -19,8 +19,8 @@ returns-in-Some-NoMemory-clause-runs g c =
     let left = left_of c.in-Ok.opened.unread (g.S.Source.remaining c.args.reader.now) in
     batch_ran c.in-Ok.opened.batch c.args.batch _ left texts opened.0.0 opened.1
     (fresh_left c.in-Ok.opened.unread (g.S.Source.remaining c.args.reader.now) opened.2 opened.3)
-    (answers_with c.in-Ok.opened.batch 3 c.give_up_for_memory.result left texts (gave_up _ _ c.give_up_for_memory.ensures.written) answers)
-    (inr (inr (omega (arith, unread), finishes_after _ _ _ _ _ _ _ 3 _ _ written unfailed c.give_up_for_memory.ensures.written)))
+    (answers_with c.in-Ok.opened.batch 3 c.give_up.result left texts (gave_up _ _ c.give_up.ensures) answers)
+    (inr (inr (omega (arith, unread), finishes_after _ _ _ _ _ _ _ 3 _ _ written unfailed c.give_up.ensures)))
 
 pub returns-in-Some-ReadFailed-clause-runs : goal.returns-in-Some-ReadFailed-clause-runs
 returns-in-Some-ReadFailed-clause-runs g c =
@@ -44,4 +44,4 @@ returns-in-Ok-clause-runs g c =
 
 pub returns-clause-runs : goal.returns-clause-runs
 returns-clause-runs g c =
-    batch_refused c.args.batch _ c.in-Err.refusal (omega arith) c.in-Err.ensures (rw c.search_refused-refused.ensures at c.refuse_and_tell.ensures.refuses)
+    batch_refused c.args.batch _ c.in-Err.refusal (omega arith) c.in-Err.ensures c.refuse_batch.ensures.refuses c.refuse_batch.ensures.memory

@@ -17,7 +17,7 @@ loop-column-preserved c =
     let start = string_bytes c.loop-column.text in
     let blank = string_bytes c.push.new.self in
     let unit = c.unit.ensures ∙ (λ i. unit_on b (file i + wide i * rank i)) in
-    drawn_on (square_drawn v.look v.below b c.args.row) column (string_bytes c.write.new.self) start (string_bytes c.draw_unit.new.text) c.loop-column.invariant
-    (two_drawn start blank (string_bytes c.draw_unit.new.text) (32 ∷ []) (sign_on v.look (unit_on b (column_of b.game v.below column + width_of b.game * row_of b.game v.below c.args.row)))
+    drawn_on (square_drawn v.style v.below b c.args.row) column (string_bytes c.write.new.self) start (string_bytes c.draw_unit.new.text) c.loop-column.invariant
+    (two_drawn start blank (string_bytes c.draw_unit.new.text) (32 ∷ []) (sign_on v.style (unit_on b (column_of b.game v.below column + width_of b.game * row_of b.game v.below c.args.row)))
     (c.in_ok-push.ensures.bytes ∙ ap (λ l. start ++ l) (c.in_ok-push.ensures.ascii (omega arith)))
-    (c.in_ok-draw_unit.ensures ∙ ap (λ u. blank ++ sign_on v.look u) unit))
+    (c.in_ok-draw_unit.ensures ∙ ap (λ u. blank ++ sign_on v.style u) unit))

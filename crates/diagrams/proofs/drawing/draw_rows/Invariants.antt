@@ -5,4 +5,4 @@ use Rattle.diagrams.specs.Drawing.{row_drawn}
 use Rattle.diagrams.proofs.drawing.draw_rows.Given as goal
 
 abbrev pub invariant-loop-row : goal.invariant-loop-row
-invariant-loop-row l = string_bytes l.text ≡ string_bytes l.initial.text ++ flat_map (row_drawn l.view.look l.view.below l.view.position.now) (range_with_len 0 l.row)
+invariant-loop-row l = string_bytes l.text ≡ string_bytes l.initial.text ++ flat_map (row_drawn l.view.style l.view.below l.view.position.now) (range_with_len 0 l.row)

@@ -11,8 +11,8 @@ pub returns-clause-all : goal.returns-clause-all
 returns-clause-all c = λ m p at check.
     let b = c.args.board.now in
     let u = c.args.unit in
-    let k = place_in c.args.watch.king in
-    let w = c.requires.watches in
+    let k = place_in c.args.info.king in
+    let w = c.requires.known in
     elim (who_checks b m u c.requires.position p k w.cell.on_board w.king w.safe check) [
       | inl named ↦ absurd (false≢true (sym c.if-may_promote.false ∙ (c.may_promote.ensures m.to (subst (λ s. Reaches b u s m.to (unit_at b m.to)) (at ∙ sym c.square_in.ensures) p.reaches)).1 (p.named.0 named)))
       | inr (inl aims) ↦ (c.common.ensures (cell_of m.to)).1 (

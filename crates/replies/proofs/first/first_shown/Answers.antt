@@ -7,7 +7,7 @@ use Rattle.replies.proofs.first.first_shown.Goals as goal
 
 -- a limit that isn't refused is the root's
 pub opened_text-requires-clause-limit : goal.opened_text-requires-clause-limit
-opened_text-requires-clause-limit c = λ none.
+opened_text-requires-clause-limit g c = λ none.
     let limits = c.args.limits in
     let most = limit_within limits.limit limits.workers limits.slots none in
     let byte = min-eq_left {n = limits.limit} {m = 255} (omega (arith, most.1)) in
@@ -15,9 +15,9 @@ opened_text-requires-clause-limit c = λ none.
     grind (arith, common_steps)
 
 pub returns-in-Some : goal.returns-in-Some
-returns-in-Some c =
+returns-in-Some g c =
     let found = c.in-Some.ensures in
     named_shown c.args.name.now c.args.limits c.args.root.now c.in-Some.job c.opened_text.result found.0 found.1 c.opened_text.ensures
 
 pub returns-in-None : goal.returns-in-None
-returns-in-None c = inr (inr (c.in-None.ensures, refl))
+returns-in-None g c = inr (inr (c.in-None.ensures, refl))

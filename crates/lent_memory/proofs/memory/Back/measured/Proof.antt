@@ -21,7 +21,7 @@ use Rattle.std.proofs.raw_atomic.Walks.{proved_at, leaves}
 use Rattle.linked_list_allocator.proofs.Values.{ptr_typed, list_val, list_told, sized_val, sized_own, sized_made}
 use Rattle.linked_list_allocator.proofs.Walks.{slot_at}
 use Rattle.lent_memory.specs.Ownership.{IsMemorySize, bytes_at}
-use Rattle.lent_memory.specs.contracts.memory.Memory as memory
+use Rattle.lent_memory.specs.contracts.memory.Region as memory
 use Rattle.lent_memory.specs.contracts.memory.Back.measured.{ended, clauses}
 use Rattle.lent_memory.specs.contracts.memory.Back.measured.Key.{name as #self}
 use Rattle.lent_memory.proofs.memory.Back.measured.Statement.{statement}

@@ -24,11 +24,11 @@ use Rattle.std_alloc.proofs.Pairs.{pair_of, pair_val}
 use Rattle.std.proofs.raw_atomic.Walks.{proved_at, leaves}
 use Rattle.linked_list_allocator.proofs.Values.{ptr_typed, sized_val, sized_own, sized_told, sized_made}
 use Rattle.linked_list_allocator.proofs.Walks.{slot_at}
-use Rattle.lent_memory.specs.contracts.memory.Memory as memory
-use Rattle.lent_memory.specs.contracts.memory.Memory.with_size.{ended, clauses}
-use Rattle.lent_memory.specs.contracts.memory.Memory.with_size.Key.{name as #self}
-use Rattle.lent_memory.proofs.memory.Memory.with_size.Statement.{statement}
-use Rattle.lent_memory.proofs.memory.Memory.with_size.Code as compiled
+use Rattle.lent_memory.specs.contracts.memory.Region as memory
+use Rattle.lent_memory.specs.contracts.memory.Region.with_size.{ended, clauses}
+use Rattle.lent_memory.specs.contracts.memory.Region.with_size.Key.{name as #self}
+use Rattle.lent_memory.proofs.memory.Region.with_size.Statement.{statement}
+use Rattle.lent_memory.proofs.memory.Region.with_size.Code as compiled
 
 pub with_size_spec : {M : Type 1} → statement M
 with_size_spec 𝓤 𝓛 𝓜 𝓡 wired =

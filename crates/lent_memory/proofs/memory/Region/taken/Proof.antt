@@ -31,11 +31,11 @@ use Rattle.std.proofs.raw_atomic.Walks.{proved_at, leaves}
 use Rattle.linked_list_allocator.proofs.Walks.{slot_at, then_runs}
 use Rattle.linked_list_allocator.proofs.Values.{sized_val, sized_own, sized_made}
 use Rattle.lent_memory.specs.Ownership.{IsMemorySize, blocks_type}
-use Rattle.lent_memory.specs.contracts.memory.Memory as memory
-use Rattle.lent_memory.specs.contracts.memory.Memory.taken.{ended, clauses}
-use Rattle.lent_memory.specs.contracts.memory.Memory.taken.Key.{name as #self}
-use Rattle.lent_memory.proofs.memory.Memory.taken.Statement.{statement}
-use Rattle.lent_memory.proofs.memory.Memory.taken.Code as compiled
+use Rattle.lent_memory.specs.contracts.memory.Region as memory
+use Rattle.lent_memory.specs.contracts.memory.Region.taken.{ended, clauses}
+use Rattle.lent_memory.specs.contracts.memory.Region.taken.Key.{name as #self}
+use Rattle.lent_memory.proofs.memory.Region.taken.Statement.{statement}
+use Rattle.lent_memory.proofs.memory.Region.taken.Code as compiled
 
 pub taken_spec : {M : Type 1} → statement M
 taken_spec 𝓤 𝓛 𝓜 𝓡 wired A L g d dd met md =

@@ -1,6 +1,6 @@
 use Rattle.moves.proofs.Common.{◌≡◌, ℕ, Some, sym, ap, subst, ◌∙◌, false≢true, King, Knight, other_side, unit_at, IsInCheck, place_in, IsCell, IsPinned, IsCalm, IsTarget, Has}
 use Rattle.moves.proofs.Kings.{check_at}
-use Rattle.moves.proofs.checks.watch_of.Goals as goal
+use Rattle.moves.proofs.checks.check_info.Goals as goal
 
 pub returns : goal.returns
 returns c =
