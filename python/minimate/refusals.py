@@ -16,9 +16,9 @@ SENTENCES = {
 }
 # How many bytes of a certificate are looked at for what is wrong with its first line.
 MOST_KNOWN = 64
-NO_TREE = "the input begins with no move: where `tree` wrote no tree, there is none to check"
+NO_TREE = "the input begins with no move: where `tree` wrote no tree, there is none to check, and a byte order mark is no part of one"
 BROKEN_TREE = (
-    "after its first {} bytes the input is no tree: a tree is a move with # or =, or with replies, as c4c5{{a6a5:b1a1#}}"
+    "after its first {} bytes the input is no tree: a tree is a move with # or =, or with replies, as c4c5{{a6a5:b1a1#}}, and one line feed may end it, without a carriage return"
 )
 REFUSED = re.compile(r"refused: (\w+)(?: at (offset|line) (\d+))?\n(?:error: (.*)\n)?", re.S)
 

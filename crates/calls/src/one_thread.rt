@@ -19,6 +19,7 @@ use replies::{MOST_INPUT, opened, plan_text, verdict_text};
 use searcher::{keys_alone, solve_alone};
 use slots::{Seat, Slots};
 use std::alloc::Allocator;
+use std::io::sink;
 use trees::build_tree;
 use wintree::Tree;
 
@@ -117,7 +118,7 @@ fn check_shown<A: Allocator + Copy>(
     if MOST_INPUT < input.len() {
         return Err(Refusal::TooLong);
     }
-    verdict_text(alloc, position, goal, without_line_feed(input))
+    verdict_text(alloc, position, goal, without_line_feed(input), &mut sink())
 }
 
 /// The reply of `moves`: the lawful moves, or why there are none to tell.

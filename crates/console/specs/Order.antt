@@ -1,5 +1,5 @@
 -- The orders that the program answers: all but those of the programs that verify and compose.
-use Rattle.std.specs.Prelude.{◌≡◌, ⊤, None}
+use Rattle.std.specs.Prelude.{◌≡◌, ◌⊎◌, ⊤, None}
 use Rattle.command_line.specs.declared.line.Order.{Order}
 use Rattle.command_line.specs.declared.line.Order.TheVariants.{One, Batch, Verify, Certify, After, TreeAfter, Solution}
 use Rattle.command_line.specs.declared.line.Line.{Line}
@@ -8,6 +8,7 @@ use Rattle.command_line.specs.declared.line.Action.TheVariants.{Solve, Keys, Mov
 use Rattle.endings.specs.Run.{Run}
 use Rattle.endings.specs.Words.{DoesNothing}
 use Rattle.replies.specs.Output.{MayRead, fault_of}
+use Rattle.replies.specs.First.{MissesAt}
 use Rattle.replies.specs.Searching.{IsOver}
 use Rattle.console.specs.Batch.{RunsBatch}
 use Rattle.console.specs.Playing.{RunsAfter, RunsFirst}
@@ -41,9 +42,14 @@ AsksOfMoves _ = ⊥
 abbrev pub AsksWhereOver : Line → Type 0
 AsksWhereOver line = AsksOfMoves line.action × IsOver line.fen.now
 
--- standard error may be told more than why a run has no answer: by a batch, of each line that is refused or over, and by a line that asks for moves
--- where the game is over
+-- a line that is answered may tell standard error something: one that asks for moves, where the game is over, and a check, why a tree doesn't win
+abbrev pub TellsOf : Line → Type 0
+TellsOf line = AsksWhereOver line ⊎ MayRead line
+
+-- standard error may be told more than why a run has no answer: by such a line, by a batch, of each of its lines that is refused or over, and by the
+-- tree of a first move that misses, what refutes it
 abbrev pub TellsMore : Order → Type 0
-TellsMore (One line) = AsksWhereOver line
+TellsMore (One line) = TellsOf line
 TellsMore (Batch goal limits options) = ⊤
+TellsMore (TreeAfter played goal limits) = MissesAt played goal limits
 TellsMore _ = ⊥

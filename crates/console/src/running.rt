@@ -7,7 +7,7 @@ ghost use Rattle.endings.specs.Outcome.{reads_failed};
 ghost use Rattle.endings.specs.Run.{ending_of, run_of, EndsReply, Finishes, MayTell, Refuses};
 ghost use Rattle.endings.specs.Words.{MeansSome, MeansSomeIn, RunsProgram, RunsWords};
 ghost use Rattle.console.specs.Batch.{RefusesBatch, RunsBatch, wanting_text};
-ghost use Rattle.console.specs.Order.{AsksWhereOver, MayReadOf, RunsOrder, TellsMore};
+ghost use Rattle.console.specs.Order.{MayReadOf, RunsOrder, TellsMore, TellsOf};
 ghost use Rattle.console.specs.Playing.{WritesAfter};
 ghost use Rattle.console.specs.Run.{RunsLine};
 
@@ -49,7 +49,7 @@ pub fn run_line<R: Threads + Wait + Eprint + Clock + Sync + AllocGlobal, S: Sour
     run_line_on(&context, line, reader, writer, &mut sink())
 }
 
-/// Answers a line for a context that may show how far a search is. `errors` is told why a line was refused;
+/// Answers a line for a context that may show how far a search is. `errors` is told why a line was refused, or a tree doesn't win;
 /// whether it takes that changes nothing.
 fn run_line_on<
     R: Threads + Wait + Eprint + Clock + Sync + AllocGlobal,
@@ -62,10 +62,10 @@ fn run_line_on<
     ensures unread { MayRead line.now ⊎ (reader.new ≡ reader.old) }
     ensures runs { RunsLine line.now (run_of S.remaining S.failures reader.old reader.new
         (ending_of K.contents K.failures writer.old writer.new result)) }
-    ensures silent { MayTell result ⊎ AsksWhereOver line.now ⊎ (errors.new ≡ errors.old) }
+    ensures silent { MayTell result ⊎ TellsOf line.now ⊎ (errors.new ≡ errors.old) }
 {
     let watch = watch_of(context, line);
-    match reply_to(context.rt, watch.as_ref(), line, reader) {
+    match reply_to(context.rt, watch.as_ref(), line, reader, errors) {
         Ok(text) => {
             tell_if_line_is_over(errors, line);
             finish(writer, errors, text.as_slice(), ANSWERED)
@@ -256,7 +256,7 @@ pub fn run<
         }
         Ok(Order::After(played)) => run_after(rt, &played, writer, errors),
         Ok(Order::TreeAfter(played, goal, limits)) => {
-            let reply = first_reply(rt, &played, goal, limits);
+            let reply = first_reply(rt, &played, goal, limits, errors);
             write_played(rt, &played, writer, errors, reply)
         }
         // those are answered by programs of their own

@@ -582,6 +582,82 @@ fn explains_moves(rt: HostRuntime) {
     }
 }
 
+// Of a tree that doesn't win: the moves to a wrong one, and what is wrong there. The reasons are worked out by hand.
+#[test]
+fn tells_why_a_tree_does_not_win(rt: HostRuntime) {
+    let (first, third) = ("k5/6/2K3/6/6/1R4 w", "1k4/5R/6/6/6/2R2K w");
+    for (words, fen, tree, why) in [
+        (
+            "minimate,check",
+            first,
+            "c4c5q{a6a5:b1a1#}",
+            "c4c5q: that move isn't lawful",
+        ),
+        (
+            "minimate,check",
+            first,
+            "c4c5#",
+            "c4c5: it ends with #, and there is no mate",
+        ),
+        (
+            "minimate,check",
+            first,
+            "b1b5=",
+            "b1b5: it ends with =, and the goal is mate: add --goal stale",
+        ),
+        (
+            "minimate,check,--goal,stale",
+            first,
+            "c4c5=",
+            "c4c5: it ends with =, and there is no stalemate",
+        ),
+        (
+            "minimate,check",
+            first,
+            "c4c5{a6a5:b1b2#}",
+            "c4c5 a6a5 b1b2: it ends with #, and there is no mate",
+        ),
+        (
+            "minimate,check",
+            first,
+            "b1b5{a6a5:b5a5#}",
+            "b1b5: the reply a6a5 isn't lawful",
+        ),
+        (
+            "minimate,check",
+            third,
+            "c1e1{b6a6:e1e6#}",
+            "c1e1: the reply b6c6 is left out",
+        ),
+        (
+            "minimate,check",
+            first,
+            "c4c5{a6a5:b1a1#,a6a5:b1a1#}",
+            "c4c5: the reply a6a5 isn't at its place: write each once, in the order of `moves`",
+        ),
+    ] {
+        let told = tell_of(&rt, Ok(owned(&rt, words, fen)), tree.as_bytes());
+        let wanted = format!(in rt.alloc(); "the tree is wrong at {why}\n").expect(&rt, "memory");
+        expect(&rt, &told, 0, "no\n", wanted.as_str());
+    }
+}
+
+// The king has one move out of that check, behind which there is no mate at once; of a move that wins nothing is told.
+#[test]
+fn tells_what_refutes_a_first_move(rt: HostRuntime) {
+    let fen = "k5/6/1K4/6/6/5R w";
+    let refuted = tell(&rt, "minimate,tree,--limit,3,--first,f1a1", fen);
+    expect(
+        &rt,
+        &refuted,
+        0,
+        "none within 3\n",
+        "f1a1 is refuted by a6b6\n",
+    );
+    let wins = tell(&rt, "minimate,tree,--limit,1,--first,f1f6", fen);
+    expect(&rt, &wins, 0, "f1f6#\n", "");
+}
+
 // A search for a side that has no move says why it has none, beside its answer, and so does the list of its moves; another command says nothing.
 #[test]
 fn tells_of_a_side_without_moves(rt: HostRuntime) {

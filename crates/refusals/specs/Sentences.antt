@@ -61,9 +61,9 @@ memory_sentence Plain = codes "memory is wanting: give the process more"
 -- a text that is no tree's behind so many bytes
 abbrev pub grammar_sentence : ℕ → List ℕ
 grammar_sentence offset =
-    if offset == 0 then codes "the input begins with no move: where `tree` wrote no tree, there is none to check"
+    if offset == 0 then codes "the input begins with no move: where `tree` wrote no tree, there is none to check, and a byte order mark is no part of one"
     else codes "after its first " ++ (decimal offset
-    ++ codes " bytes the input is no tree: a tree is a move with # or =, or with replies, as c4c5{a6a5:b1a1#}")
+    ++ codes " bytes the input is no tree: a tree is a move with # or =, or with replies, as c4c5{a6a5:b1a1#}, and one line feed may end it, without a carriage return")
 
 -- the sentence of a refusal, where it rests on no text that was read
 abbrev pub sentence_of : Refusal → Asking → Option (List ℕ)

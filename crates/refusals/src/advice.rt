@@ -68,11 +68,11 @@ pub fn write_sentence<E: Write>(errors: &mut E, refused: &Refused<'_>) -> io::Re
 {
     match refused.refusal {
         Refusal::Grammar(0) => errors.write_all(
-            b"the input begins with no move: where `tree` wrote no tree, there is none to check",
+            b"the input begins with no move: where `tree` wrote no tree, there is none to check, and a byte order mark is no part of one",
         ),
         Refusal::Grammar(offset) => write!(
             errors,
-            "after its first {offset} bytes the input is no tree: a tree is a move with # or =, or with replies, as c4c5{{a6a5:b1a1#}}"
+            "after its first {offset} bytes the input is no tree: a tree is a move with # or =, or with replies, as c4c5{{a6a5:b1a1#}}, and one line feed may end it, without a carriage return"
         ),
         Refusal::Fields | Refusal::Shape | Refusal::Letter | Refusal::Run | Refusal::Side => {
             write_told(errors, &position_sentence(refused))

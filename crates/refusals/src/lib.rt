@@ -4,6 +4,7 @@
 mod advice;
 mod algebra;
 mod board_text;
+mod flaws;
 mod kings;
 mod moving;
 mod refusal;
@@ -12,6 +13,7 @@ mod spelling;
 mod words;
 
 pub use advice::{Asking, MOST_KNOWN, Refused, advise, write_sentence};
-pub use moving::{advise_move, advise_over};
+pub use flaws::advise_flaw;
+pub use moving::{advise_move, advise_over, advise_refuted};
 pub use refusal::{Refusal, refused_text};
 pub use words::{advise_limit, advise_words};

@@ -2,11 +2,11 @@
 ghost use Rattle.std.specs.Prelude.{◌≡◌, OnOk, codes};
 ghost use Rattle.std.specs.Io.KnownBytes.{Appends};
 ghost use Rattle.rules.specs.Reach.{IsInCheck};
-ghost use Rattle.refusals.specs.Sentences.{AppendsLine, error_beginning, over_text, side_text};
+ghost use Rattle.refusals.specs.Sentences.{AppendsLine, AppendsText, error_beginning, over_text, side_text};
 
 use crate::algebra::named_so;
 use crate::sentence::Part::{Bytes, Moves, On, Played, Text};
-use crate::sentence::{NO, Sentence, write_line};
+use crate::sentence::{NO, Sentence, write_line, write_told};
 use board::{Position, Side};
 use moves::{Move, in_check, lawful, read_move, read_sound};
 use std::io::{self, Write};
@@ -54,7 +54,7 @@ fn move_sentence<'a>(position: &Position, moves: &'a [Move], name: &'a [u8]) -> 
     }
     for m in moves {
         if m.from == from {
-            return Sentence(LAWFUL, (told, Moves(moves, from), NO, NO));
+            return Sentence(LAWFUL, (told, Moves(moves, Some(from)), NO, NO));
         }
     }
     Sentence(STUCK, (told, square, NO, NO))
@@ -69,6 +69,17 @@ pub fn advise_move<E: Write>(errors: &mut E, fen: &[u8], name: &[u8]) -> io::Res
     };
     let moves = lawful(&position);
     write_line(errors, &move_sentence(&position, moves.as_slice(), name))
+}
+
+/// Tells that a reply refutes a first move.
+pub fn advise_refuted<E: Write>(errors: &mut E, first: Move, reply: Move) -> io::Result<()>
+    ensures { OnOk result (AppendsText (E.contents errors.old) (E.contents errors.new)) }
+{
+    write_told(
+        errors,
+        &Sentence("% is refuted by %", (Played(first), Played(reply), NO, NO)),
+    )?;
+    errors.write_all(b"\n")
 }
 
 fn write_end<E: Write>(errors: &mut E, line: Option<u64>, side: Side, what: &str) -> io::Result<()>

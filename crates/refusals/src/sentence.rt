@@ -21,8 +21,8 @@ pub enum Part<'a> {
     Fault(bool),
     /// A move by its squares.
     Played(Move),
-    /// Those of the moves that are from this square, each behind a blank.
-    Moves(&'a [Move], Square),
+    /// Moves, each behind a blank: all, or those from this square.
+    Moves(&'a [Move], Option<Square>),
 }
 
 /// What is put where a sentence names less than four things.
@@ -41,12 +41,12 @@ fn write_escaped<E: Write>(errors: &mut E, bytes: &[u8]) -> io::Result<()>
     Ok(())
 }
 
-/// Writes those of the moves that are from this square, each behind a blank.
-fn write_moves<E: Write>(errors: &mut E, moves: &[Move], from: Square) -> io::Result<()>
+/// Writes moves, each behind a blank: all, or those from this square.
+fn write_moves<E: Write>(errors: &mut E, moves: &[Move], from: Option<Square>) -> io::Result<()>
     ensures { OnOk result (AppendsText (E.contents errors.old) (E.contents errors.new)) }
 {
     for m in moves {
-        if m.from != from {
+        if from.is_some_and(|from| m.from != from) {
             continue;
         }
         write!(errors, " {m}")?;

@@ -5,7 +5,7 @@ use Rattle.rules.specs.Squares.{Ply}
 use Rattle.rules.specs.declared.goal.Goal.{Goal}
 use Rattle.wintree.specs.Plan.{Plan}
 use Rattle.trees.specs.First.{IsOpened, IsOpenedJob}
-use Rattle.replies.specs.First.{IsFirstReply, NamesJob, ShowsFirst, ShowsJob, ShowsTreeFound}
+use Rattle.replies.specs.First.{IsFirstReply, MissesAt, MissesJob, MissesWithin, NamesJob, ShowsFirst, ShowsJob, ShowsTreeFound}
 use Rattle.std.specs.declared.alloc.Global.{Global}
 use Rattle.std.proofs.lemmas.Option.{get_or_from_slice_get}
 use Rattle.wintree.specs.Text.{text as plan_text}
@@ -43,15 +43,31 @@ none_shown r job limits result none same is gives =
     gives_weaker vec_items (λ reply. reply ≡ answered (none_text r.limit)) (ShowsJob r job limits) result
     (λ reply text m at. nothing_shown r.goal r.board m limits r.limit reply none same (is m at) text) gives
 
+-- what takes no number of plies up to the root's limit misses
+pub job_missed : (r : Root) (job limit : ℕ) → r.limit ≡ limit → IsOpenedJob r job None → MissesJob r job limit
+job_missed r job limit same is = λ m at. subst (λ n. IsOpened r.goal r.board m n None) same (is m at)
+
+listed : (xs : List Ply) (job : ℕ) (m : Ply) → job < length xs → slice_get xs job ≡ Some m → Contains xs m
+listed xs job m below at = (job, below, get_or_from_slice_get xs job m m at)
+
+pub named_missed : (name : List ℕ) (limit : ℕ) (r : Root) (job : ℕ) → IsJobOf r job → NamesJob r.moves.items name job → MissesJob r job limit
+    → MissesWithin r.goal r.board limit name
+named_missed name limit r job (lists, below) (m, at, named) misses = (m, (lists.exact m).0 (listed r.moves.items job m below at), named, misses m at)
+
 -- of the lawful move of the name
 pub named_shown : (name : List ℕ) (limits : Limits) (r : Root) (job : ℕ) (result : Result (Vec ℕ Global) Refusal) → IsJobOf r job
     → NamesJob r.moves.items name job → Gives vec_items (ShowsJob r job limits) result → Gives vec_items (ShowsFirst r.goal r.board name limits) result
 named_shown name limits r job result (lists, below) (m, at, named) gives =
     gives_weaker vec_items (ShowsJob r job limits) (ShowsFirst r.goal r.board name limits) result
     (λ reply shows. inl (m, (lists.exact m).0 (listed r.moves.items job m below at), named, shows m at)) gives
-  where
-    listed : (xs : List Ply) (job : ℕ) (m : Ply) → job < length xs → slice_get xs job ≡ Some m → Contains xs m
-    listed xs job m below at = (job, below, get_or_from_slice_get xs job m m at)
+
+pub missed_at_text : (played : NamedMove) (goal : Goal) (limits : Limits) (b : PlainBoard) (r : Root) → IsSoundText played.fen.now b → r.goal ≡ goal → r.board ≡ b
+    → MissesWithin r.goal r.board limits.limit played.name.now → MissesAt played goal limits
+missed_at_text played goal limits b r sound same_goal same_board misses = (
+  b,
+  sound,
+  subst (λ x. MissesWithin goal x limits.limit played.name.now) same_board (subst (λ g. MissesWithin g r.board limits.limit played.name.now) same_goal misses),
+)
 
 -- at the sound position
 pub first_at_text : (played : NamedMove) (goal : Goal) (limits : Limits) (b : PlainBoard) (r : Root) (result : Result (Vec ℕ Global) Refusal)

@@ -3,8 +3,9 @@ use Rattle.std.specs.Prelude.{◌≡◌, ◌⊎◌, ℕ, List, Some, slice_get}
 use Rattle.board.specs.Board.{PlainBoard}
 use Rattle.rules.specs.declared.goal.Goal.{Goal}
 use Rattle.rules.specs.MoveText.{move_text}
-use Rattle.rules.specs.Moves.{IsLawful}
+use Rattle.rules.specs.Moves.{IsLawful, IsMove}
 use Rattle.rules.specs.Squares.{Ply}
+use Rattle.problems.specs.Answer.{ForcesNothing}
 use Rattle.problems.specs.declared.root.Root.{Root}
 use Rattle.wintree.specs.Plan.{Plan}
 use Rattle.wintree.specs.Text.{text as plan_text}
@@ -14,7 +15,7 @@ use Rattle.command_line.specs.declared.line.NamedMove.{NamedMove}
 use Rattle.refusals.specs.Reply.{Reply, answered, refused, line_of}
 use Rattle.refusals.specs.declared.refusal.Refusal.TheVariants.{Move}
 use Rattle.answer_texts.specs.Answers.{none_text}
-use Rattle.endings.specs.Outcome.{IsReplyAt}
+use Rattle.endings.specs.Outcome.{IsReplyAt, IsSoundText}
 use Rattle.replies.specs.Output.{ShowsWithin}
 use Rattle.replies.specs.Playing.{NamesNone}
 
@@ -40,9 +41,27 @@ ShowsFirst goal b name limits reply =
 abbrev pub NamesJob : List Ply → List ℕ → ℕ → Type 0
 NamesJob moves name job = (m : Ply) × (slice_get moves job ≡ Some m) × (move_text m ≡ name)
 
+-- it takes no number of plies up to the limit
+abbrev pub MissesJob : Root → ℕ → ℕ → Type 0
+MissesJob r job limit = (m : Ply) → slice_get r.moves.items job ≡ Some m → TakesNone r.goal r.board limit m
+
 -- what is shown of it
 abbrev pub ShowsJob : Root → ℕ → Limits → Reply → Type 0
 ShowsJob r job limits reply = (m : Ply) → slice_get r.moves.items job ≡ Some m → ShowsTreeFound r.goal r.board m limits reply
+
+-- ---- a move that misses
+
+-- behind the reply the attacker forces the goal within no number of plies up to the limit
+abbrev pub IsUnmet : Goal → PlainBoard → ℕ → Ply → Type 0
+IsUnmet goal q limit r = (p : PlainBoard) × IsMove q r p × ForcesNothing goal p limit
+
+-- the lawful move of this name takes no number of plies up to the limit
+abbrev pub MissesWithin : Goal → PlainBoard → ℕ → List ℕ → Type 0
+MissesWithin goal b limit name = (m : Ply) × IsLawful b m × (move_text m ≡ name) × TakesNone goal b limit m
+
+-- so it is at the sound position of a text
+abbrev pub MissesAt : NamedMove → Goal → Limits → Type 0
+MissesAt played goal limits = (b : PlainBoard) × IsSoundText played.fen.now b × MissesWithin goal b limits.limit played.name.now
 
 -- ---- the reply
 

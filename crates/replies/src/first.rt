@@ -1,19 +1,21 @@
 //! The reply to a first move that is given: its tree, where it wins within the limit.
-ghost use Rattle.std.specs.Prelude.{◌≡◌, MatchOption, None, min, vec_items};
+ghost use Rattle.std.specs.Prelude.{◌≡◌, ◌⊎◌, IfSome, MatchOption, None, min, vec_items};
 ghost use Rattle.problems.specs.Roots.{IsRoot, IsJobOf};
-ghost use Rattle.replies.specs.First.{IsFirstReply, NamesJob, ShowsFirst, ShowsJob};
+ghost use Rattle.replies.specs.First.{IsFirstReply, IsUnmet, MissesAt, MissesJob, MissesWithin, NamesJob, ShowsFirst, ShowsJob};
 ghost use Rattle.endings.specs.Outcome.{Gives};
 ghost use Rattle.replies.specs.Output.{fault_of};
 ghost use Rattle.replies.specs.Playing.{NamesNone};
 
 use crate::replying::{none_line, search_of, tree_line};
 use crate::searching::table_within;
-use crate::solving::tree_of;
+use crate::solving::{solve, tree_of};
 use board::Position;
 use command_line::{Limits, NamedMove};
-use moves::{Board, Goal, read_move, read_sound};
-use problems::{MOST_LIMIT, Root};
-use refusals::Refusal;
+use moves::{Board, Goal, Move, after, lawful_on, read_move, read_sound};
+use problems::{Answer, MOST_LIMIT, Problem, Root};
+use refusals::{Refusal, advise_refuted};
+use searcher::Table;
+use std::io::Write;
 use std::sync::Wait;
 use std::thread::Threads;
 use std::time::Clock;
@@ -33,53 +35,101 @@ fn named_job(root: &Root, name: &[u8]) -> Option<u16>
     None
 }
 
-/// What is printed of a root's move: its tree, or that it wins within no number of plies up to the limit.
-fn opened_text<R: Threads + Wait + Eprint + Clock + Sync + AllocGlobal>(
+/// The first reply behind which the goal isn't forced within so many plies: what all threads find of the replies up to it stands in
+/// the table. After a want of memory it is none.
+fn refutation<R: Threads + Wait + Eprint + Clock + Sync + AllocGlobal>(
+    rt: &R,
+    table: &mut Table,
+    board: &Board,
+    goal: Goal,
+    limit: u8,
+) -> Option<Move>
+    ensures { IfSome result (IsUnmet goal board.now limit) }
+{
+    for reply in lawful_on(board).as_slice() {
+        let position = after(board, *reply).position();
+        let problem = Problem::of(&position, goal, limit)?;
+        match solve(rt, table, &problem, None) {
+            Ok(Answer::Mate { .. }) => {}
+            Ok(Answer::NoneWithin(_)) => return Some(*reply),
+            Err(_) => return None,
+        }
+    }
+    None
+}
+
+/// Tells what refutes a first move, where a reply does.
+fn tell_refutation<E: Write>(errors: &mut E, first: Move, found: Option<Move>) {
+    if let Some(reply) = found {
+        let _ = advise_refuted(errors, first, reply);
+    }
+}
+
+/// What is printed of a root's move: its tree, or that it wins within no number of plies up to the limit; then `errors` is told what refutes it.
+fn opened_text<R: Threads + Wait + Eprint + Clock + Sync + AllocGlobal, E: Write>(
     rt: &R,
     root: &Root,
     job: u16,
     limits: Limits,
+    errors: &mut E,
 ) -> Result<Vec<u8>, Refusal>
     requires job { IsJobOf root.now job }
     requires limit { fault_of limits ≡ None → root.now.limit ≡ limits.limit }
-    ensures { Gives vec_items (ShowsJob root.now job limits) result }
+    ensures shown { Gives vec_items (ShowsJob root.now job limits) result }
+    ensures silent { MissesJob root.now job limits.limit ⊎ (errors.new ≡ errors.old) }
 {
-    let table = table_within(rt.alloc(), limits)?;
-    match tree_of(rt, table, root, job) {
+    let mut table = table_within(rt.alloc(), limits)?;
+    let first = root.moves[usize::from(job)];
+    let next = after(&root.board, first);
+    let found = refutation(
+        rt,
+        &mut table,
+        &next,
+        root.goal,
+        root.limit.saturating_sub(2),
+    );
+    match tree_of(rt.alloc(), table, root, job) {
         Ok(Some(tree)) => Ok(tree_line(rt.alloc(), &tree)?),
-        Ok(None) => none_line(rt.alloc(), root.limit),
+        Ok(None) => {
+            tell_refutation(errors, first, found);
+            none_line(rt.alloc(), root.limit)
+        }
         Err(_) => Err(Refusal::NoMemory),
     }
 }
 
 /// The tree of the root's move of this name. A limit of more than 63 plies is refused, once the name is that of a lawful move.
-fn first_shown<R: Threads + Wait + Eprint + Clock + Sync + AllocGlobal>(
+fn first_shown<R: Threads + Wait + Eprint + Clock + Sync + AllocGlobal, E: Write>(
     rt: &R,
     root: &Root,
     name: &[u8],
     limits: Limits,
+    errors: &mut E,
 ) -> Result<Vec<u8>, Refusal>
     requires root { IsRoot root.now }
     requires limit { root.now.limit ≡ min (min limits.limit 255) 63 }
-    ensures { Gives vec_items (ShowsFirst root.now.goal root.now.board name.now limits) result }
+    ensures shown { Gives vec_items (ShowsFirst root.now.goal root.now.board name.now limits) result }
+    ensures silent { MissesWithin root.now.goal root.now.board limits.limit name.now ⊎ (errors.new ≡ errors.old) }
 {
     match named_job(root, name) {
-        Some(job) => opened_text(rt, root, job, limits),
+        Some(job) => opened_text(rt, root, job, limits, errors),
         None => Err(Refusal::Move),
     }
 }
 
-/// The tree of the first move of this name, on a line, where it wins within the limit.
-pub fn first_reply<R: Threads + Wait + Eprint + Clock + Sync + AllocGlobal>(
+/// The tree of the first move of this name, on a line, where it wins within the limit; else `errors` is told what refutes it.
+pub fn first_reply<R: Threads + Wait + Eprint + Clock + Sync + AllocGlobal, E: Write>(
     rt: &R,
     played: &NamedMove<'_>,
     goal: Goal,
     limits: Limits,
+    errors: &mut E,
 ) -> Result<Vec<u8>, Refusal>
-    ensures { Gives vec_items (IsFirstReply played.now goal limits) result }
+    ensures shown { Gives vec_items (IsFirstReply played.now goal limits) result }
+    ensures silent { MissesAt played.now goal limits ⊎ (errors.new ≡ errors.old) }
 {
     let position = read_sound(played.fen)?;
     let limit = search_of(limits).limit.min(MOST_LIMIT);
     let root = Root::on(Board::of(&position), goal, limit);
-    first_shown(rt, &root, played.name, limits)
+    first_shown(rt, &root, played.name, limits, errors)
 }

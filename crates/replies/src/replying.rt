@@ -21,12 +21,13 @@ use devices::{Source, read_all, without_line_feed};
 use endings::ReplyFault;
 use moves::{Goal, lawful, read_sound};
 use progress::Watch;
-use refusals::Refusal;
+use refusals::{Refusal, advise_flaw};
 use std::alloc::{Allocator, Global};
+use std::io::{Write, sink};
 use std::sync::Wait;
 use std::thread::Threads;
 use std::time::Clock;
-use wintree::{NoMemory, Tree, check, read_tree, tree_text};
+use wintree::{NoMemory, Tree, check, find_flaw, read_tree, tree_text};
 
 /// The most bytes of a tree, with the line feed at its end.
 pub const MOST_INPUT: usize = 1_048_576;
@@ -93,18 +94,22 @@ pub fn tree_line<A: Allocator, B: Allocator>(
     Ok(line)
 }
 
-/// In how many plies the tree of a text wins, if it wins.
-pub fn verdict_text<A: Allocator + Copy>(
+/// In how many plies the tree of a text wins, if it wins; else `errors` is told at which move it is wrong, and why.
+pub fn verdict_text<A: Allocator + Copy, E: Write>(
     alloc: A,
     position: &Position,
     goal: Goal,
     text: &[u8],
+    errors: &mut E,
 ) -> Result<Vec<u8, A>, Refusal>
     ensures { Gives vec_items (ShowsTree goal position.now text.now) result }
 {
     let tree = read_tree(alloc, text)?;
     look_at_depth(&tree);
     let plies = check(position, &tree, goal);
+    if let Some(flaw) = find_flaw(position, &tree, goal) {
+        let _ = advise_flaw(errors, &flaw);
+    }
     Ok(checked_text(alloc, plies)?.into_bytes())
 }
 
@@ -116,11 +121,12 @@ fn look_at_depth<A: Allocator>(tree: &Tree<A>)
 }
 
 /// In how many plies the tree of the input wins, if it wins.
-fn check_text<S: Source>(
+fn check_text<S: Source, E: Write>(
     alloc: Global,
     position: &Position,
     goal: Goal,
     reader: &mut S,
+    errors: &mut E,
 ) -> Result<Vec<u8>, ReplyFault>
     requires { S.failures reader.old < u64.MAX }
     ensures shown { OfInput (S.remaining reader.old)
@@ -129,7 +135,7 @@ fn check_text<S: Source>(
 {
     let input = read_all(alloc, reader, MOST_INPUT)?;
     let text = without_line_feed(input.as_slice());
-    Ok(verdict_text(alloc, position, goal, text)?)
+    Ok(verdict_text(alloc, position, goal, text, errors)?)
 }
 
 /// What a command shows at a position, where nothing is read: a tree that would be checked is empty then.
@@ -163,25 +169,28 @@ fn shown<R: Threads + Wait + Eprint + Clock + Sync + AllocGlobal>(
             Ok(moves_text(alloc, moves.as_slice())?.into_bytes())
         }
         Action::Show(drawing) => Ok(drawn(alloc, position, drawing)?.into_bytes()),
-        Action::Check(goal) => verdict_text(alloc, position, goal, b""),
+        Action::Check(goal) => verdict_text(alloc, position, goal, b"", &mut sink()),
     }
 }
 
-/// The text that answers a line. Only `check` asks the reader for anything, and only where the position is sound.
-pub fn reply_to<R: Threads + Wait + Eprint + Clock + Sync + AllocGlobal, S: Source>(
+/// The text that answers a line. Only `check` asks the reader for anything, and only where the position is sound; then `errors` is told why
+/// a tree doesn't win.
+pub fn reply_to<R: Threads + Wait + Eprint + Clock + Sync + AllocGlobal, S: Source, E: Write>(
     rt: &R,
     watch: Option<&Watch>,
     line: &Line<'_>,
     reader: &mut S,
+    errors: &mut E,
 ) -> Result<Vec<u8>, ReplyFault>
     requires { S.failures reader.old < u64.MAX }
     ensures given { GivesReply vec_items line.now (S.remaining reader.old) result }
     ensures asked { MayRead line.now ⊎ (reader.new ≡ reader.old) }
     ensures counts { S.failures reader.new ≡ S.failures reader.old + reads_failed result }
+    ensures silent { MayRead line.now ⊎ (errors.new ≡ errors.old) }
 {
     let position = read_sound(line.fen)?;
     match line.action {
-        Action::Check(goal) => check_text(rt.alloc(), &position, goal, reader),
+        Action::Check(goal) => check_text(rt.alloc(), &position, goal, reader, errors),
         action => Ok(shown(rt, watch, &position, action)?),
     }
 }

@@ -8,7 +8,6 @@ ghost use Rattle.replies.specs.Outcome.{IsBestWithin};
 
 use crate::gate::Watched;
 use decision::{Memory, Never, Scout};
-use moves::{Board, Goal, after, lawful_on};
 use problems::{Answer, Key, Problem, Root};
 use progress::{Watch, shown};
 use rounds::{Task, keys_over, solve_over};
@@ -133,44 +132,16 @@ pub fn tree<R: Threads + Wait + Eprint + Clock + Sync + AllocGlobal>(
     )
 }
 
-/// Solves what stands behind each reply, to the first that isn't met: what the threads find stands in the table, and no answer rests on it.
-fn search_replies<R: Threads + Wait + Eprint + Clock + Sync + AllocGlobal>(
-    rt: &R,
-    table: &mut Table,
-    board: &Board,
-    goal: Goal,
-    limit: u8,
-) {
-    for reply in lawful_on(board).as_slice() {
-        let position = after(board, *reply).position();
-        let Some(problem) = Problem::of(&position, goal, limit) else {
-            return;
-        };
-        let Ok(Answer::Mate { .. }) = solve(rt, table, &problem, None) else {
-            return;
-        };
-    }
-}
-
-/// The same tree behind the root's move of this number, where it wins within the limit: by the caller's own thread, once all have searched
-/// what stands behind its replies.
-pub fn tree_of<R: Threads + Wait + Eprint + Clock + Sync + AllocGlobal>(
-    rt: &R,
-    mut table: Table,
+/// The same tree behind the root's move of this number, by the caller's own thread, where it wins within the limit.
+pub fn tree_of(
+    alloc: Global,
+    table: Table,
     root: &Root,
     job: u16,
 ) -> Result<Option<Tree>, AllocError>
     requires { IsJobOf root.now job }
     ensures { IfOk result (IsOpenedJob root.now job) }
 {
-    let next = after(&root.board, root.moves[usize::from(job)]);
-    search_replies(
-        rt,
-        &mut table,
-        &next,
-        root.goal,
-        root.limit.saturating_sub(2),
-    );
     let (slots, mut seat) = table.into_alone();
     let mut scout = Scout {
         stop: Never,
@@ -181,7 +152,7 @@ pub fn tree_of<R: Threads + Wait + Eprint + Clock + Sync + AllocGlobal>(
         seat: &mut seat,
         scout: &mut scout,
     };
-    match tree_of_first(rt.alloc(), &mut searcher, root, job) {
+    match tree_of_first(alloc, &mut searcher, root, job) {
         Ok(tree) => Ok(tree),
         Err(Halt::NoMemory) => Err(AllocError),
         Err(Halt::Stopped) => unreachable!(),

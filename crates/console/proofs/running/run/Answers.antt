@@ -1,4 +1,4 @@
-use Rattle.std.proofs.Common.{inl, inr, refl, arith}
+use Rattle.std.proofs.Common.{◌∙◌, inl, inr, refl, arith}
 use Rattle.std.proofs.KnownBytes.{Appends-nil}
 use Rattle.command_line.specs.declared.line.Order.TheVariants.{One, TreeAfter}
 use Rattle.replies.specs.First.{IsFirstReply}
@@ -27,5 +27,16 @@ returns-in-Ok-TreeAfter-clause-runs g c =
     inr (inr (
       TreeAfter one.played one.goal one.limits,
       rw one.field-0-is at one.ensures.order,
-      (omega arith, reply_ran (IsFirstReply one.played one.goal one.limits) _ c.first_reply-reply.result c.first_reply-reply.ensures c.write_played.ensures.runs),
+      (omega arith, reply_ran (IsFirstReply one.played one.goal one.limits) _ c.first_reply-reply.result c.first_reply-reply.ensures.shown c.write_played.ensures.runs),
     ))
+
+pub returns-in-Ok-TreeAfter-clause-silent : goal.returns-in-Ok-TreeAfter-clause-silent
+returns-in-Ok-TreeAfter-clause-silent g c =
+    let one = c.in-Ok-TreeAfter in
+    elim c.first_reply-reply.ensures.silent [
+      | inl misses ↦ inr (inl (TreeAfter one.played one.goal one.limits, rw one.field-0-is at one.ensures.order, misses))
+      | inr untold ↦ elim c.write_played.ensures.silent [
+        | inl told ↦ inl told
+        | inr same ↦ inr (inr (same ∙ untold))
+      ]
+    ]

@@ -10,11 +10,23 @@ returns-in-Ok-clause-runs g c =
     (rw (← c.as_slice.ensures.value) c.finish.ensures.written)
 
 pub returns-in-Ok-clause-silent : goal.returns-in-Ok-clause-silent
-returns-in-Ok-clause-silent g c = elim c.finish.ensures.silent [
-  | inl failed ↦ inl (inr failed)
-  | inr same ↦ elim c.tell_if_line_is_over.ensures [
-    | inl over ↦ inr (inl over)
-    | inr kept ↦ inr (inr (same ∙ kept))
+returns-in-Ok-clause-silent g c = elim c.in-Ok.ensures.silent [
+  | inl check ↦ inr (inl (inr check))
+  | inr untold ↦ elim c.finish.ensures.silent [
+    | inl failed ↦ inl (inr failed)
+    | inr same ↦ elim c.tell_if_line_is_over.ensures [
+      | inl over ↦ inr (inl (inl over))
+      | inr kept ↦ inr (inr (same ∙ kept ∙ untold))
+    ]
+  ]
+]
+
+pub returns-in-Err-Refused-clause-silent : goal.returns-in-Err-Refused-clause-silent
+returns-in-Err-Refused-clause-silent g c = elim c.in-Err-Refused.ensures.silent [
+  | inl check ↦ inr (inl (inr check))
+  | inr untold ↦ elim c.refuse_and_tell.ensures.silent [
+    | inl told ↦ inl told
+    | inr same ↦ inr (inr (same ∙ untold))
   ]
 ]
 
