@@ -8,6 +8,8 @@ mod entries;
 #[cfg(test)]
 mod entries_kept;
 #[cfg(test)]
+mod flaws;
+#[cfg(test)]
 mod lines;
 #[cfg(test)]
 mod made_rows;

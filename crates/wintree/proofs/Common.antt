@@ -1,5 +1,6 @@
 -- The words that proofs of this crate share, passed on from where they are defined.
 pub use Rattle.board.specs.Board.{PlainBoard}
+pub use Rattle.board.proofs.RowBytes.{count_append}
 pub use Rattle.board.specs.declared.game.Kind.{Kind}
 pub use Rattle.board.specs.declared.game.Kind.TheVariants.{Bishop, King, Knight, Pawn, Queen, Rook}
 pub use Rattle.rules.proofs.Keeps.{one_after}
@@ -12,13 +13,14 @@ pub use Rattle.rules.specs.Squares.{Ply}
 pub use Rattle.rules.specs.declared.goal.Goal.{Goal}
 pub use Rattle.std.proofs.lemmas.Bool.{false≢true, ne_eqb, true≢false}
 pub use Rattle.std.proofs.lemmas.Bool.Decides.{eqb_tells}
-pub use Rattle.std.proofs.lemmas.List.{append-nil, append_cancel_right, drop_all, drop_more, length_push, take-append-drop, take-append-le, take_more}
+pub use Rattle.std.proofs.lemmas.List.{append-nil, append_cancel_right, drop_all, drop_more, length-map, length_push, take-append-drop, take-append-le, take_more}
 pub use Rattle.std.proofs.lemmas.List.Elements.{All-push, recursion_from_All}
-pub use Rattle.std.proofs.lemmas.Option.{get_or_from_slice_get, slice_get-get_or, slice_get_cases, slice_get_within}
+pub use Rattle.std.proofs.lemmas.Option.{get_or_from_slice_get, same_Some, slice_get-get_or, slice_get_past, slice_get_within}
 pub use Rattle.std.proofs.lemmas.Result.{err_from_is_err_and}
 pub use Rattle.std.specs.List.{AllByRecursion}
 pub use Rattle.wintree.specs.Ahead.{AfterTree, AreRepliesAhead, IsPlain, IsTreeAhead, NoCell, NoMove, ReadsCell, ReadsMove, ReadsReplies, ReadsTree, Spans, Stands, closed_text, listed_text, next_byte, promotion_of}
-pub use Rattle.wintree.specs.Answered.{AreAnswered, WinsAfter, highest_in}
+pub use Rattle.wintree.specs.Answered.{AllWin, IsFlawBelow, WinsAfter, highest_in, moves_in}
+pub use Rattle.wintree.specs.Flaws.{AreWrong, IsFlaw, IsWrong, IsWrongEnd, listed}
 pub use Rattle.wintree.specs.Offset.{BeginsText, IsDeep, IsFaultOf, IsText}
 pub use Rattle.wintree.specs.Plan.{ArePlans, ArePlansIn, IsPlan, Plan, Replies, deepest, deepest_in, depth, ends, last, more, plan_of, replies_of, splits}
 pub use Rattle.wintree.specs.Text.{TreeText, end_text, replies_text, text}

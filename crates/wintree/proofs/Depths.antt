@@ -1,8 +1,8 @@
 -- How many braces a text's beginnings leave open.
-use Rattle.std.proofs.Common.{◌≡◌, ℕ, zero, suc, ◌+◌, ◌-◌, ◌≤◌, List, [], ◌∷◌, ◌++◌, length, take, refl, sym, ap, ◌∙◌, subst, inl, inr, arith, append_assoc, length-append, Result, Ok, Err, IfErr, IsOkUnless, count_by, ◌==◌}
+use Rattle.std.proofs.Common.{◌≡◌, ℕ, zero, suc, ◌+◌, ◌-◌, ◌≤◌, List, [], ◌∷◌, ◌++◌, length, take, refl, sym, ap, ◌∙◌, subst, inl, inr, arith, append_assoc, length-append, Result, Ok, Err, IfErr, IsOkUnless, count_by, ◌==◌, take_all}
 use Rattle.std.proofs.Math.Seq.{take-append-add}
-use Rattle.wintree.proofs.Common.{take-append-le, End, Mate, Stale, Plan, ends, splits, Replies, last, more, depth, deepest, IsPlan, ArePlans, move_text, text, replies_text, end_text, TreeText, TreeFault, Grammar, Deep, NoMemory, IsDeep, IsFaultOf, IsPlain}
-use Rattle.wintree.proofs.Places.{count_by-append, count_by-take-le, take_whole}
+use Rattle.wintree.proofs.Common.{take-append-le, End, Mate, Stale, Plan, ends, splits, Replies, last, more, depth, deepest, IsPlan, ArePlans, move_text, text, replies_text, end_text, TreeText, TreeFault, Grammar, Deep, NoMemory, IsDeep, IsFaultOf, IsPlain, count_append}
+use Rattle.wintree.proofs.Places.{count_by-take-le}
 use Rattle.wintree.proofs.MoveTexts.{plain_move}
 use Rattle.wintree.proofs.Standing.{le_or_lt}
 
@@ -22,21 +22,21 @@ nests_plain n xs plain =
     record {
       whole = plain.0 ∙ sym plain.1;
       each = λ k. elim (le_or_lt k (length xs)) as (λ _. opened (take k xs) ≤ closed (take k xs) + n) [
-        | inl within ↦ omega (arith, plain.0, count_by-take-le (λ b. b == 123) xs k (length xs) within, ap opened (take_whole xs (length xs) (omega arith)))
-        | inr beyond ↦ omega (arith, plain.0, ap opened (take_whole xs k (omega arith)))
+        | inl within ↦ omega (arith, plain.0, count_by-take-le (λ b. b == 123) xs k (length xs) within, ap opened (take_all (length xs) xs (omega arith)))
+        | inr beyond ↦ omega (arith, plain.0, ap opened (take_all k xs (omega arith)))
       ];
     }
 
 nests_append : (n : ℕ) (xs ys : List ℕ) → Nests n xs → Nests n ys → Nests n (xs ++ ys)
 nests_append n xs ys first second =
     record {
-      whole = omega (arith, first.whole, second.whole, count_by-append (λ b. b == 123) xs ys, count_by-append (λ b. b == 125) xs ys);
+      whole = omega (arith, first.whole, second.whole, count_append (λ b. b == 123) xs ys, count_append (λ b. b == 125) xs ys);
       each = λ k. elim (le_or_lt k (length xs)) as (λ _. opened (take k (xs ++ ys)) ≤ closed (take k (xs ++ ys)) + n) [
         | inl within ↦ rw (take-append-le k xs ys within) (first.each k)
         | inr beyond ↦
             let rest = k - length xs in
             let split : take k (xs ++ ys) ≡ xs ++ take rest ys = ap (λ j. take j (xs ++ ys)) (omega arith) ∙ take-append-add xs ys rest in
-            rw split (omega (arith, first.whole, second.each rest, count_by-append (λ b. b == 123) xs (take rest ys), count_by-append (λ b. b == 125) xs (take rest ys)))
+            rw split (omega (arith, first.whole, second.each rest, count_append (λ b. b == 123) xs (take rest ys), count_append (λ b. b == 125) xs (take rest ys)))
       ];
     }
 
@@ -45,21 +45,21 @@ module _ (n : ℕ) (xs : List ℕ) (inner : Nests n xs) where
   in_at : (k : ℕ) → opened (take k (123 ∷ (xs ++ 125 ∷ []))) ≤ closed (take k (123 ∷ (xs ++ 125 ∷ []))) + suc n
   in_at zero = omega arith
   in_at (suc k) =
-      let one = count_by-append (λ b. b == 123) (123 ∷ []) (take k (xs ++ 125 ∷ [])) in
-      let none = count_by-append (λ b. b == 125) (123 ∷ []) (take k (xs ++ 125 ∷ [])) in
+      let one = count_append (λ b. b == 123) (123 ∷ []) (take k (xs ++ 125 ∷ [])) in
+      let none = count_append (λ b. b == 125) (123 ∷ []) (take k (xs ++ 125 ∷ [])) in
       elim (le_or_lt k (length xs)) as (λ _. opened (take (suc k) (123 ∷ (xs ++ 125 ∷ []))) ≤ closed (take (suc k) (123 ∷ (xs ++ 125 ∷ []))) + suc n) [
         | inl within ↦
             let front = take-append-le k xs (125 ∷ []) within in
             omega (arith, one, none, ap opened front, ap closed front, inner.each k)
         | inr beyond ↦
-            let all : take k (xs ++ 125 ∷ []) ≡ xs ++ 125 ∷ [] = take_whole (xs ++ 125 ∷ []) k (omega (arith, length-append xs (125 ∷ []))) in
-            omega (arith, one, none, ap opened all, ap closed all, inner.whole, count_by-append (λ b. b == 123) xs (125 ∷ []), count_by-append (λ b. b == 125) xs (125 ∷ []))
+            let all : take k (xs ++ 125 ∷ []) ≡ xs ++ 125 ∷ [] = take_all k (xs ++ 125 ∷ []) (omega (arith, length-append xs (125 ∷ []))) in
+            omega (arith, one, none, ap opened all, ap closed all, inner.whole, count_append (λ b. b == 123) xs (125 ∷ []), count_append (λ b. b == 125) xs (125 ∷ []))
       ]
 
   nests_in : Nests (suc n) (123 ∷ (xs ++ 125 ∷ []))
   nests_in =
       record {
-        whole = omega (arith, inner.whole, count_by-append (λ b. b == 123) (123 ∷ []) (xs ++ 125 ∷ []), count_by-append (λ b. b == 125) (123 ∷ []) (xs ++ 125 ∷ []), count_by-append (λ b. b == 123) xs (125 ∷ []), count_by-append (λ b. b == 125) xs (125 ∷ []));
+        whole = omega (arith, inner.whole, count_append (λ b. b == 123) (123 ∷ []) (xs ++ 125 ∷ []), count_append (λ b. b == 125) (123 ∷ []) (xs ++ 125 ∷ []), count_append (λ b. b == 123) xs (125 ∷ []), count_append (λ b. b == 125) xs (125 ∷ []));
         each = in_at;
       }
 

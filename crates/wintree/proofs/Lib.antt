@@ -7,6 +7,7 @@ pub mod Endings
 pub mod Winning
 pub mod Forced
 pub mod Places
+pub mod Agreeing
 pub mod MoveTexts
 pub mod Texts
 pub mod Standing

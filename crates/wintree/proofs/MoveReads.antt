@@ -1,14 +1,14 @@
 -- Reading a move, a byte at a time.
 use Rattle.std.proofs.Common.{◌≡◌, ◌⊎◌, ℕ, ◌+◌, ◌<◌, ◌≤◌, List, [], ◌∷◌, ◌++◌, length, take, drop, refl, sym, ap, ◌∙◌, subst, inl, inr, arith, Option, Some, None, Bool, true, false, cond, IfSome, slice_get, is_some, ◌==◌}
-use Rattle.wintree.proofs.Common.{slice_get_within, true≢false, Kind, Queen, Rook, Bishop, Knight, IsPromoted, IsPly, Ply, TreeFault, square_text, promotion_text, move_text, Spans, IsPlain, ReadsMove, ReadsCell, NoCell, NoMove, promotion_of, next_byte}
-use Rattle.wintree.proofs.Places.{spans_none, spans_more, count_by-append}
+use Rattle.wintree.proofs.Common.{slice_get_within, true≢false, Kind, Queen, Rook, Bishop, Knight, IsPromoted, IsPly, Ply, TreeFault, square_text, promotion_text, move_text, Spans, IsPlain, ReadsMove, ReadsCell, NoCell, NoMove, promotion_of, next_byte, count_append}
+use Rattle.wintree.proofs.Places.{spans_none, spans_more}
 use Rattle.wintree.proofs.MoveTexts.{kind_of, no_brace, some_move, is_some_move}
 
 plain_more : (xs : List ℕ) (n : ℕ) → n < 123 → IsPlain xs → IsPlain (xs ++ n ∷ [])
 plain_more xs n low plain =
     let opens : (n == 123) ≡ false = no_brace n 123 low in
     let closes : (n == 125) ≡ false = no_brace n 125 (omega arith) in
-    (count_by-append (λ b. b == 123) xs (n ∷ []) ∙ rw opens (omega (arith, plain.0)), count_by-append (λ b. b == 125) xs (n ∷ []) ∙ rw closes (omega (arith, plain.1)))
+    (count_append (λ b. b == 123) xs (n ∷ []) ∙ rw opens (omega (arith, plain.0)), count_append (λ b. b == 125) xs (n ∷ []) ∙ rw closes (omega (arith, plain.1)))
 
 -- nothing was read so far, or cells of a move
 pub record Reads (bytes : List ℕ) (at g : ℕ) (xs : List ℕ) : Type 0 where

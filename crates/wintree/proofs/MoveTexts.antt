@@ -1,7 +1,6 @@
 -- The text of a move tells where the move ends.
 use Rattle.std.proofs.Common.{◌≡◌, ◌≢◌, ◌⊎◌, ℕ, ◌+◌, ◌<◌, ◌≤◌, List, [], ◌∷◌, ◌++◌, refl, sym, ap, ◌∙◌, inl, inr, arith, Option, Some, None, Bool, true, false, ◌==◌, cond, count_by}
-use Rattle.wintree.proofs.Common.{ne_eqb, true≢false, eqb_tells, Kind, King, Queen, Rook, Bishop, Knight, Pawn, Ply, IsPly, square_text, promotion_text, move_text, promotion_of, next_byte, IsPlain}
-use Rattle.wintree.proofs.Places.{count_by-append}
+use Rattle.wintree.proofs.Common.{ne_eqb, true≢false, eqb_tells, Kind, King, Queen, Rook, Bishop, Knight, Pawn, Ply, IsPly, square_text, promotion_text, move_text, promotion_of, next_byte, IsPlain, count_append}
 
 -- the text of a promotion is nothing, or a letter of one
 letter_of : (p : Option Kind) → (promotion_text p ≡ []) ⊎ ((b : ℕ) × (promotion_text p ≡ b ∷ []) × (promotion_of (Some b) ≢ None))
@@ -63,7 +62,7 @@ plain_by m k ply above none =
     let fr : (49 + m.from.rank == k) ≡ false = no_brace (49 + m.from.rank) k (omega (arith, ply.from.rank)) in
     let tf : (97 + m.to.file == k) ≡ false = no_brace (97 + m.to.file) k (omega (arith, ply.to.file)) in
     let tr : (49 + m.to.rank == k) ≡ false = no_brace (49 + m.to.rank) k (omega (arith, ply.to.rank)) in
-    count_by-append (λ b. b == k) (square_text m.from ++ square_text m.to) (promotion_text m.promotion) ∙ rw (ff, fr, tf, tr) (omega (arith, none))
+    count_append (λ b. b == k) (square_text m.from ++ square_text m.to) (promotion_text m.promotion) ∙ rw (ff, fr, tf, tr) (omega (arith, none))
 
 pub plain_move : (m : Ply) → IsPly m → IsPlain (move_text m)
 plain_move m ply =

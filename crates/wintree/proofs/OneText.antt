@@ -1,5 +1,5 @@
 -- No text belongs to two plans.
-use Rattle.std.proofs.Common.{◌≡◌, ℕ, ◌+◌, List, [], ◌∷◌, ◌++◌, refl, sym, ap, ap₂, ◌∙◌, arith, append_assoc, None}
+use Rattle.std.proofs.Common.{◌≡◌, ℕ, List, [], ◌∷◌, ◌++◌, refl, sym, ap, ap₂, ◌∙◌, arith, append_assoc, None}
 use Rattle.wintree.proofs.Common.{append_cancel_right, append-nil, Ply, IsPly, End, Mate, Stale, Plan, ends, splits, Replies, last, more, IsPlan, ArePlans, move_text, text, replies_text, end_text, promotion_of, next_byte}
 use Rattle.rules.proofs.Naming.{one_name}
 use Rattle.wintree.proofs.MoveTexts.{same_rest}

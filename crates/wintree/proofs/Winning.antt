@@ -1,53 +1,85 @@
--- Laws of winning plans.
-use Rattle.std.proofs.Common.{◌≡◌, ◌↔◌, ℕ, suc, ◌+◌, ◌<◌, List, [], ◌∷◌, length, drop, get_or, refl, sym, ap, ◌∙◌, subst, arith}
-use Rattle.wintree.proofs.Common.{drop_more, PlainBoard, Ply, IsMove, ListsLawful, Goal, one_after, End, Plan, ends, replies_of, plan_of, Wins, EachWins, EndsAt, moves_of, WinsAfter, AreAnswered}
-use Rattle.wintree.proofs.Listings.{one_list}
-use Rattle.wintree.proofs.Heights.{next_item}
+-- Laws of winning plans, and of flaws.
+use Rattle.std.proofs.Common.{◌≡◌, ◌<◌, List, [], ◌∷◌, length, refl, sym, ap, subst, inl, inr, arith, slice_get, Some, Contains}
+use Rattle.wintree.proofs.Common.{PlainBoard, Ply, IsMove, ListsLawful, Goal, one_after, End, Plan, ends, splits, Replies, last, more, replies_of, plan_of, Wins, EachWins, EndsAt, moves_of, WinsAfter, AllWin, moves_in, IsFlaw, IsFlawBelow, IsWrong, IsWrongEnd, AreWrong, listed}
+use Rattle.wintree.specs.declared.flaws.Wrong.{Wrong}
+use Rattle.wintree.specs.declared.flaws.Wrong.TheVariants.{Unlawful, NotMate, NotStale, LeftOut, UnlawfulReply, OutOfPlace}
+use Rattle.rules.specs.declared.goal.Goal.TheVariants as goals
+use Rattle.wintree.specs.declared.tree.End.TheVariants as ending
+use Rattle.wintree.proofs.Listings.{among_more, one_list}
 
--- ---- a list of replies
+moves-replies_of : (first : Ply × Plan) (others : List (Ply × Plan)) → moves_of (replies_of first others) ≡ moves_in (first ∷ others)
+moves-replies_of first [] = refl
+moves-replies_of first (next ∷ others) = ap (λ ms. first.0 ∷ ms) (moves-replies_of next others)
 
-module _ (goal : Goal) (q : PlainBoard) where
-  answered_of : (first : Ply × Plan) (others : List (Ply × Plan)) (moves : List Ply) → moves_of (replies_of first others) ≡ moves → EachWins goal q (replies_of first others) → AreAnswered goal q moves (first ∷ others)
-  answered_of first [] moves e w = subst (λ ms. AreAnswered goal q ms (first ∷ [])) e (refl, w, tt)
-  answered_of first (next ∷ others) moves e w =
-      subst (λ ms. AreAnswered goal q ms (first ∷ next ∷ others)) e (refl, w.0, answered_of next others _ refl w.1)
+listed-replies_of : (first : Ply × Plan) (others : List (Ply × Plan)) → listed (replies_of first others) ≡ first ∷ others
+listed-replies_of first [] = refl
+listed-replies_of first (next ∷ others) = ap (λ rs. first ∷ rs) (listed-replies_of next others)
 
-  of_answered : (first : Ply × Plan) (others : List (Ply × Plan)) (moves : List Ply) → AreAnswered goal q moves (first ∷ others) → (moves_of (replies_of first others) ≡ moves) × EachWins goal q (replies_of first others)
-  of_answered first others [] a = absurd a
-  of_answered first [] (m ∷ []) a = (ap (λ r. r ∷ []) a.0, a.1)
-  of_answered first [] (m ∷ n ∷ moves) a = absurd a.2
-  of_answered first (next ∷ others) (m ∷ moves) a =
-      let rest = of_answered next others moves a.2 in (ap (λ r. r ∷ moves_of (replies_of next others)) a.0 ∙ ap (λ ms. m ∷ ms) rest.0, (a.1, rest.1))
-
-  -- one reply more is answered
-  pub answered_more : (moves : List Ply) (replies : List (Ply × Plan)) (i : ℕ) (reply : Ply × Plan) → i < length moves → i < length replies → reply ≡ get_or replies i reply → AreAnswered goal q (drop i moves) (drop i replies) ↔ ((reply.0 ≡ get_or moves i reply.0) × WinsAfter goal q reply.0 reply.1 × AreAnswered goal q (drop (i + 1) moves) (drop (i + 1) replies))
-  answered_more moves replies i reply a b is_reply =
-      let next_m : drop i moves ≡ get_or moves i reply.0 ∷ drop (i + 1) moves = drop_more moves i reply.0 a in
-      let next_reply : drop i replies ≡ reply ∷ drop (i + 1) replies = next_item replies i reply b is_reply in
-      rw (next_m, next_reply) (λ h. h, λ h. h)
-
-  pub answered_length : (moves : List Ply) (replies : List (Ply × Plan)) → AreAnswered goal q moves replies → length moves ≡ length replies
-  answered_length [] [] a = refl
-  answered_length [] (reply ∷ replies) a = absurd a
-  answered_length (m ∷ moves) [] a = absurd a
-  answered_length (m ∷ moves) (reply ∷ replies) a = ap suc (answered_length moves replies a.2)
-
-  -- a reply leads to one position
-  pub wins_after : (r : Ply) (b : PlainBoard) (plan : Plan) → IsMove q r b → WinsAfter goal q r plan ↔ Wins goal b plan
-  wins_after r b plan move = (λ w. subst (λ p. Wins goal p plan) (one_after q r w.0 b w.1 move) w.2, λ w. (b, move, w))
+each_wins : (goal : Goal) (q : PlainBoard) (first : Ply × Plan) (others : List (Ply × Plan)) → AllWin goal q (first ∷ others) → EachWins goal q (replies_of first others)
+each_wins goal q first [] w = w.0
+each_wins goal q first (next ∷ others) w = (w.0, each_wins goal q next others w.1)
 
 module _ (goal : Goal) (b q : PlainBoard) (m : Ply) (move : IsMove b m q) where
-  -- a line that ends wins where it may end so after the move
-  pub wins_ends : (end : End) → Wins goal b (ends m end) ↔ EndsAt goal q end
-  wins_ends end = (λ w. subst (λ p. EndsAt goal p end) (one_after b m w.0 q w.1 move) w.2, λ e. (q, move, e))
+  -- a list of lawful replies wins where each of them does
+  pub wins_plan_of : (replies : List (Ply × Plan)) → 0 < length replies → ListsLawful q (moves_in replies) → AllWin goal q replies → Wins goal b (plan_of m replies)
+  wins_plan_of [] some lists w = absurd (omega arith)
+  wins_plan_of (first ∷ others) some lists w = (q, move, subst (ListsLawful q) (sym (moves-replies_of first others)) lists, each_wins goal q first others w)
 
-  -- a list of replies wins where the lawful replies are answered
-  pub wins_plan_of : (moves : List Ply) (replies : List (Ply × Plan)) → ListsLawful q moves → 0 < length replies → Wins goal b (plan_of m replies) ↔ AreAnswered goal q moves replies
-  wins_plan_of moves [] lists some = absurd (omega arith)
-  wins_plan_of moves (first ∷ others) lists some = (
-    λ w.
-        let same = one_after b m w.0 q w.1 move in
-        let listed = subst (λ p. ListsLawful p (moves_of (replies_of first others))) same w.2 in
-        answered_of goal q first others moves (one_list q (moves_of (replies_of first others)) moves listed lists) (subst (λ p. EachWins goal p (replies_of first others)) same w.3),
-    λ a. let rest = of_answered goal q first others moves a in (q, move, subst (ListsLawful q) (sym rest.0) lists, rest.1),
-  )
+  pub wrong_ends : (end : End) (wrong : Wrong) → IsWrongEnd goal q end wrong → IsWrong goal b (ends m end) wrong
+  wrong_ends ending.Mate Unlawful f = absurd f
+  wrong_ends ending.Stale Unlawful f = absurd f
+  wrong_ends end _ f = (q, move, f)
+
+  wrong_splits : (replies : Replies) (wrong : Wrong) → AreWrong q (moves_of replies) wrong → IsWrong goal b (splits m replies) wrong
+  wrong_splits replies Unlawful f = absurd f
+  wrong_splits replies _ f = (q, move, f)
+
+  -- a flaw below is one of the plan
+  pub flaw_plan_of : (replies : List (Ply × Plan)) (line : List Ply) (wrong : Wrong) → 0 < length replies → IsFlawBelow goal q replies line wrong → IsFlaw goal b (plan_of m replies) (m ∷ line) wrong
+  flaw_plan_of [] line wrong some f = absurd (omega arith)
+  flaw_plan_of (first ∷ others) [] wrong some f =
+      (refl, wrong_splits (replies_of first others) wrong (subst (λ ms. AreWrong q ms wrong) (sym (moves-replies_of first others)) f))
+  flaw_plan_of (first ∷ others) (r ∷ line) wrong some f =
+      (refl, q, move, f.0, subst (λ rs. Contains rs (r, f.0)) (sym (listed-replies_of first others)) f.1, f.2, f.3, f.4)
+
+-- ---- a plan with a flaw doesn't win
+
+no_end : (goal : Goal) (q : PlainBoard) (end : End) (wrong : Wrong) → IsWrongEnd goal q end wrong → EndsAt goal q end → ⊥
+no_end goal q ending.Mate NotMate f e = f e
+no_end goals.MateOrStale q ending.Stale NotStale f e = f e
+no_end goals.Mate q ending.Stale _ f e = e
+no_end _ q _ _ f e = absurd f
+
+no_list : (q : PlainBoard) (replies : List Ply) (wrong : Wrong) → AreWrong q replies wrong → ListsLawful q replies → ⊥
+no_list q replies (LeftOut r) f lists = f.1 ((lists.exact r).1 f.0)
+no_list q replies (UnlawfulReply r) f lists = f.1 ((lists.exact r).0 f.0)
+no_list q replies (OutOfPlace r) f lists = f.5 (subst (λ ms. slice_get ms f.1 ≡ Some r) (one_list q replies f.0 lists f.2) f.4)
+no_list q replies _ f lists = absurd f
+
+no_win : (goal : Goal) (b : PlainBoard) (plan : Plan) (wrong : Wrong) → IsWrong goal b plan wrong → Wins goal b plan → ⊥
+no_win goal b (ends m end) Unlawful f w = f (w.0, w.1)
+no_win goal b (splits m replies) Unlawful f w = f (w.0, w.1)
+no_win goal b (ends m end) wrong f w = no_end goal f.0 end wrong f.2 (subst (λ p. EndsAt goal p end) (one_after b m w.0 f.0 w.1 f.1) w.2)
+no_win goal b (splits m replies) wrong f w = no_list f.0 (moves_of replies) wrong f.2 (subst (λ p. ListsLawful p (moves_of replies)) (one_after b m w.0 f.0 w.1 f.1) w.2)
+
+-- behind a reply its plan wins
+wins_behind : (goal : Goal) (q : PlainBoard) (replies : Replies) (r : Ply) (below : Plan) → EachWins goal q replies → Contains (listed replies) (r, below) → WinsAfter goal q r below
+wins_behind goal q (last s plan) r below w among =
+    elim (among_more (s, plan) [] (r, below) among) as (λ _. WinsAfter goal q r below) [
+      | inl e ↦ subst (λ x. WinsAfter goal q x.0 x.1) e w
+      | inr none ↦ absurd (omega (arith, none.1))
+    ]
+wins_behind goal q (more s plan replies) r below w among =
+    elim (among_more (s, plan) (listed replies) (r, below) among) as (λ _. WinsAfter goal q r below) [
+      | inl e ↦ subst (λ x. WinsAfter goal q x.0 x.1) e w.0
+      | inr later ↦ wins_behind goal q replies r below w.1 later
+    ]
+
+pub flaw_loses : (goal : Goal) (b : PlainBoard) (plan : Plan) (line : List Ply) (wrong : Wrong) → IsFlaw goal b plan line wrong → Wins goal b plan → ⊥
+flaw_loses goal b plan [] wrong f w = absurd f
+flaw_loses goal b plan (m ∷ []) wrong f w = no_win goal b plan wrong f.1 w
+flaw_loses goal b (ends n end) (m ∷ r ∷ line) wrong f w = let none = f.4 in absurd (omega (arith, none.1))
+flaw_loses goal b (splits n replies) (m ∷ r ∷ line) wrong f w =
+    let each = subst (λ p. EachWins goal p replies) (one_after b n w.0 f.1 w.1 (subst (λ x. IsMove b x f.1) f.0 f.2)) w.3 in
+    let behind = wins_behind goal f.1 replies r f.3 each f.4 in
+    flaw_loses goal f.5 f.3 line wrong f.7 (subst (λ p. Wins goal p f.3) (one_after f.1 r behind.0 f.5 behind.1 f.6) behind.2)

@@ -2,6 +2,7 @@
 #![tactic(auto)]
 
 mod fault;
+mod flaws;
 mod laws;
 mod read;
 mod tree;
@@ -9,8 +10,9 @@ mod wins;
 mod written;
 
 pub use fault::{NoMemory, TreeFault};
-pub use laws::{deep_is_before_the_fault, one_offset, one_tree};
+pub use flaws::{Flaw, Wrong};
+pub use laws::{deep_is_before_the_fault, flaw_excludes_win, one_offset, one_tree};
 pub use read::read_tree;
 pub use tree::{End, Tree};
-pub use wins::check;
+pub use wins::{check, find_flaw};
 pub use written::tree_text;

@@ -1,19 +1,17 @@
-use Rattle.std.proofs.Common.{◌≡◌, ◌↔◌, ◌+◌, ◌*◌, max, length, drop}
-use Rattle.wintree.proofs.Common.{depth, deepest_in, AreAnswered, highest_in}
+use Rattle.std.proofs.Common.{◌≡◌, ◌+◌, ◌*◌, max, drop}
+use Rattle.wintree.proofs.Common.{depth, deepest_in, AllWin, highest_in}
 use Rattle.wintree.proofs.wins.+checker.Given as goal
 
-abbrev pub decreases-height_if_won : goal.decreases-height_if_won
-decreases-height_if_won g l = 2 * depth l.tree.now
+abbrev pub decreases-height_or_flaw : goal.decreases-height_or_flaw
+decreases-height_or_flaw g l = 2 * depth l.tree.now
 
-abbrev pub decreases-highest_if_won : goal.decreases-highest_if_won
-decreases-highest_if_won g l = 2 * deepest_in l.replies.now + 1
+abbrev pub decreases-highest_or_flaw : goal.decreases-highest_or_flaw
+decreases-highest_or_flaw g l = 2 * deepest_in l.replies.now + 1
 
--- all are answered where those that are left are
-abbrev pub invariant-highest_if_won-loop-i : goal.invariant-highest_if_won-loop-i
-invariant-highest_if_won-loop-i g l =
-    let answered = AreAnswered l.goal l.position in
+-- all win where those that are left do
+abbrev pub invariant-highest_or_flaw-loop-reply : goal.invariant-highest_or_flaw-loop-reply
+invariant-highest_or_flaw-loop-reply g l =
     record {
-      same_length : length l.moves ≡ length l.replies;
-      left : answered l.moves l.replies ↔ answered (drop l.i l.moves) (drop l.i l.replies);
-      highest : max l.highest (highest_in (drop l.i l.replies)) ≡ highest_in l.replies;
+      left : AllWin l.goal l.position (drop l.reply-index l.replies) → AllWin l.goal l.position l.replies;
+      highest : max l.highest (highest_in (drop l.reply-index l.replies)) ≡ highest_in l.replies;
     }
