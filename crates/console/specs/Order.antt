@@ -43,13 +43,13 @@ abbrev pub AsksWhereOver : Line → Type 0
 AsksWhereOver line = AsksOfMoves line.action × IsOver line.fen.now
 
 -- a line that is answered may tell standard error something: one that asks for moves, where the game is over, and a check, why a tree doesn't win
-abbrev pub TellsOf : Line → Type 0
-TellsOf line = AsksWhereOver line ⊎ MayRead line
+abbrev pub TellsMoreOf : Line → Type 0
+TellsMoreOf line = AsksWhereOver line ⊎ MayRead line
 
 -- standard error may be told more than why a run has no answer: by such a line, by a batch, of each of its lines that is refused or over, and by the
 -- tree of a first move that misses, what refutes it
 abbrev pub TellsMore : Order → Type 0
-TellsMore (One line) = TellsOf line
+TellsMore (One line) = TellsMoreOf line
 TellsMore (Batch goal limits options) = ⊤
 TellsMore (TreeAfter played goal limits) = MissesAt played goal limits
 TellsMore _ = ⊥

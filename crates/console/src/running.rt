@@ -7,7 +7,7 @@ ghost use Rattle.endings.specs.Outcome.{reads_failed};
 ghost use Rattle.endings.specs.Run.{ending_of, run_of, EndsReply, Finishes, MayTell, Refuses};
 ghost use Rattle.endings.specs.Words.{MeansSome, MeansSomeIn, RunsProgram, RunsWords};
 ghost use Rattle.console.specs.Batch.{RefusesBatch, RunsBatch, wanting_text};
-ghost use Rattle.console.specs.Order.{MayReadOf, RunsOrder, TellsMore, TellsOf};
+ghost use Rattle.console.specs.Order.{MayReadOf, RunsOrder, TellsMore, TellsMoreOf};
 ghost use Rattle.console.specs.Playing.{WritesAfter};
 ghost use Rattle.console.specs.Run.{RunsLine};
 
@@ -62,7 +62,7 @@ fn run_line_on<
     ensures unread { MayRead line.now ⊎ (reader.new ≡ reader.old) }
     ensures runs { RunsLine line.now (run_of S.remaining S.failures reader.old reader.new
         (ending_of K.contents K.failures writer.old writer.new result)) }
-    ensures silent { MayTell result ⊎ TellsOf line.now ⊎ (errors.new ≡ errors.old) }
+    ensures silent { MayTell result ⊎ TellsMoreOf line.now ⊎ (errors.new ≡ errors.old) }
 {
     let watch = watch_of(context, line);
     match reply_to(context.rt, watch.as_ref(), line, reader, errors) {
