@@ -12,7 +12,7 @@ use devices::{Failed, Sink, write_all};
 use moves::{Board, Goal, read_sound};
 use problems::Question;
 use refusals::Refusal;
-use replies::{Context, searched_at};
+use replies::{Context, Tally, searched_at};
 use std::sync::Wait;
 use std::thread::Threads;
 use std::time::Clock;
@@ -108,15 +108,24 @@ fn write_next<K: Sink>(certificate: &mut Checked, writer: &mut K) -> Result<bool
     Ok(true)
 }
 
-/// Makes and writes line after line, to the end or until something cuts them off.
-pub fn write_claims<K: Sink>(certificate: &mut Checked, writer: &mut K) -> Option<Cut>
+/// Makes and writes line after line, to the end or until something cuts them off. The tally shows how many.
+pub fn write_claims<R: Clock + Eprint, K: Sink>(
+    rt: &R,
+    tally: &Tally,
+    certificate: &mut Checked,
+    writer: &mut K,
+) -> Option<Cut>
     requires begun { HasTaken certificate.old.checker }
     requires writes { K.failures writer.old < u64.MAX }
     ensures { EndsClaims certificate.old.checker (writing_of K.contents K.failures writer.old writer.new) result }
 {
+    let mut number: u64 = 0;
     for _ in 0..u64::MAX {
         match write_next(certificate, writer) {
-            Ok(true) => {}
+            Ok(true) => {
+                number = number.saturating_add(1);
+                tally.show(rt, number);
+            }
             Ok(false) => return None,
             Err(cut) => return Some(cut),
         }

@@ -7,19 +7,20 @@ ghost use Rattle.endings.specs.Run.{ending_of, readerless, MayTell, WritesReply}
 ghost use Rattle.endings.specs.Words.{MeansSome, RunsWords};
 ghost use Rattle.replies.specs.Searching.{IsOver};
 ghost use Rattle.composing.specs.Certifying.{WritesCertificate, WritesClaims};
-ghost use Rattle.composing.specs.Claims.{HasAnswerLine};
+ghost use Rattle.composing.specs.Claims.{EndsClaims, HasAnswerLine, writing_of};
 ghost use Rattle.composing.specs.Order.{ComposesOrder, ComposesOver};
 ghost use Rattle.composing.specs.Solution.{IsSolutionReply};
 
 use crate::certificate::{Begun, Cut, begin, write_claims};
 use crate::problem::solution_reply;
+use certifying::Checked;
 use command_line::{Limits, LineFault, Order, SolutionOptions, Subject, read_order};
 use devices::{Sink, write_all};
 use endings::{
     ANSWERED, REFUSED_WORDS, fail_to_write, finish, give_up_for_memory, proof_refused,
     refuse_and_tell, search_refused,
 };
-use replies::{Context, context_of, tell_if_over};
+use replies::{Context, Tally, context_of, tell_if_over};
 use std::convert::AsStr;
 use std::io::Write;
 use std::sync::Wait;
@@ -41,7 +42,7 @@ fn run_certify<R: Threads + Wait + Eprint + Clock + Sync + AllocGlobal, K: Sink,
     match begin(context, subject, limits) {
         Ok(begun) => {
             tell_if_over(errors, subject.fen, None);
-            write_begun(context.rt, subject, begun, writer, errors)
+            write_begun(context, subject, begun, writer, errors)
         }
         Err(refusal) => {
             let refused = search_refused(subject.fen, refusal);
@@ -50,9 +51,27 @@ fn run_certify<R: Threads + Wait + Eprint + Clock + Sync + AllocGlobal, K: Sink,
     }
 }
 
+/// The lines of claims, with a tally of them where it is to be shown.
+fn write_all_claims<R: Clock + Eprint, K: Sink>(
+    context: &Context<'_, R>,
+    certificate: &mut Checked,
+    writer: &mut K,
+) -> Option<Cut>
+    requires begun { HasTaken certificate.old.checker }
+    requires writes { K.failures writer.old < u64.MAX }
+    ensures { EndsClaims certificate.old.checker (writing_of K.contents K.failures writer.old writer.new) result }
+{
+    // how many lines there will be isn't known
+    let lines = context.shows.then_some(0);
+    let tally = Tally::new(context.rt, lines, 0);
+    let cut = write_claims(context.rt, &tally, certificate, writer);
+    tally.hide(context.rt);
+    cut
+}
+
 /// Writes the answer's line and the lines of claims, and behind them why the next isn't taken, if it isn't.
-fn write_begun<R: AllocGlobal, K: Sink, E: Write>(
-    rt: &R,
+fn write_begun<R: Clock + Eprint + AllocGlobal, K: Sink, E: Write>(
+    context: &Context<'_, R>,
     subject: &Subject<'_>,
     begun: Begun,
     writer: &mut K,
@@ -69,12 +88,12 @@ fn write_begun<R: AllocGlobal, K: Sink, E: Write>(
         mut certificate,
     } = begun;
     match write_all(writer, line.as_slice()) {
-        Ok(()) => match write_claims(&mut certificate, writer) {
+        Ok(()) => match write_all_claims(context, &mut certificate, writer) {
             None => ANSWERED,
             Some(Cut::NoMemory) => give_up_for_memory(writer, errors),
             Some(Cut::Refused(refusal)) => {
                 let why = proof_refused(subject, b"", refusal);
-                refuse_and_tell(rt, writer, errors, &why)
+                refuse_and_tell(context.rt, writer, errors, &why)
             }
             Some(Cut::WriteFailed) => fail_to_write(errors),
         },

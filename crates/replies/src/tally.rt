@@ -1,4 +1,4 @@
-//! How far a batch is, which standard error is told at most once a second.
+//! How far a batch, or the writing of a certificate, is, which standard error is told at most once a second.
 ghost use Rattle.std.specs.Prelude.{◌≡◌, None};
 ghost use Rattle.replies.specs.Searching.{IsQuiet};
 
@@ -92,6 +92,20 @@ impl Tally {
     {
         if let Some(seconds) = self.due(rt) {
             let _ = self.draw(errors, number, seconds);
+        }
+    }
+
+    /// Shows how many lines are written, if a second is over since the last time.
+    pub fn show<R: Clock + Eprint>(&self, rt: &R, number: u64) {
+        if let Some(seconds) = self.due(rt) {
+            let _ = eprint!(rt; "\r{number} lines, {seconds} s\u{1b}[K");
+        }
+    }
+
+    /// Clears what was shown, once all lines are written.
+    pub fn hide<R: Eprint>(&self, rt: &R) {
+        if self.told.load(Ordering::SeqCst) != 0 {
+            let _ = eprint!(rt; "{CLEARED}");
         }
     }
 
