@@ -46,7 +46,11 @@ fn write_moves<E: Write>(errors: &mut E, moves: &[Move], from: Option<Square>) -
     ensures { OnOk result (AppendsText (E.contents errors.old) (E.contents errors.new)) }
 {
     for m in moves {
-        if from.is_some_and(|from| m.from != from) {
+        let is_told = match from {
+            Some(from) => m.from == from,
+            None => true,
+        };
+        if !is_told {
             continue;
         }
         write!(errors, " {m}")?;
