@@ -38,7 +38,7 @@ fn whole_in<R: Abort + AllocGlobal>(rt: &R, root: &Root) -> Result<String, Halt>
 }
 
 /// A position, the goal, the plies it is searched for, and the text.
-const WHOLE: [(&str, Goal, u8, &str); 5] = [
+const WHOLE: [(&str, Goal, u8, &str); 7] = [
     (
         "2k3/6/6/2K3/6/5Q w",
         Goal::Mate,
@@ -47,9 +47,9 @@ const WHOLE: [(&str, Goal, u8, &str); 5] = [
 mate in 3, cooked by 1 key\n\
 no set play\n\
 tries\n\
-1.Qb5+? Kxb5!\n\
-1.Kb4? Kd5!\n\
-1.Kd4? Kb6!\n\
+1.Qb5+?\n  1...Kd6 2.Kd4 threats 3.Qd5# 3.Qa6# 3.Qb6#\n    2...Ke6 3.Qe5#\n  but 1...Kxb5!\n\
+1.Kb4? threats 2.Qd1 2.Qd3\n  1...~ 2.Qd1 zugzwang, dual 2.Qd3\n    2...Kb6 3.Qd6#\n  1...Kb6 2.Qb5#, dual 2.Qf6#\n  1...Kd6 2.Qf5 zugzwang\n    2...Kc6 3.Qc5#, dual 3.Qe6#\n  but 1...Kd5!\n\
+1.Kd4? threat 2.Qa6#\n  1...Kd6 2.Qa6#, dual 2.Qf6#\n  but 1...Kb6!\n\
 1.Qf5! threat 2.Kc4\n  1...~ 2.Kc4 threats 3.Qc5# 3.Qe6# 3.Qf6#\n    2...Kb6 3.Qb5#\n    2...Kd6 3.Qd5#, dual 3.Qf6#\n  1...Kb6 2.Kb4 threats 3.Qb5# 3.Qe6# 3.Qf6#, dual 2.Kc4\n    2...Ka6 3.Qa5#, dual 3.Qb5# 3.Qe6# 3.Qf6#\n    2...Kc6 3.Qc5#, dual 3.Qe6#\n  1...Kd6 2.Kb4 zugzwang, dual 2.Kc4 2.Kd4\n    2...Kc6 3.Qc5#, dual 3.Qe6#\n\
 1.Kc4! threat 2.Qf6#\n  1...Kb6 2.Qa1 zugzwang, dual 2.Qf5\n    2...Kc6 3.Qa6#, dual 3.Qf6#\n  1...Kd6 2.Qf6#\n",
     ),
@@ -61,8 +61,37 @@ tries\n\
 mate in 3\n\
 set play\n  1...Kd5 2.Kc3 zugzwang\n    2...Kc5 3.Re5#\n\
 tries\n\
-1.Kb3? Kd4!\n\
+1.Kb3? threat 2.Rd1\n  1...~ 2.Rd1 zugzwang\n    2...Kb5 3.Rd5#\n  1...Kb5 2.Re5#\n  1...Kd5 2.Kc3 zugzwang\n    2...Kc5 3.Re5#\n  but 1...Kd4!\n\
 1.Kc3! threat 2.Re5#\n  1...Kb5 2.Ra1 zugzwang\n    2...Kc5 3.Ra5#\n  1...Kd5 2.Re2 zugzwang, dual 2.Re3\n    2...Kc5 3.Re5#\n",
+    ),
+    (
+        "2Nk1/pR3/5/2P1P/2K2 w",
+        Goal::Mate,
+        5,
+        "\
+mate in 3\n\
+no set play\n\
+tries\n\
+1.c3? threat 2.Nd3\n  1...~ 2.Nd3 threat 3.Rd4#\n    2...a3 3.Rd4#\n  1...a3 2.Nd3 threat 3.Rd4#\n    2...a2 3.Rd4#\n  1...Ke5 2.Rd4 threat 3.Nd3#, dual 2.Nd3+\n    2...a3 3.Nd3#\n  but 1...Kxc5!\n\
+1.e3? threat 2.Nd3\n  1...~ 2.Nd3 threats 3.e4# 3.Rd4#\n    2...a3 3.e4#, dual 3.Rd4#\n  1...a3 2.Nd3 threats 3.e4# 3.Rd4#\n    2...a2 3.e4#, dual 3.Rd4#\n  1...Ke5 2.e4 threat 3.Nd3#, dual 2.Rd4 2.Nd3+\n    2...a3 3.Nd3#\n  but 1...Kxc5!\n\
+1.Nxa4? zugzwang\n  but 1...Ke5!\n\
+1.Ne4? zugzwang\n  1...Ke5 2.Nc3 threat 3.Re4#\n    2...a3 3.Re4#\n  but 1...a3!\n\
+1.Nd3! threats 2.c3 2.e3\n  1...~ 2.c3 threat 3.Rd4#, dual 2.e3\n    2...a3 3.Rd4#\n  1...a3 2.c3 threat 3.Rd4#, dual 2.e3\n    2...a2 3.Rd4#\n",
+    ),
+    (
+        "5k/3K2/6/6/1q4/r5 b",
+        Goal::MateOrStale,
+        3,
+        "\
+goal in 2\n\
+set play\n  1...Kd6 2.Qb5=\n\
+tries\n\
+1.Rc1? threats 2.Qb4= 2.Qe5#\n  1...Kd6 2.Qa2=, dual 2.Qd2# 2.Qb3= 2.Qd4# 2.Qb5= 2.Qe5#\n  but 1...Ke4!\n\
+1.Qc2? threat 2.Rd1#\n  1...Kd6 2.Rd1#, dual 2.Ra5= 2.Qc4=\n  but 1...Kd4!\n\
+1.Qc3? zugzwang\n  1...Kd6 2.Rd1#, dual 2.Ra5= 2.Qc4=\n  but 1...Ke4!\n\
+1.Qd4+?\n  1...Kc6 2.Rb1=, dual 2.Ra5=\n  but 1...Kxd4!\n\
+1.Qe5+?\n  1...Kc6 2.Rb1=, dual 2.Ra6#\n  but 1...Kc4!\n\
+1.Qb4! threats 2.Rc1= 2.Ra6=\n  1...Kc6 2.Rd1=, dual 2.Ra5= 2.Ke5= 2.Ke6=\n",
     ),
     (
         "1K1k1/qR3/5/5/5 w",

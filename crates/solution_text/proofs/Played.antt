@@ -1,27 +1,48 @@
--- The keys with the play behind each, and the set play.
-use Rattle.std.proofs.Common.{true, false, ◌==◌, codes, Some, ◌≡◌, ℕ, ◌+◌, ◌-◌, ◌<◌, ◌≤◌, List, [], ◌∷◌, ◌++◌, length, take, get_or, refl, sym, ◌∙◌, ap, subst}
-use Rattle.solution_text.proofs.Common.{decimal, map-append, length-map, take_all, All-push, All-nil, PlainBoard, Ply, Notation, name_text, IsFewest, ListsContinuations, passed, Play, Sequels, done, more, IsPlayedKey, IsWholeSetPlay, headline, AreSequelsText, IsPlayedText, IsWholeSolution, TellsReplies, TellsKey, TellsKeys, TellsSetPlay, TellsTries, take_more}
+-- Keys and tries with the play behind each, and the set play.
+use Rattle.std.proofs.Common.{true, false, ◌==◌, codes, Some, ◌≡◌, ℕ, ◌+◌, ◌-◌, ◌<◌, ◌≤◌, List, [], ◌∷◌, ◌++◌, length, take, get_or, map, All, refl, sym, ◌∙◌, ap, subst}
+use Rattle.solution_text.proofs.Common.{decimal, map-append, length-map, take_all, All-push, All-nil, PlainBoard, Goal, Ply, IsMove, IsLawful, one_after, Notation, name_text, IsFewest, ListsContinuations, passed, IsTry, ListsTries, Play, Sequels, done, more, IsPlayedTry, IsWholeSetPlay, headline, AreTexts, AreSequelsText, IsPlayedTryText, IsWholeSolution, TellsReplies, TellsEach, TellsKeys, TellsPlayedTries, TellsSetPlay, TellsTries, take_more}
 use Rattle.std.proofs.Math.Dec.{eqb-suc-zero}
 use Rattle.std.proofs.lemmas.Bool.{false≢true}
 use Rattle.rules.specs.Reach.{IsSound}
 use Rattle.solutions.specs.declared.extras.Extras.{Extras}
+use Rattle.solutions.specs.declared.first_try.Try.{Try}
 use Rattle.solution_text.proofs.Texts.{AreTexts-push}
 
-module _ (notation : Notation) (b : PlainBoard) (n : ℕ) (xs : List Ply) where
-  pub keys_none : (text : List ℕ) → text ≡ [] → TellsKeys notation b n (take 0 xs) text
-  keys_none text none = ([], refl, All-nil (IsPlayedKey notation.goal b n), none)
+module _ {X : Type 0} (P : X × Play → Type 0) (IsText : X × Play → List ℕ → Type 0) (xs : List X) where
+  pub each_none : (text : List ℕ) → text ≡ [] → TellsEach P IsText (take 0 xs) text
+  each_none text none = record { played = []; firsts = refl; each = All-nil P; texts = none }
 
-  pub keys_one : (i : ℕ) (m : Ply) (text one new : List ℕ) → i < length xs → m ≡ get_or xs i m → TellsKeys notation b n (take i xs) text → TellsKey notation b n m one → new ≡ text ++ one
-      → TellsKeys notation b n (take (i + 1) xs) new
-  keys_one i m text one new within is (keys, firsts, each, lines) (then, here, line) added = subst (TellsKeys notation b n (take (i + 1) xs)) (sym added) (
-    keys ++ (m, then) ∷ [],
-    map-append (λ (k : Ply × Play). k.0) keys ((m, then) ∷ []) ∙ ap (λ l. l ++ m ∷ []) firsts ∙ sym (take_more xs i m within is),
-    All-push (IsPlayedKey notation.goal b n) keys (m, then) each here,
-    AreTexts-push (IsPlayedText notation b) keys (m, then) text one lines line,
-  )
+  pub each_one : (i : ℕ) (x : X) (then : Play) (text one new : List ℕ) → i < length xs → x ≡ get_or xs i x → TellsEach P IsText (take i xs) text → P (x, then) → IsText (x, then) one → new ≡ text ++ one
+      → TellsEach P IsText (take (i + 1) xs) new
+  each_one i x then text one new within is so_far here line added = subst (TellsEach P IsText (take (i + 1) xs)) (sym added) (record {
+    played = so_far.played ++ (x, then) ∷ [];
+    firsts = map-append (λ (k : X × Play). k.0) so_far.played ((x, then) ∷ []) ∙ ap (λ l. l ++ x ∷ []) so_far.firsts ∙ sym (take_more xs i x within is);
+    each = All-push P so_far.played (x, then) so_far.each here;
+    texts = AreTexts-push IsText so_far.played (x, then) text one so_far.texts line;
+  })
 
-  pub keys_all : (i : ℕ) (text : List ℕ) → length xs ≤ i → TellsKeys notation b n (take i xs) text → TellsKeys notation b n xs text
-  keys_all i text all told = subst (λ ms. TellsKeys notation b n ms text) (take_all i xs all) told
+  pub each_all : (i : ℕ) (text : List ℕ) → length xs ≤ i → TellsEach P IsText (take i xs) text → TellsEach P IsText xs text
+  each_all i text all told = subst (λ ys. TellsEach P IsText ys text) (take_all i xs all) told
+
+-- ---- tries
+
+-- the reply that refutes a try
+pub refutation_lawful : (goal : Goal) (b : PlainBoard) (n : ℕ) (t : Try) (q : PlainBoard) → IsMove b t.first q → IsTry goal b n t → IsLawful q t.refutation
+refutation_lawful goal b n t q move is =
+    let refutes = is.refutation.refutes in
+    (refutes.0, subst (λ (x : PlainBoard). IsMove x t.refutation refutes.0) (one_after b t.first is.after q is.move move) refutes.1)
+
+module _ (notation : Notation) (b : PlainBoard) (n : ℕ) where
+  pub tries_none : (tries : List Try) (text : List ℕ) → ListsTries notation.goal b n tries → (length tries == 0) ≡ true → text ≡ codes "no tries\n" → TellsTries notation b n true text
+  tries_none [] text lists none is = (Some [], record { tried = lists; each = All-nil (IsPlayedTry notation.goal b n) }, is)
+  tries_none (t ∷ others) text lists none is = absurd (false≢true (sym (eqb-suc-zero (length others)) ∙ none))
+
+  pub tries_told : (tries : List Try) (lines text : List ℕ) → ListsTries notation.goal b n tries → (length tries == 0) ≡ false → TellsPlayedTries notation b n tries lines → text ≡ codes "tries\n" ++ lines → TellsTries notation b n true text
+  tries_told tries lines text lists some told is = by_played told.played told.firsts told.each told.texts
+    where
+      by_played : (played : List (Try × Play)) → map (λ (t : Try × Play). t.0) played ≡ tries → All (IsPlayedTry notation.goal b n) played → AreTexts (IsPlayedTryText notation b) played lines → TellsTries notation b n true text
+      by_played [] firsts each texts = let none : true ≡ false = subst (λ (ts : List Try). (length ts == 0) ≡ false) (sym firsts) some in absurd (false≢true (sym none))
+      by_played (t ∷ others) firsts each texts = (Some (t ∷ others), record { tried = subst (ListsTries notation.goal b n) (sym firsts) lists; each = each }, (lines, texts, is))
 
 -- ---- the set play
 
@@ -58,9 +79,9 @@ set_play_unsound notation b n text unsound is =
 pub whole_told : (notation : Notation) (b : PlainBoard) (n : ℕ) (extras : Extras) (firsts : List Ply) (head set_play tries keys text : List ℕ) → IsFewest notation.goal b n → ListsContinuations notation.goal b n firsts
     → head ≡ headline notation.goal n (length firsts) → TellsSetPlay notation b n extras.set_play set_play → TellsTries notation b n extras.tries tries → TellsKeys notation b n firsts keys
     → text ≡ head ++ (set_play ++ (tries ++ keys)) → IsWholeSolution notation.symbols notation.goal b extras text
-whole_told notation b n extras firsts head set_play tries keys text fewest lists begins (sets, set_is, set_text) (found, found_is, found_text) (plays, named, each, lines) is =
-    let count : length firsts ≡ length plays = ap (length {A = Ply}) (sym named) ∙ length-map plays (λ (k : Ply × Play). k.0) in (
-      record { plies = n; keys = plays; set_play = sets; tries = found },
-      record { plies = fewest; firsts = subst (ListsContinuations notation.goal b n) (sym named) lists; keys = each; set_play = set_is; tries = found_is },
-      (set_play, set_text, tries, found_text, keys, lines, is ∙ ap (λ h. h ++ (set_play ++ (tries ++ keys))) (begins ∙ ap (headline notation.goal n) count)),
+whole_told notation b n extras firsts head set_play tries keys text fewest lists begins (sets, set_is, set_text) (found, found_is, found_text) told is =
+    let count : length firsts ≡ length told.played = ap (length {A = Ply}) (sym told.firsts) ∙ length-map told.played (λ (k : Ply × Play). k.0) in (
+      record { plies = n; keys = told.played; set_play = sets; tries = found },
+      record { plies = fewest; firsts = subst (ListsContinuations notation.goal b n) (sym told.firsts) lists; keys = told.each; set_play = set_is; tries = found_is },
+      (set_play, set_text, tries, found_text, keys, told.texts, is ∙ ap (λ h. h ++ (set_play ++ (tries ++ keys))) (begins ∙ ap (headline notation.goal n) count)),
     )

@@ -1,6 +1,6 @@
 -- Replies with their sequels, one after another, and the threats before them.
 use Rattle.std.proofs.Common.{Vec, ◌≡◌, ℕ, ◌+◌, ◌<◌, ◌≤◌, List, [], ◌∷◌, ◌++◌, zero, suc, length, take, drop, get_or, append_assoc, refl, sym, ◌∙◌, ap, subst, arith}
-use Rattle.solution_text.proofs.Common.{PlainBoard, Goal, Ply, IsLawful, ListsLawful, IsFewest, Notation, ListsMoves, ListsContinuations, IsMet, passed, AreThreats, Sequel, sequel, Threat, over, check, zugzwang, short, long, Sequels, done, more, replies_in, IsThreat, AreSequels, AreThreatsText, AreSequelsText, AreThreatened, IsThreatText, IsLongText, TellsLong, TellsReply, TellsReplies, PicksMoves, pick_one, pick_skip, pick_all}
+use Rattle.solution_text.proofs.Common.{PlainBoard, Goal, Ply, IsLawful, ListsLawful, IsFewest, Notation, ListsMoves, ListsContinuations, IsMet, passed, AreThreats, Sequel, sequel, Play, play, Threat, over, check, zugzwang, short, long, Sequels, done, more, replies_in, IsThreat, IsPlay, IsVirtualPlay, AreSequels, AreThreatsText, AreSequelsText, AreThreatened, IsThreatText, IsLongText, TellsLong, TellsReply, TellsReplies, PicksMoves, pick_one, pick_skip, pick_all}
 use Rattle.problems.proofs.Winning.{none_forced, nothing_at_once}
 use Rattle.solutions.specs.declared.threats.Threats.{Threats}
 use Rattle.solutions.specs.declared.threats.Threats.TheVariants.{End, Check, Zugzwang, Moves}
@@ -70,7 +70,7 @@ module _ (notation : Notation) (number : ℕ) (q : PlainBoard) (n : ℕ) (xs : L
       (so_far.replies, pick_all q (IsMet notation.goal q n) xs lists (replies_in so_far.replies) i all so_far.picks (λ m w. (w.0, w.1)), so_far.each, so_far.lines)
 
 -- where each lawful reply is met, those that are met are the lawful ones
-pub all_lawful : (goal : Goal) (q : PlainBoard) (n : ℕ) (moves : List Ply) → ((r : Ply) → IsLawful q r → IsMet goal q n r) → ListsMoves q.game (IsMet goal q n) moves → ListsLawful q moves
+all_lawful : (goal : Goal) (q : PlainBoard) (n : ℕ) (moves : List Ply) → ((r : Ply) → IsLawful q r → IsMet goal q n r) → ListsMoves q.game (IsMet goal q n) moves → ListsLawful q moves
 all_lawful goal q n moves met lists = record {
   ordered = lists.ordered;
   exact = λ r. (
@@ -78,6 +78,10 @@ all_lawful goal q n moves met lists = record {
     λ lawful. (lists.exact r).1 (met r lawful),
   );
 }
+
+-- and virtual play is the play
+pub all_played : (goal : Goal) (q : PlainBoard) (n : ℕ) (then : Play) → ((r : Ply) → IsLawful q r → IsMet goal q n r) → IsVirtualPlay goal q n then → IsPlay goal q n then
+all_played goal q n (play threat replies) met (is, lists, each) = (is, all_lawful goal q n (replies_in replies) met lists, each)
 
 -- ---- continuations
 

@@ -5,10 +5,10 @@ use Rattle.rules.specs.Squares.{Ply}
 use Rattle.algebraic.specs.declared.naming.Notation.{Notation}
 use Rattle.solutions.specs.declared.first_try.Try.{Try}
 use Rattle.solutions.specs.Lines.{ListsMoves, IsMet}
-use Rattle.solutions.specs.Solutions.{passed, ListsTries, IsWhereAsked}
-use Rattle.solutions.specs.Whole.{Sequel, sequel, Play, long, Sequels, done, more, replies_in, IsSequel, IsPlay, AreSequels, IsPlayedKey, IsWholeSetPlay}
-use Rattle.solution_text.specs.Text.{AreTexts, AreTriesText, IsTextOf}
-use Rattle.solution_text.specs.WholeText.{IsSequelText, IsPlayText, IsLongText, AreSequelsText, IsPlayedText, IsWholeSetPlayText}
+use Rattle.solutions.specs.Solutions.{passed, IsWhereAsked}
+use Rattle.solutions.specs.Whole.{Sequel, sequel, Play, long, Sequels, done, more, replies_in, IsSequel, AreSequels, IsPlayedKey, IsVirtualPlay, IsPlayedTry, ListsPlayedTries, IsWholeSetPlay}
+use Rattle.solution_text.specs.Text.{AreTexts, IsTextOf}
+use Rattle.solution_text.specs.WholeText.{IsSequelText, IsPlayText, IsLongText, AreSequelsText, IsPlayedText, IsPlayedTryText, ArePlayedTriesText, IsWholeSetPlayText}
 
 -- the sequel and its text, where these are all continuations
 abbrev pub TellsSequel : Notation → ℕ → PlainBoard → ℕ → List Ply → List ℕ → Type 0
@@ -22,10 +22,10 @@ TellsLong notation number q n moves text =
     (m : Ply) × (duals : List Ply) × (moves ≡ m ∷ duals)
     × (then : Play) × IsSequel notation.goal (passed q) n (sequel m duals then) × IsLongText notation number q (long (sequel m duals then)) text
 
--- the play and its text
+-- the threat, exactly the replies that are met within n plies, with their sequels, and their text
 abbrev pub TellsPlay : Notation → ℕ → PlainBoard → ℕ → List ℕ → List ℕ → Type 0
 TellsPlay notation number q n end text =
-    (then : Play) × IsPlay notation.goal q n then × IsPlayText notation number q end then text
+    (then : Play) × IsVirtualPlay notation.goal q n then × IsPlayText notation number q end then text
 
 -- the reply is met within n plies, with its sequel and their text
 abbrev pub TellsReply : Notation → ℕ → PlainBoard → ℕ → Ply → List ℕ → Type 0
@@ -43,18 +43,32 @@ TellsReplies notation number q n text =
 abbrev pub TellsKey : Notation → PlainBoard → ℕ → Ply → List ℕ → Type 0
 TellsKey notation b n key text = (then : Play) × IsPlayedKey notation.goal b n (key, then) × IsPlayedText notation b (key, then) text
 
+-- the try with its play, and their text
+abbrev pub TellsTry : Notation → PlainBoard → ℕ → Try → List ℕ → Type 0
+TellsTry notation b n t text = (then : Play) × IsPlayedTry notation.goal b n (t, then) × IsPlayedTryText notation b (t, then) text
+
+-- each of these with a play of which P holds, and their text
+pub record TellsEach {X : Type 0} (P : X × Play → Type 0) (IsText : X × Play → List ℕ → Type 0) (xs : List X) (text : List ℕ) : Type 0 where
+  pub played : List (X × Play)
+  pub firsts : map (λ x. x.0) played ≡ xs
+  pub each : All P played
+  pub texts : AreTexts IsText played text
+
 -- these keys with their play, and their text
 abbrev pub TellsKeys : Notation → PlainBoard → ℕ → List Ply → List ℕ → Type 0
-TellsKeys notation b n firsts text =
-    (keys : List (Ply × Play)) × (map (λ k. k.0) keys ≡ firsts) × All (IsPlayedKey notation.goal b n) keys
-    × AreTexts (IsPlayedText notation b) keys text
+TellsKeys notation b n keys text = TellsEach (IsPlayedKey notation.goal b n) (IsPlayedText notation b) keys text
+
+-- these tries with their play, and their text
+abbrev pub TellsPlayedTries : Notation → PlainBoard → ℕ → List Try → List ℕ → Type 0
+TellsPlayedTries notation b n tries text = TellsEach (IsPlayedTry notation.goal b n) (IsPlayedTryText notation b) tries text
 
 -- the set play and its text, where it is asked for
 abbrev pub TellsSetPlay : Notation → PlainBoard → ℕ → Bool → List ℕ → Type 0
 TellsSetPlay notation b n asked text =
     (found : Option Sequels) × IsWhereAsked (IsWholeSetPlay notation.goal b n) asked found × IsTextOf (IsWholeSetPlayText notation b) found text
 
--- the tries and their text, where they are asked for
+-- the tries with their play and the text of these, where they are asked for
 abbrev pub TellsTries : Notation → PlainBoard → ℕ → Bool → List ℕ → Type 0
 TellsTries notation b n asked text =
-    (found : Option (List Try)) × IsWhereAsked (ListsTries notation.goal b n) asked found × IsTextOf (AreTriesText notation b) found text
+    (found : Option (List (Try × Play))) × IsWhereAsked (ListsPlayedTries notation.goal b n) asked found
+    × IsTextOf (ArePlayedTriesText notation b) found text

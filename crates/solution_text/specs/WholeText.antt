@@ -11,9 +11,10 @@ use Rattle.algebraic.specs.declared.symbols.Symbols.{Symbols}
 use Rattle.algebraic.specs.Text.{name_text}
 use Rattle.algebraic.specs.Naming.{IsName}
 use Rattle.solutions.specs.declared.extras.Extras.{Extras}
+use Rattle.solutions.specs.declared.first_try.Try.{Try}
 use Rattle.solutions.specs.Solutions.{passed}
 use Rattle.solutions.specs.Whole.{Sequel, sequel, Play, play, Threat, over, check, zugzwang, short, long, Sequels, done, more, Whole, IsComplete}
-use Rattle.solution_text.specs.Text.{AreTexts, IsNumbered, AreDualsText, threat_word, AreTriesText, IsTextOf, headline}
+use Rattle.solution_text.specs.Text.{AreTexts, IsNumbered, AreDualsText, threat_word, IsTextOf, headline}
 
 -- two blanks for each
 abbrev pub indent : ℕ → List ℕ
@@ -83,11 +84,25 @@ IsWholeSetPlayText notation b done text = text ≡ codes "no set play\n"
 IsWholeSetPlayText notation b (more r s others) text =
     (lines : List ℕ) × AreSequelsText notation 1 (passed b) (more r s others) lines × (text ≡ codes "set play\n" ++ lines)
 
+-- a try, as `1.Kd4? threats 2.Qa1# 2.Qf5#`, the lines behind it, and last the reply that refutes it, as `  but 1...Kb6!`
+abbrev pub IsPlayedTryText : Notation → PlainBoard → Try × Play → List ℕ → Type 0
+IsPlayedTryText notation b (t, then) text =
+    (q : PlainBoard) × IsMove b t.first q × (first : Name) × IsName notation b t.first first
+    × (rest : List ℕ) × IsPlayText notation 1 q [] then rest
+    × (refutation : Name) × IsName notation q t.refutation refutation
+    × (text ≡ codes "1." ++ (name_text first ++ (codes "?" ++ (rest ++ (codes "  but 1..." ++ (name_text refutation ++ codes "!\n"))))))
+
+-- the tries with their play, under a heading
+abbrev pub ArePlayedTriesText : Notation → PlainBoard → List (Try × Play) → List ℕ → Type 0
+ArePlayedTriesText notation b [] text = text ≡ codes "no tries\n"
+ArePlayedTriesText notation b (t ∷ others) text =
+    (tries : List ℕ) × AreTexts (IsPlayedTryText notation b) (t ∷ others) tries × (text ≡ codes "tries\n" ++ tries)
+
 -- the headline, the set play and the tries where they were asked for, and the keys
 abbrev pub IsWholeText : Notation → PlainBoard → Whole → List ℕ → Type 0
 IsWholeText notation b w text =
     (set_play : List ℕ) × IsTextOf (IsWholeSetPlayText notation b) w.set_play set_play
-    × (tries : List ℕ) × IsTextOf (AreTriesText notation b) w.tries tries
+    × (tries : List ℕ) × IsTextOf (ArePlayedTriesText notation b) w.tries tries
     × (keys : List ℕ) × AreTexts (IsPlayedText notation b) w.keys keys
     × (text ≡ headline notation.goal w.plies (length w.keys) ++ (set_play ++ (tries ++ keys)))
 

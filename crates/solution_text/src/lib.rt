@@ -8,6 +8,7 @@ mod sequels;
 mod teller;
 mod tries;
 mod variations;
+mod virtual_play;
 mod whole;
 mod whole_lines;
 

@@ -53,7 +53,8 @@ fn sequel_text<D: Decider, A: Allocator + Copy>(
     Ok(format!(in teller.alloc; " {number}.{name}{play}")?)
 }
 
-/// What stands behind the attacker's move of the teller's number, which led to the board, with so many plies left.
+/// What stands behind the attacker's move of the teller's number, which led to the board: what it threatens, and the replies that are met
+/// within so many plies.
 #[cycle(sequels)]
 pub(crate) fn play_text<D: Decider, A: Allocator + Copy>(
     teller: &Teller<A>,
@@ -65,7 +66,6 @@ pub(crate) fn play_text<D: Decider, A: Allocator + Copy>(
     requires number { teller.now.number + left ≤ 998 }
     requires left { left ≤ 63 }
     requires over { ((m : Ply) → IsLawful board.now m → ⊥) → IsReached teller.now.notation.goal board.now }
-    requires met { (r : Ply) → IsLawful board.now r → IsMet teller.now.notation.goal board.now left r }
     ensures goes { D.goes decider.old decider.new }
     ensures play { IfOk result (λ text.
         TellsPlay teller.now.notation teller.now.number board.now left end.now (string_bytes text)) }

@@ -3,19 +3,19 @@ ghost use Rattle.std.specs.Prelude.{◌≡◌, ◌≤◌, All, IfErr, IfOk, stri
 ghost use Rattle.problems.specs.Answer.{Wins, IsFewest};
 ghost use Rattle.problems.specs.Roots.{IsRoot};
 ghost use Rattle.searcher.specs.declared.halt.Halt.TheVariants.{Stopped};
-ghost use Rattle.solution_text.specs.Telling.{TellsKey, TellsKeys, TellsSetPlay, TellsTries};
+ghost use Rattle.solution_text.specs.Telling.{TellsKey, TellsKeys, TellsSetPlay};
 ghost use Rattle.solution_text.specs.WholeText.{IsWholeSolution};
 
 use crate::broken::Broken;
 use crate::sequels::{play_text, sequels_text};
 use crate::teller::Teller;
-use crate::tries::tries_text;
+use crate::virtual_play::whole_tries;
 use crate::whole::headline;
 use algebraic::{Notation, Symbols};
 use moves::{Move, after};
 use problems::Root;
 use searcher::{Decider, Halt};
-use solutions::{Extras, continuations_of, passed, tries_of};
+use solutions::{Extras, continuations_of, passed};
 use std::alloc::Allocator;
 
 /// A key with the play behind it, where the root's limit is the fewest plies.
@@ -87,27 +87,6 @@ fn whole_set_play<D: Decider, A: Allocator + Copy>(
         return Ok(format!(in teller.alloc; "no set play\n")?);
     }
     Ok(format!(in teller.alloc; "set play\n{lines}")?)
-}
-
-/// The tries, where they are asked for.
-fn whole_tries<D: Decider, A: Allocator + Copy>(
-    teller: &Teller<A>,
-    decider: &mut D,
-    root: &Root,
-    asked: bool,
-) -> Result<String<A>, Broken>
-    requires goal { teller.now.notation.goal ≡ root.now.goal }
-    requires root { IsRoot root.now }
-    ensures goes { D.goes decider.old decider.new }
-    ensures tries { IfOk result (λ text.
-        TellsTries teller.now.notation root.now.board root.now.limit asked (string_bytes text)) }
-    ensures halt { IfErr result (λ broken. broken.halt ≡ Stopped → D.told decider.new) }
-{
-    if !asked {
-        return Ok(String::new(teller.alloc));
-    }
-    let tries = tries_of(teller.alloc, decider, root, root.limit)?;
-    Ok(tries_text(teller.alloc, teller.notation, &root.board, tries.as_slice())?)
 }
 
 /// The lines of the whole solution.

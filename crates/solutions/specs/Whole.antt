@@ -11,7 +11,7 @@ use Rattle.problems.specs.Answer.{IsFewest, ForcesNothing}
 use Rattle.solutions.specs.declared.extras.Extras.{Extras}
 use Rattle.solutions.specs.declared.first_try.Try.{Try}
 use Rattle.solutions.specs.Lines.{ListsMoves, ListsContinuations, IsMet}
-use Rattle.solutions.specs.Solutions.{passed, ListsTries, IsWhereAsked}
+use Rattle.solutions.specs.Solutions.{passed, IsTry, ListsTries, IsWhereAsked}
 
 mutual
   -- a continuation, the other continuations, which are its duals, and the play behind it
@@ -70,18 +70,32 @@ abbrev mutual
 abbrev pub IsPlayedKey : Goal → PlainBoard → ℕ → Ply × Play → Type 0
 IsPlayedKey goal b n (m, then) = (q : PlainBoard) × IsMove b m q × IsPlay goal q (n - 2) then
 
+-- virtual play, behind a move that leads to q, with n plies left: its threat, and exactly the replies that are met within n plies, in order, each with its sequel
+abbrev pub IsVirtualPlay : Goal → PlainBoard → ℕ → Play → Type 0
+IsVirtualPlay goal q n (play threat replies) =
+    IsThreat goal q n threat × ListsMoves q.game (IsMet goal q n) (replies_in replies) × AreSequels goal q replies
+
+-- a try with the virtual play behind it
+abbrev pub IsPlayedTry : Goal → PlainBoard → ℕ → Try × Play → Type 0
+IsPlayedTry goal b n (t, then) = IsTry goal b n t × ((q : PlainBoard) × IsMove b t.first q × IsVirtualPlay goal q (n - 2) then)
+
+-- exactly the tries, in order, each with the play behind it
+pub record ListsPlayedTries (goal : Goal) (b : PlainBoard) (n : ℕ) (tries : List (Try × Play)) : Type 0 where
+  pub tried : ListsTries goal b n (map (λ t. t.0) tries)
+  pub each : All (IsPlayedTry goal b n) tries
+
 -- the set play: after a pass, exactly the replies that are met within n - 2 plies, in order, each with its sequel; none where the pass isn't sound
 pub record IsWholeSetPlay (goal : Goal) (b : PlainBoard) (n : ℕ) (replies : Sequels) : Type 0 where
   pub met : IsSound (passed b) → ListsMoves b.game (IsMet goal (passed b) (n - 2)) (replies_in replies)
   pub each : IsSound (passed b) → AreSequels goal (passed b) replies
   pub unsound : (IsSound (passed b) → ⊥) → replies ≡ done
 
--- the fewest plies, the keys with their play, and the set play and the tries where they were asked for
+-- the fewest plies, the keys with their play, and the set play and the tries with theirs where they were asked for
 pub record Whole : Type 0 where
   pub plies : ℕ
   pub keys : List (Ply × Play)
   pub set_play : Option Sequels
-  pub tries : Option (List Try)
+  pub tries : Option (List (Try × Play))
 
 -- it is so of the position, where the keys are exactly the moves that force the goal in the fewest plies, in order
 pub record IsComplete (goal : Goal) (b : PlainBoard) (extras : Extras) (w : Whole) : Type 0 where
@@ -89,4 +103,4 @@ pub record IsComplete (goal : Goal) (b : PlainBoard) (extras : Extras) (w : Whol
   pub firsts : ListsContinuations goal b w.plies (map (λ k. k.0) w.keys)
   pub keys : All (IsPlayedKey goal b w.plies) w.keys
   pub set_play : IsWhereAsked (IsWholeSetPlay goal b w.plies) extras.set_play w.set_play
-  pub tries : IsWhereAsked (ListsTries goal b w.plies) extras.tries w.tries
+  pub tries : IsWhereAsked (ListsPlayedTries goal b w.plies) extras.tries w.tries

@@ -1,10 +1,10 @@
-use Rattle.std.proofs.Common.{ℕ, ◌≤◌, [], ◌++◌, codes, refl, sym, ap, subst, ◌∙◌, arith, drop, string_bytes}
-use Rattle.solution_text.proofs.Common.{append-nil, decimal, PlainBoard, Goal, Ply, IsLawful, ListsLawful, same_side-self, ForcesNothing, Notation, name_text, ListsContinuations, IsMet, IsPlay, sequel, play, replies_in, key_reaches, key_meets, mate_found, nothing_found, met_here, AreDualsText, IsPlayText, TellsSequel, TellsLong}
+use Rattle.std.proofs.Common.{◌≡◌, ℕ, ◌-◌, ◌≤◌, [], ◌++◌, codes, refl, sym, ap, subst, ◌∙◌, arith, drop, string_bytes}
+use Rattle.solution_text.proofs.Common.{append-nil, decimal, PlainBoard, Goal, ListsLawful, same_side-self, ForcesNothing, Notation, name_text, ListsContinuations, IsVirtualPlay, sequel, play, key_reaches, key_meets, mate_found, nothing_found, met_here, AreDualsText, IsPlayText, TellsSequel, TellsLong}
 use Rattle.problems.proofs.Jobs.{lawful_job}
 use Rattle.decision.proofs.Options.{none_at, some_at}
 use Rattle.trees.proofs.Forcing.{some_ply, forced_within}
 use Rattle.solution_text.proofs.BestLine.{continuations_lawful}
-use Rattle.solution_text.proofs.Told.{TellsThreat, tell_none, tell_one, tell_skip, tell_all, all_lawful, some_move, first_is, same_plies, no_long, a_long}
+use Rattle.solution_text.proofs.Told.{TellsThreat, tell_none, tell_one, tell_skip, tell_all, all_played, some_move, first_is, same_plies, no_long, a_long}
 use Rattle.solution_text.proofs.sequels.+sequels.Goals as goal
 use Rattle.solution_text.proofs.sequels.+sequels.Goals.{play_text-in-Moves+in_ok-lines-in-Moves, play_text-in_default, play_text-in_default-via-in-Moves+else-plies-gt1, play_text-in_default-via-in_default, sequels_text-in-Some+in_ok-push_str, sequels_text-in_default}
 
@@ -42,13 +42,7 @@ sequel_text-play_text-requires g t c κs within =
           within.1,
           (
             omega (arith, left, bound, plies),
-            (
-              omega (arith, left, most),
-              (
-                key_reaches goal b m q c.after-next.ensures n wins,
-                subst (λ (k : ℕ). (r : Ply) → IsLawful q r → IsMet goal q k r) (sym left) (key_meets goal b m q c.after-next.ensures n wins),
-              ),
-            ),
+            (omega (arith, left, most), key_reaches goal b m q c.after-next.ensures n wins),
           ),
         ),
       ),
@@ -63,10 +57,12 @@ sequel_text-returns-clause-sequel g t c =
     let m = c.index-moves-0.result in
     let q = c.after-next.result in
     let some = some_move notation.goal b n c.args.moves.now c.requires.fewest c.requires.moves in
+    let wins = (c.requires.moves.exact m).0 (0, some, sym c.index-moves-0.is) in
     let is = first_is c.args.moves.now m some c.index-moves-0.is in
     let duals = subst (λ ms. AreDualsText notation number b ms (string_bytes c.in_ok-duals.duals)) is c.in_ok-duals.ensures in
     let played = c.in_ok-play.ensures.play in
-    let then_is = subst (λ (k : ℕ). IsPlay notation.goal q k played.0) c.saturating_sub.ensures played.1 in (
+    let left : c.saturating_sub.result ≡ n - 2 = omega (arith, c.saturating_sub.ensures) in
+    let then_is = all_played notation.goal q (n - 2) played.0 (key_meets notation.goal b m q c.after-next.ensures n wins) (subst (λ (k : ℕ). IsVirtualPlay notation.goal q k played.0) left played.1) in (
       m,
       drop 1 c.args.moves.now,
       is,
@@ -124,7 +120,7 @@ play_text-returns-clause-play g t c =
     ] in
     let replies = c.in_ok-replies.ensures.replies in (
       play told.threat replies.0,
-      (told.is, all_lawful notation.goal q n (replies_in replies.0) c.requires.1.1.1.1.1.1.1 replies.1, replies.2),
+      (told.is, replies.1, replies.2),
       (head, told.head_is, string_bytes c.match-threats-2.lines, told.lines_are, string_bytes c.in_ok-replies.replies, replies.3, c.in_ok-format.ensures.ok),
     )
 
@@ -144,7 +140,8 @@ long_text-returns-clause-threat g t c =
 pub reply_text-returns-in-Some-NoneWithin-clause-reply : goal.reply_text-returns-in-Some-NoneWithin-clause-reply
 reply_text-returns-in-Some-NoneWithin-clause-reply g t c =
     let r = c.on-root.result in
-    let nothing = subst (λ (at : Goal × PlainBoard × ℕ). ForcesNothing at.0 at.1 at.2) (λ i. (c.on-root.ensures.goal i, c.on-root.ensures.position i, c.on-root.ensures.limit i))
+    let limited : r.limit ≡ c.args.limit = omega (arith, c.on-root.ensures.limit) in
+    let nothing = subst (λ (at : Goal × PlainBoard × ℕ). ForcesNothing at.0 at.1 at.2) (λ i. (c.on-root.ensures.goal i, c.on-root.ensures.position i, limited i))
     (nothing_found r.goal r.board r.limit c.in-Some-NoneWithin.field-0 c.in-Some-NoneWithin.field-0-0 c.in-Some-NoneWithin.field-0-is c.in-Some-NoneWithin.ensures.answer) in
     λ met. nothing c.args.limit (omega arith) (met_here c.args.teller.now.notation.goal c.args.board.now c.args.reply c.after.result c.after.ensures c.args.limit met)
 
@@ -175,7 +172,7 @@ reply_text-returns-clause-reply g t c =
     let k = c.in-Some-Mate.plies in
     let line = string_bytes c.in_ok-sequel.sequel in
     let found = mate_found r.goal r.board r.limit c.in-Some-Mate.field-0 k c.in-Some-Mate.field-0-1 c.in-Some-Mate.field-0-is c.in-Some-Mate.ensures.answer in
-    let few = subst (λ (l : ℕ). k ≤ l) c.on-root.ensures.limit found.0 in
+    let few : k ≤ c.args.limit = omega (arith, c.on-root.ensures.limit, found.0) in
     let told = subst (λ (at : Notation × ℕ × PlainBoard). TellsSequel at.0 at.1 at.2 k c.as_slice.result.now line)
     (λ i. (c.farther.ensures.notation i, c.farther.ensures.number i, c.on-root.ensures.position i)) c.in_ok-sequel.ensures.sequel in
     let text = string_bytes c.in_ok-format.field-0 in

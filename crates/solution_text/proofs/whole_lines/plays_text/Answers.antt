@@ -1,13 +1,10 @@
 use Rattle.std.proofs.Common.{◌++◌, ap, sym, subst, ◌∙◌, string_bytes}
 use Rattle.problems.specs.Answer.{Wins}
-use Rattle.solution_text.proofs.Played.{keys_none, keys_one, keys_all}
+use Rattle.solution_text.proofs.Played.{each_none, each_one, each_all}
 use Rattle.solution_text.proofs.whole_lines.plays_text.Goals as goal
 
 pub loop-key-init : goal.loop-key-init
-loop-key-init g c = record {
-  goes = g.met.D.Decider.goes_at_once _;
-  tells = keys_none c.args.teller.now.notation c.args.root.now.board c.args.root.now.limit c.args.keys.now (string_bytes c.new-text.result) c.new-text.ensures.bytes;
-}
+loop-key-init g c = record { goes = g.met.D.Decider.goes_at_once _; tells = each_none _ _ c.args.keys.now (string_bytes c.new-text.result) c.new-text.ensures.bytes }
 
 pub played_text-requires-clause-key : goal.played_text-requires-clause-key
 played_text-requires-clause-key g c =
@@ -19,15 +16,13 @@ returns-in_err-push_str-clause-goes g c = g.met.D.Decider.goes_on _ _ _ c.loop-k
 
 pub loop-key-preserved : goal.loop-key-preserved
 loop-key-preserved g c =
-    let r = c.args.root.now in
+    let (then, is, told) = c.in_ok-one.ensures.key in
     let added = c.in_ok-push_str.ensures.bytes ∙ ap (λ t. string_bytes c.loop-key.text ++ t) c.as_str.ensures.value in
     record {
       goes = g.met.D.Decider.goes_on _ _ _ c.loop-key.invariant.goes c.played_text.ensures.goes;
-      tells = keys_one c.args.teller.now.notation r.board r.limit c.args.keys.now c.loop-key.key-index c.key-item.result (string_bytes c.loop-key.text) (string_bytes c.in_ok-one.one) (string_bytes c.push_str.new.self)
-          c.loop-key-test.true c.key-item.is c.loop-key.invariant.tells c.in_ok-one.ensures.key added;
+      tells = each_one _ _ c.args.keys.now c.loop-key.key-index c.key-item.result then (string_bytes c.loop-key.text) (string_bytes c.in_ok-one.one) (string_bytes c.push_str.new.self)
+          c.loop-key-test.true c.key-item.is c.loop-key.invariant.tells is told added;
     }
 
 pub returns-clause-keys : goal.returns-clause-keys
-returns-clause-keys g c =
-    let r = c.args.root.now in
-    keys_all c.args.teller.now.notation r.board r.limit c.args.keys.now c.loop-key.key-index (string_bytes c.loop-key.text) c.loop-key-test.false c.loop-key.invariant.tells
+returns-clause-keys g c = each_all _ _ c.args.keys.now c.loop-key.key-index (string_bytes c.loop-key.text) c.loop-key-test.false c.loop-key.invariant.tells

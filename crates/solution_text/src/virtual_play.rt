@@ -1,0 +1,88 @@
+//! Tries with the play behind them, told as it is found.
+ghost use Rattle.std.specs.Prelude.{◌≡◌, All, IfErr, IfOk, string_bytes};
+ghost use Rattle.problems.specs.Roots.{IsRoot};
+ghost use Rattle.searcher.specs.declared.halt.Halt.TheVariants.{Stopped};
+ghost use Rattle.solutions.specs.Solutions.{IsTry};
+ghost use Rattle.solution_text.specs.Telling.{TellsTry, TellsPlayedTries, TellsTries};
+
+use crate::broken::Broken;
+use crate::sequels::play_text;
+use crate::teller::Teller;
+use moves::after;
+use problems::Root;
+use searcher::Decider;
+use solutions::{Try, tries_of};
+use std::alloc::Allocator;
+
+/// A try with the play behind it, and last the reply that refutes it, where the root's limit is the fewest plies.
+fn played_try<D: Decider, A: Allocator + Copy>(
+    teller: &Teller<A>,
+    decider: &mut D,
+    root: &Root,
+    first_try: Try,
+) -> Result<String<A>, Broken>
+    requires number { teller.now.number ≡ 1 }
+    requires goal { teller.now.notation.goal ≡ root.now.goal }
+    requires first_try { IsTry root.now.goal root.now.board root.now.limit first_try }
+    ensures goes { D.goes decider.old decider.new }
+    ensures first_try { IfOk result (λ text.
+        TellsTry teller.now.notation root.now.board root.now.limit first_try (string_bytes text)) }
+    ensures halt { IfErr result (λ broken. broken.halt ≡ Stopped → D.told decider.new) }
+{
+    let Try { first, refutation } = first_try;
+    let next = after(&root.board, first);
+    let name = teller.notation.name(&root.board, first);
+    let play = play_text(teller, decider, &next, root.limit.saturating_sub(2), "")?;
+    let reply = teller.notation.name(&next, refutation);
+    Ok(format!(in teller.alloc; "1.{name}?{play}  but 1...{reply}!\n")?)
+}
+
+/// These tries, each with the play behind it.
+fn played_tries<D: Decider, A: Allocator + Copy>(
+    teller: &Teller<A>,
+    decider: &mut D,
+    root: &Root,
+    tries: &[Try],
+) -> Result<String<A>, Broken>
+    requires number { teller.now.number ≡ 1 }
+    requires goal { teller.now.notation.goal ≡ root.now.goal }
+    requires tries { All (IsTry root.now.goal root.now.board root.now.limit) tries.now }
+    ensures goes { D.goes decider.old decider.new }
+    ensures tries { IfOk result (λ text.
+        TellsPlayedTries teller.now.notation root.now.board root.now.limit tries.now (string_bytes text)) }
+    ensures halt { IfErr result (λ broken. broken.halt ≡ Stopped → D.told decider.new) }
+{
+    let mut text = String::new(teller.alloc);
+    for first_try in tries {
+        let one = played_try(teller, decider, root, *first_try)?;
+        text.push_str(one.as_str())?;
+    }
+    Ok(text)
+}
+
+/// The tries, where they are asked for.
+pub(crate) fn whole_tries<D: Decider, A: Allocator + Copy>(
+    teller: &Teller<A>,
+    decider: &mut D,
+    root: &Root,
+    asked: bool,
+) -> Result<String<A>, Broken>
+    requires number { teller.now.number ≡ 1 }
+    requires goal { teller.now.notation.goal ≡ root.now.goal }
+    requires root { IsRoot root.now }
+    ensures goes { D.goes decider.old decider.new }
+    ensures tries { IfOk result (λ text.
+        TellsTries teller.now.notation root.now.board root.now.limit asked (string_bytes text)) }
+    ensures halt { IfErr result (λ broken. broken.halt ≡ Stopped → D.told decider.new) }
+{
+    if !asked {
+        return Ok(String::new(teller.alloc));
+    }
+    let found = tries_of(teller.alloc, decider, root, root.limit)?;
+    let tries = found.as_slice();
+    if tries.is_empty() {
+        return Ok(format!(in teller.alloc; "no tries\n")?);
+    }
+    let lines = played_tries(teller, decider, root, tries)?;
+    Ok(format!(in teller.alloc; "tries\n{lines}")?)
+}
