@@ -20,7 +20,7 @@ fn text_of<R: Abort + AllocGlobal>(
     let Ok(solution) = solution_in(rt, &root, extras) else {
         panic!(rt; "no solution")
     };
-    solution_text(rt.alloc(), notation, &root.board, &solution).expect(rt, "memory")
+    solution_text(rt.alloc(), notation, &root.board, extras.sooner, &solution).expect(rt, "memory")
 }
 
 /// A problem by its name, how moves are written and for which goal, what is asked for, the position, and the solution's text.
@@ -47,6 +47,7 @@ pub(crate) const STALE: Notation = Notation {
 const NONE: Extras = Extras {
     set_play: false,
     tries: false,
+    sooner: false,
 };
 
 const FIGURINES: Notation = Notation {

@@ -110,6 +110,7 @@ pub(crate) fn solution_in<R: Abort + AllocGlobal>(
 pub(crate) const ALL: Extras = Extras {
     set_play: true,
     tries: true,
+    sooner: false,
 };
 
 /// A position, the goal, and its solution, written out.
@@ -267,7 +268,11 @@ fn set_play_and_tries_are_there_where_asked_for(rt: HostRuntime) -> Result<(), F
         5,
     );
     for (set_play, tries) in [(false, false), (true, false), (false, true)] {
-        let extras = Extras { set_play, tries };
+        let extras = Extras {
+            set_play,
+            tries,
+            sooner: false,
+        };
         let solution = solution_in(&rt, &root, extras).expect(&rt, "a solution");
         assert_eq!(rt; solution.set_play.is_some(), set_play);
         assert_eq!(rt; solution.tries.is_some(), tries);

@@ -16,26 +16,27 @@ use Rattle.solutions.specs.declared.solution.Solution.{Solution}
 use Rattle.solutions.specs.Solutions.{IsSolution}
 use Rattle.solution_text.specs.Text.{IsSolutionText}
 use Rattle.solution_text.specs.WholeText.{IsWholeSolution}
-use Rattle.composing.specs.Solution.{IsInForm, IsPublished, IsSolutionReply, ShowsSolution, extras_of, notation_of}
+use Rattle.composing.specs.Solution.{IsInForm, IsPublished, IsSolutionReply, ShowsSolution, extras_of, is_sooner, notation_of}
 use Rattle.replies.proofs.ReplyLemmas.{gives_weaker}
 
 -- the short form is published where it is asked for
-pub short_text : (goal : Goal) (b : PlainBoard) (options : SolutionOptions) (notation : Notation) (solution : Solution Global) (text : List ℕ)
-    → options.short ≡ true → IsSolution goal b (extras_of options) solution → notation ≡ notation_of goal options → IsSolutionText notation b solution text
-    → IsPublished goal b options text
-short_text goal b options notation solution text short is same_notation is_text =
-    subst (λ (s : Bool). IsInForm s goal b options text) (sym short) (solution, is, subst (λ n. IsSolutionText n b solution text) same_notation is_text)
+pub short_text : (goal : Goal) (b : PlainBoard) (options : SolutionOptions) (sooner : Bool) (notation : Notation) (solution : Solution Global) (text : List ℕ)
+    → options.short ≡ true → IsSolution goal b (extras_of options sooner) solution → notation ≡ notation_of goal options
+    → IsSolutionText notation b sooner solution text → IsPublished goal b options sooner text
+short_text goal b options sooner notation solution text short is same_notation is_text =
+    subst (λ (s : Bool). IsInForm s goal b options sooner text) (sym short) (solution, is, subst (λ n. IsSolutionText n b sooner solution text) same_notation is_text)
 
 -- and else the whole solution
-pub whole_text : (goal : Goal) (b : PlainBoard) (options : SolutionOptions) (notation : Notation) (text : List ℕ)
-    → options.short ≡ false → notation ≡ notation_of goal options → IsWholeSolution notation.symbols goal b (extras_of options) text
-    → IsPublished goal b options text
-whole_text goal b options notation text whole same_notation is =
-    subst (λ (s : Bool). IsInForm s goal b options text) (sym whole) (subst (λ (n : Notation). IsWholeSolution n.symbols goal b (extras_of options) text) same_notation is)
+pub whole_text : (goal : Goal) (b : PlainBoard) (options : SolutionOptions) (sooner : Bool) (notation : Notation) (text : List ℕ)
+    → options.short ≡ false → notation ≡ notation_of goal options → IsWholeSolution notation.symbols goal b (extras_of options sooner) text
+    → IsPublished goal b options sooner text
+whole_text goal b options sooner notation text whole same_notation is =
+    subst (λ (s : Bool). IsInForm s goal b options sooner text) (sym whole)
+    (subst (λ (n : Notation). IsWholeSolution n.symbols goal b (extras_of options sooner) text) same_notation is)
 
 -- the solution is shown
 pub published_shown : (goal : Goal) (b : PlainBoard) (options : SolutionOptions) (limits : Limits) (plies : ℕ) (text : List ℕ) → fault_of limits ≡ None → plies ≤ limits.limit
-    → IsFewest goal b plies → IsPublished goal b options text → ShowsSolution goal b options limits (answered text)
+    → IsFewest goal b plies → IsPublished goal b options (is_sooner plies limits.limit) text → ShowsSolution goal b options limits (answered text)
 published_shown goal b options limits plies text none within fewest is = rw none (inl (plies, within, fewest, (text, is, refl)))
 
 -- what is shown at the sound position is the reply

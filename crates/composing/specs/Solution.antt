@@ -1,5 +1,5 @@
 -- What `solution` writes.
-use Rattle.std.specs.Prelude.{◌≡◌, ◌⊎◌, ◌≤◌, ℕ, List, Bool, true, false}
+use Rattle.std.specs.Prelude.{◌≡◌, ◌⊎◌, ◌≤◌, ◌+◌, ◌/◌, ℕ, nat_lt, List, Bool, true, false}
 use Rattle.std.specs.declared.alloc.Global.{Global}
 use Rattle.board.specs.Board.{PlainBoard}
 use Rattle.rules.specs.declared.goal.Goal.{Goal}
@@ -21,9 +21,13 @@ use Rattle.endings.specs.Outcome.{IsReplyAt}
 use Rattle.replies.specs.Output.{ShowsWithin}
 use Rattle.endings.specs.Run.{Run, WritesReply}
 
--- what is asked for beside the keys
-abbrev pub extras_of : SolutionOptions → Extras
-extras_of options = record { set_play = options.set_play; tries = options.tries }
+-- what is asked for beside the keys, and whether in more moves than the goal takes
+abbrev pub extras_of : SolutionOptions → Bool → Extras
+extras_of options sooner = record { set_play = options.set_play; tries = options.tries; sooner = sooner }
+
+-- so many plies take fewer moves of the attacker than the limit has
+abbrev pub is_sooner : ℕ → ℕ → Bool
+is_sooner plies limit = nat_lt ((plies + 1) / 2) ((limit + 1) / 2)
 
 -- by which symbols units are named
 abbrev pub symbols_of : Bool → Symbols
@@ -35,19 +39,19 @@ abbrev pub notation_of : Goal → SolutionOptions → Notation
 notation_of goal options = record { symbols = symbols_of options.figurines; goal = goal }
 
 -- the text is that of the solution of the position, in its short form or whole
-abbrev pub IsInForm : Bool → Goal → PlainBoard → SolutionOptions → List ℕ → Type 0
-IsInForm true goal b options text =
-    (solution : Solution Global) × IsSolution goal b (extras_of options) solution × IsSolutionText (notation_of goal options) b solution text
-IsInForm false goal b options text = IsWholeSolution (symbols_of options.figurines) goal b (extras_of options) text
+abbrev pub IsInForm : Bool → Goal → PlainBoard → SolutionOptions → Bool → List ℕ → Type 0
+IsInForm true goal b options sooner text =
+    (solution : Solution Global) × IsSolution goal b (extras_of options sooner) solution × IsSolutionText (notation_of goal options) b sooner solution text
+IsInForm false goal b options sooner text = IsWholeSolution (symbols_of options.figurines) goal b (extras_of options sooner) text
 
 -- the text is that of the solution of the position, in the form that is asked for
-abbrev pub IsPublished : Goal → PlainBoard → SolutionOptions → List ℕ → Type 0
-IsPublished goal b options text = IsInForm options.short goal b options text
+abbrev pub IsPublished : Goal → PlainBoard → SolutionOptions → Bool → List ℕ → Type 0
+IsPublished goal b options sooner text = IsInForm options.short goal b options sooner text
 
 -- the solution, where the goal is forced in some number of plies up to the limit, or that it is in none
 abbrev pub ShowsPublished : Goal → PlainBoard → SolutionOptions → ℕ → Reply → Type 0
 ShowsPublished goal b options limit reply =
-    ((plies : ℕ) × (plies ≤ limit) × IsFewest goal b plies × ((text : List ℕ) × IsPublished goal b options text × (reply ≡ answered text)))
+    ((plies : ℕ) × (plies ≤ limit) × IsFewest goal b plies × ((text : List ℕ) × IsPublished goal b options (is_sooner plies limit) text × (reply ≡ answered text)))
     ⊎ (ForcesNothing goal b limit × (reply ≡ answered (none_text limit)))
 
 -- the same, or the refusal of the first value that is outside its limits

@@ -4,7 +4,7 @@ ghost use Rattle.problems.specs.Answer.{IsFewest};
 ghost use Rattle.endings.specs.Outcome.{Gives};
 ghost use Rattle.problems.specs.Roots.{IsRoot};
 ghost use Rattle.searcher.specs.declared.halt.Halt.TheVariants.{Stopped};
-ghost use Rattle.composing.specs.Solution.{IsPublished, IsSolutionReply, ShowsSolution, notation_of};
+ghost use Rattle.composing.specs.Solution.{IsPublished, IsSolutionReply, ShowsSolution, is_sooner, notation_of};
 
 use algebraic::{Notation, Symbols};
 use board::Position;
@@ -39,22 +39,24 @@ fn form_text<D: Decider>(
     decider: &mut D,
     root: &Root,
     options: SolutionOptions,
+    sooner: bool,
 ) -> Result<String, Halt>
     requires root { IsRoot root.now }
     requires fewest { IsFewest root.now.goal root.now.board root.now.limit }
-    ensures text { IfOk result (λ text. IsPublished root.now.goal root.now.board options (string_bytes text)) }
+    ensures text { IfOk result (λ text. IsPublished root.now.goal root.now.board options sooner (string_bytes text)) }
     ensures halt { IfErr result (λ halt. halt ≡ Stopped → D.told decider.new) }
 {
     let extras = Extras {
         set_play: options.set_play,
         tries: options.tries,
+        sooner,
     };
     let notation = notation_of(root.goal, options);
     if !options.short {
         return whole_solution(alloc, decider, root, notation.symbols, extras);
     }
     let solution = solution_of(alloc, decider, root, root.limit, extras)?;
-    match solution_text(alloc, notation, &root.board, &solution) {
+    match solution_text(alloc, notation, &root.board, sooner, &solution) {
         Ok(text) => Ok(text),
         Err(_) => Err(Halt::NoMemory),
     }
@@ -66,10 +68,11 @@ fn published(
     table: Table,
     root: &Root,
     options: SolutionOptions,
+    sooner: bool,
 ) -> Result<Vec<u8>, AllocError>
     requires root { IsRoot root.now }
     requires fewest { IsFewest root.now.goal root.now.board root.now.limit }
-    ensures { IfOk result (λ text. IsPublished root.now.goal root.now.board options text.items) }
+    ensures { IfOk result (λ text. IsPublished root.now.goal root.now.board options sooner text.items) }
 {
     let (slots, mut seat) = table.into_alone();
     let mut scout = Scout {
@@ -81,11 +84,18 @@ fn published(
         seat: &mut seat,
         scout: &mut scout,
     };
-    match form_text(alloc, &mut searcher, root, options) {
+    match form_text(alloc, &mut searcher, root, options, sooner) {
         Ok(text) => Ok(text.into_bytes()),
         Err(Halt::NoMemory) => Err(AllocError),
         Err(Halt::Stopped) => unreachable!(),
     }
+}
+
+/// Whether so many plies take fewer moves of the attacker than the limit has.
+fn is_sooner(plies: u8, limit: u8) -> bool
+    ensures { result ≡ is_sooner plies limit }
+{
+    (u16::from(plies) + 1) / 2 < (u16::from(limit) + 1) / 2
 }
 
 /// All threads seek the keys that take so many plies: what they find stands in the table, and no answer rests on it.
@@ -122,7 +132,8 @@ fn solution_at<R: Threads + Wait + Eprint + Clock + Sync + AllocGlobal>(
             };
             seek_keys(context, &mut found.table, position, goal, within);
             let root = Root::on(Board::of(position), goal, plies);
-            Ok(published(alloc, found.table, &root, options)?)
+            let sooner = is_sooner(plies, search_of(limits).limit);
+            Ok(published(alloc, found.table, &root, options, sooner)?)
         }
         Answer::NoneWithin(limit) => none_line(alloc, limit),
     }

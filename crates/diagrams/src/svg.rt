@@ -169,12 +169,13 @@ pub fn svg_of(alloc: Global, diagram: &Diagram<'_>) -> Result<String, AllocError
     let mut text = String::new(alloc);
     let position = diagram.position;
     let side = 100 * u16::from(position.game().width());
+    let mover = position.mover();
     draw_head(&mut text, 48 + side)?;
-    draw_paper(&mut text, 48 + side, mover_drawn(position.mover()))?;
+    draw_paper(&mut text, 48 + side, mover_drawn(mover))?;
     draw_rows(&mut text, diagram)?;
     draw_frame(&mut text, side)?;
     draw_signs(&mut text, diagram)?;
-    draw_mover(&mut text, side, position.mover())?;
+    draw_mover(&mut text, side, mover)?;
     draw_arrow_of(&mut text, diagram)?;
     text.push_str("</svg>\n")?;
     Ok(text)

@@ -77,11 +77,11 @@ set_play_unsound notation b n text unsound is =
 -- ---- the whole
 
 pub whole_told : (notation : Notation) (b : PlainBoard) (n : ℕ) (extras : Extras) (firsts : List Ply) (head set_play tries keys text : List ℕ) → IsFewest notation.goal b n → ListsContinuations notation.goal b n firsts
-    → head ≡ headline notation.goal n (length firsts) → TellsSetPlay notation b n extras.set_play set_play → TellsTries notation b n extras.tries tries → TellsKeys notation b n firsts keys
+    → head ≡ headline notation.goal extras.sooner n (length firsts) → TellsSetPlay notation b n extras.set_play set_play → TellsTries notation b n extras.tries tries → TellsKeys notation b n firsts keys
     → text ≡ head ++ (set_play ++ (tries ++ keys)) → IsWholeSolution notation.symbols notation.goal b extras text
 whole_told notation b n extras firsts head set_play tries keys text fewest lists begins (sets, set_is, set_text) (found, found_is, found_text) told is =
     let count : length firsts ≡ length told.played = ap (length {A = Ply}) (sym told.firsts) ∙ length-map told.played (λ (k : Ply × Play). k.0) in (
       record { plies = n; keys = told.played; set_play = sets; tries = found },
       record { plies = fewest; firsts = subst (ListsContinuations notation.goal b n) (sym told.firsts) lists; keys = told.each; set_play = set_is; tries = found_is },
-      (set_play, set_text, tries, found_text, keys, told.texts, is ∙ ap (λ h. h ++ (set_play ++ (tries ++ keys))) (begins ∙ ap (headline notation.goal n) count)),
+      (set_play, set_text, tries, found_text, keys, told.texts, is ∙ ap (λ h. h ++ (set_play ++ (tries ++ keys))) (begins ∙ ap (headline notation.goal extras.sooner n) count)),
     )

@@ -1,5 +1,5 @@
 -- The text of a solution. The attacker's moves are numbered from 1, and a reply that begins a line stands behind `1...`.
-use Rattle.std.specs.Prelude.{◌≡◌, ℕ, zero, suc, ◌+◌, ◌/◌, List, [], ◌∷◌, ◌++◌, Option, None, Some, length, codes}
+use Rattle.std.specs.Prelude.{◌≡◌, ℕ, zero, suc, ◌+◌, ◌/◌, List, [], ◌∷◌, ◌++◌, Option, None, Some, Bool, true, false, length, codes}
 use Rattle.std.specs.Fmt.{decimal}
 use Rattle.board.specs.Board.{PlainBoard}
 use Rattle.rules.specs.declared.goal.Goal.{Goal}
@@ -115,14 +115,19 @@ cooked_text (suc (suc zero)) = codes ", cooked by 1 key"
 cooked_text (suc (suc (suc n))) = codes ", cooked by " ++ (decimal (suc (suc n)) ++ codes " keys")
 cooked_text _ = []
 
+-- what is wrong with the problem: it is short, where more moves were asked for, or it is cooked
+abbrev pub noted_text : Bool → ℕ → List ℕ
+noted_text true keys = codes ", short"
+noted_text false keys = cooked_text keys
+
 -- in how many moves of the attacker, as `mate in 3`
-abbrev pub headline : Goal → ℕ → ℕ → List ℕ
-headline goal plies keys = headline_word goal ++ (codes " in " ++ (decimal ((plies + 1) / 2) ++ (cooked_text keys ++ codes "\n")))
+abbrev pub headline : Goal → Bool → ℕ → ℕ → List ℕ
+headline goal sooner plies keys = headline_word goal ++ (codes " in " ++ (decimal ((plies + 1) / 2) ++ (noted_text sooner keys ++ codes "\n")))
 
 -- the headline, the set play and the tries where they were asked for, and the keys
-abbrev pub IsSolutionText : {A : Type 0} → Notation → PlainBoard → Solution A → List ℕ → Type 0
-IsSolutionText notation b s text =
+abbrev pub IsSolutionText : {A : Type 0} → Notation → PlainBoard → Bool → Solution A → List ℕ → Type 0
+IsSolutionText notation b sooner s text =
     (set_play : List ℕ) × IsTextOf (λ list. IsSetPlayText notation b list.items) s.set_play set_play
     × (tries : List ℕ) × IsTextOf (λ list. AreTriesText notation b list.items) s.tries tries
     × (keys : List ℕ) × AreTexts (IsKeyText notation b) s.keys.items keys
-    × (text ≡ headline notation.goal s.plies (length s.keys.items) ++ (set_play ++ (tries ++ keys)))
+    × (text ≡ headline notation.goal sooner s.plies (length s.keys.items) ++ (set_play ++ (tries ++ keys)))

@@ -1,5 +1,5 @@
 -- The text of a whole solution. Each reply stands on a line of its own, two blanks farther in for each move of the attacker before it.
-use Rattle.std.specs.Prelude.{◌≡◌, ℕ, zero, suc, ◌+◌, List, [], ◌∷◌, ◌++◌, length, codes}
+use Rattle.std.specs.Prelude.{◌≡◌, ℕ, zero, suc, ◌+◌, List, [], ◌∷◌, ◌++◌, Bool, length, codes}
 use Rattle.std.specs.Fmt.{decimal}
 use Rattle.board.specs.Board.{PlainBoard}
 use Rattle.rules.specs.declared.goal.Goal.{Goal}
@@ -99,14 +99,14 @@ ArePlayedTriesText notation b (t ∷ others) text =
     (tries : List ℕ) × AreTexts (IsPlayedTryText notation b) (t ∷ others) tries × (text ≡ codes "tries\n" ++ tries)
 
 -- the headline, the set play and the tries where they were asked for, and the keys
-abbrev pub IsWholeText : Notation → PlainBoard → Whole → List ℕ → Type 0
-IsWholeText notation b w text =
+abbrev pub IsWholeText : Notation → PlainBoard → Bool → Whole → List ℕ → Type 0
+IsWholeText notation b sooner w text =
     (set_play : List ℕ) × IsTextOf (IsWholeSetPlayText notation b) w.set_play set_play
     × (tries : List ℕ) × IsTextOf (ArePlayedTriesText notation b) w.tries tries
     × (keys : List ℕ) × AreTexts (IsPlayedText notation b) w.keys keys
-    × (text ≡ headline notation.goal w.plies (length w.keys) ++ (set_play ++ (tries ++ keys)))
+    × (text ≡ headline notation.goal sooner w.plies (length w.keys) ++ (set_play ++ (tries ++ keys)))
 
 -- the text is that of the whole solution of the position
 abbrev pub IsWholeSolution : Symbols → Goal → PlainBoard → Extras → List ℕ → Type 0
 IsWholeSolution symbols goal b extras text =
-    (w : Whole) × IsComplete goal b extras w × IsWholeText (record { symbols = symbols; goal = goal }) b w text
+    (w : Whole) × IsComplete goal b extras w × IsWholeText (record { symbols = symbols; goal = goal }) b extras.sooner w text

@@ -2,7 +2,7 @@
 ghost use Rattle.std.specs.Prelude.{◌≡◌, ℕ, All, IfOk, IfSome, string_bytes};
 ghost use Rattle.solutions.specs.declared.extras.Extras.{Extras};
 ghost use Rattle.solutions.specs.Solutions.{IsSetPlay, IsTry, IsSolution};
-ghost use Rattle.solution_text.specs.Text.{headline_word, cooked_text, headline, IsTextOf, IsSetPlayText, AreTriesText, IsSolutionText};
+ghost use Rattle.solution_text.specs.Text.{headline_word, cooked_text, noted_text, headline, IsTextOf, IsSetPlayText, AreTriesText, IsSolutionText};
 
 use crate::keys::keys_text;
 use crate::tries::{set_play_text, tries_text};
@@ -34,19 +34,31 @@ fn cooked_text<A: Allocator>(alloc: A, keys: usize) -> Result<String<A>, AllocEr
     }
 }
 
-/// The number of moves, and of keys where there are several.
+/// That the problem is short, or how many keys cook it, if it is either.
+fn noted_text<A: Allocator>(alloc: A, sooner: bool, keys: usize) -> Result<String<A>, AllocError>
+    ensures { IfOk result (λ text. string_bytes text ≡ noted_text sooner keys) }
+{
+    if sooner {
+        format!(in alloc; ", short")
+    } else {
+        cooked_text(alloc, keys)
+    }
+}
+
+/// The number of moves, and what is wrong with the problem.
 pub(crate) fn headline<A: Allocator + Copy>(
     alloc: A,
     goal: Goal,
+    sooner: bool,
     plies: u8,
     keys: usize,
 ) -> Result<String<A>, AllocError>
-    ensures { IfOk result (λ text. string_bytes text ≡ headline goal plies keys) }
+    ensures { IfOk result (λ text. string_bytes text ≡ headline goal sooner plies keys) }
 {
     let word = goal_word(goal);
     let moves = (u16::from(plies) + 1) / 2;
-    let cooked = cooked_text(alloc, keys)?;
-    format!(in alloc; "{word} in {moves}{cooked}\n")
+    let noted = noted_text(alloc, sooner, keys)?;
+    format!(in alloc; "{word} in {moves}{noted}\n")
 }
 
 /// The set play, where it was asked for.
@@ -83,19 +95,26 @@ fn tries_if_asked<A: Allocator + Copy, B: Allocator>(
     }
 }
 
-/// What a composer publishes of the position on the board.
+/// What a composer publishes of the position on the board, and whether more moves were asked for.
 pub fn solution_text<A: Allocator + Copy, B: Allocator>(
     alloc: A,
     notation: Notation,
     board: &Board,
+    sooner: bool,
     solution: &Solution<B>,
 ) -> Result<String<A>, AllocError>
     requires { (extras : Extras) × IsSolution notation.goal board.now extras solution.now }
-    ensures { IfOk result (λ text. IsSolutionText notation board.now solution.now (string_bytes text)) }
+    ensures { IfOk result (λ text. IsSolutionText notation board.now sooner solution.now (string_bytes text)) }
 {
     let keys = keys_text(alloc, notation, board, solution.keys.as_slice())?;
     let set_play = set_play_if_asked(alloc, notation, board, &solution.set_play)?;
     let tries = tries_if_asked(alloc, notation, board, &solution.tries)?;
-    let head = headline(alloc, notation.goal, solution.plies, solution.keys.len())?;
+    let head = headline(
+        alloc,
+        notation.goal,
+        sooner,
+        solution.plies,
+        solution.keys.len(),
+    )?;
     format!(in alloc; "{head}{set_play}{tries}{keys}")
 }

@@ -107,7 +107,7 @@ fn lines_text<D: Decider, A: Allocator + Copy>(
 {
     let alloc = teller.alloc;
     let keys = continuations_of(alloc, decider, root, root.limit)?;
-    let head = headline(alloc, root.goal, root.limit, keys.len())?;
+    let head = headline(alloc, root.goal, extras.sooner, root.limit, keys.len())?;
     let set_play = whole_set_play(teller, decider, root, extras.set_play)?;
     let tries = whole_tries(teller, decider, root, extras.tries)?;
     let plays = plays_text(teller, decider, root, keys.as_slice())?;

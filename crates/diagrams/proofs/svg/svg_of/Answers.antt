@@ -12,7 +12,7 @@ returns c =
     let w = width d in
     let wide = ap (λ n. 100 * n) (c.from-side.ensures ∙ c.width.ensures ∙ ap width_of c.game.ensures.value) in
     let side = ap (λ n. 48 + n) wide in
-    let mover = c.mover_drawn.ensures ∙ ap mover_drawn c.mover.ensures in
+    let mover = c.mover_drawn.ensures ∙ ap mover_drawn c.mover-mover.ensures in
     let one = string_bytes c.draw_head.new.text in
     let three = string_bytes c.draw_rows.new.text in
     eight_drawn (string_bytes c.new-text.result) one (string_bytes c.draw_paper.new.text) three (string_bytes c.draw_frame.new.text)
@@ -25,6 +25,6 @@ returns c =
     c.in_ok-draw_rows.ensures
     (c.in_ok-draw_frame.ensures ∙ ap (λ n. three ++ frame n) wide)
     c.in_ok-draw_signs.ensures
-    (c.in_ok-draw_mover.ensures ∙ (λ i. string_bytes c.draw_signs.new.text ++ mover_mark (wide i) (c.mover.ensures i)))
+    (c.in_ok-draw_mover.ensures ∙ (λ i. string_bytes c.draw_signs.new.text ++ mover_mark (wide i) (c.mover-mover.ensures i)))
     c.in_ok-draw_arrow_of.ensures
     c.in_ok-push_str.ensures.bytes

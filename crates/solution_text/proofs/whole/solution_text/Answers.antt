@@ -18,7 +18,7 @@ pub returns : goal.returns
 returns g c =
     let keys = subst (λ xs. AreTexts (IsKeyText c.args.notation c.args.board.now) xs (string_bytes c.in_ok-keys.keys)) c.as_slice.ensures.value c.in_ok-keys.ensures in
     let count = c.len.ensures ∙ sym c.as_slice.ensures.len ∙ ap (length {A = _}) c.as_slice.ensures.value in
-    let head = c.in_ok-head.ensures ∙ ap (headline c.args.notation.goal c.args.solution.now.plies) count in
+    let head = c.in_ok-head.ensures ∙ ap (headline c.args.notation.goal c.args.sooner c.args.solution.now.plies) count in
     IfOk-weaker c.format.result _ _ (λ text spelled. (
       string_bytes c.in_ok-set_play.set_play,
       c.in_ok-set_play.ensures,

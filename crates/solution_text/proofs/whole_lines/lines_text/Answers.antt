@@ -31,5 +31,5 @@ returns-clause-solution g c =
     (whole_told notation r.board r.limit c.args.extras items (string_bytes c.in_ok-head.head) (string_bytes c.in_ok-set_play.set_play) (string_bytes c.in_ok-tries.tries) (string_bytes c.in_ok-plays.plays) text
     (subst (λ (x : Goal). IsFewest x r.board r.limit) same c.requires.fewest)
     (subst (λ (x : Goal). ListsContinuations x r.board r.limit items) same c.in_ok-keys.ensures.moves)
-    (c.in_ok-head.ensures ∙ ap (headline r.goal r.limit) count ∙ ap (λ (x : Goal). headline x r.limit (length items)) same)
+    (c.in_ok-head.ensures ∙ ap (headline r.goal c.args.extras.sooner r.limit) count ∙ ap (λ (x : Goal). headline x c.args.extras.sooner r.limit (length items)) same)
     c.in_ok-set_play.ensures.set_play c.in_ok-tries.ensures.tries plays c.in_ok-format.ensures.ok)
