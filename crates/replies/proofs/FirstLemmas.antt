@@ -1,15 +1,21 @@
 -- The tree of a first move.
-use Rattle.std.proofs.Common.{◌≡◌, ℕ, ◌<◌, List, length, Contains, None, Some, Result, Vec, inl, inr, refl, slice_get, sym, subst, vec_items}
+use Rattle.std.proofs.Common.{◌≡◌, ◌∙◌, ℕ, ◌<◌, List, length, Contains, None, Some, Result, Vec, inl, inr, refl, slice_get, sym, subst, vec_items}
 use Rattle.board.specs.Board.{PlainBoard}
 use Rattle.rules.specs.Squares.{Ply}
+use Rattle.rules.specs.Moves.{IsMove, IsLawful}
 use Rattle.rules.specs.declared.goal.Goal.{Goal}
 use Rattle.wintree.specs.Plan.{Plan}
 use Rattle.trees.specs.First.{IsOpened, IsOpenedJob}
-use Rattle.replies.specs.First.{IsFirstReply, MissesAt, MissesJob, MissesWithin, NamesJob, ShowsFirst, ShowsJob, ShowsTreeFound}
+use Rattle.replies.specs.First.{IsFirstReply, IsUnmet, MissesAt, MissesJob, MissesWithin, NamesJob, ShowsFirst, ShowsJob, ShowsTreeFound}
 use Rattle.std.specs.declared.alloc.Global.{Global}
 use Rattle.std.proofs.lemmas.Option.{get_or_from_slice_get}
 use Rattle.wintree.specs.Text.{text as plan_text}
 use Rattle.problems.specs.Roots.{IsJobOf}
+use Rattle.problems.specs.Answer.{ForcesNothing, IsAnswer}
+use Rattle.problems.specs.Problems.{IsProblemOf}
+use Rattle.problems.specs.declared.answer.Answer.{Answer}
+use Rattle.problems.specs.declared.answer.Answer.TheVariants.{NoneWithin}
+use Rattle.problems.specs.declared.problem.Problem.{Problem}
 use Rattle.problems.specs.declared.root.Root.{Root}
 use Rattle.command_line.specs.declared.line.Limits.{Limits}
 use Rattle.command_line.specs.declared.line.NamedMove.{NamedMove}
@@ -47,19 +53,20 @@ none_shown r job limits result none same is gives =
 pub job_missed : (r : Root) (job limit : ℕ) → r.limit ≡ limit → IsOpenedJob r job None → MissesJob r job limit
 job_missed r job limit same is = λ m at. subst (λ n. IsOpened r.goal r.board m n None) same (is m at)
 
-listed : (xs : List Ply) (job : ℕ) (m : Ply) → job < length xs → slice_get xs job ≡ Some m → Contains xs m
-listed xs job m below at = (job, below, get_or_from_slice_get xs job m m at)
+-- each move of a root is lawful
+pub job_lawful : (r : Root) (job : ℕ) (m : Ply) → IsJobOf r job → slice_get r.moves.items job ≡ Some m → IsLawful r.board m
+job_lawful r job m (lists, below) at = (lists.exact m).0 (job, below, get_or_from_slice_get r.moves.items job m m at)
 
 pub named_missed : (name : List ℕ) (limit : ℕ) (r : Root) (job : ℕ) → IsJobOf r job → NamesJob r.moves.items name job → MissesJob r job limit
     → MissesWithin r.goal r.board limit name
-named_missed name limit r job (lists, below) (m, at, named) misses = (m, (lists.exact m).0 (listed r.moves.items job m below at), named, misses m at)
+named_missed name limit r job is (m, at, named) misses = (m, job_lawful r job m is at, named, misses m at)
 
 -- of the lawful move of the name
 pub named_shown : (name : List ℕ) (limits : Limits) (r : Root) (job : ℕ) (result : Result (Vec ℕ Global) Refusal) → IsJobOf r job
     → NamesJob r.moves.items name job → Gives vec_items (ShowsJob r job limits) result → Gives vec_items (ShowsFirst r.goal r.board name limits) result
-named_shown name limits r job result (lists, below) (m, at, named) gives =
+named_shown name limits r job result is (m, at, named) gives =
     gives_weaker vec_items (ShowsJob r job limits) (ShowsFirst r.goal r.board name limits) result
-    (λ reply shows. inl (m, (lists.exact m).0 (listed r.moves.items job m below at), named, shows m at)) gives
+    (λ reply shows. inl (m, job_lawful r job m is at, named, shows m at)) gives
 
 pub missed_at_text : (played : NamedMove) (goal : Goal) (limits : Limits) (b : PlainBoard) (r : Root) → IsSoundText played.fen.now b → r.goal ≡ goal → r.board ≡ b
     → MissesWithin r.goal r.board limits.limit played.name.now → MissesAt played goal limits
@@ -67,6 +74,16 @@ missed_at_text played goal limits b r sound same_goal same_board misses = (
   b,
   sound,
   subst (λ x. MissesWithin goal x limits.limit played.name.now) same_board (subst (λ g. MissesWithin g r.board limits.limit played.name.now) same_goal misses),
+)
+
+-- the answer behind a reply is that there is none
+pub unmet : (goal : Goal) (q : PlainBoard) (r : Ply) (behind position : PlainBoard) (limit : ℕ) (p : Problem) (answer : Answer) (within : ℕ) → IsMove q r behind
+    → position ≡ behind → IsProblemOf position goal limit p → answer ≡ NoneWithin within → IsAnswer p.goal p.position p.limit answer → IsUnmet goal q limit r
+unmet goal q r behind position limit p answer within moves at is none found = (
+  behind,
+  moves,
+  subst (λ (x : Goal × PlainBoard × ℕ). ForcesNothing x.0 x.1 x.2) (λ i. (is.plays_for i, (is.position ∙ at) i, is.within i))
+      (subst (IsAnswer p.goal p.position p.limit) none found).1,
 )
 
 -- at the sound position

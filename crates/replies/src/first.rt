@@ -46,7 +46,8 @@ fn refutation<R: Threads + Wait + Eprint + Clock + Sync + AllocGlobal>(
 ) -> Option<Move>
     ensures { IfSome result (IsUnmet goal board.now limit) }
 {
-    for reply in lawful_on(board).as_slice() {
+    let replies = lawful_on(board);
+    for reply in replies.as_slice() {
         let position = after(board, *reply).position();
         let problem = Problem::of(&position, goal, limit)?;
         match solve(rt, table, &problem, None) {

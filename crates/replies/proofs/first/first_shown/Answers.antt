@@ -7,7 +7,7 @@ use Rattle.replies.proofs.first.first_shown.Goals as goal
 
 -- a limit that isn't refused is the root's
 pub opened_text-requires-clause-limit : goal.opened_text-requires-clause-limit
-opened_text-requires-clause-limit g c = λ none.
+opened_text-requires-clause-limit g c = λ κs within none.
     let limits = c.args.limits in
     let most = limit_within limits.limit limits.workers limits.slots none in
     let byte = min-eq_left {n = limits.limit} {m = 255} (omega (arith, most.1)) in
