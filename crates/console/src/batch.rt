@@ -1,5 +1,6 @@
 //! A batch: a solve of each position of the input, over one table.
-ghost use Rattle.std.specs.Prelude.{◌≡◌, ◌+◌, ◌<◌, IfOk, option_map};
+ghost use Rattle.std.specs.Prelude.{◌≡◌, ◌+◌, ◌++◌, ◌<◌, IfOk, codes, option_map};
+ghost use Rattle.std.specs.Fmt.{decimal};
 ghost use Rattle.devices.specs.Input.{failed_reads};
 ghost use Rattle.devices.specs.Lines.{IsUnread, left_of};
 ghost use Rattle.answer_texts.specs.Asking.{IsFoundAt, with_plies};
@@ -200,19 +201,27 @@ fn echoed(alloc: Global, batch: &Batch, said: &[u8], plain: Vec<u8>) -> Result<V
     Ok(text)
 }
 
-/// The text, if it is an object of JSON with the number of its line as its first member.
+/// An object of JSON with the number of its line before these members.
+fn numbered(alloc: Global, number: u64, members: &[u8]) -> Result<Vec<u8>, AllocError>
+    ensures { IfOk result (λ object. object.items
+        ≡ codes "{\"line\":" ++ (decimal number ++ (codes "," ++ members.now))) }
+{
+    let mut object = format!(in alloc; "{{\"line\":{number},")?.into_bytes();
+    object.extend_from_slice(members)?;
+    Ok(object)
+}
+
+/// The text; an object of JSON with the number of its line as its first member.
 fn with_number(alloc: Global, json: bool, number: u64, text: Vec<u8>) -> Result<Vec<u8>, AllocError>
     ensures { IfOk result (λ whole. whole.items ≡ with_number json number text.items) }
 {
-    let [_, members @ ..] = text.as_slice() else {
-        return Ok(text);
-    };
     if !json {
         return Ok(text);
     }
-    let mut whole = format!(in alloc; "{{\"line\":{number},")?.into_bytes();
-    whole.extend_from_slice(members)?;
-    Ok(whole)
+    let [_, members @ ..] = text.as_slice() else {
+        return Ok(text);
+    };
+    numbered(alloc, number, members)
 }
 
 /// What is written for a line.
