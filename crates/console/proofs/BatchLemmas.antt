@@ -103,7 +103,7 @@ zip_all R (x ∷ xs) us (y ∷ ys) vs p q = (p.0, zip_all R xs us ys vs p.1 q)
 -- ---- numbers
 
 -- the number of the last of the lines, behind a line of this number
-number_behind : ℕ → List (List ℕ) → ℕ
+abbrev pub number_behind : ℕ → List (List ℕ) → ℕ
 number_behind number [] = number
 number_behind number (line ∷ lines) = number_behind (next_number number) lines
 
@@ -441,14 +441,14 @@ fresh_left u (Some xs) from to = let none : u.to - u.from ≡ 0 = omega (arith, 
 
 -- the limits are searched, and lines were answered
 pub batch_ran : (opened batch : Batch) (run : Run) (left : Option (List ℕ)) (texts : List (List ℕ)) → fault_of opened.limits ≡ None
-    → opened ≡ batch → left ≡ run.input → OfInput left (Answers opened run.ending.status texts) → EndsBatch opened.options.json run (joined texts) → RunsBatch batch run
+    → opened ≡ batch → left ≡ run.input → OfInput left (Answers opened run.ending.status texts) → EndsBatch batch.options.json run (joined texts) → RunsBatch batch run
 batch_ran opened batch run left texts searched same_batch same answers ends =
     let none : fault_of batch.limits ≡ None = subst (λ b. fault_of b.limits ≡ None) same_batch searched in
     rw none (
       texts,
       subst (λ o. OfInput o (Answers batch run.ending.status texts)) same
           (subst (λ b. OfInput left (Answers b run.ending.status texts)) same_batch answers),
-      subst (λ b. EndsBatch b.options.json run (joined texts)) same_batch ends,
+      ends,
     )
 
 -- the limits are refused, or memory is wanting before anything is read

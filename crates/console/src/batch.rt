@@ -360,12 +360,12 @@ fn answer_next<
     let Taken { next, is_last } = run
         .unread
         .next_line(context.rt, context.rt.alloc(), reader)?;
-    let Some(text) = next_text(context, &mut run.table, &run.batch, next, errors)? else {
+    let Some(plain) = next_text(context, &mut run.table, &run.batch, next, errors)? else {
         context.tally.clear(errors);
         return Ok(false);
     };
     let json = run.batch.options.json;
-    let text = with_number(context.rt.alloc(), json, run.number, text)?;
+    let text = with_number(context.rt.alloc(), json, run.number, plain)?;
     write_all(writer, text.as_slice())?;
     context.tally.tell(context.rt, run.number, errors);
     Ok(!is_last)

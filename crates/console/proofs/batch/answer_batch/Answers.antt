@@ -1,4 +1,4 @@
-use Rattle.std.proofs.Common.{arith}
+use Rattle.std.proofs.Common.{◌∙◌, arith}
 use Rattle.std.proofs.KnownBytes.{Appends-nil}
 use Rattle.console.specs.BatchRun.{step_of}
 use Rattle.devices.specs.Lines.{left_of}
@@ -8,9 +8,9 @@ use Rattle.console.proofs.batch.answer_batch.Goals as goal
 pub returns-in-Ok-true : goal.returns-in-Ok-true
 returns-in-Ok-true g c = record {
   lines = batch_behind c.args.run.now.batch c.args.run.now.number (left_of c.args.run.now.unread (g.S.Source.remaining c.args.reader.now))
-      (step_of (record c.args.run.now { unread = c.pass_over.new.unread; number = c.left_out-count.result }) c.answer_lines.new.run g.S.Source.remaining g.S.Source.failures
+      (step_of (record c.args.run.now { unread = c.pass_over.new.unread; number = c.from-run.result }) c.answer_lines.new.run g.S.Source.remaining g.S.Source.failures
       c.pass_over.new.reader c.answer_lines.new.reader g.K.Sink.contents g.K.Sink.failures c.args.writer.now c.answer_lines.new.writer)
-      (g.S.Source.failures c.args.reader.now) c.answer_lines.result c.left_out-count.ensures
+      (g.S.Source.failures c.args.reader.now) c.answer_lines.result (c.from-run.ensures ∙ c.left_out-count.ensures)
       (rw (← c.left_out-count.ensures) (rw c.in-Ok-true.field-0-test at c.in-Ok-true.ensures.passes))
       (omega (arith, c.in-Ok-true.ensures.counts)) c.answer_lines.ensures.lines;
 }
