@@ -70,7 +70,7 @@ abbrev mutual
 abbrev pub IsPlayedKey : Goal → PlainBoard → ℕ → Ply × Play → Type 0
 IsPlayedKey goal b n (m, then) = (q : PlainBoard) × IsMove b m q × IsPlay goal q (n - 2) then
 
--- virtual play, behind a move that leads to q, with n plies left: its threat, and exactly the replies that are met within n plies, in order, each with its sequel
+-- virtual play, behind a move that leads to q, with n plies left: its threat, and exactly the replies that are met within these, in order, each with its sequel
 abbrev pub IsVirtualPlay : Goal → PlainBoard → ℕ → Play → Type 0
 IsVirtualPlay goal q n (play threat replies) =
     IsThreat goal q n threat × ListsMoves q.game (IsMet goal q n) (replies_in replies) × AreSequels goal q replies
