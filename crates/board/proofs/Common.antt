@@ -28,7 +28,7 @@ pub use Rattle.board.specs.declared.terms.Atom.TheVariants.{Ferz, Wazir}
 pub use Rattle.board.specs.declared.terms.Term.{Term}
 pub use Rattle.board.specs.declared.terms.TheConstants.{LEAPS}
 pub use Rattle.std.proofs.Math.ListN.{length-replicate, set}
-pub use Rattle.std.proofs.lemmas.Bool.{and_parts, cases_Bool, cases_lt, eq-eqb, false≢true, iff_false, ne_eqb, or_parts}
+pub use Rattle.std.proofs.lemmas.Bool.{and_parts, cases_Bool, cases_lt, eq-eqb, eqb-true, false≢true, iff_false, ne_eqb, or_parts}
 pub use Rattle.std.proofs.lemmas.Bool.Decides.{Decides-int_eq, nat_tests}
 pub use Rattle.std.proofs.lemmas.List.{append-nil, drop_at, get_or-append-add, get_or-append_right, get_or_append_left, get_or_default, length_push, nil_from_length, take_all, take_at, take_more, take_rest}
 pub use Rattle.std.proofs.lemmas.List.Elements.{All-append, All-cons, All-contains, All-from_get_or, All-get_or, All-head, All-more, All-nil, All-push, All-replicate, All-tail, All-weaker, Contains-append_left, Contains-push, Contains-push_cases}

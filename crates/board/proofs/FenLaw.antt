@@ -18,25 +18,13 @@ empty_square = None
 abbrev Ranks : Game → List (List ℕ) → Type 0
 Ranks g parts = (ranks : List (List (Option Man))) × AreRanks g parts ranks
 
-onto_run : (g : Game) (c : ℕ) (parts : List (List ℕ)) → 0 < length parts → is_digit c ≡ true → c ≢ 48 → StartsNoRun (first_of parts) → (ranks : List (List (Option Man))) → AreRanks g parts ranks → Ranks g (onto_first c parts)
-onto_run g c [] h d z s old r = absurd (omega arith)
-onto_run g c (row ∷ rest) h d z s old (next {units = units} {ranks = ranks} r l p more) =
-    let bounds = digit_bounds c d in
-    let wide : cond (is_digit c) (c - 48) 1 ≡ c - 48 = ap (λ b. cond b (c - 48) 1) d in
-    let long : length (replicate (c - 48) None ++ units) ≡ row_width (c ∷ row) = omega (arith, wide, l, width_more c row, length-append (replicate (c - 48) empty_square) units, length-replicate (c - 48) empty_square) in
-    let d_pos : 0 < c - 48 = omega (arith, z) in (
-      (replicate (c - 48) None ++ units) ∷ ranks,
-      next (run (c - 48) d_pos (omega arith) (omega arith) s r) long
-          (All-append (IsPlayedAt g) (replicate (c - 48) None) units (All-replicate (IsPlayedAt g) (c - 48) None tt) p) more,
-    )
-
-onto_letter : (g : Game) (c : ℕ) (parts : List (List ℕ)) → 0 < length parts → (u : Man) → IsPlayed g u.kind → c ≡ letter_of u.side u.kind → (ranks : List (List (Option Man))) → AreRanks g parts ranks → Ranks g (onto_first c parts)
-onto_letter g c [] h u k e old r = absurd (omega arith)
-onto_letter g c (row ∷ rest) h u k e old (next {units = units} {ranks = ranks} r l p more) =
-    let no : is_digit c ≡ false = ap is_digit e ∙ letter_no_digit u in
-    let wide : cond (is_digit c) (c - 48) 1 ≡ 1 = ap (λ b. cond b (c - 48) 1) no in
-    let long : length (Some u ∷ units) ≡ row_width (c ∷ row) = omega (arith, wide, l, width_more c row) in
-    ((Some u ∷ units) ∷ ranks, next (unit u e r) long (All-cons (IsPlayedAt g) (Some u) units k p) more)
+-- a byte in front of the first row
+onto : (g : Game) (c : ℕ) (us : List (Option Man)) (parts : List (List ℕ)) → 0 < length parts → cond (is_digit c) (c - 48) 1 ≡ length us → All (IsPlayedAt g) us
+    → ((row : List ℕ) (units : List (Option Man)) → row ≡ first_of parts → IsRankText row units → IsRankText (c ∷ row) (us ++ units)) → Ranks g parts → Ranks g (onto_first c parts)
+onto g c us [] h wide own text r = absurd (omega arith)
+onto g c us (row ∷ rest) h wide own text (old, next {units = units} {ranks = ranks} r l p more) =
+    let long : length (us ++ units) ≡ row_width (c ∷ row) = omega (arith, wide, l, width_more c row, length-append us units) in
+    ((us ++ units) ∷ ranks, next (text row units refl r) long (All-append (IsPlayedAt g) us units own p) more)
 
 onto_cut : (g : Game) (c : ℕ) (board : List ℕ) → c ≡ 47 → Ranks g (rows board) → Ranks g (rows (c ∷ board))
 onto_cut g c board e (ranks, r) =
@@ -63,11 +51,15 @@ onto_byte g c board (separator e) z apart r = onto_cut g c board e r
 onto_byte g c board (digit d) z apart r =
     let b = digit_bounds c d in
     subst (Ranks g) (sym (slice_split-cons_no (λ x. eqb x 47) c board (ne_eqb c 47 (λ e. omega arith))))
-    (onto_run g c (rows board) (some_rows board) d z (starts c board d apart) r.0 r.1)
+    (onto g c (replicate (c - 48) None) (rows board) (some_rows board)
+    (ap (λ b. cond b (c - 48) 1) d ∙ sym (length-replicate (c - 48) empty_square))
+    (All-replicate (IsPlayedAt g) (c - 48) None tt)
+    (λ row units e t. run (c - 48) (omega (arith, z)) (omega arith) (omega arith) (subst StartsNoRun (sym e) (starts c board d apart)) t)
+    r)
 onto_byte g c board (letter u k e) z apart r =
     let b = letter_above u.side u.kind in
     subst (Ranks g) (sym (slice_split-cons_no (λ x. eqb x 47) c board (ne_eqb c 47 (λ f. omega arith))))
-    (onto_letter g c (rows board) (some_rows board) u k e r.0 r.1)
+    (onto g c (Some u ∷ []) (rows board) (some_rows board) (ap (λ b. cond b (c - 48) 1) (ap is_digit e ∙ letter_no_digit u)) (All-cons (IsPlayedAt g) (Some u) [] k (All-nil _)) (λ row units f t. unit u e t) r)
 
 apart_tail : (c : ℕ) (board : List ℕ) → HasAdjacentRuns board → HasAdjacentRuns (c ∷ board)
 apart_tail c board (i, lt, a, b) =

@@ -1,76 +1,38 @@
 -- A board has one text.
-use Rattle.std.proofs.Common.{◌≡◌, ℕ, ◌+◌, ◌*◌, ◌<◌, zero, suc, refl, sym, ap, subst, ◌∙◌, arith, List, [], ◌∷◌, ◌++◌, length, take, drop, replicate, Option, Some, None, length-append}
+use Rattle.std.proofs.Common.{◌≡◌, ℕ, ◌+◌, zero, suc, refl, sym, ap, ◌∙◌, arith, List, [], ◌∷◌, ◌++◌, length, take, drop, replicate, Option, Some, None, append-nil}
 use Rattle.board.proofs.Common.{take_at, drop_at, Side, Man, width_of, PlainBoard, letter_of, side_letter, StartsNoRun, IsRankText, IsTextFrom, IsFenText, end, unit, run, first, above}
+use Rattle.board.proofs.FenParts.{long_text}
 
--- how a rank's text and its units begin
-data Begins : List ℕ → List (Option Man) → Type 0 where
-  nothing : {text : List ℕ} {units : List (Option Man)} → text ≡ [] → units ≡ [] → Begins text units
-  by_unit : {text rest : List ℕ} {units more : List (Option Man)} (u : Man) → text ≡ letter_of u.side u.kind ∷ rest → units ≡ Some u ∷ more → IsRankText rest more → Begins text units
-  by_run : {text rest : List ℕ} {units more : List (Option Man)} (d : ℕ) → text ≡ (48 + suc d) ∷ rest → units ≡ None ∷ (replicate d None ++ more) → suc d < 10 → StartsNoRun rest → IsRankText rest more → Begins text units
+-- the digit of a run, if there is one
+abbrev digits : ℕ → List ℕ
+digits zero = []
+digits (suc d) = (48 + suc d) ∷ []
 
-begins : (text : List ℕ) (units : List (Option Man)) → IsRankText text units → Begins text units
-begins text units end = nothing refl refl
-begins text units (unit {bytes = rest} u e r) = by_unit u (ap (λ c. c ∷ rest) e) refl r
-begins text units (run zero p q e s r) = absurd (omega arith)
-begins text units (run {bytes = rest} (suc d) p q e s r) = by_run d (ap (λ c. c ∷ rest) e) refl q s r
+-- the text of a rank, after a run of so many empty squares
+abbrev rank_bytes : ℕ → List (Option Man) → List ℕ
+rank_bytes d [] = digits d
+rank_bytes d (None ∷ units) = rank_bytes (suc d) units
+rank_bytes d (Some u ∷ units) = digits d ++ letter_of u.side u.kind ∷ rank_bytes zero units
 
--- the units begin with no empty square
-StartsFull : List (Option Man) → Type 0
-StartsFull [] = Unit {0}
-StartsFull (None ∷ units) = ⊥
-StartsFull (Some u ∷ units) = Unit {0}
+after_run : (k d n : ℕ) (units : List (Option Man)) → n ≡ k + d → rank_bytes k (replicate d None ++ units) ≡ rank_bytes n units
+after_run k zero n units e = let same : k ≡ n = omega arith in ap (λ m. rank_bytes m units) same
+after_run k (suc d) n units e = after_run (suc k) d n units (omega arith)
 
-starts_full : (text : List ℕ) (units : List (Option Man)) → IsRankText text units → StartsNoRun text → StartsFull units
-unfolding StartsFull
-starts_full text units end s = tt
-starts_full text units (unit u e r) s = tt
-starts_full text units (run d p q e t r) s = absurd (s d q e)
+-- a run ends where its rank's text goes on with no digit
+run_ends : (d : ℕ) (bytes : List ℕ) (units : List (Option Man)) → IsRankText bytes units → StartsNoRun bytes → rank_bytes d units ≡ digits d ++ rank_bytes zero units
+run_ends d bytes units end s = sym (append-nil (digits d))
+run_ends d bytes units (unit u e r) s = refl
+run_ends d bytes units (run k p q e t r) s = absurd (s k q e)
 
--- runs of empty squares before none are as long
-same_runs : (d e : ℕ) (us vs : List (Option Man)) → StartsFull us → StartsFull vs → replicate d None ++ us ≡ replicate e None ++ vs → (d ≡ e) × (us ≡ vs)
-unfolding StartsFull
-same_runs zero zero us vs f g h = (refl, h)
-same_runs zero (suc e) us vs f g h = absurd (subst StartsFull h f)
-same_runs (suc d) zero us vs f g h = absurd (subst StartsFull (sym h) g)
-same_runs (suc d) (suc e) us vs f g h =
-    let tail : replicate d None ++ us ≡ replicate e None ++ vs = ap (drop 1) h in
-    let w = same_runs d e us vs f g tail in
-    (ap suc w.0, w.1)
+rank_is : (bytes : List ℕ) (units : List (Option Man)) → IsRankText bytes units → bytes ≡ rank_bytes zero units
+rank_is bytes units end = refl
+rank_is bytes units (unit {bytes = rest} {units = more} u e r) = ap (λ c. c ∷ rest) e ∙ ap (λ x. letter_of u.side u.kind ∷ x) (rank_is rest more r)
+rank_is bytes units (run zero p q e s r) = absurd (omega arith)
+rank_is bytes units (run {bytes = rest} {units = more} (suc d) p q e s r) =
+    ap (λ c. c ∷ rest) e ∙ ap (λ x. (48 + suc d) ∷ x) (rank_is rest more r) ∙ sym (run_ends (suc d) rest more r s) ∙ sym (after_run zero (suc d) (suc d) more (omega arith))
 
 one_row : (s t : List ℕ) (us vs : List (Option Man)) → IsRankText s us → IsRankText t vs → us ≡ vs → s ≡ t
-one_row s t us vs end b e = by (begins t vs b)
-  where
-    by : Begins t vs → [] ≡ t
-    by (nothing x y) = sym x
-    by (by_unit u x y r) = cc
-    by (by_run d x y q f r) = cc
-one_row s t us vs (unit {c = c} {bytes = rest} {units = more} u x a) b e = by (λ rest' more' r h. one_row rest rest' more more' a r h) (begins t vs b)
-  where
-    by : ((rest' : List ℕ) (more' : List (Option Man)) → IsRankText rest' more' → more ≡ more' → rest ≡ rest') → Begins t vs → c ∷ rest ≡ t
-    by same_rest (nothing x' y) = cc
-    by same_rest (by_unit {rest = rest'} {more = more'} v x' y r) =
-        let both : Some u ∷ more ≡ Some v ∷ more' = e ∙ y in
-        let same : u ≡ v = cc in
-        let tails : rest ≡ rest' = same_rest rest' more' r (ap (drop 1) both) in
-        ap (λ k. k ∷ rest) (x ∙ ap (λ (w : Man). letter_of w.side w.kind) same) ∙ ap (λ ys. letter_of v.side v.kind ∷ ys) tails ∙ sym x'
-    by same_rest (by_run d x' y q f r) = cc
-one_row s t us vs (run {c = c} {bytes = rest} {units = more} zero p q x f a) b e = absurd (omega arith)
-one_row s t us vs (run {c = c} {bytes = rest} {units = more} (suc d) p q x f a) b e = by (λ rest' more' r h. one_row rest rest' more more' a r h) (begins t vs b)
-  where
-    by : ((rest' : List ℕ) (more' : List (Option Man)) → IsRankText rest' more' → more ≡ more' → rest ≡ rest') → Begins t vs → c ∷ rest ≡ t
-    by same_rest (nothing x' y) = cc
-    by same_rest (by_unit v x' y r) = cc
-    by same_rest (by_run {rest = rest'} {more = more'} k x' y q' f' r) =
-        let both : replicate (suc d) None ++ more ≡ replicate (suc k) None ++ more' = e ∙ y in
-        let runs = same_runs (suc d) (suc k) more more' (starts_full rest more a f) (starts_full rest' more' r f') both in
-        let tails : rest ≡ rest' = same_rest rest' more' r runs.1 in
-        ap (λ n. n ∷ rest) (x ∙ ap (λ n. 48 + n) runs.0) ∙ ap (λ ys. (48 + suc k) ∷ ys) tails ∙ sym x'
-
--- a text's ranks have its width
-long_text : (w : ℕ) (s : Side) (n : ℕ) (text : List ℕ) (us : List (Option Man)) → IsTextFrom w s n text us → length us ≡ n * w
-long_text w s n text us (first e r l) = omega (arith, l)
-long_text w s n text us (above {n = k} {rest = rest} {top = top} {lower = lower} e r l low u) =
-    omega (arith, ap (length {A = Option Man}) u, l, length-append lower top, long_text w s k rest lower low)
+one_row s t us vs a b e = rank_is s us a ∙ ap (rank_bytes zero) e ∙ sym (rank_is t vs b)
 
 same_parts : (ks bs cs ds : List (Option Man)) → length ks ≡ length bs → ks ++ cs ≡ bs ++ ds → (ks ≡ bs) × (cs ≡ ds)
 same_parts ks bs cs ds l e = (

@@ -1,10 +1,6 @@
 -- The text of a position, as it is written.
-use Rattle.std.proofs.Common.{◌≡◌, ℕ, ◌-◌, ◌*◌, ◌<◌, ◌≤◌, zero, suc, refl, sym, ap, subst, ◌∙◌, arith, List, [], ◌∷◌, ◌++◌, length, get_or, take, drop, replicate, Option, Some, None, append_assoc}
-use Rattle.board.proofs.Common.{IfSome, take_all, Man, Side, width_of, squares_of, IsTextFrom, IsFenText, PlainBoard, unit_on, MayStandOn, IsPosition}
-
-pub split_units : (xs : List (Option Man)) (d : Option Man) → 1 ≤ length xs → xs ≡ get_or xs 0 d ∷ take (length xs - 1) (drop 1 xs)
-split_units [] d h = absurd (omega arith)
-split_units (x ∷ xs) d h = ap (λ ys. x ∷ ys) (sym (take_all (length (x ∷ xs) - 1) xs (omega arith)))
+use Rattle.std.proofs.Common.{◌≡◌, ℕ, ◌-◌, ◌*◌, ◌<◌, ◌≤◌, zero, suc, refl, sym, ap, subst, ◌∙◌, arith, List, [], ◌∷◌, ◌++◌, length, get_or, take, replicate, Option, Some, None, append_assoc}
+use Rattle.board.proofs.Common.{IfSome, Man, Side, width_of, squares_of, IsTextFrom, IsFenText, PlainBoard, unit_on, MayStandOn, IsPosition}
 
 -- one text after another, and one byte between
 pub joined : (old one two new half : List ℕ) (c : ℕ) → half ≡ (old ++ one) ++ c ∷ [] → new ≡ half ++ two → new ≡ old ++ (one ++ c ∷ two)

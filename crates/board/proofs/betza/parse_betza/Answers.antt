@@ -1,6 +1,5 @@
 use Rattle.std.proofs.Common.{◌≡◌, length, subst, arith}
-use Rattle.board.proofs.Common.{nat_tests, Empty, Letter, ListsSteps}
-use Rattle.board.proofs.RankText.{empty_text}
+use Rattle.board.proofs.Common.{nat_tests, nil_from_length, Empty, Letter, ListsSteps}
 use Rattle.board.proofs.WordByWord.{one_reading}
 use Rattle.board.proofs.BetzaFaulty.{no_fault}
 use Rattle.board.proofs.betza.parse_betza.Goals as goal
@@ -8,7 +7,7 @@ use Rattle.board.proofs.betza.parse_betza.Goals as goal
 pub returns-then-is_empty-clause-read : goal.returns-then-is_empty-clause-read
 returns-then-is_empty-clause-read c = λ terms r.
     let nothing : length c.args.text.now ≡ 0 = grind (arith, nat_tests, c.if-is_empty.ensures) in
-    no_fault c.args.text.now terms Empty r (empty_text c.args.text.now (omega (arith, nothing)))
+    no_fault c.args.text.now terms Empty r (nil_from_length c.args.text.now nothing)
 
 pub returns-then-has_foreign_byte-clause-read : goal.returns-then-has_foreign_byte-clause-read
 returns-then-has_foreign_byte-clause-read c = λ terms r. no_fault c.args.text.now terms Letter r c.if-has_foreign_byte.ensures

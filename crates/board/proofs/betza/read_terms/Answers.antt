@@ -1,6 +1,5 @@
 use Rattle.std.proofs.Common.{◌≡◌, ◌≢◌, ℕ, ◌==◌, ◌++◌, List, [], length, Option, Some, None, MatchOption, ap, subst, ◌∙◌, arith}
-use Rattle.board.proofs.Common.{ok_or, IfOk, IfErr, false≢true, nat_tests, BetzaFault, Repeated, IsBetzaFault, IsReading}
-use Rattle.board.proofs.RankText.{empty_text}
+use Rattle.board.proofs.Common.{ok_or, IfOk, IfErr, false≢true, nat_tests, nil_from_length, BetzaFault, Repeated, IsBetzaFault, IsReading}
 use Rattle.board.proofs.WordByWord.{IsReadTo, none_read, one_read, shorter, front_distinct}
 use Rattle.board.proofs.BetzaFaulty.{unreadable, accepted, repeated}
 use Rattle.board.proofs.betza.read_terms.Goals as goal
@@ -36,7 +35,7 @@ loop-rest-preserved c =
 
 -- what is left at the end of the loop
 at_end : (text rest : List ℕ) (so_far : List _) → IsReadTo text rest so_far → length rest ≡ 0 → IsReadTo text [] so_far
-at_end text rest so_far r e = subst (λ x. IsReadTo text x so_far) (empty_text rest (omega arith)) r
+at_end text rest so_far r e = subst (λ x. IsReadTo text x so_far) (nil_from_length rest e) r
 
 on_ok : {X : Type 0} (o : Option X) (none : Type 0) (P R : X → Type 0) (f : BetzaFault) → MatchOption o none P → ((x : X) → P x → R x) → IfOk (ok_or o f) R
 on_ok None none P R f h g = tt
