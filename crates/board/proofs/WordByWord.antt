@@ -1,7 +1,7 @@
 -- Reading a string word by word, each word as long as can be: nothing else can be its accepted reading.
 use Rattle.std.proofs.Common.{◌≡◌, ◌≢◌, ℕ, ◌+◌, ◌<◌, true, false, refl, sym, ap, subst, ◌∙◌, arith, List, [], ◌∷◌, ◌++◌, length, append_assoc, length-append}
-use Rattle.board.proofs.Common.{false≢true, append-nil, get_or-append-add, get_or_append_left, Atom, Term, single, AreDistinct, atom_text, IsWord, IsRead, IsLongestWord, HasOneReading, term, short, last, more}
-use Rattle.board.proofs.TwoWords.{two_words, atom_letter, atom_text-letter, length-term, letters_of, short_letter}
+use Rattle.board.proofs.Common.{false≢true, append-nil, get_or-append-add, get_or_append_left, Atom, Term, single, AreDistinct, atom_text, IsWord, IsRead, IsFirstWord, IsWhole, HasOneReading, term, short, last, more}
+use Rattle.board.proofs.TwoWords.{IsHalf, two_words, some_bytes}
 use Rattle.board.proofs.TwoWords.AreTwo.{same, first_half, second_half}
 
 -- the bytes are words, or there are none
@@ -13,16 +13,12 @@ pub AreWords-read : (text : List ℕ) (terms : List Term) → IsRead text terms 
 AreWords-read text terms (last w) = next w (sym (append-nil text)) (sym (append-nil terms)) (none refl refl)
 AreWords-read text terms (more {rest = rest} {others = others} w r) = next w refl refl (AreWords-read rest others r)
 
-some_bytes : (bytes : List ℕ) (terms : List Term) → IsWord bytes terms → 0 < length bytes
-some_bytes bytes terms (term t w e) = omega (arith, ap (length {A = ℕ}) e, length-term t, one_letter t.rider)
-  where
-    one_letter : (r : _) → 0 < letters_of r
-    one_letter true = omega arith
-    one_letter false = omega arith
-some_bytes bytes terms (short s) = let w = short_letter bytes terms s in omega (arith, ap (length {A = ℕ}) w.1)
+word_long : (bytes : List ℕ) (terms : List Term) → IsWord bytes terms → 0 < length bytes
+word_long [] terms w = some_bytes terms w
+word_long (c ∷ bytes) terms w = omega arith
 
 pub not_empty : {A : Type 0} (text bytes rest : List ℕ) (terms : List Term) → IsWord bytes terms → text ≡ bytes ++ rest → text ≡ [] → A
-not_empty text bytes rest terms w e f = absurd (omega (arith, some_bytes bytes terms w, length-append bytes rest, ap (length {A = ℕ}) (sym e ∙ f)))
+not_empty text bytes rest terms w e f = absurd (omega (arith, word_long bytes terms w, length-append bytes rest, ap (length {A = ℕ}) (sym e ∙ f)))
 
 pub no_words : (text : List ℕ) (terms : List Term) → text ≡ [] → AreWords text terms → terms ≡ []
 no_words text terms e (none f g) = g
@@ -56,10 +52,10 @@ record BeginsBare (a : Atom) (rest : List ℕ) (whole : List Term) : Type 0 wher
   later : List Term
   words : AreWords rest later
 
-begins_bare : (a : Atom) (rest text : List ℕ) (whole : List Term) → text ≡ atom_letter a ∷ rest → AreWords text whole → BeginsBare a rest whole
-begins_bare a rest text whole b (none e f) = absurd (omega (arith, ap (length {A = ℕ}) (sym b ∙ e)))
+begins_bare : (a : Atom) (rest text : List ℕ) (whole : List Term) → text ≡ atom_text a ++ rest → AreWords text whole → BeginsBare a rest whole
+begins_bare a rest text whole b (none e f) = not_empty text (atom_text a) rest (single a ∷ []) (bare_word a) b e
 begins_bare a rest text whole b (next {bytes = bytes} {rest = after} {terms = terms} {others = others} w e f r) =
-    elim (two_words (atom_text a) rest bytes after (single a ∷ []) terms (bare_word a) w (ap (λ x. x ++ rest) (atom_text-letter a) ∙ sym b ∙ e)) [
+    elim (two_words (atom_text a) rest bytes after (single a ∷ []) terms (bare_word a) w (sym b ∙ e)) [
       | same p q ↦ record { first = single a; others = others; terms = f ∙ ap (λ x. x ++ others) (sym p); atom = refl; later = others; words = subst (λ x. AreWords x others) (sym q) r }
       | first_half h ↦
           let is : single a ≡ h.half = cc in
@@ -69,7 +65,7 @@ begins_bare a rest text whole b (next {bytes = bytes} {rest = after} {terms = te
             terms = f ∙ ap (λ x. x ++ others) h.others;
             atom = h.atoms ∙ ap (λ (t : Term). t.atom) (sym is);
             later = single h.half.atom ∷ others;
-            words = next (bare_word h.half.atom) (h.rest ∙ ap (λ x. x ++ after) (sym (atom_text-letter h.half.atom))) refl r;
+            words = next (bare_word h.half.atom) h.rest refl r;
           }
       | second_half h ↦
           let is : single a ≡ h.twice = cc in
@@ -81,14 +77,18 @@ twice : {A : Type 0} (whole others : List Term) (t u : Term) → AreDistinct who
 twice whole others t u d e f = absurd (subst AreDistinct e d 0 1 t (omega arith) (omega arith) (sym f))
 
 -- a term whose letter the next word could double is in no accepted reading
-half_read : {A : Type 0} (whole ts others : List Term) (t : Term) (rest after : List ℕ) → AreDistinct whole → whole ≡ ts ++ others → ts ≡ t ∷ [] → rest ≡ atom_letter t.atom ∷ after → AreWords rest others → A
+half_read : {A : Type 0} (whole ts others : List Term) (t : Term) (rest after : List ℕ) → AreDistinct whole → whole ≡ ts ++ others → ts ≡ t ∷ [] → rest ≡ atom_text t.atom ++ after → AreWords rest others → A
 half_read whole ts others t rest after d e f g r =
     let b = begins_bare t.atom after rest others g r in
     twice whole b.others t b.first d (e ∙ ap (λ x. x ++ others) f ∙ ap (λ x. t ∷ x) b.terms) b.atom
 
+-- a whole word isn't the half of another
+not_half : {A : Type 0} (terms ts : List Term) (rest r : List ℕ) → IsWhole terms rest → IsHalf rest terms r ts → A
+not_half terms ts rest r whole h = absurd (subst (λ x. IsWhole x rest) h.terms whole h.once r h.rest)
+
 -- ---- one word
 
-module _ (text rest : List ℕ) (terms : List Term) (l : IsLongestWord text terms rest) where
+module _ (text rest : List ℕ) (terms : List Term) (l : IsFirstWord text terms rest) where
   -- what follows the longest word of words is words
   stays_words : (whole : List Term) → AreWords text whole → (later : List Term) × AreWords rest later
   stays_words whole (none e f) = not_empty text l.bytes rest terms l.word l.begins e
@@ -96,7 +96,7 @@ module _ (text rest : List ℕ) (terms : List Term) (l : IsLongestWord text term
       elim (two_words b r l.bytes rest ts terms w l.word (sym e ∙ l.begins)) [
         | same p q ↦ (others, subst (λ x. AreWords x others) q m)
         | first_half h ↦ let bare = begins_bare h.half.atom rest r others h.rest m in (bare.later, bare.words)
-        | second_half h ↦ absurd (omega (arith, h.longer, l.longest b r ts w e))
+        | second_half h ↦ not_half terms ts rest r l.whole h
       ]
 
   -- an accepted reading begins with the terms of the longest word
@@ -106,7 +106,7 @@ module _ (text rest : List ℕ) (terms : List Term) (l : IsLongestWord text term
       elim (two_words b r l.bytes rest ts terms w l.word (sym e ∙ l.begins)) [
         | same p q ↦ (others, f ∙ ap (λ x. x ++ others) p, subst (λ x. AreWords x others) q m)
         | first_half h ↦ half_read whole ts others h.half r rest d f h.terms h.rest m
-        | second_half h ↦ absurd (omega (arith, h.longer, l.longest b r ts w e))
+        | second_half h ↦ not_half terms ts rest r l.whole h
       ]
 
 -- ---- the words read so far
@@ -132,7 +132,7 @@ tail_distinct xs ys h = λ i j d p q e.
     h (length xs + i) (length xs + j) d (omega (arith, p)) (omega (arith, q, length-append xs ys))
     (ap (λ (t : Term). t.atom) (get_or-append-add xs ys i d) ∙ e ∙ sym (ap (λ (t : Term). t.atom) (get_or-append-add xs ys j d)))
 
-pub one_read : (text rest after : List ℕ) (so_far terms : List Term) → IsReadTo text rest so_far → IsLongestWord rest terms after → IsReadTo text after (so_far ++ terms)
+pub one_read : (text rest after : List ℕ) (so_far terms : List Term) → IsReadTo text rest so_far → IsFirstWord rest terms after → IsReadTo text after (so_far ++ terms)
 one_read text rest after so_far terms r l = record {
   before = r.before ++ l.bytes;
   begins = r.begins ∙ ap (λ x. r.before ++ x) l.begins ∙ sym (append_assoc r.before l.bytes after);
@@ -164,8 +164,8 @@ one_reading text terms others r s = one text terms others (AreWords-read text te
 -- ---- what the loop needs of a word
 
 -- a word takes bytes
-pub shorter : (text rest : List ℕ) (terms : List Term) → IsLongestWord text terms rest → length rest < length text
-shorter text rest terms l = omega (arith, some_bytes l.bytes terms l.word, length-append l.bytes rest, ap (length {A = ℕ}) l.begins)
+pub shorter : (text rest : List ℕ) (terms : List Term) → IsFirstWord text terms rest → length rest < length text
+shorter text rest terms l = omega (arith, word_long l.bytes terms l.word, length-append l.bytes rest, ap (length {A = ℕ}) l.begins)
 
 -- bytes that begin with no word are no words
 pub not_words : (text : List ℕ) → text ≢ [] → ((bytes rest : List ℕ) (terms : List Term) → IsWord bytes terms → text ≡ bytes ++ rest → ⊥) → (whole : List Term) → AreWords text whole → ⊥

@@ -70,6 +70,7 @@ pub fn pieces(game: Game) -> PieceTable
 
 impl PieceTable {
     /// The steps of a kind, if the game plays with it.
+    #[tactic(auto, using(crate::proofs::Strings::kind_reading))]
     pub fn steps(&self, kind: Kind) -> Option<&Moves>
         ensures played { IsSome result ↔ IsPlayed self.now kind }
         ensures reading { IsReading (piece_text kind) (terms_of kind) }
