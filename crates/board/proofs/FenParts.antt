@@ -2,8 +2,8 @@
 use Rattle.std.proofs.Common.{◌≡◌, ℕ, ◌+◌, ◌-◌, ◌*◌, ◌<◌, ◌≤◌, refl, sym, ap, subst, ◌∙◌, arith, List, [], ◌∷◌, ◌++◌, length, get_or, take, drop, Option, Some, None, replicate, Bool, true, false, cond, eqb, ◌≢◌, append_assoc, append-nil, length-append, length-take, length-drop, inl, inr}
 use Rattle.std.proofs.lemmas.Bool.{cases_eq}
 use Rattle.std.proofs.lemmas.List.{append_cancel_right, at_drop_more, take-append-drop}
-use Rattle.board.proofs.Common.{IfSome, IfNone, IsPosition, eq-eqb, ne_eqb, length-replicate, take_at, drop_at, get_or-append-add, Side, White, Black, Man, Game, LosAlamos, Gardner, width_of, squares_of, PlainBoard, letter_of, side_letter, IsRankText, IsTextFrom, IsFenText, end, unit, run, first, above}
-use Rattle.board.proofs.RowBytes.{man_at, man_at-letter, man_at-none, man_found, no_digit, letter_above}
+use Rattle.board.proofs.Common.{IfSome, IfNone, MatchOption, IsPosition, eq-eqb, ne_eqb, length-replicate, take_at, drop_at, get_or-append-add, Side, White, Black, Man, Game, LosAlamos, Gardner, width_of, squares_of, PlainBoard, letter_of, side_letter, IsRankText, IsTextFrom, IsFenText, end, unit, run, first, above}
+use Rattle.board.proofs.RowBytes.{man_at, man_at-letter, man_at-none, no_digit, letter_above}
 
 abbrev places : Option Man → ℕ → List (Option Man)
 places None d = replicate d None
@@ -68,13 +68,9 @@ cut_end board s text e =
 -- ---- the reader's turns
 
 -- what a byte says is the squares that it adds
-pub places_is : (c times : ℕ) (place : Option Man) → ((u : Man) → c ≡ letter_of u.side u.kind → (place ≡ Some u) × (times ≡ 1)) → (((u : Man) → c ≡ letter_of u.side u.kind → ⊥) → (place ≡ None) × (times ≡ c - 48))
-    → replicate times place ≡ places_at c
-places_is c times place once often = by (man_at c) refl
-  where
-    by : (o : Option Man) → man_at c ≡ o → replicate times place ≡ places o (c - 48)
-    by (Some u) e = let h = once u (man_found c u e) in rw (h.0, h.1) refl
-    by None e = let h = often (λ u f. let clash : None ≡ Some u = sym e ∙ man_at-letter c u f in cc) in rw (h.0, h.1) refl
+pub places_is : (c times : ℕ) (place : Option Man) → MatchOption place (((u : Man) → c ≡ letter_of u.side u.kind → ⊥) × (times ≡ c - 48)) (λ u. (c ≡ letter_of u.side u.kind) × (times ≡ 1)) → replicate times place ≡ places_at c
+places_is c times None h = rw (man_at-none c h.0, h.1) refl
+places_is c times (Some u) h = rw (man_at-letter c u h.0, h.1) refl
 
 -- the squares so far are among all
 long_from : (row behind : List (Option Man)) (cs : List ℕ) → length row + length behind ≤ length (squares_from row behind cs)

@@ -52,7 +52,7 @@ found p (u ∷ us) = by (p u) refl (found p us)
     by true e h = e
     by false e h = h
 
-pub man_found : (c : ℕ) (u : Man) → man_at c ≡ Some u → c ≡ letter_of u.side u.kind
+man_found : (c : ℕ) (u : Man) → man_at c ≡ Some u → c ≡ letter_of u.side u.kind
 man_found c u e =
     let h = subst (λ (o : Option Man). IfSome o (λ v. is_letter_of c v ≡ true)) e (found (is_letter_of c) men) in
     sym (eqb-true (letter_of u.side u.kind) c h)

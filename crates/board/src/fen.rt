@@ -36,8 +36,9 @@ pub fn unit_of(letter: u8) -> Option<Unit>
 
 /// What a byte of a board says, and of how many squares: a letter names its unit once, and a digit is a run of empty squares.
 fn places_of(c: u8) -> (Option<Unit>, u8)
-    ensures unit { (u : Man) → c ≡ letter_of u.side u.kind → (result.0 ≡ Some u) × (result.1 ≡ 1) }
-    ensures run { ((u : Man) → c ≡ letter_of u.side u.kind → ⊥) → (result.0 ≡ None) × (result.1 ≡ c - 48) }
+    ensures { MatchOption result.0
+        (((u : Man) → c ≡ letter_of u.side u.kind → ⊥) × (result.1 ≡ c - 48))
+        (λ u. (c ≡ letter_of u.side u.kind) × (result.1 ≡ 1)) }
 {
     match unit_of(c) {
         Some(unit) => (Some(unit), 1),

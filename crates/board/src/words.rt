@@ -110,10 +110,10 @@ fn shorthand(letter: u8) -> Option<ArrayVec<Term, 2>>
 {
     let (wazir, ferz) = (Atom::Wazir, Atom::Ferz);
     match letter {
-        b'R' => Some(one(Term::doubled(wazir))),
-        b'B' => Some(one(Term::doubled(ferz))),
-        b'Q' => Some(two(Term::doubled(wazir), Term::doubled(ferz))),
-        b'K' => Some(two(Term::single(wazir), Term::single(ferz))),
+        b'R' => Some(one(Term::bare(wazir, true))),
+        b'B' => Some(one(Term::bare(ferz, true))),
+        b'Q' => Some(two(Term::bare(wazir, true), Term::bare(ferz, true))),
+        b'K' => Some(two(Term::bare(wazir, false), Term::bare(ferz, false))),
         _ => None,
     }
 }

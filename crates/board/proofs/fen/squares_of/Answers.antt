@@ -9,7 +9,7 @@ pub returns-then-len-times-gt36 : goal.returns-then-len-times-gt36
 returns-then-len-times-gt36 c = λ w n side units fits text.
     let i = c.loop-c.invariant in
     let p = c.places_of-place in
-    let is = places_is (get_or c.args.board.now c.loop-c.c-index 0) p.result.1 p.result.0 p.ensures.unit p.ensures.run in
+    let is = places_is (get_or c.args.board.now c.loop-c.c-index 0) p.result.1 p.result.0 p.ensures in
     let more = room c.args.board.now c.loop-c.c-index c.loop-c.file p.result.1 p.result.0 c.loop-c.units.items c.loop-c-test.true i.0 i.1 is in
     omega (arith, fits, more, ap (length {A = Option Man}) (listed c.args.board.now w n side units text), c.len.ensures.value, c.if-len-times-gt36.true)
 
@@ -17,7 +17,7 @@ pub loop-c-preserved : goal.loop-c-preserved
 loop-c-preserved c =
     let i = c.loop-c.invariant in
     let p = c.places_of-place in
-    let is = places_is (get_or c.args.board.now c.loop-c.c-index 0) p.result.1 p.result.0 p.ensures.unit p.ensures.run in
+    let is = places_is (get_or c.args.board.now c.loop-c.c-index 0) p.result.1 p.result.0 p.ensures in
     elim c.if-c-eq47.branch [
       | then-c-eq47 w ↦
           rw w.file-is (omega arith, cut_turn c.args.board.now c.loop-c.c-index c.loop-c.file p.result.1 p.result.0 c.loop-c.units.items c.loop-c-test.true i.0 i.1 is c.insert_places.new.units.items c.insert_places.ensures w.if-c-eq47.true)
