@@ -69,7 +69,7 @@ module _ (text : List ℕ) (some : text ≢ []) (all : All IsLetter text) where
 
   pub unreadable : (rest : List ℕ) (so_far : List Term) → IsReadTo text rest so_far → rest ≢ [] → ((bytes more : List ℕ) (terms : List Term) → IsWord bytes terms → rest ≡ bytes ++ more → ⊥) → IsBetzaFault text Modifier
   unreadable rest so_far r left no_word = record {
-    holds = λ (terms, read). let later = r.stays terms (AreWords-read text terms read) in not_words rest left no_word later.0 later.1;
+    holds = λ (terms, read). let later = r.goes_on terms (AreWords-read text terms read) in not_words rest left no_word later.0 later.1;
     least = none_before;
   }
 
@@ -91,8 +91,8 @@ module _ (text : List ℕ) (some : text ≢ []) (all : All IsLetter text) where
       holds = (
         (so_far, whole),
         λ terms reading.
-            let w = r.only terms (AreWords-read text terms reading.read) reading.distinct in
-            d (subst AreDistinct (w.1 ∙ ap (λ x. so_far ++ x) (no_words [] w.0 refl w.2) ∙ append-nil so_far) reading.distinct),
+            let w = r.goes_on terms (AreWords-read text terms reading.read) in
+            d (subst AreDistinct (w.2 reading.distinct ∙ ap (λ x. so_far ++ x) (no_words [] w.0 refl w.1) ∙ append-nil so_far) reading.distinct),
       );
       least = none_up_to d;
     }

@@ -88,26 +88,20 @@ not_half terms ts rest r whole h = absurd (subst (λ x. IsWhole x rest) h.terms 
 
 -- ---- one word
 
-module _ (text rest : List ℕ) (terms : List Term) (l : IsFirstWord text terms rest) where
-  -- what follows the longest word of words is words
-  stays_words : (whole : List Term) → AreWords text whole → (later : List Term) × AreWords rest later
-  stays_words whole (none e f) = not_empty text l.bytes rest terms l.word l.begins e
-  stays_words whole (next {bytes = b} {rest = r} {terms = ts} {others = others} w e f m) =
-      elim (two_words b r l.bytes rest ts terms w l.word (sym e ∙ l.begins)) [
-        | same p q ↦ (others, subst (λ x. AreWords x others) q m)
-        | first_half h ↦ let bare = begins_bare h.half.atom rest r others h.rest m in (bare.later, bare.words)
-        | second_half h ↦ not_half terms ts rest r l.whole h
-      ]
+-- what follows words of a text is words, and an accepted reading of the text begins with theirs
+abbrev GoesOn : List ℕ → List ℕ → List Term → Type 0
+GoesOn text rest terms = (whole : List Term) → AreWords text whole → (later : List Term) × AreWords rest later × (AreDistinct whole → whole ≡ terms ++ later)
 
-  -- an accepted reading begins with the terms of the longest word
-  begins_with : (whole : List Term) → AreWords text whole → AreDistinct whole → (later : List Term) × (whole ≡ terms ++ later) × AreWords rest later
-  begins_with whole (none e f) d = not_empty text l.bytes rest terms l.word l.begins e
-  begins_with whole (next {bytes = b} {rest = r} {terms = ts} {others = others} w e f m) d =
-      elim (two_words b r l.bytes rest ts terms w l.word (sym e ∙ l.begins)) [
-        | same p q ↦ (others, f ∙ ap (λ x. x ++ others) p, subst (λ x. AreWords x others) q m)
-        | first_half h ↦ half_read whole ts others h.half r rest d f h.terms h.rest m
-        | second_half h ↦ not_half terms ts rest r l.whole h
-      ]
+first_word : (text rest : List ℕ) (terms : List Term) → IsFirstWord text terms rest → GoesOn text rest terms
+first_word text rest terms l whole (none e f) = not_empty text l.bytes rest terms l.word l.begins e
+first_word text rest terms l whole (next {bytes = b} {rest = r} {terms = ts} {others = others} w e f m) =
+    elim (two_words b r l.bytes rest ts terms w l.word (sym e ∙ l.begins)) [
+      | same p q ↦ (others, subst (λ x. AreWords x others) q m, λ d. f ∙ ap (λ x. x ++ others) p)
+      | first_half h ↦
+          let bare = begins_bare h.half.atom rest r others h.rest m in
+          (bare.later, bare.words, λ d. half_read whole ts others h.half r rest d f h.terms h.rest m)
+      | second_half h ↦ not_half terms ts rest r l.whole h
+    ]
 
 -- ---- the words read so far
 
@@ -115,11 +109,10 @@ pub record IsReadTo (text rest : List ℕ) (so_far : List Term) : Type 0 where
   pub before : List ℕ
   pub begins : text ≡ before ++ rest
   pub words : AreWords before so_far
-  pub stays : (whole : List Term) → AreWords text whole → (later : List Term) × AreWords rest later
-  pub only : (whole : List Term) → AreWords text whole → AreDistinct whole → (later : List Term) × (whole ≡ so_far ++ later) × AreWords rest later
+  pub goes_on : GoesOn text rest so_far
 
 pub none_read : (text : List ℕ) → IsReadTo text text []
-none_read text = record { before = []; begins = refl; words = none refl refl; stays = λ whole w. (whole, w); only = λ whole w d. (whole, refl, w) }
+none_read text = record { before = []; begins = refl; words = none refl refl; goes_on = λ whole w. (whole, w, λ d. refl) }
 
 pub front_distinct : (xs ys : List Term) → AreDistinct (xs ++ ys) → AreDistinct xs
 front_distinct xs ys h = λ i j d p q e.
@@ -137,11 +130,10 @@ one_read text rest after so_far terms r l = record {
   before = r.before ++ l.bytes;
   begins = r.begins ∙ ap (λ x. r.before ++ x) l.begins ∙ sym (append_assoc r.before l.bytes after);
   words = words_then r.before l.bytes so_far terms r.words (next l.word (sym (append-nil l.bytes)) (sym (append-nil terms)) (none refl refl));
-  stays = λ whole w. let s = r.stays whole w in stays_words rest after terms l s.0 s.1;
-  only = λ whole w d.
-      let s = r.only whole w d in
-      let t = begins_with rest after terms l s.0 s.2 (tail_distinct so_far s.0 (subst AreDistinct s.1 d)) in
-      (t.0, s.1 ∙ ap (λ x. so_far ++ x) t.1 ∙ sym (append_assoc so_far terms t.0), t.2);
+  goes_on = λ whole w.
+      let s = r.goes_on whole w in
+      let t = first_word rest after terms l s.0 s.1 in
+      (t.0, t.1, λ d. s.2 d ∙ ap (λ x. so_far ++ x) (t.2 (tail_distinct so_far s.0 (subst AreDistinct (s.2 d) d))) ∙ sym (append_assoc so_far terms t.0));
 }
 
 -- ---- a string has one accepted reading

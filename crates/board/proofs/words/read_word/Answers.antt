@@ -7,6 +7,3 @@ pub returns-in-Some : goal.returns-in-Some
 returns-in-Some c =
     let text = c.args.text.now in
     short_first text (get_or text 0 0 ∷ []) (take (length text - 1) (drop 1 text)) c.in-Some.terms.items c.in-Some.ensures (split_first text 0 (omega arith))
-
-pub returns : goal.returns
-returns c = rw c.one.ensures c.in-Some-read_term.ensures
