@@ -4,23 +4,16 @@ use Rattle.std.proofs.lemmas.List.{get_or-map, get_or-replicate, length-map, sam
 use Rattle.std.proofs.lemmas.Iterator.Consumers.{YieldsList-turn, YieldsList-end}
 use Rattle.std.proofs.lemmas.Iterator.Splits.{YieldsList-from_slice_split}
 use Rattle.board.proofs.Common.{false≢true, iff_false, length-replicate, nat_tests, length_push, take_all, All-more, All-get_or, rows, row_width}
+use Rattle.board.proofs.FenLaw.{wide_rows}
 use Rattle.board.proofs.fault.has_rows.Goals as goal
 use Rattle.board.proofs.fault.has_rows.Goals.{then-count-width-via-then-count-width, then-count-width-via-else-count-width+then-not-is_wide}
 
-module _ (rs : List (List ℕ)) (n w : ℕ) where
-  -- rows that are all of one width
-  same_widths : length rs ≡ n → All (λ r. row_width r ≡ w) rs → map row_width rs ≡ replicate n w
-  same_widths e all = same_lists (map row_width rs) (replicate n w) (length-map rs row_width ∙ e ∙ sym (length-replicate n w))
-      (λ k d lt.
-      let within : k < length rs = omega (arith, length-map rs row_width) in
-      get_or-map row_width rs k [] d within ∙ All-get_or (λ r. row_width r ≡ w) rs k [] within all ∙ sym (get_or-replicate n k w d (omega (arith, e))))
-
-  how_many : map row_width rs ≡ replicate n w → length rs ≡ n
-  how_many e = sym (length-map rs row_width) ∙ ap (length {A = ℕ}) e ∙ length-replicate n w
-
-  -- each of them
-  width_at : (k : ℕ) (d : List ℕ) → map row_width rs ≡ replicate n w → k < length rs → row_width (get_or rs k d) ≡ w
-  width_at k d e lt = sym (get_or-map row_width rs k d 0 lt) ∙ ap (λ x. get_or x k 0) e ∙ get_or-replicate n k w 0 (omega (arith, how_many e))
+-- rows that are all of one width
+same_widths : (rs : List (List ℕ)) (n w : ℕ) → length rs ≡ n → All (λ r. row_width r ≡ w) rs → map row_width rs ≡ replicate n w
+same_widths rs n w e all = same_lists (map row_width rs) (replicate n w) (length-map rs row_width ∙ e ∙ sym (length-replicate n w))
+    (λ k d lt.
+        let within : k < length rs = omega (arith, length-map rs row_width) in
+        get_or-map row_width rs k [] d within ∙ All-get_or (λ r. row_width r ≡ w) rs k [] within all ∙ sym (get_or-replicate n k w d (omega (arith, e))))
 
 pub returns-then-count-width : goal.returns-then-count-width
 returns-then-count-width c =
@@ -29,8 +22,8 @@ returns-then-count-width c =
     let next = YieldsList-turn (YieldsList-from_slice_split _ (λ x. eqb x 47) c.args.board.now (cc) (cc) (ap split_callee c.into_iter-row-iterator.ensures.into_iter_gives ∙ c.split-row-items.ensures.closure) (λ x r q k. search (rules, tests))) c.loop-row.yielded _ c.loop-row.yielded_by _ _ c.in-Some.row c.in-Some.is c.next.ensures.steps in (
       λ e. absurd (false≢true e),
       λ e. elim c.then-count-width.branch [
-        | then-count-width-via-then-count-width b ↦ absurd (omega (arith, next.0, c.loop-row.invariant.0, b.if-count-width.true, how_many all w w e))
-        | then-count-width-via-else-count-width+then-not-is_wide b ↦ absurd (iff_false b.is_wide.ensures b.if-not-is_wide.true (ap row_width next.1 ∙ width_at all w w (length c.loop-row.yielded) c.in-Some.row.now e next.0))
+        | then-count-width-via-then-count-width b ↦ absurd (omega (arith, next.0, c.loop-row.invariant.0, b.if-count-width.true, (wide_rows all w w e).0))
+        | then-count-width-via-else-count-width+then-not-is_wide b ↦ absurd (iff_false b.is_wide.ensures b.if-not-is_wide.true (ap row_width next.1 ∙ All-get_or (λ r. row_width r ≡ w) all (length c.loop-row.yielded) c.in-Some.row.now next.0 (wide_rows all w w e).1))
       ],
     )
 
@@ -57,5 +50,5 @@ returns c =
     let counted : c.loop-row.count ≡ length all = i.0 ∙ seen.1 in
     let widths = subst (All (λ row. row_width row ≡ w)) (take_all c.loop-row.count all (omega arith)) i.2 in (
       λ e. let same : c.loop-row.count ≡ w = grind (arith, nat_tests) in same_widths all w w (sym counted ∙ same) widths,
-      λ e. let same : c.loop-row.count ≡ w = counted ∙ how_many all w w e in grind (arith, nat_tests),
+      λ e. let same : c.loop-row.count ≡ w = counted ∙ (wide_rows all w w e).0 in grind (arith, nat_tests),
     )
