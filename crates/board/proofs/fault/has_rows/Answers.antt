@@ -12,8 +12,8 @@ use Rattle.board.proofs.fault.has_rows.Goals.{then-count-width-via-then-count-wi
 same_widths : (rs : List (List ℕ)) (n w : ℕ) → length rs ≡ n → All (λ r. row_width r ≡ w) rs → map row_width rs ≡ replicate n w
 same_widths rs n w e all = same_lists (map row_width rs) (replicate n w) (length-map rs row_width ∙ e ∙ sym (length-replicate n w))
     (λ k d lt.
-        let within : k < length rs = omega (arith, length-map rs row_width) in
-        get_or-map row_width rs k [] d within ∙ All-get_or (λ r. row_width r ≡ w) rs k [] within all ∙ sym (get_or-replicate n k w d (omega (arith, e))))
+    let within : k < length rs = omega (arith, length-map rs row_width) in
+    get_or-map row_width rs k [] d within ∙ All-get_or (λ r. row_width r ≡ w) rs k [] within all ∙ sym (get_or-replicate n k w d (omega (arith, e))))
 
 pub returns-then-count-width : goal.returns-then-count-width
 returns-then-count-width c =
