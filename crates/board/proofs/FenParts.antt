@@ -166,18 +166,6 @@ says text b fen =
       two = omega (arith, c.0);
     }
 
-same_side : (s t : Side) → side_letter s ≡ side_letter t → s ≡ t
-same_side White White e = refl
-same_side White Black e = absurd (omega arith)
-same_side Black White e = absurd (omega arith)
-same_side Black Black e = refl
-
-same_game : (g h : Game) → squares_of g ≡ squares_of h → g ≡ h
-same_game LosAlamos LosAlamos e = refl
-same_game LosAlamos Gardner e = absurd (omega arith)
-same_game Gardner LosAlamos e = absurd (omega arith)
-same_game Gardner Gardner e = refl
-
 -- the game that has so many squares
 pub game_is : (g : Game) (n : ℕ) → n ≡ squares_of g → ((n ≡ 36 → LosAlamos ≡ g) × (n ≢ 36 → Gardner ≡ g))
 game_is LosAlamos n e = (λ h. refl, λ h. absurd (h e))
@@ -187,6 +175,14 @@ game_is Gardner n e = (λ h. absurd (omega arith), λ h. refl)
 pub side_is : (s : Side) (c : ℕ) → c ≡ side_letter s → ((c ≡ 119 → White ≡ s) × (c ≢ 119 → Black ≡ s))
 side_is White c e = (λ h. refl, λ h. absurd (h e))
 side_is Black c e = (λ h. absurd (omega arith), λ h. refl)
+
+same_side : (s t : Side) → side_letter s ≡ side_letter t → s ≡ t
+same_side White t e = (side_is t 119 e).0 refl
+same_side Black t e = (side_is t 98 e).1 (λ h. omega arith)
+
+same_game : (g h : Game) → squares_of g ≡ squares_of h → g ≡ h
+same_game LosAlamos h e = (game_is h 36 e).0 refl
+same_game Gardner h e = (game_is h 25 e).1 (λ h. omega arith)
 
 -- a board of these parts
 pub same_board : (b c : PlainBoard) → b.game ≡ c.game → b.mover ≡ c.mover → b.units ≡ c.units → b ≡ c

@@ -1,5 +1,5 @@
 -- The list of all leaps, and the steps that a reading of a piece string has at each.
-use Rattle.std.proofs.Common.{◌≡◌, ℕ, ◌+◌, ◌<◌, ◌≤◌, ℤ, pos, negsuc, neg_ℤ, ◌<ℤ◌, ◌⊎◌, inl, inr, List, [], ◌∷◌, ◌++◌, length, All, AllPairs, length-append, length-take, get_or-take, take, Bool, ◌&&◌, ◌||◌, zero, suc, Contains, get_or, refl, sym, ap, subst, ◌∙◌, arith, lit<, true}
+use Rattle.std.proofs.Common.{◌≡◌, ℕ, ◌+◌, ◌<◌, ◌≤◌, ℤ, pos, negsuc, neg_ℤ, ◌<ℤ◌, ◌⊎◌, inl, inr, List, [], ◌∷◌, ◌++◌, length, All, AllPairs, length-append, length-take, get_or-take, take, Bool, ◌&&◌, ◌||◌, zero, suc, Contains, get_or, refl, sym, ap, subst, ◌∙◌, arith, lit<, true, cond, eqb}
 use Rattle.std.specs.Int.RustNames.{unsigned_abs}
 use Rattle.std.proofs.lemmas.Int.{ints}
 use Rattle.std.specs.Int.Signed.{lt_z}
@@ -41,20 +41,17 @@ leap_reach Ferz x y (inr h) = omega (arith, h.0, h.1)
 leap_reach Knight x y (inl h) = omega (arith, h.0, h.1)
 leap_reach Knight x y (inr h) = omega (arith, h.0, h.1)
 
-same_reach : (a b : Atom) → reach_of a ≡ reach_of b → a ≡ b
-same_reach Wazir Wazir e = refl
-same_reach Wazir Ferz e = absurd (omega arith)
-same_reach Wazir Knight e = absurd (omega arith)
-same_reach Ferz Wazir e = absurd (omega arith)
-same_reach Ferz Ferz e = refl
-same_reach Ferz Knight e = absurd (omega arith)
-same_reach Knight Wazir e = absurd (omega arith)
-same_reach Knight Ferz e = absurd (omega arith)
-same_reach Knight Knight e = refl
+abbrev atom_at : ℕ → Atom
+atom_at reach = cond (eqb reach 1) Wazir (cond (eqb reach 2) Ferz Knight)
+
+atom_at-reach : (a : Atom) → atom_at (reach_of a) ≡ a
+atom_at-reach Wazir = refl
+atom_at-reach Ferz = refl
+atom_at-reach Knight = refl
 
 -- no leap is that of two atoms
 one_atom : (a b : Atom) (x y : ℤ) → IsAtomLeap a x y → IsAtomLeap b x y → a ≡ b
-one_atom a b x y h k = same_reach a b (sym (leap_reach a x y h) ∙ leap_reach b x y k)
+one_atom a b x y h k = sym (atom_at-reach a) ∙ ap atom_at (sym (leap_reach a x y h) ∙ leap_reach b x y k) ∙ atom_at-reach b
 
 one_term : (terms : List Term) (j k : ℕ) (t : Term) → AreDistinct terms → j < length terms → k < length terms → (get_or terms j t).atom ≡ (get_or terms k t).atom → j ≡ k
 one_term terms j k t d p q e = grind (arith, d j k t, d k j t)

@@ -2,7 +2,7 @@
 ghost use Rattle.std.specs.Prelude.{◌≡◌, ◌≢◌, ◌+◌, ◌-◌, ◌*◌, ℕ, ◌<◌, ◌≤◌, ◌==◌, ◌↔◌, ◌∷◌, [], Any, All, Contains, IsTrue, MatchBool, MatchOption, IfSome, IfNone, count_by, length, map, replicate, slice_index};
 ghost use Rattle.board.specs.Board.{PlainBoard, IsPosition};
 ghost use Rattle.board.specs.Fen.{IsFenText};
-ghost use Rattle.board.specs.Games.{IsPlayed, most_units};
+ghost use Rattle.board.specs.Games.{most_units};
 ghost use Rattle.board.specs.declared.game.Game.{Game};
 ghost use Rattle.board.specs.declared.game.Side.{Side};
 ghost use Rattle.board.specs.Fen.{side_letter};
@@ -10,7 +10,7 @@ ghost use Rattle.board.specs.FenFaults.{FenFaultHolds, HasAdjacentRuns, IsBoardB
 ghost use Rattle.board.specs.Passed.{Passes};
 
 use crate::fen::unit_of;
-use crate::{Game, Kind, Side};
+use crate::{Game, Side};
 use thiserror::Error;
 
 /// Why a text is refused: the first of these that holds.
@@ -159,16 +159,6 @@ fn game_of(board: &[u8]) -> Option<Game>
     None
 }
 
-/// Whether the game plays with this kind.
-fn is_played(game: Game, kind: Kind) -> bool
-    ensures { IsTrue result ↔ IsPlayed game kind }
-{
-    match kind {
-        Kind::Bishop => game == Game::Gardner,
-        _ => true,
-    }
-}
-
 /// Whether a board of this game may have the byte.
 fn is_board_byte(game: Game, c: u8) -> bool
     ensures { MatchBool result (IsBoardByte game c) (IsBoardByte game c → ⊥) }
@@ -177,7 +167,7 @@ fn is_board_byte(game: Game, c: u8) -> bool
         return true;
     }
     match unit_of(c) {
-        Some(unit) => is_played(game, unit.kind),
+        Some(unit) => game.plays(unit.kind),
         None => false,
     }
 }

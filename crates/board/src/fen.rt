@@ -93,9 +93,7 @@ fn likely_position(text: &[u8]) -> Option<Position>
     let [board @ .., _, mover] = text else {
         return None;
     };
-    let Some(units) = squares_of(board) else {
-        return None;
-    };
+    let units = squares_of(board)?;
     let game = if units.len() == 36 {
         Game::LosAlamos
     } else {
@@ -114,9 +112,7 @@ fn parse_fen(text: &[u8]) -> Option<Position>
     ensures read { (b : PlainBoard) → IsPosition b → IsFenText text.now b → result ≡ Some b }
     ensures text { IfSome result (IsFenText text.now) }
 {
-    let Some(position) = likely_position(text) else {
-        return None;
-    };
+    let position = likely_position(text)?;
     if fen_text(&position).as_bytes() == text {
         Some(position)
     } else {

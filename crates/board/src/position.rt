@@ -11,14 +11,10 @@ fn may_stand_on(game: Game, number: u8, unit: Unit) -> bool
     requires { number < 36 }
     ensures { IsTrue result ↔ MayStandOn game number unit }
 {
-    if number >= game.squares() {
+    if number >= game.squares() || !game.plays(unit.kind) {
         return false;
     }
-    match unit.kind {
-        Kind::Bishop => game == Game::Gardner,
-        Kind::Pawn => game.width() <= number && number + game.width() < game.squares(),
-        _ => true,
-    }
+    unit.kind != Kind::Pawn || (game.width() <= number && number + game.width() < game.squares())
 }
 
 /// Whether each unit stands where it may.

@@ -68,9 +68,7 @@ fn read_term(text: &[u8]) -> Option<(Term, &[u8])>
     let [letter, rest @ ..] = text else {
         return None;
     };
-    let Some(atom) = atom_of(*letter) else {
-        return None;
-    };
+    let atom = atom_of(*letter)?;
     if forward && atom == Atom::Knight {
         return None;
     }
@@ -130,8 +128,6 @@ pub fn read_word(text: &[u8]) -> Option<(ArrayVec<Term, 2>, &[u8])>
     if let Some(terms) = shorthand(*first) {
         return Some((terms, rest));
     }
-    let Some((term, rest)) = read_term(text) else {
-        return None;
-    };
+    let (term, rest) = read_term(text)?;
     Some((one(term), rest))
 }

@@ -4,15 +4,15 @@ use Rattle.board.proofs.FenParts.{says, few_squares, game_is, side_is, same_boar
 use Rattle.board.proofs.fen.likely_position.Goals as goal
 use Rattle.board.proofs.fen.likely_position.Goals.{then-len-eq36, else-len-eq36, then-mover-eq119, else-mover-eq119}
 
-pub returns-in_default-squares_of : goal.returns-in_default-squares_of
-returns-in_default-squares_of c = λ b position fen.
+pub returns-in_err-units : goal.returns-in_err-units
+returns-in_err-units c = λ b position fen.
     let s = says c.args.text.now b fen in
-    absurd (c.in_default-squares_of.ensures (width_of b.game) (width_of b.game) b.mover s.squares (omega (arith, s.long, few_squares b.game)) s.ranks)
+    absurd (c.in_err-units.ensures (width_of b.game) (width_of b.game) b.mover s.squares (omega (arith, s.long, few_squares b.game)) s.ranks)
 
 pub returns : goal.returns
 returns c = λ b position fen.
     let s = says c.args.text.now b fen in
-    let squares = c.in-Some.ensures (width_of b.game) (width_of b.game) b.mover s.squares (omega (arith, s.long, few_squares b.game)) s.ranks in
+    let squares = c.in_ok-units.ensures (width_of b.game) (width_of b.game) b.mover s.squares (omega (arith, s.long, few_squares b.game)) s.ranks in
     let units : c.as_slice.result.now ≡ s.squares = c.as_slice.ensures.value ∙ squares in
     let long = c.len.ensures.value ∙ ap (length {A = Option Man}) squares ∙ s.long in
     let game : c.if-len-eq36.game ≡ b.game = elim c.if-len-eq36.branch [

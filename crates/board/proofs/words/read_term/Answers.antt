@@ -9,8 +9,8 @@ pub returns : goal.returns
 returns c =
     let body = c.read_forward-forward.result.1.now in
     term_first c.args.text.now c.read_mode-mode.result.1.now body c.read_double-rider.result.1.now (get_or body 0 0)
-    c.read_mode-mode.result.0 c.read_forward-forward.result.0 c.in-Some.atom c.read_double-rider.result.0
-    c.read_mode-mode.ensures.text c.read_forward-forward.ensures.text c.in-Some.ensures
+    c.read_mode-mode.result.0 c.read_forward-forward.result.0 c.in_ok-atom.atom c.read_double-rider.result.0
+    c.read_mode-mode.ensures.text c.read_forward-forward.ensures.text c.in_ok-atom.ensures
     (split_first body 0 (omega arith) ∙ c.read_double-rider.ensures.text)
     c.read_double-rider.ensures.longest
     (λ forward knight. elim c.else-forward.branch [
