@@ -76,19 +76,21 @@ IsBefore p q = (p.0 <ℤ q.0) ⊎ ((p.0 ≡ q.0) × (p.1 <ℤ q.1))
 -- the list has exactly the steps of the terms at the leaps seen so far, in order
 pub record Collects (terms : List Term) (seen : List (ℤ × ℤ)) (steps : List Step) : Type 0 where
   pub short : length steps ≤ length seen
-  pub denoted : All (Denotes terms) steps
-  pub among : All (λ s. Contains seen (s.dx, s.dy)) steps
+  pub denoted : All (λ s. Denotes terms s × Contains seen (s.dx, s.dy)) steps
   pub complete : (s : Step) → Contains seen (s.dx, s.dy) → Denotes terms s → Contains steps s
   pub ordered : AllPairs IsStepBefore steps
+
+-- the steps so far among one more leap
+still_denoted : (terms : List Term) (seen : List (ℤ × ℤ)) (steps : List Step) (p : ℤ × ℤ) → Collects terms seen steps → All (λ s. Denotes terms s × Contains (seen ++ p ∷ []) (s.dx, s.dy)) steps
+still_denoted terms seen steps p c = All-weaker (λ s. Denotes terms s × Contains seen (s.dx, s.dy)) (λ s. Denotes terms s × Contains (seen ++ p ∷ []) (s.dx, s.dy)) (λ s h. (h.0, Contains-append_left seen (p ∷ []) (s.dx, s.dy) h.1)) steps c.denoted
 
 pub Collects-skip : (terms : List Term) (seen : List (ℤ × ℤ)) (steps : List Step) (p : ℤ × ℤ) → Collects terms seen steps → All (λ t. IsTermLeap t p.0 p.1 → ⊥) terms → Collects terms (seen ++ p ∷ []) steps
 Collects-skip terms seen steps p c none = record {
   short = omega (arith, c.short, length-append seen (p ∷ []));
-  denoted = c.denoted;
-  among = All-weaker (λ s. Contains seen (s.dx, s.dy)) (λ s. Contains (seen ++ p ∷ []) (s.dx, s.dy)) (λ s h. Contains-append_left seen (p ∷ []) (s.dx, s.dy) h) steps c.among;
+  denoted = still_denoted terms seen steps p c;
   complete = λ s h (k, t, q, e, ts). elim (Contains-push_cases seen p (s.dx, s.dy) h) [
     | inl old ↦ c.complete s old (k, t, q, e, ts)
-    | inr new ↦ absurd (subst (λ x. IsTermLeap t x.0 x.1 → ⊥) (sym (sym new)) (All-contains (λ t. IsTermLeap t p.0 p.1 → ⊥) terms t none (k, q, e)) ts.leap)
+    | inr new ↦ absurd (subst (λ x. IsTermLeap t x.0 x.1 → ⊥) new (All-contains (λ t. IsTermLeap t p.0 p.1 → ⊥) terms t none (k, q, e)) ts.leap)
   ];
   ordered = c.ordered;
 }
@@ -98,24 +100,21 @@ Collects-push terms seen steps p u c distinct before ex ey has =
     let here : (u.dx, u.dy) ≡ p = λ i. (ex i, ey i) in
     record {
       short = omega (arith, c.short, length-append seen (p ∷ []), length-append steps (u ∷ []));
-      denoted = All-push (Denotes terms) steps u c.denoted has;
-      among = All-push (λ s. Contains (seen ++ p ∷ []) (s.dx, s.dy)) steps u
-          (All-weaker (λ s. Contains seen (s.dx, s.dy)) (λ s. Contains (seen ++ p ∷ []) (s.dx, s.dy)) (λ s h. Contains-append_left seen (p ∷ []) (s.dx, s.dy) h) steps c.among)
-          (subst (λ x. Contains (seen ++ p ∷ []) x) (sym here) (Contains-push seen p));
+      denoted = All-push (λ s. Denotes terms s × Contains (seen ++ p ∷ []) (s.dx, s.dy)) steps u (still_denoted terms seen steps p c) (has, subst (λ x. Contains (seen ++ p ∷ []) x) (sym here) (Contains-push seen p));
       complete = λ s h ds. elim (Contains-push_cases seen p (s.dx, s.dy) h) [
         | inl old ↦ Contains-append_left steps (u ∷ []) s (c.complete s old ds)
         | inr new ↦ subst (Contains (steps ++ u ∷ [])) (one_step terms u s distinct has ds (ap (λ x. x.0) (here ∙ new)) (ap (λ x. x.1) (here ∙ new))) (Contains-push steps u)
       ];
       ordered = all_pairs_push IsStepBefore steps u c.ordered (λ k d lt.
-          let it = All-get_or (λ s. Contains seen (s.dx, s.dy)) steps k d lt c.among in
-          subst (IsBefore ((get_or steps k d).dx, (get_or steps k d).dy)) (sym here) (All-contains (λ q. IsBefore q p) seen _ before it));
+          let it = All-get_or (λ s. Denotes terms s × Contains seen (s.dx, s.dy)) steps k d lt c.denoted in
+          subst (IsBefore ((get_or steps k d).dx, (get_or steps k d).dy)) (sym here) (All-contains (λ q. IsBefore q p) seen _ before it.1));
     }
 
 pub Collects-all : (terms : List Term) (steps : List Step) → Collects terms LEAPS steps → ListsSteps terms steps
 Collects-all terms steps c = record {
   ordered = c.ordered;
   exact = λ s. (
-    λ h. All-contains (Denotes terms) steps s c.denoted h,
+    λ h. (All-contains (λ s. Denotes terms s × Contains LEAPS (s.dx, s.dy)) steps s c.denoted h).0,
     λ (k, t, q, e, ts). c.complete s (leap_listed t.atom s.dx s.dy ts.leap.atom) (k, t, q, e, ts),
   );
 }

@@ -140,15 +140,12 @@ kings_agree side = record {
 }
 
 pub sides_agree : (side : Side) → Agrees (is_case_of side) (is_of_side side)
-sides_agree White = record {
-  separator_no = refl;
-  digits_no = λ d h. grind (arith, nat_tests);
+sides_agree side = record {
+  separator_no = by_sides (λ s. is_case_of s 47 ≡ false) refl refl side;
+  digits_no = λ d h. by_sides (λ s. is_case_of s (48 + d) ≡ false) (grind (arith, nat_tests)) (grind (arith, nat_tests)) side;
   empty_no = refl;
-  same = λ u. by_men (λ s k. is_case_of White (letter_of s k) ≡ is_of_side White (Some (man s k))) refl refl refl refl refl refl refl refl refl refl refl refl u.side u.kind;
-}
-sides_agree Black = record {
-  separator_no = refl;
-  digits_no = λ d h. grind (arith, nat_tests);
-  empty_no = refl;
-  same = λ u. by_men (λ s k. is_case_of Black (letter_of s k) ≡ is_of_side Black (Some (man s k))) refl refl refl refl refl refl refl refl refl refl refl refl u.side u.kind;
+  same = λ u. by_sides (λ s. is_case_of s (letter_of u.side u.kind) ≡ is_of_side s (Some u))
+      (by_men (λ s k. is_case_of White (letter_of s k) ≡ is_of_side White (Some (man s k))) refl refl refl refl refl refl refl refl refl refl refl refl u.side u.kind)
+      (by_men (λ s k. is_case_of Black (letter_of s k) ≡ is_of_side Black (Some (man s k))) refl refl refl refl refl refl refl refl refl refl refl refl u.side u.kind)
+      side;
 }

@@ -81,10 +81,7 @@ impl Term {
     fn has_leap(self, leap: &(i8, i8)) -> bool
         ensures { IsTrue result ↔ IsTermLeap self leap.now.0 leap.now.1 }
     {
-        if self.forward && leap.1 <= 0 {
-            return false;
-        }
-        self.atom.has_leap(leap)
+        (!self.forward || leap.1 > 0) && self.atom.has_leap(leap)
     }
 }
 
