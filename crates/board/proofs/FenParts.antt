@@ -82,7 +82,7 @@ long_from row behind (c ∷ cs) = by (eqb c 47) (long_from [] (row ++ behind) cs
     by true h k = omega (arith, h, length-append row behind)
     by false h k = omega (arith, k, length-append row (places_at c))
 
-module _ (board : List ℕ) (i at times : ℕ) (place : Option Man) (old : List (Option Man)) (inside : i < length board) (within : at ≤ length old) (so_far : squares_from (take at old) (drop at old) (drop i board) ≡ squares_from [] [] board) (is : replicate times place ≡ places_at (get_or board i 0)) where
+module _ (board : List ℕ) (i at : ℕ) (old : List (Option Man)) (inside : i < length board) (so_far : squares_from (take at old) (drop at old) (drop i board) ≡ squares_from [] [] board) where
   abbrev byte : ℕ
   byte = get_or board i 0
 
@@ -92,47 +92,34 @@ module _ (board : List ℕ) (i at times : ℕ) (place : Option Man) (old : List 
   all : squares_from (take at old) (drop at old) (byte ∷ rest) ≡ squares_from [] [] board
   all = sym (at_drop_more (squares_from (take at old) (drop at old)) board i 0 inside) ∙ so_far
 
-  row : List (Option Man)
-  row = take at old ++ replicate times place
+  -- after the end of a rank
+  pub cut_turn : byte ≡ 47 → squares_from [] old rest ≡ squares_from [] [] board
+  cut_turn h =
+      ap (λ x. squares_from [] x rest) (sym (take-append-drop at old))
+      ∙ sym (ap (λ b. cond b (squares_from [] (take at old ++ drop at old) rest) (squares_from (take at old ++ places_at byte) (drop at old) rest)) (eq-eqb byte 47 h)) ∙ all
 
-  long : length row ≡ at + times
-  unfolding row
-  long = omega (arith, within, length-append (take at old) (replicate times place), length-take at old, length-replicate times place)
+  module _ (times : ℕ) (place : Option Man) (within : at ≤ length old) (in_rank : byte ≢ 47) (is : replicate times place ≡ places_at byte) where
+    abbrev row : List (Option Man)
+    row = take at old ++ replicate times place
 
-  in_row : byte ≢ 47 → squares_from row (drop at old) rest ≡ squares_from [] [] board
-  unfolding row
-  in_row h = sym (rank_byte (take at old) (drop at old) (replicate times place) byte rest h (sym is)) ∙ all
+    long : length row ≡ at + times
+    long = omega (arith, within, length-append (take at old) (replicate times place), length-take at old, length-replicate times place)
 
-  at_cut : byte ≡ 47 → (replicate times place ≡ []) × (squares_from [] (take at old ++ drop at old) rest ≡ squares_from [] [] board)
-  at_cut h = (
-    is ∙ ap places_at h,
-    sym (ap (λ b. cond b (squares_from [] (take at old ++ drop at old) rest) (squares_from (take at old ++ places_at byte) (drop at old) rest)) (eq-eqb byte 47 h)) ∙ all,
-  )
+    in_row : squares_from row (drop at old) rest ≡ squares_from [] [] board
+    in_row = sym (rank_byte (take at old) (drop at old) (replicate times place) byte rest in_rank (sym is)) ∙ all
 
-  -- the squares so far with the byte's
-  pub room : length old + times ≤ length (squares_from [] [] board)
-  room = elim (cases_eq byte 47) [
-    | inl h ↦
-        let cut = at_cut h in
-        let none : times ≡ 0 = sym (length-replicate times place) ∙ ap (length {A = Option Man}) cut.0 in
-        omega (arith, none, long_from [] (take at old ++ drop at old) rest, ap (length {A = Option Man}) cut.1, ap (length {A = Option Man}) (take-append-drop at old))
-    | inr h ↦ omega (arith, long, long_from row (drop at old) rest, ap (length {A = Option Man}) (in_row h), length-drop at old)
-  ]
+    -- the squares so far with the byte's
+    pub room : length old + times ≤ length (squares_from [] [] board)
+    room = omega (arith, long, within, long_from row (drop at old) rest, ap (length {A = Option Man}) in_row, length-drop at old)
 
-  module _ (new : List (Option Man)) (put : new ≡ take at old ++ (replicate times place ++ drop at old)) where
     -- after a byte of a rank
-    pub rank_turn : byte ≢ 47 → (at + times ≤ length new) × (squares_from (take (at + times) new) (drop (at + times) new) rest ≡ squares_from [] [] board)
-    unfolding row
-    rank_turn h =
+    pub rank_turn : (new : List (Option Man)) → new ≡ take at old ++ (replicate times place ++ drop at old) → (at + times ≤ length new) × (squares_from (take (at + times) new) (drop (at + times) new) rest ≡ squares_from [] [] board)
+    rank_turn new put =
         let whole : new ≡ row ++ drop at old = put ∙ sym (append_assoc (take at old) (replicate times place) (drop at old)) in (
           omega (arith, long, ap (length {A = Option Man}) whole, length-append row (drop at old)),
           ap (λ x. squares_from x (drop (at + times) new) rest) (ap (take (at + times)) whole ∙ take_at row (drop at old) (at + times) long)
-              ∙ ap (λ x. squares_from row x rest) (ap (drop (at + times)) whole ∙ drop_at row (drop at old) (at + times) long) ∙ in_row h,
+              ∙ ap (λ x. squares_from row x rest) (ap (drop (at + times)) whole ∙ drop_at row (drop at old) (at + times) long) ∙ in_row,
         )
-
-    -- after the end of a rank
-    pub cut_turn : byte ≡ 47 → squares_from [] new rest ≡ squares_from [] [] board
-    cut_turn h = let cut = at_cut h in ap (λ x. squares_from [] x rest) (put ∙ ap (λ x. take at old ++ (x ++ drop at old)) cut.0) ∙ cut.1
 
 -- a board lists the squares of its text
 pub listed : (board : List ℕ) (w n : ℕ) (side : Side) (units : List (Option Man)) → IsTextFrom w side n (board ++ 32 ∷ side_letter side ∷ []) units → squares_from [] [] board ≡ units

@@ -15,6 +15,6 @@ places_empty b p =
     let empty : Option Man = None in
     let long : length (drop n b.units) ≡ left = omega (arith, p.places, length-drop n b.units, length-take n b.units) in
     sym (take-append-drop n b.units) ∙ ap (λ x. take n b.units ++ x) (same_lists (drop n b.units) (replicate left empty) (long ∙ sym (length-replicate left empty)) (λ k d lt.
-        get_or_default (drop n b.units) k d empty lt ∙ get_or-drop n b.units k empty
-        ∙ no_unit (unit_on b (n + k)) (MayStandOn b.game (n + k)) (p.squares (n + k)) (λ u may. omega (arith, may.on_board))
-        ∙ sym (get_or-replicate left k empty d (omega (arith, long)))))
+    get_or_default (drop n b.units) k d empty lt ∙ get_or-drop n b.units k empty
+    ∙ no_unit (unit_on b (n + k)) (MayStandOn b.game (n + k)) (p.squares (n + k)) (λ u may. omega (arith, may.on_board))
+    ∙ sym (get_or-replicate left k empty d (omega (arith, long)))))

@@ -8,10 +8,14 @@ atom_letter Wazir = 87
 atom_letter Ferz = 70
 atom_letter Knight = 78
 
-pub atom_text-letter : (a : Atom) → atom_text a ≡ atom_letter a ∷ []
-atom_text-letter Wazir = refl
-atom_text-letter Ferz = refl
-atom_text-letter Knight = refl
+-- what holds of each atom
+by_atoms : (P : Atom → Type 0) → P Wazir → P Ferz → P Knight → (a : Atom) → P a
+by_atoms P w f n Wazir = w
+by_atoms P w f n Ferz = f
+by_atoms P w f n Knight = n
+
+atom_text-letter : (a : Atom) → atom_text a ≡ atom_letter a ∷ []
+atom_text-letter = by_atoms (λ a. atom_text a ≡ atom_letter a ∷ []) refl refl refl
 
 -- ---- how a text begins
 
@@ -40,25 +44,16 @@ start_short bytes r terms bishop = refl
 start_short bytes r terms queen = refl
 start_short bytes r terms king = refl
 
-start_spelled : (m : Mode) (f : Bool) (a : Atom) (x : List ℕ) → start (mode_text m ++ (forward_text f ++ (atom_letter a ∷ x))) ≡ Some (inl (m, f, a, x))
-start_spelled Move true Wazir x = refl
-start_spelled Move true Ferz x = refl
-start_spelled Move true Knight x = refl
-start_spelled Move false Wazir x = refl
-start_spelled Move false Ferz x = refl
-start_spelled Move false Knight x = refl
-start_spelled Capture true Wazir x = refl
-start_spelled Capture true Ferz x = refl
-start_spelled Capture true Knight x = refl
-start_spelled Capture false Wazir x = refl
-start_spelled Capture false Ferz x = refl
-start_spelled Capture false Knight x = refl
-start_spelled Both true Wazir x = refl
-start_spelled Both true Ferz x = refl
-start_spelled Both true Knight x = refl
-start_spelled Both false Wazir x = refl
-start_spelled Both false Ferz x = refl
-start_spelled Both false Knight x = refl
+abbrev IsSpelled : Mode → Bool → List ℕ → Atom → Type 0
+IsSpelled m f x a = start (mode_text m ++ (forward_text f ++ (atom_letter a ∷ x))) ≡ Some (inl (m, f, a, x))
+
+start_spelled : (m : Mode) (f : Bool) (a : Atom) (x : List ℕ) → IsSpelled m f x a
+start_spelled Move true a x = by_atoms (IsSpelled Move true x) refl refl refl a
+start_spelled Move false a x = by_atoms (IsSpelled Move false x) refl refl refl a
+start_spelled Capture true a x = by_atoms (IsSpelled Capture true x) refl refl refl a
+start_spelled Capture false a x = by_atoms (IsSpelled Capture false x) refl refl refl a
+start_spelled Both true a x = by_atoms (IsSpelled Both true x) refl refl refl a
+start_spelled Both false a x = by_atoms (IsSpelled Both false x) refl refl refl a
 
 -- what follows a term's first letter
 abbrev after_letter : Bool → ℕ → List ℕ → List ℕ
@@ -66,12 +61,8 @@ after_letter true c rest = c ∷ rest
 after_letter false c rest = rest
 
 letters : (r : Bool) (a : Atom) (rest : List ℕ) → doubled_text r (atom_text a) ++ rest ≡ atom_letter a ∷ after_letter r (atom_letter a) rest
-letters true Wazir rest = refl
-letters true Ferz rest = refl
-letters true Knight rest = refl
-letters false Wazir rest = refl
-letters false Ferz rest = refl
-letters false Knight rest = refl
+letters true a rest = by_atoms (λ a. doubled_text true (atom_text a) ++ rest ≡ atom_letter a ∷ atom_letter a ∷ rest) refl refl refl a
+letters false a rest = ap (λ x. x ++ rest) (atom_text-letter a)
 
 -- a term's text, as its modifiers and its letters
 pub spelled : (t : Term) (rest : List ℕ) → term_text t ++ rest ≡ mode_text t.mode ++ (forward_text t.forward ++ (doubled_text t.rider (atom_text t.atom) ++ rest))

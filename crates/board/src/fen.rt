@@ -66,12 +66,16 @@ fn squares_of(board: &[u8]) -> Option<ArrayVec<Option<Unit>, 36>>
     let mut units = ArrayVec::new();
     let mut file = 0;
     for c in board {
-        let (place, times) = places_of(*c);
-        if units.len() + times as usize > 36 {
-            return None;
+        if *c == b'/' {
+            file = 0;
+        } else {
+            let (place, times) = places_of(*c);
+            if units.len() + times as usize > 36 {
+                return None;
+            }
+            insert_places(&mut units, file, place, times);
+            file += times as usize;
         }
-        insert_places(&mut units, file, place, times);
-        file = if *c == b'/' { 0 } else { file + times as usize };
     }
     Some(units)
 }
