@@ -1,6 +1,6 @@
 -- A text with no fault is a position's.
 use Rattle.std.proofs.Common.{◌≡◌, ◌≢◌, ℕ, ◌+◌, ◌-◌, ◌*◌, ◌<◌, ◌≤◌, inl, inr, zero, suc, refl, sym, ap, subst, ◌∙◌, arith, List, [], ◌∷◌, ◌++◌, length, get_or, map, replicate, Option, Some, None, Bool, true, false, ◌||◌, cond, eqb, IsTrue, All, Contains, append_assoc, length-append}
-use Rattle.board.proofs.Common.{IfSome, onto_first, join_with_byte, count_by, length-replicate, eq-eqb, ne_eqb, or_parts, cases_lt, false≢true, get_or_append_left, get_or-append_right, All-nil, All-cons, All-head, All-tail, All-append, All-from_get_or, All-replicate, All-get_or, Game, LosAlamos, Gardner, Side, White, Black, Kind, King, Pawn, Man, width_of, squares_of, most_units, IsPlayed, PlainBoard, board_of, is_king_of, is_of_side, MayStandOn, IsPosition, letter_of, side_letter, StartsNoRun, IsRankText, IsTextFrom, IsFenText, end, unit, run, first, above, rows, first_of, last_of, is_digit, row_width, IsShape, IsBoardByte, HasAdjacentRuns, is_case_of, has_pawn, separator, digit, letter}
+use Rattle.board.proofs.Common.{IfSome, onto_first, join_with_byte, count_by, length-replicate, eq-eqb, ne_eqb, or_parts, cases_lt, false≢true, get_or_append_left, get_or-append_right, All-nil, All-cons, All-head, All-tail, All-append, All-from_get_or, All-replicate, All-get_or, Game, Side, White, Black, Kind, King, Pawn, Man, width_of, squares_of, most_units, IsPlayed, PlainBoard, board_of, is_king_of, is_of_side, MayStandOn, IsPosition, letter_of, side_letter, StartsNoRun, IsRankText, IsTextFrom, IsFenText, end, unit, run, first, above, rows, first_of, last_of, is_digit, row_width, IsShape, IsBoardByte, HasAdjacentRuns, is_case_of, has_pawn, separator, digit, letter}
 use Rattle.std.proofs.lemmas.List.{get_or-map, get_or-replicate, length-map}
 use Rattle.std.proofs.lemmas.List.Splits.{slice_split-cons_yes, slice_split-cons_no, length-slice_split, join_with_byte-slice_split}
 use Rattle.board.proofs.FenParts.{few_squares}

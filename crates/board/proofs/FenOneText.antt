@@ -1,11 +1,11 @@
 -- A board has one text, and it is the one that is written.
-use Rattle.std.proofs.Common.{◌≡◌, ℕ, ◌+◌, ◌-◌, ◌*◌, ◌<◌, ◌≤◌, zero, suc, refl, sym, ap, subst, ◌∙◌, arith, List, [], ◌∷◌, ◌++◌, length, take, drop, replicate, Option, Some, None, true, cond, append-nil, length-append, length-take, length-drop, take-append-drop}
-use Rattle.board.proofs.Common.{nat_tests, take_at, drop_at, Side, Man, Game, LosAlamos, Gardner, width_of, squares_of, PlainBoard, IsPosition, letter_of, side_letter, StartsNoRun, IsRankText, IsTextFrom, IsFenText, end, unit, run, first, above}
+use Rattle.std.proofs.Common.{◌≡◌, ℕ, ◌+◌, ◌-◌, ◌*◌, ◌<◌, zero, suc, refl, sym, ap, subst, ◌∙◌, arith, List, [], ◌∷◌, ◌++◌, length, take, drop, replicate, Option, Some, None, true, cond, append-nil, length-append, length-take, length-drop, take-append-drop}
+use Rattle.board.proofs.Common.{IfSome, length-replicate, MayStandOn, unit_on, nat_tests, take_at, drop_at, Side, Man, Game, LosAlamos, Gardner, width_of, squares_of, PlainBoard, IsPosition, letter_of, side_letter, StartsNoRun, IsRankText, IsTextFrom, IsFenText, end, unit, run, first, above}
+use Rattle.std.proofs.lemmas.List.{get_or-drop, get_or-replicate, get_or_default, same_lists}
 use Rattle.std.specs.Prelude.{nat_lt}
 use Rattle.board.specs.Written.{run_text, rank_text, ranks_text}
 use Rattle.board.proofs.RankText.{starts_with_letter}
 use Rattle.board.proofs.FenParts.{few_squares, long_text}
-use Rattle.board.proofs.FenWritten.{places_empty}
 
 -- ---- a rank
 
@@ -66,6 +66,22 @@ is_text w s (suc n) us h l =
     above refl (is_rank 0 (drop cut us) (omega (arith, h, top))) top (is_text w s n (take cut us) h lower) (sym (take-append-drop cut us))
 
 -- ---- the text of a position
+
+no_unit : (x : Option Man) (P : Man → Type 0) → IfSome x P → ((u : Man) → P u → ⊥) → x ≡ None
+no_unit None P h none = refl
+no_unit (Some u) P h none = absurd (none u h)
+
+-- nothing stands on the places that a position's board doesn't have
+places_empty : (b : PlainBoard) → IsPosition b → b.units ≡ take (squares_of b.game) b.units ++ replicate (36 - length (take (squares_of b.game) b.units)) None
+places_empty b p =
+    let n = squares_of b.game in
+    let left = 36 - length (take n b.units) in
+    let empty : Option Man = None in
+    let long : length (drop n b.units) ≡ left = omega (arith, p.places, length-drop n b.units, length-take n b.units) in
+    sym (take-append-drop n b.units) ∙ ap (λ x. take n b.units ++ x) (same_lists (drop n b.units) (replicate left empty) (long ∙ sym (length-replicate left empty)) (λ k d lt.
+    get_or_default (drop n b.units) k d empty lt ∙ get_or-drop n b.units k empty
+    ∙ no_unit (unit_on b (n + k)) (MayStandOn b.game (n + k)) (p.squares (n + k)) (λ u may. omega (arith, may.on_board))
+    ∙ sym (get_or-replicate left k empty d (omega (arith, long)))))
 
 -- the text that is written
 abbrev pub fen_of : PlainBoard → List ℕ

@@ -1,6 +1,5 @@
 -- The squares that a board's text lists, read from its first byte on.
-use Rattle.std.proofs.Common.{◌≡◌, ℕ, ◌+◌, ◌-◌, ◌*◌, ◌<◌, ◌≤◌, refl, sym, ap, subst, ◌∙◌, arith, List, [], ◌∷◌, ◌++◌, length, get_or, take, drop, Option, Some, None, replicate, Bool, true, false, cond, eqb, ◌≢◌, append_assoc, append-nil, length-append, length-take, length-drop, inl, inr}
-use Rattle.std.proofs.lemmas.Bool.{cases_eq}
+use Rattle.std.proofs.Common.{◌≡◌, ℕ, ◌+◌, ◌-◌, ◌*◌, ◌<◌, ◌≤◌, refl, sym, ap, subst, ◌∙◌, arith, List, [], ◌∷◌, ◌++◌, length, get_or, take, drop, Option, Some, None, replicate, Bool, true, false, cond, eqb, ◌≢◌, append_assoc, append-nil, length-append, length-take, length-drop}
 use Rattle.std.proofs.lemmas.List.{append_cancel_right, at_drop_more, take-append-drop}
 use Rattle.board.proofs.Common.{IfSome, IfNone, MatchOption, IsPosition, eq-eqb, ne_eqb, length-replicate, take_at, drop_at, get_or-append-add, Side, White, Black, Man, Game, LosAlamos, Gardner, width_of, squares_of, PlainBoard, letter_of, side_letter, IsRankText, IsTextFrom, IsFenText, end, unit, run, first, above}
 use Rattle.board.proofs.RowBytes.{man_at, man_at-letter, man_at-none, no_digit, letter_above}

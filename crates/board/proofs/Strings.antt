@@ -1,6 +1,6 @@
 -- The readings of the kinds' strings.
-use Rattle.std.proofs.Common.{◌≢◌, refl, arith, true, false, [], ◌∷◌, zero, suc}
-use Rattle.board.proofs.Common.{All-cons, All-get_or, All-nil, all_pairs_push, Kind, King, Queen, Rook, Bishop, Knight, Pawn, Move, Capture, Wazir, Ferz, Term, single, AreDistinct, terms_of, IsRead, IsReading, piece_text, term, short, rook, bishop, queen, king, last, more}
+use Rattle.std.proofs.Common.{◌≢◌, refl, arith, true, false, [], ◌∷◌}
+use Rattle.board.proofs.Common.{All-cons, All-get_or, All-nil, all_pairs_push, Kind, King, Queen, Rook, Bishop, Knight, Pawn, Move, Capture, Wazir, Ferz, Term, single, AreDistinct, terms_of, IsReading, piece_text, term, short, rook, bishop, queen, king, last, more}
 use Rattle.board.specs.declared.terms.Atom.TheVariants as atom
 
 one_distinct : (t : Term) → AreDistinct (t ∷ [])

@@ -1,6 +1,6 @@
 -- What words a text begins with: one, or a term and the same term with its atom doubled.
-use Rattle.std.proofs.Common.{◌≡◌, ◌⊎◌, inl, inr, ℕ, ◌+◌, cond, eqb, Bool, true, false, refl, sym, ap, ◌∙◌, List, [], ◌∷◌, ◌++◌, Option, Some, None, append_assoc}
-use Rattle.board.proofs.Common.{Mode, Move, Capture, Both, Atom, Wazir, Ferz, Term, single, doubled, mode_text, forward_text, atom_text, doubled_text, term_text, IsShorthand, IsWord, rook, bishop, queen, king, term, short}
+use Rattle.std.proofs.Common.{◌≡◌, ◌≢◌, IsTrue, subst, ◌⊎◌, inl, inr, ℕ, cond, eqb, Bool, true, false, refl, sym, ap, ◌∙◌, List, [], ◌∷◌, ◌++◌, Option, Some, None, append_assoc}
+use Rattle.board.proofs.Common.{false≢true, IsFirstWord, IsWhole, StartsNot, Mode, Move, Capture, Both, Atom, Wazir, Ferz, Term, single, doubled, mode_text, forward_text, atom_text, doubled_text, term_text, IsShorthand, IsWord, rook, bishop, queen, king, term, short}
 use Rattle.board.specs.declared.terms.Atom.TheVariants.{Knight}
 
 abbrev pub atom_letter : Atom → ℕ
@@ -65,7 +65,7 @@ letters true a rest = by_atoms (λ a. doubled_text true (atom_text a) ++ rest �
 letters false a rest = ap (λ x. x ++ rest) (atom_text-letter a)
 
 -- a term's text, as its modifiers and its letters
-pub spelled : (t : Term) (rest : List ℕ) → term_text t ++ rest ≡ mode_text t.mode ++ (forward_text t.forward ++ (doubled_text t.rider (atom_text t.atom) ++ rest))
+spelled : (t : Term) (rest : List ℕ) → term_text t ++ rest ≡ mode_text t.mode ++ (forward_text t.forward ++ (doubled_text t.rider (atom_text t.atom) ++ rest))
 spelled t rest =
     append_assoc (mode_text t.mode ++ forward_text t.forward) (doubled_text t.rider (atom_text t.atom)) rest
     ∙ append_assoc (mode_text t.mode) (forward_text t.forward) (doubled_text t.rider (atom_text t.atom) ++ rest)
@@ -134,3 +134,28 @@ two_words b r c s ts us (short x) (short y) e =
     let both = sym (start_short b r ts x) ∙ ap start e ∙ start_short c s us y in
     let parts : ◌≡◌ {A = List Term × List ℕ} (ts, r) (us, s) = cc in
     same (ap (λ x. x.0) parts) (ap (λ x. x.1) parts)
+
+-- ---- the first word
+
+-- the parts of a term, each as long as can be
+pub term_first : (text ahead body rest : List ℕ) (letter : ℕ) (m : Mode) (f : Bool) (a : Atom) (r : Bool)
+    → text ≡ mode_text m ++ ahead → ahead ≡ forward_text f ++ body → letter ∷ [] ≡ atom_text a
+    → body ≡ doubled_text r (letter ∷ []) ++ rest → (r ≡ false → StartsNot letter rest) → (IsTrue f → a ≢ Knight)
+    → IsFirstWord text (record { mode = m; forward = f; atom = a; rider = r } ∷ []) rest
+term_first text ahead body rest letter m f a r e1 e2 e3 e4 d w =
+    let t : Term = record { mode = m; forward = f; atom = a; rider = r } in
+    record {
+      bytes = term_text t;
+      word = term t w refl;
+      begins = e1 ∙ ap (λ x. mode_text m ++ x) (e2 ∙ ap (λ x. forward_text f ++ x) (e4 ∙ ap (λ x. doubled_text r x ++ rest) e3)) ∙ sym (spelled t rest);
+      whole = λ h after e. subst (StartsNot letter) (e ∙ ap (λ x. x ++ after) (sym e3)) (d h) refl;
+    }
+
+pub short_first : (text bytes rest : List ℕ) (terms : List Term) → IsShorthand bytes terms → text ≡ bytes ++ rest → IsFirstWord text terms rest
+short_first text bytes rest terms s e = record { bytes = bytes; word = short s; begins = e; whole = by s }
+  where
+    by : {bytes : List ℕ} {terms : List Term} → IsShorthand bytes terms → IsWhole terms rest
+    by rook = λ h. absurd (false≢true (sym h))
+    by bishop = λ h. absurd (false≢true (sym h))
+    by queen = tt
+    by king = tt

@@ -1,6 +1,6 @@
 -- Reading a string word by word, each word as long as can be: nothing else can be its accepted reading.
-use Rattle.std.proofs.Common.{◌≡◌, ◌≢◌, ℕ, ◌+◌, ◌<◌, true, false, refl, sym, ap, subst, ◌∙◌, arith, List, [], ◌∷◌, ◌++◌, length, append_assoc, length-append}
-use Rattle.board.proofs.Common.{false≢true, append-nil, get_or-append-add, get_or_append_left, Atom, Term, single, AreDistinct, atom_text, IsWord, IsRead, IsFirstWord, IsWhole, HasOneReading, term, short, last, more}
+use Rattle.std.proofs.Common.{◌≡◌, ◌≢◌, ℕ, ◌+◌, ◌<◌, refl, sym, ap, subst, ◌∙◌, arith, List, [], ◌∷◌, ◌++◌, length, append_assoc, length-append}
+use Rattle.board.proofs.Common.{false≢true, append-nil, get_or-append-add, get_or_append_left, Atom, Term, single, AreDistinct, atom_text, IsWord, IsRead, IsFirstWord, IsWhole, HasOneReading, term, last, more}
 use Rattle.board.proofs.TwoWords.{IsHalf, two_words, some_bytes}
 use Rattle.board.proofs.TwoWords.AreTwo.{same, first_half, second_half}
 

@@ -1,4 +1,4 @@
-use Rattle.std.proofs.Common.{◌≡◌, ◌≢◌, ℕ, ◌+◌, ◌<◌, List, [], ◌∷◌, ◌++◌, All, Any, length, length-append, length-take, get_or, take, drop, take-append-drop, sym, ap, subst, ◌∙◌, arith, append_assoc}
+use Rattle.std.proofs.Common.{◌≡◌, ◌≢◌, ℕ, ◌+◌, ◌<◌, List, [], ◌∷◌, ◌++◌, Any, length, length-append, length-take, get_or, take, drop, take-append-drop, sym, ap, ◌∙◌, arith, append_assoc}
 use Rattle.board.proofs.Common.{take_all, take_more, get_or_default, get_or_append_left, get_or-append-add, all_pairs_push, Term, AreDistinct}
 use Rattle.board.proofs.WordByWord.{front_distinct}
 use Rattle.board.proofs.betza.joined.Goals as goal

@@ -1,5 +1,5 @@
 use Rattle.std.proofs.Common.{◌≡◌, ◌≢◌, ◌==◌, ℕ, ◌++◌, List, [], length, ap, subst, ◌∙◌, arith}
-use Rattle.board.proofs.Common.{false≢true, nat_tests, nil_from_length, IsReading}
+use Rattle.board.proofs.Common.{false≢true, nat_tests, nil_from_length}
 use Rattle.board.proofs.WordByWord.{IsReadTo, none_read, one_read, shorter}
 use Rattle.board.proofs.BetzaFaulty.{unreadable, accepted, repeated}
 use Rattle.board.proofs.betza.read_terms.Goals as goal

@@ -1,4 +1,4 @@
-use Rattle.std.proofs.Common.{rules, tests, ◌≡◌, ℕ, ◌<◌, ◌↔◌, List, All, eqb, length, map, replicate, get_or, sym, ap, subst, ◌∙◌, [], arith}
+use Rattle.std.proofs.Common.{rules, tests, ◌≡◌, ℕ, ◌<◌, List, All, eqb, length, map, replicate, get_or, sym, ap, subst, ◌∙◌, [], arith}
 use Rattle.std.specs.Slice.Iter.{split_callee}
 use Rattle.std.proofs.lemmas.List.{get_or-map, get_or-replicate, length-map, same_lists}
 use Rattle.std.proofs.lemmas.Iterator.Consumers.{YieldsList-turn, YieldsList-end}

@@ -1,7 +1,7 @@
 use Rattle.std.proofs.Common.{get_or, sym, ◌∙◌, arith}
 use Rattle.std.proofs.lemmas.Bool.{false≢true}
 use Rattle.board.proofs.RankText.{split_first}
-use Rattle.board.proofs.LongestWord.{term_first}
+use Rattle.board.proofs.TwoWords.{term_first}
 use Rattle.board.proofs.words.read_term.Goals as goal
 use Rattle.board.proofs.words.read_term.Goals.{else-forward-via-then-forward+else-eq, else-forward-via-else-forward}
 

@@ -1,6 +1,6 @@
 use Rattle.std.proofs.Common.{◌-◌, take, drop, length, get_or, [], ◌∷◌, arith}
 use Rattle.board.proofs.RankText.{split_first}
-use Rattle.board.proofs.LongestWord.{short_first}
+use Rattle.board.proofs.TwoWords.{short_first}
 use Rattle.board.proofs.words.read_word.Goals as goal
 
 pub returns-in-Some : goal.returns-in-Some
