@@ -2,6 +2,8 @@
 use Rattle.std.proofs.Common.{◌≡◌, ◌≢◌, ℕ, ◌+◌, ◌-◌, ◌<◌, ◌≤◌, inl, inr, ◌↔◌, refl, sym, ap, subst, ◌∙◌, arith, lit<, List, [], ◌∷◌, ◌++◌, length, get_or, Bool, true, false, ◌||◌, cond, eqb, zero, suc, IsTrue, All, MatchBool}
 use Rattle.board.proofs.Common.{count_by, position_or_len, ne_eqb, eqb-true, nat_tests, or_parts, cases_Bool, cases_lt, false≢true, All-contains, All-from_get_or, All-head, All-tail, sum_by-cons, split_at_first, Game, LosAlamos, Gardner, Side, White, Black, Man, most_units, IsPlayed, PlainBoard, IsPosition, letter_of, IsFenText, board_part, side_part, rows, first_of, last_of, is_digit, IsShape, IsBoardByte, is_case_of, has_pawn, fen_fault_number, FenFaultHolds, IsFenFault, separator, digit, letter}
 use Rattle.std.proofs.lemmas.Bool.{cases_eq}
+use Rattle.std.proofs.lemmas.List.{get_or-map}
+use Rattle.std.proofs.lemmas.List.FromFn.{get_or-range_with_len}
 use Rattle.std.proofs.lemmas.List.Sums.{fails_before_first, passes_at_first}
 use Rattle.std.specs.Prelude.{nat_lt}
 use Rattle.board.specs.Passed.{Passes}
@@ -71,14 +73,9 @@ tested_at OtherInCheck d h = absurd (omega arith)
 
 -- which fault is tested there
 pub number_at : (i : ℕ) (d : FenFault) → i < 7 → fen_fault_number (get_or TESTED i d) ≡ i + 1
-number_at zero d h = refl
-number_at (suc zero) d h = refl
-number_at (suc (suc zero)) d h = refl
-number_at (suc (suc (suc zero))) d h = refl
-number_at (suc (suc (suc (suc zero)))) d h = refl
-number_at (suc (suc (suc (suc (suc zero))))) d h = refl
-number_at (suc (suc (suc (suc (suc (suc zero)))))) d h = refl
-number_at (suc (suc (suc (suc (suc (suc (suc i))))))) d h = absurd (omega arith)
+number_at i d h =
+    let next : 1 + i ≡ i + 1 = omega arith in
+    sym (get_or-map fen_fault_number TESTED i d 0 h) ∙ get_or-range_with_len 1 7 i 0 h ∙ next
 
 passes_not : (text : List ℕ) (e : FenFault) → Passes e text → FenFaultHolds e text → ⊥
 passes_not text Fields p h = p h

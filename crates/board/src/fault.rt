@@ -96,19 +96,6 @@ fn parts(text: &[u8]) -> (&[u8], &[u8])
     (text, &[])
 }
 
-/// The side of a letter.
-fn side_of(text: &[u8]) -> Option<Side>
-    ensures { MatchOption result
-        ((side : Side) → text.now ≡ side_letter side ∷ [] → ⊥)
-        (λ side. text.now ≡ side_letter side ∷ []) }
-{
-    match text {
-        [b'w'] => Some(Side::White),
-        [b'b'] => Some(Side::Black),
-        _ => None,
-    }
-}
-
 /// Whether this is a digit.
 fn is_digit(c: u8) -> bool
     ensures { result ≡ is_digit c }
@@ -224,7 +211,7 @@ fn has_fault(text: &[u8], fault: FenFault) -> bool
         FenFault::Shape => game_of(board).is_none(),
         FenFault::Letter => has_foreign(board),
         FenFault::Run => board.contains(&b'0') || has_adjacent_runs(board),
-        FenFault::Side => side_of(side).is_none(),
+        FenFault::Side => side != b"w".as_slice() && side != b"b".as_slice(),
         FenFault::Kings => count_of(board, b'K') != 1 || count_of(board, b'k') != 1,
         FenFault::Units => has_many_units(board),
         FenFault::PawnRank | FenFault::OtherInCheck => false,
