@@ -1,5 +1,5 @@
 -- The first fault of a text, test by test.
-use Rattle.std.proofs.Common.{◌≡◌, ◌≢◌, ℕ, ◌+◌, ◌-◌, ◌<◌, ◌≤◌, inl, inr, ◌↔◌, refl, sym, ap, subst, ◌∙◌, arith, lit<, List, [], ◌∷◌, ◌++◌, length, get_or, Bool, true, false, ◌||◌, cond, eqb, zero, suc, IsTrue, All, MatchBool}
+use Rattle.std.proofs.Common.{◌≡◌, ◌≢◌, ℕ, ◌+◌, ◌-◌, ◌<◌, ◌≤◌, inl, inr, ◌↔◌, refl, sym, ap, subst, ◌∙◌, arith, lit<, List, [], ◌∷◌, ◌++◌, length, get_or, Bool, true, false, ◌||◌, cond, eqb, IsTrue, All, MatchBool}
 use Rattle.board.proofs.Common.{count_by, position_or_len, ne_eqb, eqb-true, nat_tests, or_parts, cases_Bool, cases_lt, false≢true, All-contains, All-from_get_or, All-head, All-tail, sum_by-cons, split_at_first, Game, LosAlamos, Gardner, Side, White, Black, Man, most_units, IsPlayed, PlainBoard, IsPosition, letter_of, IsFenText, board_part, side_part, rows, first_of, last_of, is_digit, IsShape, IsBoardByte, is_case_of, has_pawn, fen_fault_number, FenFaultHolds, IsFenFault, separator, digit, letter}
 use Rattle.std.proofs.lemmas.Bool.{cases_eq}
 use Rattle.std.proofs.lemmas.List.{get_or-map}

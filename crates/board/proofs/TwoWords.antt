@@ -1,6 +1,6 @@
 -- What words a text begins with: one, or a term and the same term with its atom doubled.
 use Rattle.std.proofs.Common.{◌≡◌, ◌≢◌, IsTrue, subst, ◌⊎◌, inl, inr, ℕ, cond, eqb, Bool, true, false, refl, sym, ap, ◌∙◌, List, [], ◌∷◌, ◌++◌, Option, Some, None, append_assoc}
-use Rattle.board.proofs.Common.{false≢true, IsFirstWord, IsWhole, StartsNot, Mode, Move, Capture, Both, Atom, Wazir, Ferz, Term, single, doubled, mode_text, forward_text, atom_text, doubled_text, term_text, IsShorthand, IsWord, rook, bishop, queen, king, term, short}
+use Rattle.board.proofs.Common.{false≢true, IsFirstWord, IsUndoubled, StartsNot, Mode, Move, Capture, Both, Atom, Wazir, Ferz, Term, single, doubled, mode_text, forward_text, atom_text, doubled_text, term_text, IsShorthand, IsWord, rook, bishop, queen, king, term, short}
 use Rattle.board.specs.declared.terms.Atom.TheVariants.{Knight}
 
 abbrev pub atom_letter : Atom → ℕ
@@ -154,7 +154,7 @@ term_first text ahead body rest letter m f a r e1 e2 e3 e4 d w =
 pub short_first : (text bytes rest : List ℕ) (terms : List Term) → IsShorthand bytes terms → text ≡ bytes ++ rest → IsFirstWord text terms rest
 short_first text bytes rest terms s e = record { bytes = bytes; word = short s; begins = e; whole = by s }
   where
-    by : {bytes : List ℕ} {terms : List Term} → IsShorthand bytes terms → IsWhole terms rest
+    by : {bytes : List ℕ} {terms : List Term} → IsShorthand bytes terms → IsUndoubled terms rest
     by rook = λ h. absurd (false≢true (sym h))
     by bishop = λ h. absurd (false≢true (sym h))
     by queen = tt

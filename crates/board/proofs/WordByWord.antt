@@ -1,6 +1,6 @@
 -- Reading a string word by word, each word as long as can be: nothing else can be its accepted reading.
 use Rattle.std.proofs.Common.{◌≡◌, ◌≢◌, ℕ, ◌+◌, ◌<◌, refl, sym, ap, subst, ◌∙◌, arith, List, [], ◌∷◌, ◌++◌, length, append_assoc, length-append}
-use Rattle.board.proofs.Common.{false≢true, append-nil, get_or-append-add, get_or_append_left, Atom, Term, single, AreDistinct, atom_text, IsWord, IsRead, IsFirstWord, IsWhole, HasOneReading, term, last, more}
+use Rattle.board.proofs.Common.{false≢true, append-nil, get_or-append-add, get_or_append_left, Atom, Term, single, AreDistinct, atom_text, IsWord, IsRead, IsFirstWord, IsUndoubled, HasOneReading, term, last, more}
 use Rattle.board.proofs.TwoWords.{IsHalf, two_words, some_bytes}
 use Rattle.board.proofs.TwoWords.AreTwo.{same, first_half, second_half}
 
@@ -83,8 +83,8 @@ half_read whole ts others t rest after d e f g r =
     twice whole b.others t b.first d (e ∙ ap (λ x. x ++ others) f ∙ ap (λ x. t ∷ x) b.terms) b.atom
 
 -- a whole word isn't the half of another
-not_half : {A : Type 0} (terms ts : List Term) (rest r : List ℕ) → IsWhole terms rest → IsHalf rest terms r ts → A
-not_half terms ts rest r whole h = absurd (subst (λ x. IsWhole x rest) h.terms whole h.once r h.rest)
+not_half : {A : Type 0} (terms ts : List Term) (rest r : List ℕ) → IsUndoubled terms rest → IsHalf rest terms r ts → A
+not_half terms ts rest r whole h = absurd (subst (λ x. IsUndoubled x rest) h.terms whole h.once r h.rest)
 
 -- ---- one word
 

@@ -95,13 +95,13 @@ abbrev pub StartsNoMode : List ℕ → Type 0
 StartsNoMode text = StartsNot 109 text × StartsNot 99 text
 
 -- a term whose atom stands once isn't followed by its letter, which would double it
-abbrev pub IsWhole : List Term → List ℕ → Type 0
-IsWhole (t ∷ []) rest = t.rider ≡ false → (after : List ℕ) → rest ≡ atom_text t.atom ++ after → ⊥
-IsWhole terms rest = Unit {0}
+abbrev pub IsUndoubled : List Term → List ℕ → Type 0
+IsUndoubled (t ∷ []) rest = t.rider ≡ false → (after : List ℕ) → rest ≡ atom_text t.atom ++ after → ⊥
+IsUndoubled terms rest = Unit {0}
 
 -- the terms of the longest word that the text begins with, and what follows it
 pub record IsFirstWord (text : List ℕ) (terms : List Term) (rest : List ℕ) : Type 0 where
   pub bytes : List ℕ
   pub word : IsWord bytes terms
   pub begins : text ≡ bytes ++ rest
-  pub whole : IsWhole terms rest
+  pub whole : IsUndoubled terms rest

@@ -80,16 +80,6 @@ fn squares_of(board: &[u8]) -> Option<ArrayVec<Option<Unit>, 36>>
     Some(units)
 }
 
-/// These units, and then nothing on all places that are left.
-fn padded(units: &[Option<Unit>]) -> [Option<Unit>; 36]
-    requires { length units.now ≤ 36 }
-    ensures { result ≡ units.now ++ replicate (36 - length units.now) None }
-{
-    let mut places = [None; 36];
-    places[..units.len()].copy_from_slice(units);
-    places
-}
-
 /// The position of the text, where it is one's. Of any other text it is some position or none.
 fn likely_position(text: &[u8]) -> Option<Position>
     ensures { (b : PlainBoard) → IsPosition b → IsFenText text.now b → result ≡ Some b }
@@ -108,7 +98,9 @@ fn likely_position(text: &[u8]) -> Option<Position>
     } else {
         Side::Black
     };
-    Position::of(game, mover, &padded(units.as_slice()))
+    let mut places = [None; 36];
+    places[..units.len()].copy_from_slice(units.as_slice());
+    Position::of(game, mover, &places)
 }
 
 /// The position of the text, if it is one's: a position has one text, so what is read is written and compared.

@@ -1,5 +1,6 @@
-use Rattle.std.proofs.Common.{◌≡◌, ◌-◌, ◌++◌, List, Option, None, length, replicate, ap, ◌∙◌, arith}
+use Rattle.std.proofs.Common.{◌≡◌, ◌-◌, ◌++◌, List, drop, Option, None, length, replicate, ap, ◌∙◌, arith}
 use Rattle.board.proofs.Common.{Man, board_of, width_of}
+use Rattle.std.proofs.lemmas.List.{drop-replicate}
 use Rattle.board.proofs.FenParts.{says, few_squares, game_is, side_is, same_board, made_is}
 use Rattle.board.proofs.fen.likely_position.Goals as goal
 use Rattle.board.proofs.fen.likely_position.Goals.{then-len-eq36, else-len-eq36, then-mover-eq119, else-mover-eq119}
@@ -23,6 +24,9 @@ returns c = λ b position fen.
       | then-mover-eq119 w ↦ w.mover-is ∙ (side_is b.mover _ s.side).0 w.if-mover-eq119.true
       | else-mover-eq119 w ↦ w.mover-is ∙ (side_is b.mover _ s.side).1 w.if-mover-eq119.false
     ] in
-    made_is c.of.result (board_of c.if-len-eq36.game c.if-mover-eq119.mover c.padded.result) b c.of.ensures.refused c.of.ensures.made
-    (same_board _ b game mover (c.padded.ensures ∙ ap (λ (us : List (Option Man)). us ++ replicate (36 - length us) None) units ∙ s.units))
-    position
+    let places = c.copy_from_slice.new.self ++ drop c.len-2.result (replicate 36 None) in
+    let padded : places ≡ b.units =
+    ap (λ (us : List (Option Man)). us ++ drop c.len-2.result (replicate 36 None)) (c.copy_from_slice.ensures.after ∙ units)
+    ∙ ap (λ (us : List (Option Man)). s.squares ++ us) (drop-replicate c.len-2.result 36 None ∙ ap (λ n. replicate (36 - n) None) (c.len-2.ensures.value ∙ ap (length {A = Option Man}) squares))
+    ∙ s.units in
+    made_is c.of.result (board_of c.if-len-eq36.game c.if-mover-eq119.mover places) b c.of.ensures.refused c.of.ensures.made (same_board _ b game mover padded) position
