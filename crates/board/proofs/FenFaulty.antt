@@ -1,6 +1,6 @@
 -- The first fault of a text, test by test.
-use Rattle.std.proofs.Common.{◌≡◌, ◌≢◌, ℕ, ◌+◌, ◌-◌, ◌<◌, ◌≤◌, inl, inr, ◌↔◌, refl, sym, ap, subst, ◌∙◌, arith, lit<, List, [], ◌∷◌, ◌++◌, length, get_or, Bool, true, false, ◌||◌, cond, eqb, IsTrue, All, MatchBool}
-use Rattle.board.proofs.Common.{count_by, position_or_len, ne_eqb, eqb-true, nat_tests, or_parts, cases_Bool, cases_lt, false≢true, All-contains, All-from_get_or, All-head, All-tail, sum_by-cons, split_at_first, Game, LosAlamos, Gardner, Side, White, Black, Man, most_units, IsPlayed, PlainBoard, IsPosition, letter_of, IsFenText, board_part, side_part, rows, first_of, last_of, is_digit, IsShape, IsBoardByte, is_case_of, has_pawn, fen_fault_number, FenFaultHolds, IsFenFault, separator, digit, letter}
+use Rattle.std.proofs.Common.{◌≡◌, ◌≢◌, ℕ, ◌+◌, ◌-◌, ◌*◌, ◌<◌, ◌≤◌, inl, inr, ◌↔◌, refl, sym, ap, subst, ◌∙◌, arith, lit<, List, [], ◌∷◌, ◌++◌, length, get_or, Bool, true, false, ◌||◌, cond, eqb, IsTrue, All, MatchBool}
+use Rattle.board.proofs.Common.{count_by, position_or_len, ne_eqb, eqb-true, nat_tests, or_parts, cases_Bool, cases_lt, false≢true, All-contains, All-from_get_or, All-head, All-tail, sum_by-cons, split_at_first, Game, Side, White, Black, Man, most_units, IsPlayed, PlainBoard, IsPosition, letter_of, IsFenText, board_part, side_part, rows, first_of, last_of, is_digit, IsShape, IsBoardByte, is_case_of, has_pawn, fen_fault_number, FenFaultHolds, IsFenFault, separator, digit, letter}
 use Rattle.std.proofs.lemmas.Bool.{cases_eq}
 use Rattle.std.proofs.lemmas.List.{get_or-map}
 use Rattle.std.proofs.lemmas.List.FromFn.{get_or-range_with_len}
@@ -10,7 +10,8 @@ use Rattle.board.specs.Passed.{Passes}
 use Rattle.board.specs.declared.fault.TheConstants.{TESTED}
 use Rattle.board.specs.declared.fault.FenFault.{FenFault}
 use Rattle.board.specs.declared.fault.FenFault.TheVariants.{Fields, Shape, Letter, Run, Side as SideText, Kings, Units, PawnRank, OtherInCheck}
-use Rattle.board.proofs.FenLaw.{heads, law}
+use Rattle.board.proofs.FenLaw.{law, wide_rows}
+use Rattle.board.proofs.FenParts.{same_game}
 use Rattle.board.proofs.RowBytes.{letter_above, letter_no_digit, one_unit, weight}
 
 pub letter_byte : (g : Game) (c : ℕ) (u : Man) (r : Bool) → c ≡ letter_of u.side u.kind → (r ≡ true) ↔ IsPlayed g u.kind → MatchBool r (IsBoardByte g c) (IsBoardByte g c → ⊥)
@@ -23,10 +24,7 @@ letter_byte g c u false e h = λ b. no b
     no (letter v k f) = false≢true (h.1 (subst (λ (x : Man). IsPlayed g x.kind) (one_unit v u (sym f ∙ e)) k))
 
 pub one_shape : (g h : Game) (board : List ℕ) → IsShape g board → IsShape h board → g ≡ h
-one_shape LosAlamos LosAlamos board s t = refl
-one_shape LosAlamos Gardner board s t = let e = (heads _ _ _ _ (sym s ∙ t)).0 in absurd (omega arith)
-one_shape Gardner LosAlamos board s t = let e = (heads _ _ _ _ (sym s ∙ t)).0 in absurd (omega arith)
-one_shape Gardner Gardner board s t = refl
+one_shape g h board s t = same_game g h (ap (λ n. n * n) (sym (wide_rows (rows board) _ _ s).0 ∙ (wide_rows (rows board) _ _ t).0))
 
 pub no_space : (text : List ℕ) → All (λ c. c ≢ 32) text → count_by (λ c. eqb c 32) text ≡ 0
 no_space [] none = refl

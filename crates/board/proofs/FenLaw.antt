@@ -1,11 +1,11 @@
 -- A text with no fault is a position's.
 use Rattle.std.proofs.Common.{◌≡◌, ◌≢◌, ℕ, ◌+◌, ◌-◌, ◌*◌, ◌<◌, ◌≤◌, inl, inr, zero, suc, refl, sym, ap, subst, ◌∙◌, arith, List, [], ◌∷◌, ◌++◌, length, get_or, map, replicate, Option, Some, None, Bool, true, false, ◌||◌, cond, eqb, IsTrue, All, Contains, append_assoc, length-append}
-use Rattle.board.proofs.Common.{IfSome, onto_first, join_with_byte, count_by, length-replicate, eq-eqb, ne_eqb, or_parts, cases_lt, false≢true, get_or_append_left, get_or-append_right, All-nil, All-cons, All-head, All-tail, All-append, All-from_get_or, All-replicate, All-get_or, Game, Side, White, Black, Kind, King, Pawn, Man, width_of, squares_of, most_units, IsPlayed, PlainBoard, board_of, is_king_of, is_of_side, MayStandOn, IsPosition, letter_of, side_letter, StartsNoRun, IsRankText, IsTextFrom, IsFenText, end, unit, run, first, above, rows, first_of, last_of, is_digit, row_width, IsShape, IsBoardByte, HasAdjacentRuns, is_case_of, has_pawn, separator, digit, letter}
+use Rattle.board.proofs.Common.{IfSome, onto_first, join_with_byte, count_by, length-replicate, eq-eqb, ne_eqb, or_parts, cases_lt, false≢true, get_or_append_left, get_or-append_right, All-nil, All-cons, All-head, All-tail, All-append, All-from_get_or, All-replicate, All-get_or, Game, Side, King, Pawn, Man, width_of, squares_of, most_units, IsPlayed, PlainBoard, board_of, is_king_of, is_of_side, MayStandOn, IsPosition, letter_of, side_letter, StartsNoRun, IsRankText, IsTextFrom, IsFenText, end, unit, run, first, above, rows, first_of, last_of, is_digit, row_width, IsShape, IsBoardByte, HasAdjacentRuns, is_case_of, has_pawn, separator, digit, letter}
 use Rattle.std.proofs.lemmas.List.{get_or-map, get_or-replicate, length-map}
 use Rattle.std.proofs.lemmas.List.Splits.{slice_split-cons_yes, slice_split-cons_no, length-slice_split, join_with_byte-slice_split}
 use Rattle.board.proofs.FenParts.{few_squares}
 use Rattle.board.proofs.RankText.{letter_above}
-use Rattle.board.proofs.RowBytes.{IsPlayedAt, IsNoPawn, width_more, is_digit-from, digit_bounds, letter_no_digit, Agrees, count_more, count_append, weight, count_empty, row_count, kings_agree, sides_agree}
+use Rattle.board.proofs.RowBytes.{IsPlayedAt, IsNoPawn, width_more, is_digit-from, digit_bounds, letter_no_digit, Agrees, count_more, count_append, weight, count_empty, row_count, kings_agree, sides_agree, by_sides}
 
 -- ---- each row is the text of a rank
 
@@ -75,9 +75,6 @@ ranks_of g (c ∷ board) own nought apart =
 
 -- ---- how wide the rows are
 
-pub heads : (x y : ℕ) (xs ys : List ℕ) → x ∷ xs ≡ y ∷ ys → (x ≡ y) × (xs ≡ ys)
-heads x y xs ys e = (cc, cc)
-
 -- as many rows as the width says, each of this width
 pub wide_rows : (parts : List (List ℕ)) (n w : ℕ) → map row_width parts ≡ replicate n w → (length parts ≡ n) × All (λ row. row_width row ≡ w) parts
 wide_rows parts n w e =
@@ -86,15 +83,11 @@ wide_rows parts n w e =
 
 -- ---- pawns
 
-pawn_letter : (s : Side) (k : Kind) → k ≡ Pawn → (eqb (letter_of s k) 80 || eqb (letter_of s k) 112) ≡ true
-pawn_letter White k e = ap (λ x. eqb (letter_of White x) 80 || eqb (letter_of White x) 112) e
-pawn_letter Black k e = ap (λ x. eqb (letter_of Black x) 80 || eqb (letter_of Black x) 112) e
-
 no_pawns : (row : List ℕ) (units : List (Option Man)) → IsRankText row units → has_pawn row ≡ false → All IsNoPawn units
 no_pawns [] units end h = All-nil _
 no_pawns (c ∷ row) old (unit {units = units} u e r) h =
     let t = or_parts (eqb c 80 || eqb c 112) (has_pawn row) h in
-    All-cons IsNoPawn (Some u) units (λ k. false≢true (sym t.0 ∙ ap (λ x. eqb x 80 || eqb x 112) e ∙ pawn_letter u.side u.kind k)) (no_pawns row units r t.1)
+    All-cons IsNoPawn (Some u) units (λ k. false≢true (sym t.0 ∙ ap (λ x. eqb x 80 || eqb x 112) e ∙ ap (λ x. eqb (letter_of u.side x) 80 || eqb (letter_of u.side x) 112) k ∙ by_sides (λ s. (eqb (letter_of s Pawn) 80 || eqb (letter_of s Pawn) 112) ≡ true) refl refl u.side)) (no_pawns row units r t.1)
 no_pawns (c ∷ row) old (run {units = units} d i j e s r) h =
     let t = or_parts (eqb c 80 || eqb c 112) (has_pawn row) h in
     All-append IsNoPawn (replicate d None) units (All-replicate IsNoPawn d None tt) (no_pawns row units r t.1)
@@ -168,7 +161,7 @@ law g s board shape own nought apart kings armies no_first no_last =
     let joined : join_with_byte 47 parts ≡ board = join_with_byte-slice_split 47 board in
     let long : length squares ≡ squares_of g = long_of g w parts squares found.1 wide.1 ∙ ap (λ n. n * w) wide.0 in
     let text = subst (λ n. IsTextFrom w s n (join_with_byte 47 parts ++ 32 ∷ side_letter s ∷ []) squares) wide.0 (text_of g w s parts squares (some_rows board) found.1 wide.1) in
-    let counted = λ (p : ℕ → Bool) (q : Option Man → Bool) (a : Agrees p q). count_append q squares rest ∙ ap (λ m. count_by q squares + m) (count_empty q (36 - length squares) a.empty_no) ∙ add_zero (count_by q squares) ∙ count_ranks g p q a parts squares found.1 ∙ ap (count_by p) joined in (
+    let counted = λ (p : ℕ → Bool) (q : Option Man → Bool) (a : Agrees p q). let all : count_by q (squares ++ rest) ≡ count_by q squares = omega (arith, count_append q squares rest, count_empty q (36 - length squares) a.empty_no) in all ∙ count_ranks g p q a parts squares found.1 ∙ ap (count_by p) joined in (
       board_of g s (squares ++ rest),
       record {
         places = omega (arith, long, few_squares g, length-append squares rest, length-replicate (36 - length squares) empty_square);
@@ -188,9 +181,6 @@ law g s board shape own nought apart kings armies no_first no_last =
       record { squares = squares; ranks = subst (λ x. IsTextFrom w s w (x ++ 32 ∷ side_letter s ∷ []) squares) joined text; units = refl },
     )
   where
-    add_zero : (m : ℕ) → m + 0 ≡ m
-    add_zero m = omega arith
-
     get_or_empty : (m i : ℕ) → get_or (replicate m empty_square) i None ≡ None
     get_or_empty zero i = refl
     get_or_empty (suc m) zero = refl

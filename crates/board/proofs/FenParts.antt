@@ -166,7 +166,7 @@ same_side : (s t : Side) → side_letter s ≡ side_letter t → s ≡ t
 same_side White t e = (side_is t 119 e).0 refl
 same_side Black t e = (side_is t 98 e).1 (λ h. omega arith)
 
-same_game : (g h : Game) → squares_of g ≡ squares_of h → g ≡ h
+pub same_game : (g h : Game) → squares_of g ≡ squares_of h → g ≡ h
 same_game LosAlamos h e = (game_is h 36 e).0 refl
 same_game Gardner h e = (game_is h 25 e).1 (λ h. omega arith)
 

@@ -72,15 +72,11 @@ begins_bare a rest text whole b (next {bytes = bytes} {rest = after} {terms = te
           absurd (false≢true (ap (λ (t : Term). t.rider) is ∙ h.doubled))
     ]
 
--- terms that begin with one atom twice
-twice : {A : Type 0} (whole others : List Term) (t u : Term) → AreDistinct whole → whole ≡ t ∷ u ∷ others → u.atom ≡ t.atom → A
-twice whole others t u d e f = absurd (subst AreDistinct e d 0 1 t (omega arith) (omega arith) (sym f))
-
 -- a term whose letter the next word could double is in no accepted reading
 half_read : {A : Type 0} (whole ts others : List Term) (t : Term) (rest after : List ℕ) → AreDistinct whole → whole ≡ ts ++ others → ts ≡ t ∷ [] → rest ≡ atom_text t.atom ++ after → AreWords rest others → A
 half_read whole ts others t rest after d e f g r =
     let b = begins_bare t.atom after rest others g r in
-    twice whole b.others t b.first d (e ∙ ap (λ x. x ++ others) f ∙ ap (λ x. t ∷ x) b.terms) b.atom
+    absurd (subst AreDistinct (e ∙ ap (λ x. x ++ others) f ∙ ap (λ x. t ∷ x) b.terms) d 0 1 t (omega arith) (omega arith) (sym b.atom))
 
 -- a whole word isn't the half of another
 not_half : {A : Type 0} (terms ts : List Term) (rest r : List ℕ) → IsUndoubled terms rest → IsHalf rest terms r ts → A
