@@ -1,6 +1,7 @@
 -- The fault of a piece string.
-use Rattle.std.proofs.Common.{◌≡◌, ◌≢◌, ℕ, ◌<◌, Bool, true, false, refl, sym, ap, subst, ◌∙◌, arith, lit<, List, [], ◌∷◌, ◌++◌, All, Any, append-nil}
+use Rattle.std.proofs.Common.{◌≡◌, ◌≢◌, ℕ, ◌<◌, ◌≤◌, Bool, true, false, refl, sym, ap, subst, ◌∙◌, arith, lit<, List, [], ◌∷◌, ◌++◌, All, Any, append-nil}
 use Rattle.board.proofs.Common.{All-append, All-cons, All-nil, All-contains, BetzaFault, Empty, Letter, Modifier, Repeated, Mode, Move, Capture, Both, Atom, Wazir, Ferz, Term, AreDistinct, mode_text, forward_text, doubled_text, atom_text, IsLetter, IsWord, IsRead, IsReading, rook, bishop, queen, king, term, short, last, more, betza_fault_number, BetzaFaultHolds, IsBetzaFault}
+use Rattle.board.specs.BetzaFaults.{IsReadable}
 use Rattle.board.specs.declared.terms.Atom.TheVariants.{Knight}
 use Rattle.board.proofs.WordByWord.{AreWords, AreWords-read, IsRead-words, IsReadTo, no_words, not_empty, not_words}
 use Rattle.board.proofs.WordByWord.AreWords.{none, next}
@@ -61,16 +62,16 @@ no_fault text terms Modifier r h = h (terms, r.read)
 no_fault text terms Repeated r h = h.1 terms r
 
 module _ (text : List ℕ) (some : text ≢ []) (all : All IsLetter text) where
-  none_before : (f : BetzaFault) → betza_fault_number f < 3 → BetzaFaultHolds f text → ⊥
-  none_before Empty p h = some h
-  none_before Letter p h = foreign text h all
-  none_before Modifier p h = absurd (omega arith)
-  none_before Repeated p h = absurd (omega arith)
+  none_to : (n : ℕ) → n ≤ 4 → (3 < n → IsReadable text) → (f : BetzaFault) → betza_fault_number f < n → BetzaFaultHolds f text → ⊥
+  none_to n le read Empty p h = some h
+  none_to n le read Letter p h = foreign text h all
+  none_to n le read Modifier p h = h (read p)
+  none_to n le read Repeated p h = absurd (omega arith)
 
   pub unreadable : (rest : List ℕ) (so_far : List Term) → IsReadTo text rest so_far → rest ≢ [] → ((bytes more : List ℕ) (terms : List Term) → IsWord bytes terms → rest ≡ bytes ++ more → ⊥) → IsBetzaFault text Modifier
   unreadable rest so_far r left no_word = record {
-    holds = λ (terms, read). let later = r.stays terms (AreWords-read text terms read) in not_words rest left no_word later.0 later.1;
-    least = none_before;
+    holds = λ (terms, read). let later = r.goes_on terms (AreWords-read text terms read) in not_words rest left no_word later.0 later.1;
+    least = none_to 3 (omega arith) (λ p. absurd (omega arith));
   }
 
   module _ (so_far : List Term) (r : IsReadTo text [] so_far) where
@@ -80,19 +81,13 @@ module _ (text : List ℕ) (some : text ≢ []) (all : All IsLetter text) where
     pub accepted : AreDistinct so_far → IsReading text so_far
     accepted d = record { read = whole; distinct = d }
 
-    none_up_to : (AreDistinct so_far → ⊥) → (f : BetzaFault) → betza_fault_number f < 4 → BetzaFaultHolds f text → ⊥
-    none_up_to d Empty p h = some h
-    none_up_to d Letter p h = foreign text h all
-    none_up_to d Modifier p h = h (so_far, whole)
-    none_up_to d Repeated p h = absurd (omega arith)
-
     pub repeated : (AreDistinct so_far → ⊥) → IsBetzaFault text Repeated
     repeated d = record {
       holds = (
         (so_far, whole),
         λ terms reading.
-            let w = r.only terms (AreWords-read text terms reading.read) reading.distinct in
-            d (subst AreDistinct (w.1 ∙ ap (λ x. so_far ++ x) (no_words [] w.0 refl w.2) ∙ append-nil so_far) reading.distinct),
+            let w = r.goes_on terms (AreWords-read text terms reading.read) in
+            d (subst AreDistinct (w.2 reading.distinct ∙ ap (λ x. so_far ++ x) (no_words [] w.0 refl w.1) ∙ append-nil so_far) reading.distinct),
       );
-      least = none_up_to d;
+      least = none_to 4 (omega arith) (λ p. (so_far, whole));
     }

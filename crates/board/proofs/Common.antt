@@ -8,7 +8,7 @@ pub use Rattle.board.specs.Fen.IsTextFrom.{above, first}
 pub use Rattle.board.specs.FenFaults.{FenFaultHolds, HasAdjacentRuns, IsBoardByte, IsFenFault, IsShape, board_part, fen_fault_number, first_of, has_pawn, is_case_of, is_digit, last_of, row_width, rows, side_part}
 pub use Rattle.board.specs.FenFaults.IsBoardByte.{digit, letter, separator}
 pub use Rattle.board.specs.Games.{IsPlayed, most_units, squares_of, width_of}
-pub use Rattle.board.specs.Notation.{HasOneReading, IsLetter, IsLongestTerm, IsLongestWord, IsRead, IsReading, IsShorthand, IsWord, IsWritten, StartsNoMode, StartsNot, atom_text, doubled_text, forward_text, mode_text, piece_text, term_text}
+pub use Rattle.board.specs.Notation.{HasOneReading, IsLetter, IsFirstWord, IsUndoubled, IsRead, IsReading, IsShorthand, IsWord, IsWritten, StartsNoMode, StartsNot, atom_text, doubled_text, forward_text, mode_text, piece_text, term_text}
 pub use Rattle.board.specs.Notation.IsRead.{last, more}
 pub use Rattle.board.specs.Notation.IsShorthand.{bishop, king, queen, rook}
 pub use Rattle.board.specs.Notation.IsWord.{short, term}
@@ -28,7 +28,7 @@ pub use Rattle.board.specs.declared.terms.Atom.TheVariants.{Ferz, Wazir}
 pub use Rattle.board.specs.declared.terms.Term.{Term}
 pub use Rattle.board.specs.declared.terms.TheConstants.{LEAPS}
 pub use Rattle.std.proofs.Math.ListN.{length-replicate, set}
-pub use Rattle.std.proofs.lemmas.Bool.{and_parts, cases_Bool, cases_lt, eq-eqb, false≢true, iff_false, ne_eqb, or_parts}
+pub use Rattle.std.proofs.lemmas.Bool.{and_parts, cases_Bool, cases_lt, eq-eqb, eqb-true, false≢true, iff_false, ne_eqb, or_parts}
 pub use Rattle.std.proofs.lemmas.Bool.Decides.{Decides-int_eq, nat_tests}
 pub use Rattle.std.proofs.lemmas.List.{append-nil, drop_at, get_or-append-add, get_or-append_right, get_or_append_left, get_or_default, length_push, nil_from_length, take_all, take_at, take_more, take_rest}
 pub use Rattle.std.proofs.lemmas.List.Elements.{All-append, All-cons, All-contains, All-from_get_or, All-get_or, All-head, All-more, All-nil, All-push, All-replicate, All-tail, All-weaker, Contains-append_left, Contains-push, Contains-push_cases}

@@ -1,13 +1,18 @@
 -- The first fault of a text, test by test.
-use Rattle.std.proofs.Common.{◌≡◌, ◌≢◌, ℕ, ◌+◌, ◌<◌, ◌≤◌, ◌⊎◌, inl, inr, ◌↔◌, suc, refl, sym, ap, subst, ◌∙◌, arith, List, [], ◌∷◌, ◌++◌, length, get_or, take, drop, Bool, true, false, ◌||◌, eqb, cond, All, Any, Contains, MatchBool}
-use Rattle.board.proofs.Common.{count_by, position_or_len, eq-eqb, ne_eqb, or_parts, cases_Bool, false≢true, All-contains, All-head, All-tail, sum_by-cons, position_or_len_is, split_at_first, Game, LosAlamos, Gardner, Side, White, Black, King, Man, most_units, IsPlayed, PlainBoard, IsPosition, letter_of, side_letter, IsFenText, board_part, side_part, rows, first_of, last_of, is_digit, IsShape, IsBoardByte, HasAdjacentRuns, is_case_of, has_pawn, fen_fault_number, FenFaultHolds, IsFenFault, separator, digit, letter}
+use Rattle.std.proofs.Common.{◌≡◌, ◌≢◌, ℕ, ◌+◌, ◌-◌, ◌*◌, ◌<◌, ◌≤◌, inl, inr, ◌↔◌, refl, sym, ap, subst, ◌∙◌, arith, lit<, List, [], ◌∷◌, ◌++◌, length, get_or, Bool, true, false, ◌||◌, cond, eqb, IsTrue, All, MatchBool}
+use Rattle.board.proofs.Common.{count_by, position_or_len, ne_eqb, eqb-true, nat_tests, or_parts, cases_Bool, cases_lt, false≢true, All-contains, All-from_get_or, All-head, All-tail, sum_by-cons, split_at_first, Game, Side, White, Black, Man, most_units, IsPlayed, PlainBoard, IsPosition, letter_of, IsFenText, board_part, side_part, rows, first_of, last_of, is_digit, IsShape, IsBoardByte, is_case_of, has_pawn, fen_fault_number, FenFaultHolds, IsFenFault, separator, digit, letter}
+use Rattle.std.proofs.lemmas.Bool.{cases_eq}
+use Rattle.std.proofs.lemmas.List.{get_or-map}
+use Rattle.std.proofs.lemmas.List.FromFn.{get_or-range_with_len}
+use Rattle.std.proofs.lemmas.List.Sums.{fails_before_first, passes_at_first}
+use Rattle.std.specs.Prelude.{nat_lt}
+use Rattle.board.specs.Passed.{Passes}
+use Rattle.board.specs.declared.fault.TheConstants.{TESTED}
 use Rattle.board.specs.declared.fault.FenFault.{FenFault}
 use Rattle.board.specs.declared.fault.FenFault.TheVariants.{Fields, Shape, Letter, Run, Side as SideText, Kings, Units, PawnRank, OtherInCheck}
-use Rattle.board.proofs.RankText.{letter_above, one_unit}
-use Rattle.board.proofs.FenLaw.{heads, law}
-use Rattle.board.proofs.RowBytes.{letter_no_digit, weight}
-
--- ---- a letter of a unit
+use Rattle.board.proofs.FenLaw.{law, wide_rows}
+use Rattle.board.proofs.FenParts.{same_game}
+use Rattle.board.proofs.RowBytes.{letter_above, letter_no_digit, one_unit, weight}
 
 pub letter_byte : (g : Game) (c : ℕ) (u : Man) (r : Bool) → c ≡ letter_of u.side u.kind → (r ≡ true) ↔ IsPlayed g u.kind → MatchBool r (IsBoardByte g c) (IsBoardByte g c → ⊥)
 letter_byte g c u true e h = letter u (h.0 refl) e
@@ -18,62 +23,8 @@ letter_byte g c u false e h = λ b. no b
     no (digit d) = false≢true (sym (ap is_digit e ∙ letter_no_digit u) ∙ d)
     no (letter v k f) = false≢true (h.1 (subst (λ (x : Man). IsPlayed g x.kind) (one_unit v u (sym f ∙ e)) k))
 
--- ---- no condition before
-
-abbrev NoneBelow : List ℕ → ℕ → Type 0
-NoneBelow text n = (e : FenFault) → fen_fault_number e < n → FenFaultHolds e text → ⊥
-
-fault_numbered : ℕ → FenFault
-fault_numbered n = cond (eqb n 1) Fields (cond (eqb n 2) Shape (cond (eqb n 3) Letter (cond (eqb n 4) Run (cond (eqb n 5) SideText (cond (eqb n 6) Kings (cond (eqb n 7) Units (cond (eqb n 8) PawnRank OtherInCheck)))))))
-
-fault_numbered-number : (f : FenFault) → fault_numbered (fen_fault_number f) ≡ f
-unfolding fault_numbered
-fault_numbered-number Fields = refl
-fault_numbered-number Shape = refl
-fault_numbered-number Letter = refl
-fault_numbered-number Run = refl
-fault_numbered-number SideText = refl
-fault_numbered-number Kings = refl
-fault_numbered-number Units = refl
-fault_numbered-number PawnRank = refl
-fault_numbered-number OtherInCheck = refl
-
-from_one : (f : FenFault) → 0 < fen_fault_number f
-from_one Fields = omega arith
-from_one Shape = omega arith
-from_one Letter = omega arith
-from_one Run = omega arith
-from_one SideText = omega arith
-from_one Kings = omega arith
-from_one Units = omega arith
-from_one PawnRank = omega arith
-from_one OtherInCheck = omega arith
-
-same_fault : (e f : FenFault) → fen_fault_number e ≡ fen_fault_number f → e ≡ f
-same_fault e f h = sym (fault_numbered-number e) ∙ ap fault_numbered h ∙ fault_numbered-number f
-
-none_first : (text : List ℕ) → NoneBelow text 1
-none_first text e lt h = omega (arith, from_one e)
-
-none_more : (text : List ℕ) (f : FenFault) → NoneBelow text (fen_fault_number f) → (FenFaultHolds f text → ⊥) → NoneBelow text (suc (fen_fault_number f))
-none_more text f none not e lt h = elim (split3 (fen_fault_number e) (fen_fault_number f)) [
-  | inl less ↦ none e less h
-  | inr (inl same) ↦ not (subst (λ x. FenFaultHolds x text) (same_fault e f same) h)
-  | inr (inr more) ↦ absurd (omega arith)
-]
-  where
-    split3 : (i j : ℕ) → (i < j) ⊎ ((i ≡ j) ⊎ (j < i))
-    split3 i j = grind arith
-
 pub one_shape : (g h : Game) (board : List ℕ) → IsShape g board → IsShape h board → g ≡ h
-one_shape LosAlamos LosAlamos board s t = refl
-one_shape LosAlamos Gardner board s t = let e = (heads _ _ _ _ (sym s ∙ t)).0 in absurd (omega arith)
-one_shape Gardner LosAlamos board s t = let e = (heads _ _ _ _ (sym s ∙ t)).0 in absurd (omega arith)
-one_shape Gardner Gardner board s t = refl
-
-pub both_sides : (P : Side → Type 0) → P White → P Black → (side : Side) → P side
-both_sides P w b White = w
-both_sides P w b Black = b
+one_shape g h board s t = same_game g h (ap (λ n. n * n) (sym (wide_rows (rows board) _ _ s).0 ∙ (wide_rows (rows board) _ _ t).0))
 
 pub no_space : (text : List ℕ) → All (λ c. c ≢ 32) text → count_by (λ c. eqb c 32) text ≡ 0
 no_space [] none = refl
@@ -81,97 +32,97 @@ no_space (c ∷ text) none =
     let e = ap weight (ne_eqb c 32 (All-head (λ x. x ≢ 32) c text none)) in
     omega (arith, e, sum_by-cons (λ x. cond (eqb x 32) 1 0) c text, no_space text (All-tail (λ x. x ≢ 32) c text none))
 
--- the place of the first space
-pub record IsSpace (text : List ℕ) (i : ℕ) : Type 0 where
-  pub within : i < length text
-  pub space : get_or text i 0 ≡ 32
-  pub before : (k : ℕ) → k < i → get_or text k 0 ≢ 32
+-- a text with one space is a board and what follows the space
+whole : (text : List ℕ) → count_by (λ c. eqb c 32) text ≡ 1 → text ≡ board_part text ++ 32 ∷ side_part text
+whole text one = elim (cases_lt (position_or_len (λ c. eqb c 32) text) (length text)) [
+  | inl lt ↦
+      let at : get_or text (position_or_len (λ c. eqb c 32) text) 0 ≡ 32 = eqb-true _ _ (passes_at_first (λ c. eqb c 32) text 0 lt) in
+      split_at_first (λ c. eqb c 32) text 0 lt ∙ ap (λ x. board_part text ++ x ∷ side_part text) at
+  | inr ge ↦
+      let none = no_space text (All-from_get_or (λ c. c ≢ 32) text 0 (λ k lt e. false≢true (sym (fails_before_first (λ c. eqb c 32) text k 0 (omega arith)) ∙ ap (λ x. eqb x 32) e))) in
+      absurd (omega (arith, one, none))
+]
 
-module _ (text : List ℕ) (i : ℕ) (at : IsSpace text i) (one : count_by (λ c. eqb c 32) text ≡ 1) where
-  place : position_or_len (λ c. eqb c 32) text ≡ i
-  place = position_or_len_is (λ c. eqb c 32) text i 0 (omega (arith, at.within)) (λ k lt. ne_eqb _ _ (at.before k lt)) (λ lt. eq-eqb _ _ at.space)
+-- whether a side has too many units, where White has not
+pub many_units : (g : Game) (board : List ℕ) (most white black : ℕ) → IsShape g board → most ≡ most_units g → white ≡ count_by (is_case_of White) board → black ≡ count_by (is_case_of Black) board → white ≤ most
+    → IsTrue (nat_lt most black) ↔ ((x : Game) × IsShape x board × ((side : Side) × (most_units x < count_by (is_case_of side) board)))
+many_units g board most white black shape m w b few = (
+  λ t. (g, shape, (Black, let lt : most < black = grind (arith, nat_tests) in omega (arith, m, b, lt))),
+  λ (x, s, (side, lt)). by side (omega (arith, lt, ap most_units (one_shape g x board shape s))),
+)
+  where
+    by : (side : Side) → most_units g < count_by (is_case_of side) board → IsTrue (nat_lt most black)
+    by White lt = absurd (omega arith)
+    by Black lt = let more : most < black = omega arith in grind (arith, nat_tests)
 
-  board_is : take i text ≡ board_part text
-  board_is = ap (λ n. take n text) (sym place)
+-- ---- the order of the tests
 
-  side_is : drop (i + 1) text ≡ side_part text
-  side_is = ap (λ n. drop (n + 1) text) (sym place)
+-- where a fault is tested
+tested_at : (e d : FenFault) → fen_fault_number e < 8 → (0 < fen_fault_number e) × (get_or TESTED (fen_fault_number e - 1) d ≡ e)
+tested_at Fields d h = (lit< tt, refl)
+tested_at Shape d h = (lit< tt, refl)
+tested_at Letter d h = (lit< tt, refl)
+tested_at Run d h = (lit< tt, refl)
+tested_at SideText d h = (lit< tt, refl)
+tested_at Kings d h = (lit< tt, refl)
+tested_at Units d h = (lit< tt, refl)
+tested_at PawnRank d h = absurd (omega arith)
+tested_at OtherInCheck d h = absurd (omega arith)
 
-  whole : text ≡ board_part text ++ 32 ∷ side_part text
-  whole =
-      split_at_first (λ c. eqb c 32) text 0 (omega (arith, place, at.within))
-      ∙ ap (λ x. board_part text ++ x ∷ side_part text) (ap (λ n. get_or text n 0) place ∙ at.space)
+-- which fault is tested there
+pub number_at : (i : ℕ) (d : FenFault) → i < 7 → fen_fault_number (get_or TESTED i d) ≡ i + 1
+number_at i d h =
+    let next : 1 + i ≡ i + 1 = omega arith in
+    sym (get_or-map fen_fault_number TESTED i d 0 h) ∙ get_or-range_with_len 1 7 i 0 h ∙ next
 
-  none_fields : NoneBelow text 2
-  none_fields = none_more text Fields (none_first text) (λ h. h one)
+passes_not : (text : List ℕ) (e : FenFault) → Passes e text → FenFaultHolds e text → ⊥
+passes_not text Fields p h = p h
+passes_not text Shape (g, s) h = h g s
+passes_not text Letter p (g, s, (k, c, lt, at, foreign)) = foreign (All-contains (IsBoardByte g) (board_part text) c (p g s) (k, lt, at))
+passes_not text Run p h = p h
+passes_not text SideText (s, e) h = h s e
+passes_not text Kings p h = p h
+passes_not text Units p h = p h
+passes_not text PawnRank p h = p h
+passes_not text OtherInCheck p h = h
 
-  pub shape_fault : ((g : Game) → IsShape g (take i text) → ⊥) → IsFenFault text Shape
-  shape_fault none = record { holds = λ g s. none g (subst (IsShape g) (sym board_is) s); least = none_fields }
+-- a text that passes the first tests
+module _ (text : List ℕ) (n : ℕ) (passed : (k : ℕ) (d : FenFault) → k < n → Passes (get_or TESTED k d) text) where
+  passes : (e : FenFault) → fen_fault_number e < 8 → fen_fault_number e ≤ n → Passes e text
+  passes e lt le =
+      let at = tested_at e e lt in
+      subst (λ f. Passes f text) at.1 (passed (fen_fault_number e - 1) e (omega (arith, at.0)))
 
-  module _ (g : Game) (shape_at : IsShape g (take i text)) where
-    shape : IsShape g (board_part text)
-    shape = subst (IsShape g) board_is shape_at
+  -- and not the next
+  pub first_fault : (f : FenFault) → fen_fault_number f ≡ n + 1 → n ≤ 7 → FenFaultHolds f text → IsFenFault text f
+  first_fault f e le h = record { holds = h; least = λ other lt. passes_not text other (passes other (omega arith) (omega arith)) }
 
-    none_shape : NoneBelow text 3
-    none_shape = none_more text Shape none_fields (λ h. h g shape)
+-- a text that passes all tests, and is no position's, has a pawn on an outer rank
+module _ (text : List ℕ) (passed : (k : ℕ) (d : FenFault) → k < 7 → Passes (get_or TESTED k d) text) where
+  p : (e : FenFault) → fen_fault_number e < 8 → Passes e text
+  p e lt = passes text 7 passed e lt (omega arith)
 
-    pub letter_fault : Any (λ c. IsBoardByte g c → ⊥) (take i text) → IsFenFault text Letter
-    letter_fault some = record { holds = (g, shape, subst (Any (λ c. IsBoardByte g c → ⊥)) board_is some); least = none_shape }
+  one : (n : ℕ) → (n ≢ 1 → ⊥) → n ≡ 1
+  one n h = elim (cases_eq n 1) [ inl e ↦ e | inr ne ↦ absurd (h ne) ]
 
-    module _ (own_at : All (IsBoardByte g) (take i text)) where
-      own : All (IsBoardByte g) (board_part text)
-      own = subst (All (IsBoardByte g)) board_is own_at
+  few : (m n : ℕ) → (m < n → ⊥) → n ≤ m
+  few m n h = elim (cases_lt m n) [ inl lt ↦ absurd (h lt) | inr ge ↦ ge ]
 
-      none_letter : NoneBelow text 4
-      none_letter = none_more text Letter none_shape (λ h. h.2.4 (subst (λ x. IsBoardByte x h.2.1) (one_shape g h.0 (board_part text) shape h.1) (All-contains (IsBoardByte g) (board_part text) h.2.1 own (h.2.0, h.2.2, h.2.3))))
+  no_pawns : has_pawn (first_of (rows (board_part text))) ≡ false → has_pawn (last_of (rows (board_part text))) ≡ false → (b : PlainBoard) × IsPosition b × IsFenText text b
+  no_pawns high low =
+      let shape = p Shape (lit< tt) in
+      let side = p SideText (lit< tt) in
+      let w = law shape.0 side.0 (board_part text) shape.1 (p Letter (lit< tt) shape.0 shape.1)
+      (λ z. p Run (lit< tt) (inl z)) (λ a. p Run (lit< tt) (inr a))
+      (λ s. one _ (λ h. p Kings (lit< tt) (s, h)))
+      (λ s. few _ _ (λ h. p Units (lit< tt) (shape.0, shape.1, (s, h)))) high low in
+      (w.0, w.1, subst (λ x. IsFenText x w.0) (ap (λ x. board_part text ++ 32 ∷ x) (sym side.1) ∙ sym (whole text (one _ (p Fields (lit< tt))))) w.2)
 
-      pub run_fault : Contains (take i text) 48 ⊎ HasAdjacentRuns (take i text) → IsFenFault text Run
-      run_fault some = record { holds = subst (λ x. Contains x 48 ⊎ HasAdjacentRuns x) board_is some; least = none_letter }
-
-      module _ (nought_at : Contains (take i text) 48 → ⊥) (apart_at : HasAdjacentRuns (take i text) → ⊥) where
-        nought : Contains (board_part text) 48 → ⊥
-        nought = subst (λ x. Contains x 48 → ⊥) board_is nought_at
-
-        apart : HasAdjacentRuns (board_part text) → ⊥
-        apart = subst (λ x. HasAdjacentRuns x → ⊥) board_is apart_at
-
-        none_run : NoneBelow text 5
-        none_run = none_more text Run none_letter (λ h. elim h [ inl z ↦ nought z | inr a ↦ apart a ])
-
-        pub side_fault : ((side : Side) → drop (i + 1) text ≡ side_letter side ∷ [] → ⊥) → IsFenFault text SideText
-        side_fault none = record { holds = λ side e. none side (side_is ∙ e); least = none_run }
-
-        module _ (side : Side) (side_at : drop (i + 1) text ≡ side_letter side ∷ []) where
-          none_side : NoneBelow text 6
-          none_side = none_more text SideText none_run (λ h. h side (sym side_is ∙ side_at))
-
-          pub kings_fault : (s : Side) → count_by (λ c. eqb c (letter_of s King)) (take i text) ≢ 1 → IsFenFault text Kings
-          kings_fault s h = record { holds = (s, subst (λ x. count_by (λ c. eqb c (letter_of s King)) x ≢ 1) board_is h); least = none_side }
-
-          module _ (kings_at : (s : Side) → count_by (λ c. eqb c (letter_of s King)) (take i text) ≡ 1) where
-            none_kings : NoneBelow text 7
-            none_kings = none_more text Kings none_side (λ (s, h). h (subst (λ x. count_by (λ c. eqb c (letter_of s King)) x ≡ 1) board_is (kings_at s)))
-
-            pub units_fault : (s : Side) → most_units g < count_by (is_case_of s) (take i text) → IsFenFault text Units
-            units_fault s h = record { holds = (g, shape, (s, subst (λ x. most_units g < count_by (is_case_of s) x) board_is h)); least = none_kings }
-
-            module _ (room_at : (s : Side) → count_by (is_case_of s) (take i text) ≤ most_units g) where
-              none_units : NoneBelow text 8
-              none_units = none_more text Units none_kings (λ h. too_many h.0 h.1 h.2.0 h.2.1)
-                where
-                  too_many : (h : Game) → IsShape h (board_part text) → (s : Side) → most_units h < count_by (is_case_of s) (board_part text) → ⊥
-                  too_many h t s lt =
-                      let same : g ≡ h = one_shape g h (board_part text) shape t in
-                      omega (arith, ap most_units same, subst (λ x. count_by (is_case_of s) x ≤ most_units g) board_is (room_at s))
-
-              pub pawn_fault : ((b : PlainBoard) → IsPosition b → IsFenText text b → ⊥) → IsFenFault text PawnRank
-              pawn_fault no_board = record { holds = elim (cases_Bool pawns) [ inl e ↦ e | inr e ↦ absurd (none e) ]; least = none_units }
-                where
-                  pawns : Bool
-                  pawns = has_pawn (first_of (rows (board_part text))) || has_pawn (last_of (rows (board_part text)))
-
-                  none : (has_pawn (first_of (rows (board_part text))) || has_pawn (last_of (rows (board_part text)))) ≡ false → ⊥
-                  none e =
-                      let t = or_parts _ _ e in
-                      let w = law g side (board_part text) shape own nought apart (λ s. subst (λ x. count_by (λ c. eqb c (letter_of s King)) x ≡ 1) board_is (kings_at s)) (λ s. subst (λ x. count_by (is_case_of s) x ≤ most_units g) board_is (room_at s)) t.0 t.1 in
-                      no_board w.0 w.1 (subst (λ x. IsFenText x w.0) (ap (λ x. board_part text ++ 32 ∷ x) (sym side_at ∙ side_is) ∙ sym whole) w.2)
+  pub pawn_fault : ((b : PlainBoard) → IsPosition b → IsFenText text b → ⊥) → IsFenFault text PawnRank
+  pawn_fault no_board = first_fault text 7 passed PawnRank refl (omega arith) (elim (cases_Bool pawns) [
+    | inl e ↦ e
+    | inr e ↦ let w = no_pawns (or_parts _ _ e).0 (or_parts _ _ e).1 in absurd (no_board w.0 w.1 w.2)
+  ])
+    where
+      pawns : Bool
+      pawns = has_pawn (first_of (rows (board_part text))) || has_pawn (last_of (rows (board_part text)))

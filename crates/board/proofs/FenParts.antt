@@ -1,179 +1,189 @@
--- How the text of a board falls into ranks.
-use Rattle.std.proofs.Common.{◌≡◌, ℕ, ◌+◌, ◌-◌, ◌<◌, ◌≤◌, zero, suc, refl, sym, ap, subst, ◌∙◌, arith, List, [], ◌∷◌, ◌++◌, length, get_or, take, drop, Option, Some, None, length-drop, replicate, Bool, true, false}
-use Rattle.board.proofs.Common.{Side, White, Black, Man, IfNone, IfSome, MatchOption, Game, LosAlamos, Gardner, width_of, PlainBoard, board_of, IsPosition, side_letter, IsRankText, IsTextFrom, IsFenText, end, unit, run, first, above, take_all}
-use Rattle.board.proofs.RankText.{letter_above, ReadsRank, on_true, on_false, IsRankText-nil, IsRankText-letter, IsRankText-digit}
+-- The squares that a board's text lists, read from its first byte on.
+use Rattle.std.proofs.Common.{◌≡◌, ℕ, ◌+◌, ◌-◌, ◌*◌, ◌<◌, ◌≤◌, refl, sym, ap, subst, ◌∙◌, arith, List, [], ◌∷◌, ◌++◌, length, get_or, take, drop, Option, Some, None, replicate, Bool, true, false, cond, eqb, ◌≢◌, append_assoc, append-nil, length-append, length-take, length-drop}
+use Rattle.std.proofs.lemmas.List.{append_cancel_right, at_drop_more, take-append-drop}
+use Rattle.board.proofs.Common.{IfSome, IfNone, MatchOption, IsPosition, eq-eqb, ne_eqb, length-replicate, take_at, drop_at, get_or-append-add, Side, White, Black, Man, Game, LosAlamos, Gardner, width_of, squares_of, PlainBoard, letter_of, side_letter, IsRankText, IsTextFrom, IsFenText, end, unit, run, first, above}
+use Rattle.board.proofs.RowBytes.{man_at, man_at-letter, man_at-none, no_digit, letter_above}
 
--- all bytes are above the separators
-Above : List ℕ → Type 0
-Above [] = Unit {0}
-Above (c ∷ cs) = (47 < c) × Above cs
+abbrev places : Option Man → ℕ → List (Option Man)
+places None d = replicate d None
+places (Some u) d = Some u ∷ []
 
-IsRankText-above : (row : List ℕ) (units : List (Option Man)) → IsRankText row units → Above row
-unfolding Above
-IsRankText-above [] units end = tt
-IsRankText-above (c ∷ row) units (unit {units = rest} u e r) = (omega (arith, letter_above u.side u.kind), IsRankText-above row rest r)
-IsRankText-above (c ∷ row) units (run {units = rest} d p q e s r) = (omega arith, IsRankText-above row rest r)
+-- the squares that a byte adds to its rank
+abbrev pub places_at : ℕ → List (Option Man)
+places_at c = places (man_at c) (c - 48)
 
--- where the first separator stands
-pub record IsFirst (text : List ℕ) (i : ℕ) : Type 0 where
-  pub within : i < length text
-  pub separator : get_or text i 0 ≤ 47
-  pub before : (k : ℕ) → k < i → 47 < get_or text k 0
+-- the squares of the bytes that are left, with those of the rank so far and of the ranks above it
+abbrev pub squares_from : List (Option Man) → List (Option Man) → List ℕ → List (Option Man)
+squares_from row behind [] = row ++ behind
+squares_from row behind (c ∷ cs) = cond (eqb c 47) (squares_from [] (row ++ behind) cs) (squares_from (row ++ places_at c) behind cs)
 
-cut : (i : ℕ) (row rest : List ℕ) (s : ℕ) → Above row → s ≤ 47 → IsFirst (row ++ s ∷ rest) i → (row ≡ take i (row ++ s ∷ rest)) × (s ≡ get_or (row ++ s ∷ rest) i 0) × (rest ≡ drop (suc i) (row ++ s ∷ rest))
-unfolding Above
-cut zero [] rest s a h f = (refl, refl, refl)
-cut (suc i) [] rest s a h f = absurd (omega (arith, f.before 0 (omega arith)))
-cut zero (r ∷ row) rest s a h f = absurd (omega (arith, a.0, f.separator))
-cut (suc i) (r ∷ row) rest s a h f =
-    let w = cut i row rest s a.1 h (record { within = omega (arith, f.within); separator = f.separator; before = λ k lt. f.before (suc k) (omega arith) }) in
-    (ap (λ xs. r ∷ xs) w.0, w.1, w.2)
+-- one byte of a rank
+rank_byte : (row behind us : List (Option Man)) (c : ℕ) (cs : List ℕ) → c ≢ 47 → places_at c ≡ us → squares_from row behind (c ∷ cs) ≡ squares_from (row ++ us) behind cs
+rank_byte row behind us c cs h e =
+    ap (λ b. cond b (squares_from [] (row ++ behind) cs) (squares_from (row ++ places_at c) behind cs)) (ne_eqb c 47 h)
+    ∙ ap (λ x. squares_from (row ++ x) behind cs) e
 
-module _ (w : ℕ) (text : List ℕ) (i : ℕ) (at : IsFirst text i) where
-  parts : (row rest : List ℕ) (s : ℕ) (units : List (Option Man)) → text ≡ row ++ s ∷ rest → IsRankText row units → s ≤ 47 → (row ≡ take i text) × (s ≡ get_or text i 0) × (rest ≡ drop (suc i) text)
-  parts row rest s units e r h =
-      subst (λ x. (row ≡ take i x) × (s ≡ get_or x i 0) × (rest ≡ drop (suc i) x)) (sym e) (cut i row rest s (IsRankText-above row units r) h (subst (λ x. IsFirst x i) e at))
+rank_squares : (bytes : List ℕ) (us : List (Option Man)) → IsRankText bytes us → (row behind : List (Option Man)) (cs : List ℕ) → squares_from row behind (bytes ++ cs) ≡ squares_from (row ++ us) behind cs
+rank_squares [] us end row behind cs = ap (λ x. squares_from x behind cs) (sym (append-nil row))
+rank_squares (c ∷ bytes) old (unit {units = us} u e r) row behind cs =
+    rank_byte row behind (Some u ∷ []) c (bytes ++ cs) (λ f. omega (arith, letter_above u.side u.kind)) (ap (λ o. places o (c - 48)) (man_at-letter c u e))
+    ∙ rank_squares bytes us r (row ++ Some u ∷ []) behind cs
+    ∙ ap (λ x. squares_from x behind cs) (append_assoc row (Some u ∷ []) us)
+rank_squares (c ∷ bytes) old (run {units = us} d p q e s r) row behind cs =
+    let empty : c - 48 ≡ d = omega arith in
+    rank_byte row behind (replicate d None) c (bytes ++ cs) (λ f. omega arith) (ap (λ o. places o (c - 48)) (man_at-none c (λ u f. no_digit c d u f q e)) ∙ ap (λ n. replicate n None) empty)
+    ∙ rank_squares bytes us r (row ++ replicate d None) behind cs
+    ∙ ap (λ x. squares_from x behind cs) (append_assoc row (replicate d None) us)
 
-  -- the bytes before the first separator are a rank of w squares
-  pub top_of : (side : Side) (n : ℕ) (more : List (Option Man)) → IsTextFrom w side n text more → (units : List (Option Man)) × IsRankText (take i text) units × (length units ≡ w)
-  top_of side n more (first {row = row} {units = units} e r l) =
-      (units, subst (λ x. IsRankText x units) (parts row _ 32 units e r (omega arith)).0 r, l)
-  top_of side n more (above {row = row} {rest = rest} {top = top} e r l low u) =
-      (top, subst (λ x. IsRankText x top) (parts row rest 47 top e r (omega arith)).0 r, l)
+-- a text from rank n on is a board and a side to move, and the board lists its squares
+text_squares : (w : ℕ) (s : Side) (n : ℕ) (text : List ℕ) (us : List (Option Man)) → IsTextFrom w s n text us
+    → (board : List ℕ) × (text ≡ board ++ 32 ∷ side_letter s ∷ []) × ((behind : List (Option Man)) → squares_from [] behind board ≡ us ++ behind)
+text_squares w s n text us (first {row = row} e r l) =
+    (row, e, λ behind. ap (squares_from [] behind) (sym (append-nil row)) ∙ rank_squares row us r [] behind [])
+text_squares w s n text us (above {n = k} {row = row} {rest = rest} {top = top} {lower = lower} e r l low u) =
+    let below = text_squares w s k rest lower low in (
+      row ++ 47 ∷ below.0,
+      e ∙ ap (λ x. row ++ 47 ∷ x) below.1 ∙ sym (append_assoc row (47 ∷ below.0) (32 ∷ side_letter s ∷ [])),
+      λ behind. rank_squares row top r [] behind (47 ∷ below.0) ∙ below.2 (top ++ behind) ∙ sym (append_assoc lower top behind) ∙ ap (λ x. x ++ behind) (sym u),
+    )
 
-  -- rank 1
-  pub first_of : (side : Side) (more : List (Option Man)) → IsTextFrom w side (suc zero) text more → (get_or text i 0 ≡ 32) × (drop (suc i) text ≡ side_letter side ∷ [])
-  first_of side more (first {row = row} {units = units} e r l) =
-      let p = parts row _ 32 units e r (omega arith) in (sym p.1, sym p.2)
-  first_of side more (above e r l low u) = absurd (elim low [ ])
+pub long_text : (w : ℕ) (s : Side) (n : ℕ) (text : List ℕ) (us : List (Option Man)) → IsTextFrom w s n text us → length us ≡ n * w
+long_text w s n text us (first e r l) = omega (arith, l)
+long_text w s n text us (above {n = k} {rest = rest} {top = top} {lower = lower} e r l low u) =
+    omega (arith, ap (length {A = Option Man}) u, l, length-append lower top, long_text w s k rest lower low)
 
-  -- a rank above it
-  pub above_of : (side : Side) (n : ℕ) (more : List (Option Man)) → IsTextFrom w side (suc (suc n)) text more → (get_or text i 0 ≡ 47) × ((lower : List (Option Man)) × IsTextFrom w side (suc n) (drop (suc i) text) lower)
-  above_of side n more (above {row = row} {rest = rest} {top = top} {lower = lower} e r l low u) =
-      let p = parts row rest 47 top e r (omega arith) in
-      (sym p.1, (lower, subst (λ x. IsTextFrom w side (suc n) x lower) p.2 low))
+-- a text without its last two bytes, and its last byte
+pub cut_end : (board : List ℕ) (s : ℕ) (text : List ℕ) → text ≡ board ++ 32 ∷ s ∷ [] → (length text ≡ length board + 2) × (take (length text - 2) text ≡ board) × (get_or text (length text - 1) 0 ≡ s)
+cut_end board s text e =
+    let long : length text ≡ length board + 2 = ap (length {A = ℕ}) e ∙ length-append board (32 ∷ s ∷ []) in (
+      long,
+      ap (take (length text - 2)) e ∙ take_at board (32 ∷ s ∷ []) (length text - 2) (omega (arith, long)),
+      ap (λ i. get_or text i 0) (last long) ∙ ap (λ x. get_or x (length board + 1) 0) e ∙ get_or-append-add board (32 ∷ s ∷ []) 1 0,
+    )
+  where
+    last : length text ≡ length board + 2 → length text - 1 ≡ length board + 1
+    last long = omega arith
 
-  whole : text ≡ take i text ++ get_or text i 0 ∷ drop (suc i) text
-  whole = split text i at.within
-    where
-      split : (xs : List ℕ) (k : ℕ) → k < length xs → xs ≡ take k xs ++ get_or xs k 0 ∷ drop (suc k) xs
-      split [] k h = absurd (omega arith)
-      split (x ∷ xs) zero h = refl
-      split (x ∷ xs) (suc k) h = ap (λ ys. x ∷ ys) (split xs k (omega arith))
+-- ---- the reader's turns
 
-  pub to_first : (side : Side) (units : List (Option Man)) → IsRankText (take i text) units → length units ≡ w → get_or text i 0 ≡ 32 → drop (suc i) text ≡ side_letter side ∷ [] → IsTextFrom w side (suc zero) text units
-  to_first side units r l s e = first (whole ∙ ap (λ x. take i text ++ x ∷ drop (suc i) text) s ∙ ap (λ x. take i text ++ 32 ∷ x) e) r l
+-- what a byte says is the squares that it adds
+pub places_is : (c times : ℕ) (place : Option Man) → MatchOption place (((u : Man) → c ≡ letter_of u.side u.kind → ⊥) × (times ≡ c - 48)) (λ u. (c ≡ letter_of u.side u.kind) × (times ≡ 1)) → replicate times place ≡ places_at c
+places_is c times None h = rw (man_at-none c h.0, h.1) refl
+places_is c times (Some u) h = rw (man_at-letter c u h.0, h.1) refl
 
-  pub to_above : (side : Side) (n : ℕ) (top lower : List (Option Man)) → IsRankText (take i text) top → length top ≡ w → get_or text i 0 ≡ 47 → IsTextFrom w side n (drop (suc i) text) lower → IsTextFrom w side (suc n) text (lower ++ top)
-  to_above side n top lower r l s low = above (whole ∙ ap (λ x. take i text ++ x ∷ drop (suc i) text) s) r l low refl
+-- the squares so far are among all
+long_from : (row behind : List (Option Man)) (cs : List ℕ) → length row + length behind ≤ length (squares_from row behind cs)
+long_from row behind [] = omega (arith, length-append row behind)
+long_from row behind (c ∷ cs) = by (eqb c 47) (long_from [] (row ++ behind) cs) (long_from (row ++ places_at c) behind cs)
+  where
+    by : (b : Bool) → 0 + length (row ++ behind) ≤ length (squares_from [] (row ++ behind) cs) → length (row ++ places_at c) + length behind ≤ length (squares_from (row ++ places_at c) behind cs)
+        → length row + length behind ≤ length (cond b (squares_from [] (row ++ behind) cs) (squares_from (row ++ places_at c) behind cs))
+    by true h k = omega (arith, h, length-append row behind)
+    by false h k = omega (arith, k, length-append row (places_at c))
 
--- ---- what `read_rank` answers, begun with no units
+module _ (board : List ℕ) (i at : ℕ) (old : List (Option Man)) (inside : i < length board) (so_far : squares_from (take at old) (drop at old) (drop i board) ≡ squares_from [] [] board) where
+  abbrev byte : ℕ
+  byte = get_or board i 0
 
-module _ (text : List ℕ) (old new : List (Option Man)) (answer : Bool) (none : old ≡ []) (reads : ReadsRank answer false text old new) where
-  pub rank_read : answer ≡ true → IsRankText text new
-  rank_read e =
-      let w = on_true answer _ _ e reads in
-      subst (IsRankText text) (sym (w.1 ∙ ap (λ x. x ++ w.0) none)) w.2
+  abbrev rest : List ℕ
+  rest = drop (i + 1) board
 
-  pub rank_unread : answer ≡ false → (units : List (Option Man)) → length units ≤ 6 → IsRankText text units → ⊥
-  rank_unread e units h r =
-      on_false answer _ _ e reads units (omega (arith, ap (length {A = Option Man}) none, h)) r (λ wrong. cc)
+  all : squares_from (take at old) (drop at old) (byte ∷ rest) ≡ squares_from [] [] board
+  all = sym (at_drop_more (squares_from (take at old) (drop at old)) board i 0 inside) ∙ so_far
 
--- a text is that of one rank
-pub one_rank : (text : List ℕ) (us vs : List (Option Man)) → IsRankText text us → IsRankText text vs → us ≡ vs
-one_rank [] us vs end s = sym (IsRankText-nil vs s)
-one_rank (c ∷ text) us vs (unit {units = rest} u e r) s =
-    let w = IsRankText-letter c text vs u e s in
-    ap (λ x. Some u ∷ x) (one_rank text rest w.0 r w.2) ∙ sym w.1
-one_rank (c ∷ text) us vs (run {units = rest} d p q e starts r) s =
-    let w = IsRankText-digit c text vs d q e s in
-    ap (λ x. replicate d None ++ x) (one_rank text rest w.0 r w.3) ∙ sym w.2
+  -- after the end of a rank
+  pub cut_turn : byte ≡ 47 → squares_from [] old rest ≡ squares_from [] [] board
+  cut_turn h =
+      ap (λ x. squares_from [] x rest) (sym (take-append-drop at old))
+      ∙ sym (ap (λ b. cond b (squares_from [] (take at old ++ drop at old) rest) (squares_from (take at old ++ places_at byte) (drop at old) rest)) (eq-eqb byte 47 h)) ∙ all
 
-pub rest_is : (text : List ℕ) (i : ℕ) → take (length text - (i + 1)) (drop (i + 1) text) ≡ drop (suc i) text
-rest_is text i =
-    let e : i + 1 ≡ suc i = omega arith in
-    rw e (take_all (length text - suc i) (drop (suc i) text) (omega (arith, length-drop (suc i) text)))
+  module _ (times : ℕ) (place : Option Man) (within : at ≤ length old) (in_rank : byte ≢ 47) (is : replicate times place ≡ places_at byte) where
+    abbrev row : List (Option Man)
+    row = take at old ++ replicate times place
 
--- ---- a text is that of one board
+    long : length row ≡ at + times
+    long = omega (arith, within, length-append (take at old) (replicate times place), length-take at old, length-replicate times place)
 
-two_cuts : (row row' rest rest' : List ℕ) (s s' : ℕ) → Above row → Above row' → s ≤ 47 → s' ≤ 47 → row ++ s ∷ rest ≡ row' ++ s' ∷ rest' → (row ≡ row') × (s ≡ s') × (rest ≡ rest')
-unfolding Above
-two_cuts [] [] rest rest' s s' a a' h h' e = (refl, cc, cc)
-two_cuts [] (r ∷ row') rest rest' s s' a a' h h' e = let same : s ≡ r = cc in absurd (omega (arith, a'.0))
-two_cuts (r ∷ row) [] rest rest' s s' a a' h h' e = let same : r ≡ s' = cc in absurd (omega (arith, a.0))
-two_cuts (r ∷ row) (r' ∷ row') rest rest' s s' a a' h h' e =
-    let head : r ≡ r' = cc in
-    let tail : row ++ s ∷ rest ≡ row' ++ s' ∷ rest' = cc in
-    let w = two_cuts row row' rest rest' s s' a.1 a'.1 h h' tail in
-    (cc, w.1, w.2)
+    in_row : squares_from row (drop at old) rest ≡ squares_from [] [] board
+    in_row = sym (rank_byte (take at old) (drop at old) (replicate times place) byte rest in_rank (sym is)) ∙ all
 
-same_side_letter : (s t : Side) → side_letter s ≡ side_letter t → s ≡ t
-same_side_letter White White e = refl
-same_side_letter White Black e = absurd (omega arith)
-same_side_letter Black White e = absurd (omega arith)
-same_side_letter Black Black e = refl
+    -- the squares so far with the byte's
+    pub room : length old + times ≤ length (squares_from [] [] board)
+    room = omega (arith, long, within, long_from row (drop at old) rest, ap (length {A = Option Man}) in_row, length-drop at old)
 
-pub one_text : (w : ℕ) (s t : Side) (n : ℕ) (text : List ℕ) (us vs : List (Option Man)) → IsTextFrom w s n text us → IsTextFrom w t n text vs → (s ≡ t) × (us ≡ vs)
-one_text w s t n text us vs (first {row = row} e r l) (first {row = row'} e' r' l') =
-    let c = two_cuts row row' _ _ 32 32 (IsRankText-above row us r) (IsRankText-above row' vs r') (omega arith) (omega arith) (sym e ∙ e') in
-    let letters : side_letter s ≡ side_letter t = cc in
-    (same_side_letter s t letters, one_rank row' us vs (subst (λ x. IsRankText x us) c.0 r) r')
-one_text w s t n text us vs (first e r l) (above e' r' l' low' u') = absurd (elim low' [ ])
-one_text w s t n text us vs (above e r l low u) (first e' r' l') = absurd (elim low [ ])
-one_text w s t n text us vs (above {n = k} {row = row} {rest = rest} {top = top} {lower = lower} e r l low u) (above {row = row'} {rest = rest'} {top = top'} {lower = lower'} e' r' l' low' u') =
-    let c = two_cuts row row' rest rest' 47 47 (IsRankText-above row top r) (IsRankText-above row' top' r') (omega arith) (omega arith) (sym e ∙ e') in
-    let tops = one_rank row' top top' (subst (λ x. IsRankText x top) c.0 r) r' in
-    let below = one_text w s t k rest' lower lower' (subst (λ x. IsTextFrom w s k x lower) c.2 low) low' in
-    (below.0, u ∙ ap (λ x. x ++ top) below.1 ∙ ap (λ x. lower' ++ x) tops ∙ sym u')
+    -- after a byte of a rank
+    pub rank_turn : (new : List (Option Man)) → new ≡ take at old ++ (replicate times place ++ drop at old) → (at + times ≤ length new) × (squares_from (take (at + times) new) (drop (at + times) new) rest ≡ squares_from [] [] board)
+    rank_turn new put =
+        let whole : new ≡ row ++ drop at old = put ∙ sym (append_assoc (take at old) (replicate times place) (drop at old)) in (
+          omega (arith, long, ap (length {A = Option Man}) whole, length-append row (drop at old)),
+          ap (λ x. squares_from x (drop (at + times) new) rest) (ap (take (at + times)) whole ∙ take_at row (drop at old) (at + times) long)
+              ∙ ap (λ x. squares_from row x rest) (ap (drop (at + times)) whole ∙ drop_at row (drop at old) (at + times) long) ∙ in_row,
+        )
 
--- ---- the board that was read
+-- a board lists the squares of its text
+pub listed : (board : List ℕ) (w n : ℕ) (side : Side) (units : List (Option Man)) → IsTextFrom w side n (board ++ 32 ∷ side_letter side ∷ []) units → squares_from [] [] board ≡ units
+listed board w n side units text =
+    let t = text_squares w side n _ units text in
+    ap (squares_from [] []) (append_cancel_right board t.0 (32 ∷ side_letter side ∷ []) t.1) ∙ t.2 [] ∙ append-nil units
 
-same_board : (b : PlainBoard) (g : Game) (s : Side) (units : List (Option Man)) → b.game ≡ g → b.mover ≡ s → b.units ≡ units → b ≡ board_of g s units
-same_board b g s units x y z = λ i. record { game = x i; mover = y i; units = z i }
+pub few_squares : (g : Game) → squares_of g ≤ 36
+few_squares LosAlamos = omega arith
+few_squares Gardner = omega arith
 
-pub read_from : (text : List ℕ) (g : Game) (s : Side) (us units : List (Option Man)) (o : Option PlainBoard) → IsTextFrom (width_of g) s (width_of g) text us → units ≡ us ++ replicate (36 - length us) None
-    → IfNone o (IsPosition (board_of g s units) → ⊥) → IfSome o (λ p. p ≡ board_of g s units)
-    → MatchOption o ((b : PlainBoard) → b.game ≡ g → IsPosition b → IsFenText text b → ⊥) (λ p. (p.game ≡ g) × IsFenText text p)
-read_from text g s us units None from pad refused made = λ b e position fen.
-    let ranks = subst (λ x. IsTextFrom (width_of x) b.mover (width_of x) text fen.squares) e fen.ranks in
-    let one = one_text (width_of g) b.mover s (width_of g) text fen.squares us ranks from in
-    let same : b.units ≡ units = fen.units ∙ ap (λ (x : List (Option Man)). x ++ replicate (36 - length x) None) one.1 ∙ sym pad in
-    refused (subst IsPosition (same_board b g s units e one.0 same) position)
-read_from text g s us units (Some p) from pad refused made =
-    (ap (λ (x : PlainBoard). x.game) made, subst (IsFenText text) (sym made) (record { squares = us; ranks = from; units = pad }))
+-- what a text says of its board
+pub record Says (text : List ℕ) (b : PlainBoard) : Type 0 where
+  pub squares : List (Option Man)
+  pub ranks : IsTextFrom (width_of b.game) b.mover (width_of b.game) (take (length text - 2) text ++ 32 ∷ side_letter b.mover ∷ []) squares
+  pub long : length squares ≡ squares_of b.game
+  pub units : squares ++ replicate (36 - length squares) None ≡ b.units
+  pub side : get_or text (length text - 1) 0 ≡ side_letter b.mover
+  pub two : 2 ≤ length text
 
--- ---- a text is that of one board, whatever the game
+pub says : (text : List ℕ) (b : PlainBoard) → IsFenText text b → Says text b
+says text b fen =
+    let t = text_squares _ _ _ _ _ fen.ranks in
+    let c = cut_end t.0 (side_letter b.mover) text t.1 in
+    record {
+      squares = fen.squares;
+      ranks = subst (λ x. IsTextFrom (width_of b.game) b.mover (width_of b.game) x fen.squares) (t.1 ∙ ap (λ x. x ++ 32 ∷ side_letter b.mover ∷ []) (sym c.1)) fen.ranks;
+      long = long_text _ _ _ _ _ fen.ranks;
+      units = sym fen.units;
+      side = c.2;
+      two = omega (arith, c.0);
+    }
 
--- the first row of a text, what ends it and what follows
-record TopRow (w : ℕ) (text : List ℕ) : Type 0 where
-  row : List ℕ
-  byte : ℕ
-  rest : List ℕ
-  top : List (Option Man)
-  whole : text ≡ row ++ byte ∷ rest
-  ends : byte ≤ 47
-  rank : IsRankText row top
-  wide : length top ≡ w
+-- the game that has so many squares
+pub game_is : (g : Game) (n : ℕ) → n ≡ squares_of g → ((n ≡ 36 → LosAlamos ≡ g) × (n ≢ 36 → Gardner ≡ g))
+game_is LosAlamos n e = (λ h. refl, λ h. absurd (h e))
+game_is Gardner n e = (λ h. absurd (omega arith), λ h. refl)
 
-top_row : (w : ℕ) (s : Side) (n : ℕ) (text : List ℕ) (us : List (Option Man)) → IsTextFrom w s n text us → TopRow w text
-top_row w s n text us (first {row = row} e r l) = record { row = row; byte = 32; rest = side_letter s ∷ []; top = us; whole = e; ends = omega arith; rank = r; wide = l }
-top_row w s n text us (above {row = row} {rest = rest} {top = top} e r l low u) = record { row = row; byte = 47; rest = rest; top = top; whole = e; ends = omega arith; rank = r; wide = l }
+-- the side of a letter
+pub side_is : (s : Side) (c : ℕ) → c ≡ side_letter s → ((c ≡ 119 → White ≡ s) × (c ≢ 119 → Black ≡ s))
+side_is White c e = (λ h. refl, λ h. absurd (h e))
+side_is Black c e = (λ h. absurd (omega arith), λ h. refl)
 
-same_width : (v w : ℕ) (text : List ℕ) → TopRow v text → TopRow w text → v ≡ w
-same_width v w text a b =
-    let c = two_cuts a.row b.row a.rest b.rest a.byte b.byte (IsRankText-above a.row a.top a.rank) (IsRankText-above b.row b.top b.rank) a.ends b.ends (sym a.whole ∙ b.whole) in
-    sym a.wide ∙ ap (length {A = Option Man}) (one_rank b.row a.top b.top (subst (λ x. IsRankText x a.top) c.0 a.rank) b.rank) ∙ b.wide
+same_side : (s t : Side) → side_letter s ≡ side_letter t → s ≡ t
+same_side White t e = (side_is t 119 e).0 refl
+same_side Black t e = (side_is t 98 e).1 (λ h. omega arith)
 
-same_game : (g h : Game) → width_of g ≡ width_of h → g ≡ h
-same_game LosAlamos LosAlamos e = refl
-same_game LosAlamos Gardner e = absurd (omega arith)
-same_game Gardner LosAlamos e = absurd (omega arith)
-same_game Gardner Gardner e = refl
+pub same_game : (g h : Game) → squares_of g ≡ squares_of h → g ≡ h
+same_game LosAlamos h e = (game_is h 36 e).0 refl
+same_game Gardner h e = (game_is h 25 e).1 (λ h. omega arith)
 
+-- a board of these parts
+pub same_board : (b c : PlainBoard) → b.game ≡ c.game → b.mover ≡ c.mover → b.units ≡ c.units → b ≡ c
+same_board b c x y z = λ i. record { game = x i; mover = y i; units = z i }
+
+-- what is made of a board's parts, if it is a position
+pub made_is : (o : Option PlainBoard) (a b : PlainBoard) → IfNone o (IsPosition a → ⊥) → IfSome o (λ p. p ≡ a) → a ≡ b → IsPosition b → o ≡ Some b
+made_is None a b refused made e p = absurd (refused (subst IsPosition (sym e) p))
+made_is (Some q) a b refused made e p = ap (λ (x : PlainBoard). Some x) (made ∙ e)
+
+-- a text is that of one board
 pub one_board : (text : List ℕ) (b c : PlainBoard) → IsFenText text b → IsFenText text c → b ≡ c
 one_board text b c s t =
-    let wide = same_width (width_of b.game) (width_of c.game) text (top_row _ _ _ text s.squares s.ranks) (top_row _ _ _ text t.squares t.ranks) in
-    let games = same_game b.game c.game wide in
-    let ranks = subst (λ g. IsTextFrom (width_of g) b.mover (width_of g) text s.squares) games s.ranks in
-    let one = one_text (width_of c.game) b.mover c.mover (width_of c.game) text s.squares t.squares ranks t.ranks in
-    same_board b c.game c.mover c.units games one.0 (s.units ∙ ap (λ (x : List (Option Man)). x ++ replicate (36 - length x) None) one.1 ∙ sym t.units)
+    let x = says text b s in
+    let y = says text c t in
+    let squares : x.squares ≡ y.squares = sym (listed _ _ _ _ _ x.ranks) ∙ listed _ _ _ _ _ y.ranks in
+    same_board b c (same_game b.game c.game (sym x.long ∙ ap (length {A = Option Man}) squares ∙ y.long)) (same_side b.mover c.mover (sym x.side ∙ y.side))
+    (sym x.units ∙ ap (λ (us : List (Option Man)). us ++ replicate (36 - length us) None) squares ∙ y.units)

@@ -1,5 +1,5 @@
 -- The list of all leaps, and the steps that a reading of a piece string has at each.
-use Rattle.std.proofs.Common.{◌≡◌, ℕ, ◌+◌, ◌<◌, ◌≤◌, ℤ, pos, negsuc, neg_ℤ, ◌<ℤ◌, ◌⊎◌, inl, inr, List, [], ◌∷◌, ◌++◌, length, All, AllPairs, length-append, length-take, get_or-take, take, Bool, ◌&&◌, ◌||◌, zero, suc, Contains, get_or, refl, sym, ap, subst, ◌∙◌, arith, lit<, true}
+use Rattle.std.proofs.Common.{◌≡◌, ℕ, ◌+◌, ◌<◌, ◌≤◌, ℤ, pos, negsuc, neg_ℤ, ◌<ℤ◌, ◌⊎◌, inl, inr, List, [], ◌∷◌, ◌++◌, length, All, AllPairs, length-append, length-take, get_or-take, take, Bool, ◌&&◌, ◌||◌, zero, suc, Contains, get_or, refl, sym, ap, subst, ◌∙◌, arith, lit<, true, cond, eqb}
 use Rattle.std.specs.Int.RustNames.{unsigned_abs}
 use Rattle.std.proofs.lemmas.Int.{ints}
 use Rattle.std.specs.Int.Signed.{lt_z}
@@ -41,20 +41,17 @@ leap_reach Ferz x y (inr h) = omega (arith, h.0, h.1)
 leap_reach Knight x y (inl h) = omega (arith, h.0, h.1)
 leap_reach Knight x y (inr h) = omega (arith, h.0, h.1)
 
-same_reach : (a b : Atom) → reach_of a ≡ reach_of b → a ≡ b
-same_reach Wazir Wazir e = refl
-same_reach Wazir Ferz e = absurd (omega arith)
-same_reach Wazir Knight e = absurd (omega arith)
-same_reach Ferz Wazir e = absurd (omega arith)
-same_reach Ferz Ferz e = refl
-same_reach Ferz Knight e = absurd (omega arith)
-same_reach Knight Wazir e = absurd (omega arith)
-same_reach Knight Ferz e = absurd (omega arith)
-same_reach Knight Knight e = refl
+abbrev atom_at : ℕ → Atom
+atom_at reach = cond (eqb reach 1) Wazir (cond (eqb reach 2) Ferz Knight)
+
+atom_at-reach : (a : Atom) → atom_at (reach_of a) ≡ a
+atom_at-reach Wazir = refl
+atom_at-reach Ferz = refl
+atom_at-reach Knight = refl
 
 -- no leap is that of two atoms
 one_atom : (a b : Atom) (x y : ℤ) → IsAtomLeap a x y → IsAtomLeap b x y → a ≡ b
-one_atom a b x y h k = same_reach a b (sym (leap_reach a x y h) ∙ leap_reach b x y k)
+one_atom a b x y h k = sym (atom_at-reach a) ∙ ap atom_at (sym (leap_reach a x y h) ∙ leap_reach b x y k) ∙ atom_at-reach b
 
 one_term : (terms : List Term) (j k : ℕ) (t : Term) → AreDistinct terms → j < length terms → k < length terms → (get_or terms j t).atom ≡ (get_or terms k t).atom → j ≡ k
 one_term terms j k t d p q e = grind (arith, d j k t, d k j t)
@@ -79,19 +76,21 @@ IsBefore p q = (p.0 <ℤ q.0) ⊎ ((p.0 ≡ q.0) × (p.1 <ℤ q.1))
 -- the list has exactly the steps of the terms at the leaps seen so far, in order
 pub record Collects (terms : List Term) (seen : List (ℤ × ℤ)) (steps : List Step) : Type 0 where
   pub short : length steps ≤ length seen
-  pub denoted : All (Denotes terms) steps
-  pub among : All (λ s. Contains seen (s.dx, s.dy)) steps
+  pub denoted : All (λ s. Denotes terms s × Contains seen (s.dx, s.dy)) steps
   pub complete : (s : Step) → Contains seen (s.dx, s.dy) → Denotes terms s → Contains steps s
   pub ordered : AllPairs IsStepBefore steps
+
+-- the steps so far among one more leap
+still_denoted : (terms : List Term) (seen : List (ℤ × ℤ)) (steps : List Step) (p : ℤ × ℤ) → Collects terms seen steps → All (λ s. Denotes terms s × Contains (seen ++ p ∷ []) (s.dx, s.dy)) steps
+still_denoted terms seen steps p c = All-weaker (λ s. Denotes terms s × Contains seen (s.dx, s.dy)) (λ s. Denotes terms s × Contains (seen ++ p ∷ []) (s.dx, s.dy)) (λ s h. (h.0, Contains-append_left seen (p ∷ []) (s.dx, s.dy) h.1)) steps c.denoted
 
 pub Collects-skip : (terms : List Term) (seen : List (ℤ × ℤ)) (steps : List Step) (p : ℤ × ℤ) → Collects terms seen steps → All (λ t. IsTermLeap t p.0 p.1 → ⊥) terms → Collects terms (seen ++ p ∷ []) steps
 Collects-skip terms seen steps p c none = record {
   short = omega (arith, c.short, length-append seen (p ∷ []));
-  denoted = c.denoted;
-  among = All-weaker (λ s. Contains seen (s.dx, s.dy)) (λ s. Contains (seen ++ p ∷ []) (s.dx, s.dy)) (λ s h. Contains-append_left seen (p ∷ []) (s.dx, s.dy) h) steps c.among;
+  denoted = still_denoted terms seen steps p c;
   complete = λ s h (k, t, q, e, ts). elim (Contains-push_cases seen p (s.dx, s.dy) h) [
     | inl old ↦ c.complete s old (k, t, q, e, ts)
-    | inr new ↦ absurd (subst (λ x. IsTermLeap t x.0 x.1 → ⊥) (sym (sym new)) (All-contains (λ t. IsTermLeap t p.0 p.1 → ⊥) terms t none (k, q, e)) ts.leap)
+    | inr new ↦ absurd (subst (λ x. IsTermLeap t x.0 x.1 → ⊥) new (All-contains (λ t. IsTermLeap t p.0 p.1 → ⊥) terms t none (k, q, e)) ts.leap)
   ];
   ordered = c.ordered;
 }
@@ -101,24 +100,21 @@ Collects-push terms seen steps p u c distinct before ex ey has =
     let here : (u.dx, u.dy) ≡ p = λ i. (ex i, ey i) in
     record {
       short = omega (arith, c.short, length-append seen (p ∷ []), length-append steps (u ∷ []));
-      denoted = All-push (Denotes terms) steps u c.denoted has;
-      among = All-push (λ s. Contains (seen ++ p ∷ []) (s.dx, s.dy)) steps u
-          (All-weaker (λ s. Contains seen (s.dx, s.dy)) (λ s. Contains (seen ++ p ∷ []) (s.dx, s.dy)) (λ s h. Contains-append_left seen (p ∷ []) (s.dx, s.dy) h) steps c.among)
-          (subst (λ x. Contains (seen ++ p ∷ []) x) (sym here) (Contains-push seen p));
+      denoted = All-push (λ s. Denotes terms s × Contains (seen ++ p ∷ []) (s.dx, s.dy)) steps u (still_denoted terms seen steps p c) (has, subst (λ x. Contains (seen ++ p ∷ []) x) (sym here) (Contains-push seen p));
       complete = λ s h ds. elim (Contains-push_cases seen p (s.dx, s.dy) h) [
         | inl old ↦ Contains-append_left steps (u ∷ []) s (c.complete s old ds)
         | inr new ↦ subst (Contains (steps ++ u ∷ [])) (one_step terms u s distinct has ds (ap (λ x. x.0) (here ∙ new)) (ap (λ x. x.1) (here ∙ new))) (Contains-push steps u)
       ];
       ordered = all_pairs_push IsStepBefore steps u c.ordered (λ k d lt.
-          let it = All-get_or (λ s. Contains seen (s.dx, s.dy)) steps k d lt c.among in
-          subst (IsBefore ((get_or steps k d).dx, (get_or steps k d).dy)) (sym here) (All-contains (λ q. IsBefore q p) seen _ before it));
+          let it = All-get_or (λ s. Denotes terms s × Contains seen (s.dx, s.dy)) steps k d lt c.denoted in
+          subst (IsBefore ((get_or steps k d).dx, (get_or steps k d).dy)) (sym here) (All-contains (λ q. IsBefore q p) seen _ before it.1));
     }
 
 pub Collects-all : (terms : List Term) (steps : List Step) → Collects terms LEAPS steps → ListsSteps terms steps
 Collects-all terms steps c = record {
   ordered = c.ordered;
   exact = λ s. (
-    λ h. All-contains (Denotes terms) steps s c.denoted h,
+    λ h. (All-contains (λ s. Denotes terms s × Contains LEAPS (s.dx, s.dy)) steps s c.denoted h).0,
     λ (k, t, q, e, ts). c.complete s (leap_listed t.atom s.dx s.dy ts.leap.atom) (k, t, q, e, ts),
   );
 }

@@ -1,7 +1,7 @@
 -- Reading a string word by word, each word as long as can be: nothing else can be its accepted reading.
-use Rattle.std.proofs.Common.{◌≡◌, ◌≢◌, ℕ, ◌+◌, ◌<◌, true, false, refl, sym, ap, subst, ◌∙◌, arith, List, [], ◌∷◌, ◌++◌, length, append_assoc, length-append}
-use Rattle.board.proofs.Common.{false≢true, append-nil, get_or-append-add, get_or_append_left, Atom, Term, single, AreDistinct, atom_text, IsWord, IsRead, IsLongestWord, HasOneReading, term, short, last, more}
-use Rattle.board.proofs.TwoWords.{two_words, atom_letter, atom_text-letter, length-term, letters_of, short_letter}
+use Rattle.std.proofs.Common.{◌≡◌, ◌≢◌, ℕ, ◌+◌, ◌<◌, refl, sym, ap, subst, ◌∙◌, arith, List, [], ◌∷◌, ◌++◌, length, append_assoc, length-append}
+use Rattle.board.proofs.Common.{false≢true, append-nil, get_or-append-add, get_or_append_left, Atom, Term, single, AreDistinct, atom_text, IsWord, IsRead, IsFirstWord, IsUndoubled, HasOneReading, term, last, more}
+use Rattle.board.proofs.TwoWords.{IsHalf, two_words, some_bytes}
 use Rattle.board.proofs.TwoWords.AreTwo.{same, first_half, second_half}
 
 -- the bytes are words, or there are none
@@ -13,16 +13,12 @@ pub AreWords-read : (text : List ℕ) (terms : List Term) → IsRead text terms 
 AreWords-read text terms (last w) = next w (sym (append-nil text)) (sym (append-nil terms)) (none refl refl)
 AreWords-read text terms (more {rest = rest} {others = others} w r) = next w refl refl (AreWords-read rest others r)
 
-some_bytes : (bytes : List ℕ) (terms : List Term) → IsWord bytes terms → 0 < length bytes
-some_bytes bytes terms (term t w e) = omega (arith, ap (length {A = ℕ}) e, length-term t, one_letter t.rider)
-  where
-    one_letter : (r : _) → 0 < letters_of r
-    one_letter true = omega arith
-    one_letter false = omega arith
-some_bytes bytes terms (short s) = let w = short_letter bytes terms s in omega (arith, ap (length {A = ℕ}) w.1)
+word_long : (bytes : List ℕ) (terms : List Term) → IsWord bytes terms → 0 < length bytes
+word_long [] terms w = some_bytes terms w
+word_long (c ∷ bytes) terms w = omega arith
 
 pub not_empty : {A : Type 0} (text bytes rest : List ℕ) (terms : List Term) → IsWord bytes terms → text ≡ bytes ++ rest → text ≡ [] → A
-not_empty text bytes rest terms w e f = absurd (omega (arith, some_bytes bytes terms w, length-append bytes rest, ap (length {A = ℕ}) (sym e ∙ f)))
+not_empty text bytes rest terms w e f = absurd (omega (arith, word_long bytes terms w, length-append bytes rest, ap (length {A = ℕ}) (sym e ∙ f)))
 
 pub no_words : (text : List ℕ) (terms : List Term) → text ≡ [] → AreWords text terms → terms ≡ []
 no_words text terms e (none f g) = g
@@ -56,10 +52,10 @@ record BeginsBare (a : Atom) (rest : List ℕ) (whole : List Term) : Type 0 wher
   later : List Term
   words : AreWords rest later
 
-begins_bare : (a : Atom) (rest text : List ℕ) (whole : List Term) → text ≡ atom_letter a ∷ rest → AreWords text whole → BeginsBare a rest whole
-begins_bare a rest text whole b (none e f) = absurd (omega (arith, ap (length {A = ℕ}) (sym b ∙ e)))
+begins_bare : (a : Atom) (rest text : List ℕ) (whole : List Term) → text ≡ atom_text a ++ rest → AreWords text whole → BeginsBare a rest whole
+begins_bare a rest text whole b (none e f) = not_empty text (atom_text a) rest (single a ∷ []) (bare_word a) b e
 begins_bare a rest text whole b (next {bytes = bytes} {rest = after} {terms = terms} {others = others} w e f r) =
-    elim (two_words (atom_text a) rest bytes after (single a ∷ []) terms (bare_word a) w (ap (λ x. x ++ rest) (atom_text-letter a) ∙ sym b ∙ e)) [
+    elim (two_words (atom_text a) rest bytes after (single a ∷ []) terms (bare_word a) w (sym b ∙ e)) [
       | same p q ↦ record { first = single a; others = others; terms = f ∙ ap (λ x. x ++ others) (sym p); atom = refl; later = others; words = subst (λ x. AreWords x others) (sym q) r }
       | first_half h ↦
           let is : single a ≡ h.half = cc in
@@ -69,45 +65,39 @@ begins_bare a rest text whole b (next {bytes = bytes} {rest = after} {terms = te
             terms = f ∙ ap (λ x. x ++ others) h.others;
             atom = h.atoms ∙ ap (λ (t : Term). t.atom) (sym is);
             later = single h.half.atom ∷ others;
-            words = next (bare_word h.half.atom) (h.rest ∙ ap (λ x. x ++ after) (sym (atom_text-letter h.half.atom))) refl r;
+            words = next (bare_word h.half.atom) h.rest refl r;
           }
       | second_half h ↦
           let is : single a ≡ h.twice = cc in
           absurd (false≢true (ap (λ (t : Term). t.rider) is ∙ h.doubled))
     ]
 
--- terms that begin with one atom twice
-twice : {A : Type 0} (whole others : List Term) (t u : Term) → AreDistinct whole → whole ≡ t ∷ u ∷ others → u.atom ≡ t.atom → A
-twice whole others t u d e f = absurd (subst AreDistinct e d 0 1 t (omega arith) (omega arith) (sym f))
-
 -- a term whose letter the next word could double is in no accepted reading
-half_read : {A : Type 0} (whole ts others : List Term) (t : Term) (rest after : List ℕ) → AreDistinct whole → whole ≡ ts ++ others → ts ≡ t ∷ [] → rest ≡ atom_letter t.atom ∷ after → AreWords rest others → A
+half_read : {A : Type 0} (whole ts others : List Term) (t : Term) (rest after : List ℕ) → AreDistinct whole → whole ≡ ts ++ others → ts ≡ t ∷ [] → rest ≡ atom_text t.atom ++ after → AreWords rest others → A
 half_read whole ts others t rest after d e f g r =
     let b = begins_bare t.atom after rest others g r in
-    twice whole b.others t b.first d (e ∙ ap (λ x. x ++ others) f ∙ ap (λ x. t ∷ x) b.terms) b.atom
+    absurd (subst AreDistinct (e ∙ ap (λ x. x ++ others) f ∙ ap (λ x. t ∷ x) b.terms) d 0 1 t (omega arith) (omega arith) (sym b.atom))
+
+-- a whole word isn't the half of another
+not_half : {A : Type 0} (terms ts : List Term) (rest r : List ℕ) → IsUndoubled terms rest → IsHalf rest terms r ts → A
+not_half terms ts rest r whole h = absurd (subst (λ x. IsUndoubled x rest) h.terms whole h.once r h.rest)
 
 -- ---- one word
 
-module _ (text rest : List ℕ) (terms : List Term) (l : IsLongestWord text terms rest) where
-  -- what follows the longest word of words is words
-  stays_words : (whole : List Term) → AreWords text whole → (later : List Term) × AreWords rest later
-  stays_words whole (none e f) = not_empty text l.bytes rest terms l.word l.begins e
-  stays_words whole (next {bytes = b} {rest = r} {terms = ts} {others = others} w e f m) =
-      elim (two_words b r l.bytes rest ts terms w l.word (sym e ∙ l.begins)) [
-        | same p q ↦ (others, subst (λ x. AreWords x others) q m)
-        | first_half h ↦ let bare = begins_bare h.half.atom rest r others h.rest m in (bare.later, bare.words)
-        | second_half h ↦ absurd (omega (arith, h.longer, l.longest b r ts w e))
-      ]
+-- what follows words of a text is words, and an accepted reading of the text begins with theirs
+abbrev GoesOn : List ℕ → List ℕ → List Term → Type 0
+GoesOn text rest terms = (whole : List Term) → AreWords text whole → (later : List Term) × AreWords rest later × (AreDistinct whole → whole ≡ terms ++ later)
 
-  -- an accepted reading begins with the terms of the longest word
-  begins_with : (whole : List Term) → AreWords text whole → AreDistinct whole → (later : List Term) × (whole ≡ terms ++ later) × AreWords rest later
-  begins_with whole (none e f) d = not_empty text l.bytes rest terms l.word l.begins e
-  begins_with whole (next {bytes = b} {rest = r} {terms = ts} {others = others} w e f m) d =
-      elim (two_words b r l.bytes rest ts terms w l.word (sym e ∙ l.begins)) [
-        | same p q ↦ (others, f ∙ ap (λ x. x ++ others) p, subst (λ x. AreWords x others) q m)
-        | first_half h ↦ half_read whole ts others h.half r rest d f h.terms h.rest m
-        | second_half h ↦ absurd (omega (arith, h.longer, l.longest b r ts w e))
-      ]
+first_word : (text rest : List ℕ) (terms : List Term) → IsFirstWord text terms rest → GoesOn text rest terms
+first_word text rest terms l whole (none e f) = not_empty text l.bytes rest terms l.word l.begins e
+first_word text rest terms l whole (next {bytes = b} {rest = r} {terms = ts} {others = others} w e f m) =
+    elim (two_words b r l.bytes rest ts terms w l.word (sym e ∙ l.begins)) [
+      | same p q ↦ (others, subst (λ x. AreWords x others) q m, λ d. f ∙ ap (λ x. x ++ others) p)
+      | first_half h ↦
+          let bare = begins_bare h.half.atom rest r others h.rest m in
+          (bare.later, bare.words, λ d. half_read whole ts others h.half r rest d f h.terms h.rest m)
+      | second_half h ↦ not_half terms ts rest r l.whole h
+    ]
 
 -- ---- the words read so far
 
@@ -115,11 +105,10 @@ pub record IsReadTo (text rest : List ℕ) (so_far : List Term) : Type 0 where
   pub before : List ℕ
   pub begins : text ≡ before ++ rest
   pub words : AreWords before so_far
-  pub stays : (whole : List Term) → AreWords text whole → (later : List Term) × AreWords rest later
-  pub only : (whole : List Term) → AreWords text whole → AreDistinct whole → (later : List Term) × (whole ≡ so_far ++ later) × AreWords rest later
+  pub goes_on : GoesOn text rest so_far
 
 pub none_read : (text : List ℕ) → IsReadTo text text []
-none_read text = record { before = []; begins = refl; words = none refl refl; stays = λ whole w. (whole, w); only = λ whole w d. (whole, refl, w) }
+none_read text = record { before = []; begins = refl; words = none refl refl; goes_on = λ whole w. (whole, w, λ d. refl) }
 
 pub front_distinct : (xs ys : List Term) → AreDistinct (xs ++ ys) → AreDistinct xs
 front_distinct xs ys h = λ i j d p q e.
@@ -132,16 +121,15 @@ tail_distinct xs ys h = λ i j d p q e.
     h (length xs + i) (length xs + j) d (omega (arith, p)) (omega (arith, q, length-append xs ys))
     (ap (λ (t : Term). t.atom) (get_or-append-add xs ys i d) ∙ e ∙ sym (ap (λ (t : Term). t.atom) (get_or-append-add xs ys j d)))
 
-pub one_read : (text rest after : List ℕ) (so_far terms : List Term) → IsReadTo text rest so_far → IsLongestWord rest terms after → IsReadTo text after (so_far ++ terms)
+pub one_read : (text rest after : List ℕ) (so_far terms : List Term) → IsReadTo text rest so_far → IsFirstWord rest terms after → IsReadTo text after (so_far ++ terms)
 one_read text rest after so_far terms r l = record {
   before = r.before ++ l.bytes;
   begins = r.begins ∙ ap (λ x. r.before ++ x) l.begins ∙ sym (append_assoc r.before l.bytes after);
   words = words_then r.before l.bytes so_far terms r.words (next l.word (sym (append-nil l.bytes)) (sym (append-nil terms)) (none refl refl));
-  stays = λ whole w. let s = r.stays whole w in stays_words rest after terms l s.0 s.1;
-  only = λ whole w d.
-      let s = r.only whole w d in
-      let t = begins_with rest after terms l s.0 s.2 (tail_distinct so_far s.0 (subst AreDistinct s.1 d)) in
-      (t.0, s.1 ∙ ap (λ x. so_far ++ x) t.1 ∙ sym (append_assoc so_far terms t.0), t.2);
+  goes_on = λ whole w.
+      let s = r.goes_on whole w in
+      let t = first_word rest after terms l s.0 s.1 in
+      (t.0, t.1, λ d. s.2 d ∙ ap (λ x. so_far ++ x) (t.2 (tail_distinct so_far s.0 (subst AreDistinct (s.2 d) d))) ∙ sym (append_assoc so_far terms t.0));
 }
 
 -- ---- a string has one accepted reading
@@ -164,8 +152,8 @@ one_reading text terms others r s = one text terms others (AreWords-read text te
 -- ---- what the loop needs of a word
 
 -- a word takes bytes
-pub shorter : (text rest : List ℕ) (terms : List Term) → IsLongestWord text terms rest → length rest < length text
-shorter text rest terms l = omega (arith, some_bytes l.bytes terms l.word, length-append l.bytes rest, ap (length {A = ℕ}) l.begins)
+pub shorter : (text rest : List ℕ) (terms : List Term) → IsFirstWord text terms rest → length rest < length text
+shorter text rest terms l = omega (arith, word_long l.bytes terms l.word, length-append l.bytes rest, ap (length {A = ℕ}) l.begins)
 
 -- bytes that begin with no word are no words
 pub not_words : (text : List ℕ) → text ≢ [] → ((bytes rest : List ℕ) (terms : List Term) → IsWord bytes terms → text ≡ bytes ++ rest → ⊥) → (whole : List Term) → AreWords text whole → ⊥

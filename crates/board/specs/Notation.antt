@@ -1,5 +1,5 @@
 -- Piece strings as text, and how one is read as terms.
-use Rattle.std.specs.Prelude.{◌≡◌, ◌≢◌, ℕ, ◌≤◌, IsTrue, true, false, List, [], ◌∷◌, ◌++◌, length, Contains, codes, Bool}
+use Rattle.std.specs.Prelude.{◌≡◌, ◌≢◌, ℕ, IsTrue, true, false, List, [], ◌∷◌, ◌++◌, Contains, codes, Bool}
 use Rattle.board.specs.declared.game.Kind.{Kind}
 use Rattle.board.specs.declared.game.Kind.TheVariants.{King, Queen, Rook, Bishop, Knight, Pawn}
 use Rattle.board.specs.declared.step.Mode.{Mode}
@@ -83,7 +83,7 @@ pub record IsReading (bytes : List ℕ) (terms : List Term) : Type 0 where
 abbrev pub HasOneReading : Type 0
 HasOneReading = (text : List ℕ) (terms others : List Term) → IsReading text terms → IsReading text others → terms ≡ others
 
--- ---- the longest beginnings of a text, for a reader that goes word by word
+-- ---- how a text begins, for a reader that goes word by word
 
 -- the text doesn't begin with this byte
 abbrev pub StartsNot : ℕ → List ℕ → Type 0
@@ -94,15 +94,14 @@ StartsNot b (c ∷ _) = c ≢ b
 abbrev pub StartsNoMode : List ℕ → Type 0
 StartsNoMode text = StartsNot 109 text × StartsNot 99 text
 
--- the longest term that the text begins with, and what follows it
-pub record IsLongestTerm (text : List ℕ) (t : Term) (rest : List ℕ) : Type 0 where
-  pub written : IsWritten t
-  pub begins : text ≡ term_text t ++ rest
-  pub longest : (u : Term) (others : List ℕ) → IsWritten u → text ≡ term_text u ++ others → length (term_text u) ≤ length (term_text t)
+-- a term whose atom stands once isn't followed by its letter, which would double it
+abbrev pub IsUndoubled : List Term → List ℕ → Type 0
+IsUndoubled (t ∷ []) rest = t.rider ≡ false → (after : List ℕ) → rest ≡ atom_text t.atom ++ after → ⊥
+IsUndoubled terms rest = Unit {0}
 
 -- the terms of the longest word that the text begins with, and what follows it
-pub record IsLongestWord (text : List ℕ) (terms : List Term) (rest : List ℕ) : Type 0 where
+pub record IsFirstWord (text : List ℕ) (terms : List Term) (rest : List ℕ) : Type 0 where
   pub bytes : List ℕ
   pub word : IsWord bytes terms
   pub begins : text ≡ bytes ++ rest
-  pub longest : (other others : List ℕ) (those : List Term) → IsWord other those → text ≡ other ++ others → length other ≤ length bytes
+  pub whole : IsUndoubled terms rest

@@ -1,12 +1,16 @@
 //! Why a text is no position's.
-ghost use Rattle.std.specs.Prelude.{◌≡◌, ◌≢◌, ◌+◌, ◌-◌, ◌*◌, ℕ, ◌<◌, ◌≤◌, ◌==◌, ◌↔◌, ◌∷◌, Any, All, Contains, IsTrue, MatchBool, MatchOption, IfSome, IfNone, count_by, length, map, replicate, slice_index};
+ghost use Rattle.std.specs.Prelude.{◌≡◌, ◌≢◌, ◌+◌, ◌-◌, ◌*◌, ℕ, ◌<◌, ◌≤◌, ◌==◌, ◌↔◌, ◌∷◌, [], Any, All, Contains, IsTrue, MatchBool, MatchOption, IfSome, IfNone, count_by, length, map, replicate, slice_index};
 ghost use Rattle.board.specs.Board.{PlainBoard, IsPosition};
 ghost use Rattle.board.specs.Fen.{IsFenText};
-ghost use Rattle.board.specs.Games.{IsPlayed};
-ghost use Rattle.board.specs.FenFaults.{HasAdjacentRuns, IsBoardByte, IsFenFault, IsShape, is_case_of, is_digit, row_width, rows};
+ghost use Rattle.board.specs.Games.{most_units};
+ghost use Rattle.board.specs.declared.game.Game.{Game};
+ghost use Rattle.board.specs.declared.game.Side.{Side};
+ghost use Rattle.board.specs.Fen.{side_letter};
+ghost use Rattle.board.specs.FenFaults.{FenFaultHolds, HasAdjacentRuns, IsBoardByte, IsFenFault, IsShape, board_part, fen_fault_number, is_case_of, is_digit, row_width, rows, side_part};
+ghost use Rattle.board.specs.Passed.{Passes};
 
-use crate::fen::{side_of, unit_of};
-use crate::{Game, Kind, Side};
+use crate::fen::unit_of;
+use crate::{Game, Side};
 use thiserror::Error;
 
 /// Why a text is refused: the first of these that holds.
@@ -31,6 +35,17 @@ pub enum FenFault {
     #[error("let the side that is not to move stand out of check")]
     OtherInCheck,
 }
+
+/// The faults before a pawn on an outer rank, in the order in which they are asked for.
+const TESTED: [FenFault; 7] = [
+    FenFault::Fields,
+    FenFault::Shape,
+    FenFault::Letter,
+    FenFault::Run,
+    FenFault::Side,
+    FenFault::Kings,
+    FenFault::Units,
+];
 
 /// How often the byte occurs.
 fn count_of(text: &[u8], byte: u8) -> usize
@@ -68,18 +83,17 @@ fn count_case(board: &[u8], side: Side) -> usize
     count
 }
 
-/// The place of the first space.
-fn space(text: &[u8]) -> Option<usize>
-    ensures { MatchOption result
-        (All (λ c. c ≢ 32) text.now)
-        (λ i. (i < length text.now) × (slice_index text.now i ≡ 32) × ((k : ℕ) → k < i → slice_index text.now k ≢ 32)) }
+/// What stands before the first space, and what behind it.
+fn parts(text: &[u8]) -> (&[u8], &[u8])
+    ensures board { result.0.now ≡ board_part text.now }
+    ensures side { result.1.now ≡ side_part text.now }
 {
-    for (i, c) in text.iter().enumerate() {
-        if *c == b' ' {
-            return Some(i);
+    for i in 0..text.len() {
+        if text[i] == b' ' {
+            return (&text[..i], &text[i + 1..]);
         }
     }
-    None
+    (text, &[])
 }
 
 /// Whether this is a digit.
@@ -132,16 +146,6 @@ fn game_of(board: &[u8]) -> Option<Game>
     None
 }
 
-/// Whether the game plays with this kind.
-fn is_played(game: Game, kind: Kind) -> bool
-    ensures { IsTrue result ↔ IsPlayed game kind }
-{
-    match kind {
-        Kind::Bishop => game == Game::Gardner,
-        _ => true,
-    }
-}
-
 /// Whether a board of this game may have the byte.
 fn is_board_byte(game: Game, c: u8) -> bool
     ensures { MatchBool result (IsBoardByte game c) (IsBoardByte game c → ⊥) }
@@ -150,28 +154,26 @@ fn is_board_byte(game: Game, c: u8) -> bool
         return true;
     }
     match unit_of(c) {
-        Some(unit) => is_played(game, unit.kind),
+        Some(unit) => game.plays(unit.kind),
         None => false,
     }
 }
 
-/// Whether some byte is one that no board of this game has.
-fn has_foreign(board: &[u8], game: Game) -> bool
-    ensures { MatchBool result (Any (λ c. IsBoardByte game c → ⊥) board.now) (All (IsBoardByte game) board.now) }
+/// Whether the board has a game's shape and some byte that no board of this game has.
+fn has_foreign(board: &[u8]) -> bool
+    ensures { MatchBool result
+        ((g : Game) × IsShape g board.now × Any (λ c. IsBoardByte g c → ⊥) board.now)
+        ((g : Game) → IsShape g board.now → All (IsBoardByte g) board.now) }
 {
+    let Some(game) = game_of(board) else {
+        return false;
+    };
     for c in board {
         if !is_board_byte(game, *c) {
             return true;
         }
     }
     false
-}
-
-/// Whether a digit is 0.
-fn has_zero(board: &[u8]) -> bool
-    ensures { IsTrue result ↔ Contains board.now 48 }
-{
-    board.contains(&b'0')
 }
 
 /// Whether two digits stand next to each other.
@@ -186,36 +188,45 @@ fn has_adjacent_runs(board: &[u8]) -> bool
     false
 }
 
+/// Whether the board has a game's shape and a side has too many units.
+fn has_many_units(board: &[u8]) -> bool
+    ensures { IsTrue result
+        ↔ ((g : Game) × IsShape g board.now × ((side : Side) × (most_units g < count_by (is_case_of side) board.now))) }
+{
+    let Some(game) = game_of(board) else {
+        return false;
+    };
+    let most = game.most_units() as usize;
+    count_case(board, Side::White) > most || count_case(board, Side::Black) > most
+}
+
+/// Whether the text has this fault, one of those that come before a pawn on an outer rank.
+fn has_fault(text: &[u8], fault: FenFault) -> bool
+    requires { fen_fault_number fault < 8 }
+    ensures { MatchBool result (FenFaultHolds fault text.now) (Passes fault text.now) }
+{
+    let (board, side) = parts(text);
+    match fault {
+        FenFault::Fields => count_of(text, b' ') != 1,
+        FenFault::Shape => game_of(board).is_none(),
+        FenFault::Letter => has_foreign(board),
+        FenFault::Run => board.contains(&b'0') || has_adjacent_runs(board),
+        FenFault::Side => side != b"w".as_slice() && side != b"b".as_slice(),
+        FenFault::Kings => count_of(board, b'K') != 1 || count_of(board, b'k') != 1,
+        FenFault::Units => has_many_units(board),
+        FenFault::PawnRank | FenFault::OtherInCheck => false,
+    }
+}
+
 /// The fault of a text that is no position's.
 pub fn fault_of(text: &[u8]) -> FenFault
     requires { (b : PlainBoard) → IsPosition b → IsFenText text.now b → ⊥ }
     ensures { IsFenFault text.now result }
 {
-    if count_of(text, b' ') != 1 {
-        return FenFault::Fields;
-    }
-    let Some(end) = space(text) else {
-        return FenFault::Fields;
-    };
-    let board = &text[..end];
-    let Some(game) = game_of(board) else {
-        return FenFault::Shape;
-    };
-    if has_foreign(board, game) {
-        return FenFault::Letter;
-    }
-    if has_zero(board) || has_adjacent_runs(board) {
-        return FenFault::Run;
-    }
-    let Some(_) = side_of(&text[end + 1..]) else {
-        return FenFault::Side;
-    };
-    if count_of(board, b'K') != 1 || count_of(board, b'k') != 1 {
-        return FenFault::Kings;
-    }
-    let most = game.most_units() as usize;
-    if count_case(board, Side::White) > most || count_case(board, Side::Black) > most {
-        return FenFault::Units;
+    for fault in &TESTED {
+        if has_fault(text, *fault) {
+            return *fault;
+        }
     }
     FenFault::PawnRank
 }

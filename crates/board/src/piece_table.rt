@@ -75,16 +75,17 @@ impl PieceTable {
         ensures reading { IsReading (piece_text kind) (terms_of kind) }
         ensures steps { IfSome result (λ steps. ListsSteps (terms_of kind) steps.now.items) }
     {
-        match kind {
-            Kind::King => Some(&self.king),
-            Kind::Queen => Some(&self.queen),
-            Kind::Rook => Some(&self.rook),
-            Kind::Bishop => match self.game {
-                Game::LosAlamos => None,
-                Game::Gardner => Some(&self.bishop),
-            },
-            Kind::Knight => Some(&self.knight),
-            Kind::Pawn => Some(&self.pawn),
+        if !self.game.plays(kind) {
+            return None;
         }
+        let steps = match kind {
+            Kind::King => &self.king,
+            Kind::Queen => &self.queen,
+            Kind::Rook => &self.rook,
+            Kind::Bishop => &self.bishop,
+            Kind::Knight => &self.knight,
+            Kind::Pawn => &self.pawn,
+        };
+        Some(steps)
     }
 }

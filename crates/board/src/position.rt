@@ -11,14 +11,10 @@ fn may_stand_on(game: Game, number: u8, unit: Unit) -> bool
     requires { number < 36 }
     ensures { IsTrue result ↔ MayStandOn game number unit }
 {
-    if number >= game.squares() {
+    if number >= game.squares() || !game.plays(unit.kind) {
         return false;
     }
-    match unit.kind {
-        Kind::Bishop => game == Game::Gardner,
-        Kind::Pawn => game.width() <= number && number + game.width() < game.squares(),
-        _ => true,
-    }
+    unit.kind != Kind::Pawn || (game.width() <= number && number + game.width() < game.squares())
 }
 
 /// Whether each unit stands where it may.
@@ -36,41 +32,21 @@ fn stand_well(game: Game, units: &[Option<Unit>; 36]) -> bool
     true
 }
 
-/// How many kings the side has.
-fn count_kings(units: &[Option<Unit>; 36], side: Side) -> u8
-    ensures { result ≡ count_by (is_king_of side) units.now }
+/// Whether the side has one king, and no more units than the game gives it.
+fn is_army(game: Game, units: &[Option<Unit>; 36], side: Side) -> bool
+    ensures { IsTrue result ↔ IsArmy game units.now side }
 {
-    let mut count = 0;
-    for place in units {
-        if let Some(unit) = place {
-            if unit.kind == Kind::King && unit.side == side {
-                count += 1;
-            }
-        }
-    }
-    count
-}
-
-/// How many units the side has.
-fn count_units(units: &[Option<Unit>; 36], side: Side) -> u8
-    ensures { result ≡ count_by (is_of_side side) units.now }
-{
+    let mut kings = 0;
     let mut count = 0;
     for place in units {
         if let Some(unit) = place {
             if unit.side == side {
                 count += 1;
+                kings += (unit.kind == Kind::King) as u8;
             }
         }
     }
-    count
-}
-
-/// Whether the side has one king, and no more units than the game gives it.
-fn is_army(game: Game, units: &[Option<Unit>; 36], side: Side) -> bool
-    ensures { IsTrue result ↔ IsArmy game units.now side }
-{
-    count_kings(units, side) == 1 && count_units(units, side) <= game.most_units()
+    kings == 1 && count <= game.most_units()
 }
 
 /// A position that either game allows, but for whose king is in check.

@@ -1,11 +1,12 @@
 //! The terms of a piece string, and the steps that they denote.
-ghost use Rattle.std.specs.Prelude.{◌≡◌, ◌↔◌, IsTrue, All, MatchOption};
-ghost use Rattle.board.specs.Denotation.{IsLeap, IsAtomLeap, IsTermLeap, Denotes, AreDistinct, ListsSteps, single, doubled};
+ghost use Rattle.std.specs.Prelude.{◌≡◌, ◌↔◌, IsTrue, false, All, MatchOption};
+ghost use Rattle.board.specs.Denotation.{IsLeap, IsAtomLeap, IsTermLeap, Denotes, AreDistinct, ListsSteps};
+ghost use Rattle.board.specs.declared.step.Mode.TheVariants.{Both};
 
 use crate::{Mode, Moves, Step};
 
 /// What a letter of the notation stands for.
-#[derive(Clone, Copy, PartialEq, Eq, Debug, Default)]
+#[derive(Clone, Copy, PartialEq, Eq, Default)]
 pub enum Atom {
     #[default]
     Wazir,
@@ -14,7 +15,7 @@ pub enum Atom {
 }
 
 /// An atom with its modifiers.
-#[derive(Clone, Copy, PartialEq, Eq, Debug, Default)]
+#[derive(Clone, Copy, Default)]
 pub struct Term {
     pub mode: Mode,
     pub forward: bool,
@@ -64,27 +65,15 @@ impl Atom {
 }
 
 impl Term {
-    /// The atom once, with no modifier.
-    pub fn single(atom: Atom) -> Term
-        ensures { result ≡ single atom }
+    /// The atom with no modifier, once or doubled.
+    pub fn bare(atom: Atom, rider: bool) -> Term
+        ensures { result ≡ record { mode = Both; forward = false; atom = atom; rider = rider } }
     {
         Term {
             mode: Mode::Both,
             forward: false,
             atom,
-            rider: false,
-        }
-    }
-
-    /// The atom doubled, with no modifier.
-    pub fn doubled(atom: Atom) -> Term
-        ensures { result ≡ doubled atom }
-    {
-        Term {
-            mode: Mode::Both,
-            forward: false,
-            atom,
-            rider: true,
+            rider,
         }
     }
 
@@ -92,10 +81,7 @@ impl Term {
     fn has_leap(self, leap: &(i8, i8)) -> bool
         ensures { IsTrue result ↔ IsTermLeap self leap.now.0 leap.now.1 }
     {
-        if self.forward && leap.1 <= 0 {
-            return false;
-        }
-        self.atom.has_leap(leap)
+        (!self.forward || leap.1 > 0) && self.atom.has_leap(leap)
     }
 }
 

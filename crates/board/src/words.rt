@@ -3,7 +3,7 @@ ghost use Rattle.std.specs.Prelude.{◌≡◌, ℕ, Bool, false, List, [], ◌�
 ghost use Rattle.board.specs.declared.step.Mode.TheVariants.{Both};
 ghost use Rattle.board.specs.declared.terms.Atom.{Atom as AnAtom};
 ghost use Rattle.board.specs.declared.terms.Term.{Term as ATerm};
-ghost use Rattle.board.specs.Notation.{IsShorthand, IsLongestTerm, IsLongestWord, IsWord, IsWritten, StartsNoMode, StartsNot, atom_text, doubled_text, forward_text, mode_text, term_text};
+ghost use Rattle.board.specs.Notation.{IsShorthand, IsFirstWord, IsWord, IsWritten, StartsNoMode, StartsNot, atom_text, doubled_text, forward_text, mode_text, term_text};
 
 use crate::Mode;
 use crate::terms::{Atom, Term};
@@ -61,16 +61,14 @@ fn read_double(text: &[u8], letter: u8) -> (bool, &[u8])
 fn read_term(text: &[u8]) -> Option<(Term, &[u8])>
     ensures { MatchOption result
         ((t : ATerm) (rest : List ℕ) → IsWritten t → text.now ≡ term_text t ++ rest → ⊥)
-        (λ r. IsLongestTerm text.now r.0 r.1.now) }
+        (λ r. IsFirstWord text.now (r.0 ∷ []) r.1.now) }
 {
     let (mode, text) = read_mode(text);
     let (forward, text) = read_forward(text);
     let [letter, rest @ ..] = text else {
         return None;
     };
-    let Some(atom) = atom_of(*letter) else {
-        return None;
-    };
+    let atom = atom_of(*letter)?;
     if forward && atom == Atom::Knight {
         return None;
     }
@@ -110,10 +108,10 @@ fn shorthand(letter: u8) -> Option<ArrayVec<Term, 2>>
 {
     let (wazir, ferz) = (Atom::Wazir, Atom::Ferz);
     match letter {
-        b'R' => Some(one(Term::doubled(wazir))),
-        b'B' => Some(one(Term::doubled(ferz))),
-        b'Q' => Some(two(Term::doubled(wazir), Term::doubled(ferz))),
-        b'K' => Some(two(Term::single(wazir), Term::single(ferz))),
+        b'R' => Some(one(Term::bare(wazir, true))),
+        b'B' => Some(one(Term::bare(ferz, true))),
+        b'Q' => Some(two(Term::bare(wazir, true), Term::bare(ferz, true))),
+        b'K' => Some(two(Term::bare(wazir, false), Term::bare(ferz, false))),
         _ => None,
     }
 }
@@ -122,7 +120,7 @@ fn shorthand(letter: u8) -> Option<ArrayVec<Term, 2>>
 pub fn read_word(text: &[u8]) -> Option<(ArrayVec<Term, 2>, &[u8])>
     ensures { MatchOption result
         ((bytes rest : List ℕ) (terms : List ATerm) → IsWord bytes terms → text.now ≡ bytes ++ rest → ⊥)
-        (λ r. IsLongestWord text.now r.0.items r.1.now) }
+        (λ r. IsFirstWord text.now r.0.items r.1.now) }
 {
     let [first, rest @ ..] = text else {
         return None;
@@ -130,8 +128,6 @@ pub fn read_word(text: &[u8]) -> Option<(ArrayVec<Term, 2>, &[u8])>
     if let Some(terms) = shorthand(*first) {
         return Some((terms, rest));
     }
-    let Some((term, rest)) = read_term(text) else {
-        return None;
-    };
+    let (term, rest) = read_term(text)?;
     Some((one(term), rest))
 }

@@ -1,4 +1,3 @@
-pub mod RowTexts
 pub mod RowFacts
 pub mod PositionTexts
 pub mod Faults

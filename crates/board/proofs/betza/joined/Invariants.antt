@@ -3,4 +3,4 @@ use Rattle.board.specs.Denotation.{AreDistinct}
 use Rattle.board.proofs.betza.joined.Given as goal
 
 abbrev pub invariant-loop-term : goal.invariant-loop-term
-invariant-loop-term l = (l.terms.items ≡ l.fn.terms.items ++ take l.term-index l.word) × AreDistinct l.terms.items
+invariant-loop-term l = (l.terms.items ≡ l.initial.terms.items ++ take l.term-index l.word) × AreDistinct l.terms.items

@@ -1,13 +1,9 @@
 use Rattle.std.proofs.Common.{◌-◌, take, drop, length, get_or, [], ◌∷◌, arith}
 use Rattle.board.proofs.RankText.{split_first}
-use Rattle.board.proofs.LongestWord.{shorthand_first, term_first}
+use Rattle.board.proofs.TwoWords.{short_first}
 use Rattle.board.proofs.words.read_word.Goals as goal
 
 pub returns-in-Some : goal.returns-in-Some
 returns-in-Some c =
     let text = c.args.text.now in
-    shorthand_first text (get_or text 0 0 ∷ []) (take (length text - 1) (drop 1 text)) c.in-Some.terms.items c.in-Some.ensures (split_first text 0 (omega arith))
-
-pub returns : goal.returns
-returns c =
-    rw c.one.ensures (term_first c.args.text.now c.in-Some-read_term.rest.now c.in-Some-read_term.term c.in-Some-read_term.ensures)
+    short_first text (get_or text 0 0 ∷ []) (take (length text - 1) (drop 1 text)) c.in-Some.terms.items c.in-Some.ensures (split_first text 0 (omega arith))

@@ -1,12 +1,11 @@
-use Rattle.board.proofs.FenOneText.{one_fen}
+use Rattle.board.proofs.FenOneText.{fen_of, is_fen, one_fen}
 use Rattle.board.proofs.FenParts.{one_board}
 use Rattle.text_laws.proofs.Faults.{one_fault}
 use Rattle.text_laws.proofs.PositionTexts.{no_fault}
-use Rattle.text_laws.proofs.RowTexts.{position_has_text}
 use Rattle.text_laws.proofs.texts.position_text_laws.Goals as goal
 
 pub returns-clause-some : goal.returns-clause-some
-returns-clause-some c = position_has_text
+returns-clause-some c = λ b position. (fen_of b, is_fen b position)
 
 pub returns-clause-one : goal.returns-clause-one
 returns-clause-one c = one_fen
