@@ -46,8 +46,3 @@ module _ (goal : Goal) (b : PlainBoard) (moves : List Ply) (lists : ListsLawful 
         free : (x : Bool) → (x ≡ true → ⊥) → not x ≡ true
         free true h = absurd (h refl)
         free false h = refl
-
--- a truth value, and 1 where it holds
-pub one_if : (r : Bool) (o : Option ℕ) (P : Type 0) (n : ℕ) → o ≡ then_some r 1 → (IsTrue r ↔ P) → n ≡ 1 → SomeIff o P n
-one_if true o P n is same e = subst (λ x. SomeIff x P n) (sym is) (same.0 refl, sym e)
-one_if false o P n is same e = subst (λ x. SomeIff x P n) (sym is) (λ p. true≢false (sym (same.1 p)))

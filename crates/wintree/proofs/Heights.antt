@@ -20,14 +20,6 @@ pub height-plan_of : (m : Ply) (replies : List (Ply × Plan)) → 0 < length rep
 height-plan_of m [] some = absurd (omega arith)
 height-plan_of m (first ∷ others) some = omega (arith, highest-replies_of first others)
 
--- ---- the greatest height so far
-
-pub next_item : {X : Type 0} (xs : List X) (i : ℕ) (x : X) → i < length xs → x ≡ get_or xs i x → drop i xs ≡ x ∷ drop (i + 1) xs
-next_item xs i x in_range is = drop_more xs i x in_range ∙ ap (λ y. y ∷ drop (i + 1) xs) (sym is)
-
-pub highest_more : (replies : List (Ply × Plan)) (i : ℕ) (reply : Ply × Plan) → i < length replies → reply ≡ get_or replies i reply → highest_in (drop i replies) ≡ max (height reply.1) (highest_in (drop (i + 1) replies))
-highest_more replies i reply in_range is = ap highest_in (next_item replies i reply in_range is)
-
 pub depth_of_item : (replies : List (Ply × Plan)) (i : ℕ) (reply : Ply × Plan) → i < length replies → reply ≡ get_or replies i reply → depth reply.1 ≤ deepest_in replies
 depth_of_item [] i reply in_range is = absurd (omega arith)
 depth_of_item (first ∷ others) zero reply in_range is = omega (arith, ap (λ r. depth r.1) is)

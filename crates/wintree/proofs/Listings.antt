@@ -70,10 +70,6 @@ one_list b moves others lists also =
     one_listing (IsPlyBefore b.game) (λ m n. lower_once _ _ _ _ _ _) moves others lists.ordered also.ordered
     (λ m. (λ among. (also.exact m).1 ((lists.exact m).0 among), λ among. (lists.exact m).1 ((also.exact m).0 among)))
 
--- a move at a place of the list is lawful
-pub lawful_at : (b : PlainBoard) (moves : List Ply) (i : ℕ) (m : Ply) → ListsLawful b moves → i < length moves → m ≡ get_or moves i m → IsLawful b m
-lawful_at b moves i m lists in_range is = (lists.exact m).0 (i, in_range, sym is)
-
 -- a board with an empty list has no lawful move, and one with another list has some
 pub none_lawful : (b : PlainBoard) (moves : List Ply) → ListsLawful b moves → length moves ≡ 0 → (m : Ply) → IsLawful b m → ⊥
 none_lawful b moves lists none m lawful = let among = (lists.exact m).1 lawful in omega (arith, among.1)
