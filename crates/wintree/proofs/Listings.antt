@@ -69,11 +69,3 @@ pub one_list : (b : PlainBoard) (moves others : List Ply) → ListsLawful b move
 one_list b moves others lists also =
     one_listing (IsPlyBefore b.game) (λ m n. lower_once _ _ _ _ _ _) moves others lists.ordered also.ordered
     (λ m. (λ among. (also.exact m).1 ((lists.exact m).0 among), λ among. (lists.exact m).1 ((also.exact m).0 among)))
-
--- a board with an empty list has no lawful move, and one with another list has some
-pub none_lawful : (b : PlainBoard) (moves : List Ply) → ListsLawful b moves → length moves ≡ 0 → (m : Ply) → IsLawful b m → ⊥
-none_lawful b moves lists none m lawful = let among = (lists.exact m).1 lawful in omega (arith, among.1)
-
-pub some_lawful : (b : PlainBoard) (moves : List Ply) → ListsLawful b moves → 0 < length moves → (m : Ply) × IsLawful b m
-some_lawful b [] lists some = absurd (omega arith)
-some_lawful b (m ∷ moves) lists some = (m, (lists.exact m).0 (among_first m moves))

@@ -1,15 +1,7 @@
 use Rattle.std.proofs.Common.{◌<◌, length, sym, ◌∙◌, subst, arith}
 use Rattle.wintree.proofs.Common.{length-map, false≢true, ListsLawful}
-use Rattle.wintree.proofs.Agreeing.{agree_all, next_left_out, read_at, reply_at, stands}
+use Rattle.wintree.proofs.Agreeing.{next_left_out, read_at, reply_at, stands}
 use Rattle.wintree.proofs.wins.wrong_reply.Goals as goal
-
-pub returns-in_err-get : goal.returns-in_err-get
-returns-in_err-get g c =
-    let b = c.args.position.now in
-    let moves = c.as_slice-moves.result.now in
-    let lists = subst (ListsLawful b) (sym c.as_slice-moves.ensures.value) c.lawful-moves.ensures in
-    let all = c.if-i-replies.true ∙ sym (length-map c.args.replies.now (λ r. r.0)) in
-    rw c.from_residual.ensures (agree_all b moves _ c.agreeing-i.result lists all c.agreeing-i.ensures.same c.in_err-get.ensures.lookup.3)
 
 pub returns-then-i-replies : goal.returns-then-i-replies
 returns-then-i-replies g c =
@@ -20,7 +12,7 @@ returns-then-i-replies g c =
     let found = c.in_ok-get.ensures.lookup in
     let m = c.in_ok-get.field-0.now in
     let here = read_at moves c.agreeing-i.result m found.3.0 found.1 in
-    ((lists.exact m).0 (stands moves c.agreeing-i.result m here), next_left_out b moves _ c.agreeing-i.result lists all c.agreeing-i.ensures.same m here)
+    ((lists.exact m).0 (stands moves c.agreeing-i.result m here), next_left_out b moves _ c.agreeing-i.result m lists all c.agreeing-i.ensures.same here)
 
 pub returns-then-not-is_lawful : goal.returns-then-not-is_lawful
 returns-then-not-is_lawful g c =
