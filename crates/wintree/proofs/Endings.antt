@@ -1,5 +1,5 @@
 -- Where a line may end.
-use Rattle.std.proofs.Common.{◌≡◌, ◌↔◌, ℕ, ◌<◌, Bool, true, false, not, ◌==◌, IsTrue, List, [], ◌∷◌, length, refl, sym, ◌∙◌, arith}
+use Rattle.std.proofs.Common.{◌≡◌, ◌↔◌, Bool, true, false, not, ◌==◌, IsTrue, List, [], ◌∷◌, length, refl, sym, ◌∙◌, arith}
 use Rattle.wintree.proofs.Common.{false≢true, ne_eqb, PlainBoard, Ply, IsInCheck, IsLawful, ListsLawful, Goal, End, EndsAt}
 use Rattle.rules.specs.Moves.{IsMated, IsStalemated}
 use Rattle.rules.specs.declared.goal.Goal.TheVariants as goals

@@ -1,6 +1,6 @@
 -- The height of a plan.
-use Rattle.std.proofs.Common.{◌≡◌, ℕ, zero, suc, ◌+◌, ◌*◌, ◌<◌, ◌≤◌, max, List, [], ◌∷◌, length, drop, get_or, sym, ap, ◌∙◌, arith}
-use Rattle.wintree.proofs.Common.{drop_more, Ply, Plan, ends, splits, Replies, last, more, depth, deepest, deepest_in, replies_of, plan_of, height, highest, highest_in}
+use Rattle.std.proofs.Common.{◌≡◌, ℕ, zero, suc, ◌+◌, ◌*◌, ◌<◌, ◌≤◌, max, List, [], ◌∷◌, length, get_or, ap, arith}
+use Rattle.wintree.proofs.Common.{Ply, Plan, ends, splits, Replies, last, more, depth, deepest, deepest_in, replies_of, plan_of, height, highest, highest_in}
 
 mutual
   -- a plan is at most twice as high as it is deep, less one

@@ -1,6 +1,6 @@
 -- A board has one list of its lawful moves.
 use Rattle.std.proofs.Common.{◌≡◌, ◌↔◌, ◌⊎◌, ℕ, zero, suc, ◌<◌, List, [], ◌∷◌, length, get_or, refl, sym, ap, ◌∙◌, subst, inl, inr, arith, Contains, AllPairs}
-use Rattle.wintree.proofs.Common.{PlainBoard, Ply, IsLawful, IsPlyBefore, ListsLawful}
+use Rattle.wintree.proofs.Common.{PlainBoard, Ply, IsPlyBefore, ListsLawful}
 
 pub among_first : {X : Type 0} (x : X) (xs : List X) → Contains (x ∷ xs) x
 among_first x xs = (zero, omega arith, refl)

@@ -13,6 +13,7 @@ use moves::{Move, Square};
 use std::alloc::Allocator;
 
 /// The tree that the bytes are the text of.
+#[tactic(auto, using(crate::proofs::Depths::accepted))]
 pub fn read_tree<A: Allocator + Copy>(alloc: A, bytes: &[u8]) -> Result<Tree<A>, TreeFault>
     // What is read is the text of the tree.
     ensures read { IfOk result (λ tree. TreeText bytes.now tree) }
@@ -27,6 +28,7 @@ pub fn read_tree<A: Allocator + Copy>(alloc: A, bytes: &[u8]) -> Result<Tree<A>,
 }
 
 // The tree that takes all the bytes.
+#[tactic(auto, using(crate::proofs::Reader::no_more))]
 fn whole_tree<A: Allocator + Copy>(alloc: A, bytes: &[u8]) -> Result<Tree<A>, TreeFault>
     ensures read { IfOk result (λ tree. TreeText bytes.now tree) }
     ensures fault { IfErr result (IsFaultOf bytes.now) }
@@ -97,6 +99,7 @@ fn replies_at<A: Allocator + Copy>(
 }
 
 // The move at the offset, and the offset of its end.
+#[tactic(auto, using(crate::proofs::MoveReads::leaves_0, crate::proofs::MoveReads::leaves_1, crate::proofs::MoveReads::leaves_2, crate::proofs::MoveReads::leaves_3))]
 fn move_at(bytes: &[u8], at: usize) -> Result<(Move, usize), TreeFault>
     requires { at ≤ length bytes.now }
     ensures read { IfOk result (λ found. ReadsMove bytes.now at found.0 found.1) }

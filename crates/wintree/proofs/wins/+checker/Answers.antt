@@ -1,6 +1,6 @@
 use Rattle.std.proofs.Common.{◌≡◌, [], ◌∷◌, length, sym, ◌∙◌, ap, subst, arith, refl}
 use Rattle.wintree.proofs.Common.{false≢true, ends, depth, plan_of, plan_after, Wins, IsFlaw, height}
-use Rattle.wintree.proofs.Lists.{opened, depth-plan_of}
+use Rattle.wintree.proofs.Lists.{opened}
 use Rattle.wintree.proofs.Heights.{height_limit, height-plan_of, depth_of_item}
 use Rattle.wintree.proofs.Winning.{wins_plan_of, wrong_ends, flaw_plan_of}
 use Rattle.wintree.proofs.Agreeing.{reply_at, stands}

@@ -1,13 +1,7 @@
 use Rattle.std.proofs.Common.{◌↔◌, IsTrue, subst}
-use Rattle.wintree.proofs.Common.{false≢true, IsInCheck}
-use Rattle.wintree.proofs.Endings.{goes_on, mated, stalemated}
+use Rattle.wintree.proofs.Common.{IsInCheck}
+use Rattle.wintree.proofs.Endings.{mated, stalemated}
 use Rattle.wintree.proofs.wins.ends_at.Goals as goal
-
-pub returns-then-not-is_empty : goal.returns-then-not-is_empty
-returns-then-not-is_empty c = (
-  λ no. absurd (false≢true no),
-  λ ends. absurd (goes_on c.args.goal c.args.position.now c.args.end c.lawful.result.items c.is_empty.result c.lawful.ensures c.is_empty.ensures c.if-not-is_empty.true ends),
-)
 
 pub returns-in-Mate-default : goal.returns-in-Mate-default
 returns-in-Mate-default c =
