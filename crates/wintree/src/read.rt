@@ -99,7 +99,7 @@ fn replies_at<A: Allocator + Copy>(
 }
 
 // The move at the offset, and the offset of its end.
-#[tactic(auto, using(crate::proofs::MoveReads::leaves_0, crate::proofs::MoveReads::leaves_1, crate::proofs::MoveReads::leaves_2, crate::proofs::MoveReads::leaves_3))]
+#[tactic(auto, using(crate::proofs::MoveReads::leaves_move))]
 fn move_at(bytes: &[u8], at: usize) -> Result<(Move, usize), TreeFault>
     requires { at ≤ length bytes.now }
     ensures read { IfOk result (λ found. ReadsMove bytes.now at found.0 found.1) }
