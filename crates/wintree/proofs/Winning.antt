@@ -1,5 +1,5 @@
 -- Laws of winning plans, and of flaws.
-use Rattle.std.proofs.Common.{◌≡◌, ◌↔◌, ℕ, Result, Ok, Err, IfOk, IfErr, SomeIff, IsNone, ◌<◌, List, [], ◌∷◌, length, refl, sym, ap, subst, inl, inr, arith, slice_get, Some, Contains}
+use Rattle.std.proofs.Common.{◌≡◌, ◌↔◌, ℕ, Result, Ok, Err, IfOk, IfErr, SomeIff, IsNone, ◌<◌, List, [], ◌∷◌, length, refl, sym, ap, subst, inl, inr, arith, slice_get, Some, Contains, IfSome, ◌≢◌}
 use Rattle.std.specs.Result.{result_err, result_ok}
 use Rattle.wintree.proofs.Common.{true≢false, height, PlainBoard, Ply, IsMove, ListsLawful, Goal, one_after, End, Plan, ends, splits, Replies, last, more, replies_of, plan_of, Wins, EachWins, EndsAt, moves_of, WinsAfter, AllWin, moves_in, IsFlaw, IsFlawBelow, IsWrong, IsWrongEnd, AreWrong, listed}
 use Rattle.wintree.specs.declared.flaws.Flaw.{Flaw}
@@ -55,7 +55,9 @@ no_end _ q _ _ f e = absurd f
 no_list : (q : PlainBoard) (replies : List Ply) (wrong : Wrong) → AreWrong q replies wrong → ListsLawful q replies → ⊥
 no_list q replies (LeftOut r) f lists = f.1 ((lists.exact r).1 f.0)
 no_list q replies (UnlawfulReply r) f lists = f.1 ((lists.exact r).0 f.0)
-no_list q replies (OutOfPlace r) f lists = f.5 (subst (λ ms. slice_get ms f.1 ≡ Some r) (one_list q replies f.0 lists f.2) f.4)
+no_list q replies (OutOfPlace r) f lists =
+    let here = subst (λ ms. slice_get ms f.1 ≡ Some r) (one_list q replies f.0 lists f.2) f.4 in
+    let due = subst (λ o. IfSome o (λ due. (due ≢ r) × Contains replies due)) here f.5 in due.0 refl
 no_list q replies _ f lists = absurd f
 
 no_win : (goal : Goal) (b : PlainBoard) (plan : Plan) (wrong : Wrong) → IsWrong goal b plan wrong → Wins goal b plan → ⊥
