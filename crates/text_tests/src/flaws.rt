@@ -47,11 +47,12 @@ fn a_tree_that_wins_has_no_flaw(rt: HostRuntime) {
 
 #[test]
 fn an_attack_is_not_lawful(rt: HostRuntime) {
-    let wrong = Wrong::Unlawful;
-    let first = b"c1f2{b6a6:e1e6#,b6c6:e1e6#}".as_slice();
-    expect_flaw(&rt, first, Goal::Mate, "c1f2 ", wrong);
-    let later = b"c1e1{b6a6:e1e6#,b6c6:e1d6#}".as_slice();
-    expect_flaw(&rt, later, Goal::Mate, "c1e1 b6c6 e1d6 ", wrong);
+    for (text, line) in [
+        (b"c1f2{b6a6:e1e6#,b6c6:e1e6#}".as_slice(), "c1f2 "),
+        (b"c1e1{b6a6:e1e6#,b6c6:e1d6#}".as_slice(), "c1e1 b6c6 e1d6 "),
+    ] {
+        expect_flaw(&rt, text, Goal::Mate, line, Wrong::Unlawful);
+    }
 }
 
 #[test]

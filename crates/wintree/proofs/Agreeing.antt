@@ -1,5 +1,5 @@
 -- Replies that are, or aren't, the lawful moves in order.
-use Rattle.std.proofs.Common.{◌≡◌, ℕ, ◌+◌, ◌<◌, ◌≤◌, List, length, take, get_or, refl, sym, ap, ◌∙◌, subst, arith, get_or-take, slice_get, Some, Contains, take_all}
+use Rattle.std.proofs.Common.{◌≡◌, ℕ, ◌+◌, ◌<◌, List, length, take, get_or, refl, sym, ap, ◌∙◌, subst, arith, get_or-take, slice_get, Some, Contains, take_all}
 use Rattle.std.specs.Option.{option_map}
 use Rattle.std.proofs.lemmas.List.{take_more_same}
 use Rattle.std.proofs.lemmas.Option.{slice_get-map, slice_get_read}
@@ -22,17 +22,12 @@ module _ {X : Type 0} where
 pub reply_at : (replies : List (Ply × Plan)) (i : ℕ) (reply : Ply × Plan) → i < length replies → reply ≡ get_or replies i reply → slice_get (moves_in replies) i ≡ Some reply.0
 reply_at replies i reply in_range is = slice_get-map (λ r. r.0) replies i ∙ ap (option_map (λ r. r.0)) (read_at replies i reply in_range is)
 
--- all n replies are the first lawful moves
-module _ (b : PlainBoard) (moves replies : List Ply) (n : ℕ) (lists : ListsLawful b moves) (all : n ≡ length replies) (same : take n replies ≡ take n moves) where
-  pub agree_all : length moves ≤ n → ListsLawful b replies
-  agree_all few = subst (ListsLawful b) (sym (take_all n moves few) ∙ sym same ∙ take_all n replies (omega arith)) lists
-
-  -- the next lawful move isn't among them
-  pub next_left_out : (m : Ply) → slice_get moves n ≡ Some m → ¬ Contains replies m
-  next_left_out m is = λ among.
-      let k = among.0 in
-      let before : k < n = omega (arith, among.1) in
-      let there : get_or moves k m ≡ m = sym (get_or-take n moves k m before) ∙ ap (λ xs. get_or xs k m) (sym same ∙ take_all n replies (omega arith)) ∙ among.2 in
-      let ordered : IsPlyBefore b.game (get_or moves k m) (get_or moves n m) = lists.ordered k n m before (slice_get_within moves n m is) in
-      let itself : IsPlyBefore b.game m m = subst (λ x. IsPlyBefore b.game x m) there (subst (IsPlyBefore b.game (get_or moves k m)) (get_or_from_slice_get moves n m m is) ordered) in
-      lower_once _ _ _ _ _ _ itself itself
+-- where all n replies are the first lawful moves, the next one isn't among them
+pub next_left_out : (b : PlainBoard) (moves replies : List Ply) (n : ℕ) (m : Ply) → ListsLawful b moves → n ≡ length replies → take n replies ≡ take n moves → slice_get moves n ≡ Some m → ¬ Contains replies m
+next_left_out b moves replies n m lists all same is = λ among.
+    let k = among.0 in
+    let before : k < n = omega (arith, among.1) in
+    let there : get_or moves k m ≡ m = sym (get_or-take n moves k m before) ∙ ap (λ xs. get_or xs k m) (sym same ∙ take_all n replies (omega arith)) ∙ among.2 in
+    let ordered : IsPlyBefore b.game (get_or moves k m) (get_or moves n m) = lists.ordered k n m before (slice_get_within moves n m is) in
+    let itself : IsPlyBefore b.game m m = subst (λ x. IsPlyBefore b.game x m) there (subst (IsPlyBefore b.game (get_or moves k m)) (get_or_from_slice_get moves n m m is) ordered) in
+    lower_once _ _ _ _ _ _ itself itself

@@ -1,6 +1,6 @@
 -- The height of a plan.
-use Rattle.std.proofs.Common.{◌≡◌, ℕ, zero, suc, ◌+◌, ◌*◌, ◌<◌, ◌≤◌, max, List, [], ◌∷◌, length, drop, get_or, sym, ap, ◌∙◌, arith}
-use Rattle.wintree.proofs.Common.{drop_more, Ply, Plan, ends, splits, Replies, last, more, depth, deepest, deepest_in, replies_of, plan_of, height, highest, highest_in}
+use Rattle.std.proofs.Common.{◌≡◌, ℕ, zero, suc, ◌+◌, ◌*◌, ◌<◌, ◌≤◌, max, List, [], ◌∷◌, length, get_or, ap, arith}
+use Rattle.wintree.proofs.Common.{Ply, Plan, ends, splits, Replies, last, more, depth, deepest, deepest_in, replies_of, plan_of, height, highest, highest_in}
 
 mutual
   -- a plan is at most twice as high as it is deep, less one
@@ -19,14 +19,6 @@ highest-replies_of first (next ∷ others) = ap (max (height first.1)) (highest-
 pub height-plan_of : (m : Ply) (replies : List (Ply × Plan)) → 0 < length replies → height (plan_of m replies) ≡ highest_in replies + 2
 height-plan_of m [] some = absurd (omega arith)
 height-plan_of m (first ∷ others) some = omega (arith, highest-replies_of first others)
-
--- ---- the greatest height so far
-
-pub next_item : {X : Type 0} (xs : List X) (i : ℕ) (x : X) → i < length xs → x ≡ get_or xs i x → drop i xs ≡ x ∷ drop (i + 1) xs
-next_item xs i x in_range is = drop_more xs i x in_range ∙ ap (λ y. y ∷ drop (i + 1) xs) (sym is)
-
-pub highest_more : (replies : List (Ply × Plan)) (i : ℕ) (reply : Ply × Plan) → i < length replies → reply ≡ get_or replies i reply → highest_in (drop i replies) ≡ max (height reply.1) (highest_in (drop (i + 1) replies))
-highest_more replies i reply in_range is = ap highest_in (next_item replies i reply in_range is)
 
 pub depth_of_item : (replies : List (Ply × Plan)) (i : ℕ) (reply : Ply × Plan) → i < length replies → reply ≡ get_or replies i reply → depth reply.1 ≤ deepest_in replies
 depth_of_item [] i reply in_range is = absurd (omega arith)

@@ -14,6 +14,5 @@ pub mod Standing
 pub mod MoveReads
 pub mod Turns
 pub mod Reader
-pub mod Options
 pub mod Depths
 pub mod OneText

@@ -1,6 +1,6 @@
 -- A board has one list of its lawful moves.
 use Rattle.std.proofs.Common.{◌≡◌, ◌↔◌, ◌⊎◌, ℕ, zero, suc, ◌<◌, List, [], ◌∷◌, length, get_or, refl, sym, ap, ◌∙◌, subst, inl, inr, arith, Contains, AllPairs}
-use Rattle.wintree.proofs.Common.{PlainBoard, Ply, IsLawful, IsPlyBefore, ListsLawful}
+use Rattle.wintree.proofs.Common.{PlainBoard, Ply, IsPlyBefore, ListsLawful}
 
 pub among_first : {X : Type 0} (x : X) (xs : List X) → Contains (x ∷ xs) x
 among_first x xs = (zero, omega arith, refl)
@@ -69,15 +69,3 @@ pub one_list : (b : PlainBoard) (moves others : List Ply) → ListsLawful b move
 one_list b moves others lists also =
     one_listing (IsPlyBefore b.game) (λ m n. lower_once _ _ _ _ _ _) moves others lists.ordered also.ordered
     (λ m. (λ among. (also.exact m).1 ((lists.exact m).0 among), λ among. (lists.exact m).1 ((also.exact m).0 among)))
-
--- a move at a place of the list is lawful
-pub lawful_at : (b : PlainBoard) (moves : List Ply) (i : ℕ) (m : Ply) → ListsLawful b moves → i < length moves → m ≡ get_or moves i m → IsLawful b m
-lawful_at b moves i m lists in_range is = (lists.exact m).0 (i, in_range, sym is)
-
--- a board with an empty list has no lawful move, and one with another list has some
-pub none_lawful : (b : PlainBoard) (moves : List Ply) → ListsLawful b moves → length moves ≡ 0 → (m : Ply) → IsLawful b m → ⊥
-none_lawful b moves lists none m lawful = let among = (lists.exact m).1 lawful in omega (arith, among.1)
-
-pub some_lawful : (b : PlainBoard) (moves : List Ply) → ListsLawful b moves → 0 < length moves → (m : Ply) × IsLawful b m
-some_lawful b [] lists some = absurd (omega arith)
-some_lawful b (m ∷ moves) lists some = (m, (lists.exact m).0 (among_first m moves))

@@ -52,7 +52,10 @@ kept_node m replies nested ply plans some room is =
     }
 
 -- the fields of a tree whose list of replies was read
-pub opened : {A : Type 0} (m : Ply) (next read : Next A) (replies : Vec (Ply × Plan) A) (plan : Plan) (list : List (Ply × Plan)) → plan_after m next ≡ plan → HasReplies next → read ≡ next → read ≡ Replies replies → list ≡ replies.items → (0 < length list) × (plan ≡ plan_of m list)
+pub opened : {A : Type 0} (m : Ply) (next read : Next A) (replies : Vec (Ply × Plan) A) (plan : Plan) (list : List (Ply × Plan)) → plan_after m next ≡ plan → HasReplies next → read ≡ next → read ≡ Replies replies → list ≡ replies.items
+    → (0 < length list) × (plan ≡ plan_of m list) × (depth plan ≡ suc (deepest_in list))
 opened m next read replies plan list view_is some read_is is list_is =
     let next_is : next ≡ Replies replies = sym read_is ∙ is in
-    (subst (λ xs. 0 < length xs) (sym list_is) (subst HasReplies next_is some), sym view_is ∙ ap (plan_after m) next_is ∙ ap (plan_of m) (sym list_is))
+    let in_list = subst (λ xs. 0 < length xs) (sym list_is) (subst HasReplies next_is some) in
+    let plan_is = sym view_is ∙ ap (plan_after m) next_is ∙ ap (plan_of m) (sym list_is) in
+    (in_list, plan_is, ap depth plan_is ∙ depth-plan_of m list in_list)

@@ -81,6 +81,9 @@ module _ (bytes : List ℕ) (at : ℕ) (within : at ≤ length bytes) where
           pub four : Reads bytes at (at + 4) ((97 + f) ∷ (49 + r) ∷ (97 + f') ∷ (49 + r') ∷ [])
           four = reads_more bytes at (at + 3) (at + 4) 49 r' ((97 + f) ∷ (49 + r) ∷ (97 + f') ∷ []) three (omega arith) cell_r' (omega arith)
 
+-- each cell that may be missing
+pub ruleset leaves_move = (leaves_0, leaves_1, leaves_2, leaves_3)
+
 -- ---- the promotion
 
 letter_read : (o : Option ℕ) (p : Option Kind) → p ≡ promotion_of o → is_some p ≡ true → (b : ℕ) × (o ≡ Some b) × (promotion_text p ≡ b ∷ [])

@@ -1,6 +1,8 @@
 -- Laws of winning plans, and of flaws.
-use Rattle.std.proofs.Common.{◌≡◌, ◌<◌, List, [], ◌∷◌, length, refl, sym, ap, subst, inl, inr, arith, slice_get, Some, Contains}
-use Rattle.wintree.proofs.Common.{PlainBoard, Ply, IsMove, ListsLawful, Goal, one_after, End, Plan, ends, splits, Replies, last, more, replies_of, plan_of, Wins, EachWins, EndsAt, moves_of, WinsAfter, AllWin, moves_in, IsFlaw, IsFlawBelow, IsWrong, IsWrongEnd, AreWrong, listed}
+use Rattle.std.proofs.Common.{◌≡◌, ◌↔◌, ℕ, Result, Ok, Err, IfOk, IfErr, SomeIff, IsNone, ◌<◌, List, [], ◌∷◌, length, refl, sym, ap, subst, inl, inr, arith, slice_get, Some, Contains, IfSome, ◌≢◌}
+use Rattle.std.specs.Result.{result_err, result_ok}
+use Rattle.wintree.proofs.Common.{true≢false, height, PlainBoard, Ply, IsMove, ListsLawful, Goal, one_after, End, Plan, ends, splits, Replies, last, more, replies_of, plan_of, Wins, EachWins, EndsAt, moves_of, WinsAfter, AllWin, moves_in, IsFlaw, IsFlawBelow, IsWrong, IsWrongEnd, AreWrong, listed}
+use Rattle.wintree.specs.declared.flaws.Flaw.{Flaw}
 use Rattle.wintree.specs.declared.flaws.Wrong.{Wrong}
 use Rattle.wintree.specs.declared.flaws.Wrong.TheVariants.{Unlawful, NotMate, NotStale, LeftOut, UnlawfulReply, OutOfPlace}
 use Rattle.rules.specs.declared.goal.Goal.TheVariants as goals
@@ -53,7 +55,9 @@ no_end _ q _ _ f e = absurd f
 no_list : (q : PlainBoard) (replies : List Ply) (wrong : Wrong) → AreWrong q replies wrong → ListsLawful q replies → ⊥
 no_list q replies (LeftOut r) f lists = f.1 ((lists.exact r).1 f.0)
 no_list q replies (UnlawfulReply r) f lists = f.1 ((lists.exact r).0 f.0)
-no_list q replies (OutOfPlace r) f lists = f.5 (subst (λ ms. slice_get ms f.1 ≡ Some r) (one_list q replies f.0 lists f.2) f.4)
+no_list q replies (OutOfPlace r) f lists =
+    let here = subst (λ ms. slice_get ms f.1 ≡ Some r) (one_list q replies f.0 lists f.2) f.4 in
+    let due = subst (λ o. IfSome o (λ due. (due ≢ r) × Contains replies due)) here f.5 in due.0 refl
 no_list q replies _ f lists = absurd f
 
 no_win : (goal : Goal) (b : PlainBoard) (plan : Plan) (wrong : Wrong) → IsWrong goal b plan wrong → Wins goal b plan → ⊥
@@ -83,3 +87,10 @@ flaw_loses goal b (splits n replies) (m ∷ r ∷ line) wrong f w =
     let each = subst (λ p. EachWins goal p replies) (one_after b n w.0 f.1 w.1 (subst (λ x. IsMove b x f.1) f.0 f.2)) w.3 in
     let behind = wins_behind goal f.1 replies r f.3 each f.4 in
     flaw_loses goal f.5 f.3 line wrong f.7 (subst (λ p. Wins goal p f.3) (one_after f.1 r behind.0 f.5 behind.1 f.6) behind.2)
+
+-- what the checker found tells whether the plan wins
+pub verdict : (goal : Goal) (b : PlainBoard) (plan : Plan) (found : Result ℕ Flaw) → IfOk found (λ plies. Wins goal b plan × (plies ≡ height plan)) → IfErr found (λ flaw. IsFlaw goal b plan flaw.line.items flaw.wrong)
+    → SomeIff (result_ok found) (Wins goal b plan) (height plan) × (IsNone (result_err found) ↔ Wins goal b plan)
+verdict goal b plan (Ok plies) won flawed = (won, (λ _. won.0, λ _. refl))
+verdict goal b plan (Err flaw) won flawed =
+    let loses = flaw_loses goal b plan flaw.line.items flaw.wrong flawed in (loses, (λ no. absurd (true≢false no), λ wins. absurd (loses wins)))

@@ -1,5 +1,5 @@
 -- Why a plan doesn't win: the line of its moves to a wrong one of the attacker's, and what is wrong there.
-use Rattle.std.specs.Prelude.{◌≡◌, ◌≢◌, ℕ, List, [], ◌∷◌, Some, slice_get, Contains}
+use Rattle.std.specs.Prelude.{◌≡◌, ◌≢◌, ℕ, List, [], ◌∷◌, Some, IfSome, slice_get, Contains}
 use Rattle.board.specs.Board.{PlainBoard}
 use Rattle.rules.specs.Squares.{Ply}
 use Rattle.rules.specs.Moves.{IsMove, IsLawful, IsMated, IsStalemated}
@@ -36,11 +36,13 @@ IsWrongEnd Mate q ending.Stale StaleForMate = Unit {0}
 IsWrongEnd _ q _ _ = ⊥
 
 -- The replies aren't the lawful ones, in order: a lawful one is left out, or one isn't lawful, or a lawful one stands
--- at a place where the lawful ones, in order, have another move or none.
+-- at a place where another is due that stands elsewhere, or none is.
 abbrev pub AreWrong : PlainBoard → List Ply → Wrong → Type 0
 AreWrong q replies (LeftOut r) = IsLawful q r × ¬ Contains replies r
 AreWrong q replies (UnlawfulReply r) = Contains replies r × ¬ IsLawful q r
-AreWrong q replies (OutOfPlace r) = (moves : List Ply) × (i : ℕ) × ListsLawful q moves × IsLawful q r × (slice_get replies i ≡ Some r) × (slice_get moves i ≢ Some r)
+AreWrong q replies (OutOfPlace r) =
+    (moves : List Ply) × (i : ℕ) × ListsLawful q moves × IsLawful q r × (slice_get replies i ≡ Some r)
+    × IfSome (slice_get moves i) (λ due. (due ≢ r) × Contains replies due)
 AreWrong q replies _ = ⊥
 
 -- The attacker's move isn't lawful, or it leads to a position where the line may not end so or the replies are wrong.

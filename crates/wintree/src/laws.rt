@@ -29,6 +29,7 @@ pub fn one_offset()
 {}
 
 /// No text belongs to two trees.
+#[tactic(auto, using(crate::proofs::OneText::one_text))]
 pub fn one_tree()
     ensures { (bytes : List ℕ) (a b : Plan) → TreeText bytes a → TreeText bytes b → a ≡ b }
 {}

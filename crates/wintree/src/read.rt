@@ -13,6 +13,7 @@ use moves::{Move, Square};
 use std::alloc::Allocator;
 
 /// The tree that the bytes are the text of.
+#[tactic(auto, using(crate::proofs::Depths::accepted))]
 pub fn read_tree<A: Allocator + Copy>(alloc: A, bytes: &[u8]) -> Result<Tree<A>, TreeFault>
     // What is read is the text of the tree.
     ensures read { IfOk result (λ tree. TreeText bytes.now tree) }
@@ -27,6 +28,7 @@ pub fn read_tree<A: Allocator + Copy>(alloc: A, bytes: &[u8]) -> Result<Tree<A>,
 }
 
 // The tree that takes all the bytes.
+#[tactic(auto, using(crate::proofs::Reader::no_more))]
 fn whole_tree<A: Allocator + Copy>(alloc: A, bytes: &[u8]) -> Result<Tree<A>, TreeFault>
     ensures read { IfOk result (λ tree. TreeText bytes.now tree) }
     ensures fault { IfErr result (IsFaultOf bytes.now) }
@@ -52,21 +54,18 @@ fn tree_at<A: Allocator + Copy>(
     ensures fault { IfErr result (IsFaultOf bytes.now) }
 {
     let (attack, next) = move_at(bytes, at)?;
-    let mark = byte_at(bytes, next);
-    if mark == Some(b'#') {
-        return Ok((Tree::end(alloc, attack, End::Mate)?, next + 1));
+    match byte_at(bytes, next) {
+        Some(b'#') => Ok((Tree::end(alloc, attack, End::Mate)?, next + 1)),
+        Some(b'=') => Ok((Tree::end(alloc, attack, End::Stale)?, next + 1)),
+        Some(b'{') => {
+            if inside + 1 == DEEPEST {
+                return Err(TreeFault::Deep);
+            }
+            let (replies, end) = replies_at(alloc, bytes, next + 1, inside + 1)?;
+            Ok((Tree::node(alloc, attack, replies)?, end))
+        }
+        _ => Err(TreeFault::Grammar(next)),
     }
-    if mark == Some(b'=') {
-        return Ok((Tree::end(alloc, attack, End::Stale)?, next + 1));
-    }
-    if mark != Some(b'{') {
-        return Err(TreeFault::Grammar(next));
-    }
-    if inside + 1 == DEEPEST {
-        return Err(TreeFault::Deep);
-    }
-    let (replies, end) = replies_at(alloc, bytes, next + 1, inside + 1)?;
-    Ok((Tree::node(alloc, attack, replies)?, end))
 }
 
 // The replies at the offset, with their trees, inside so many open braces, and the offset after the last brace's end.
@@ -86,23 +85,21 @@ fn replies_at<A: Allocator + Copy>(
     let mut start = at;
     loop {
         let (reply, next) = move_at(bytes, start)?;
-        if byte_at(bytes, next) != Some(b':') {
+        let Some(b':') = byte_at(bytes, next) else {
             return Err(TreeFault::Grammar(next));
-        }
+        };
         let (below, end) = tree_at(alloc, bytes, next + 1, inside)?;
         replies.push((reply, below))?;
-        let mark = byte_at(bytes, end);
-        if mark == Some(b'}') {
-            return Ok((replies, end + 1));
+        match byte_at(bytes, end) {
+            Some(b'}') => return Ok((replies, end + 1)),
+            Some(b',') => start = end + 1,
+            _ => return Err(TreeFault::Grammar(end)),
         }
-        if mark != Some(b',') {
-            return Err(TreeFault::Grammar(end));
-        }
-        start = end + 1;
     }
 }
 
 // The move at the offset, and the offset of its end.
+#[tactic(auto, using(crate::proofs::MoveReads::leaves_move))]
 fn move_at(bytes: &[u8], at: usize) -> Result<(Move, usize), TreeFault>
     requires { at ≤ length bytes.now }
     ensures read { IfOk result (λ found. ReadsMove bytes.now at found.0 found.1) }

@@ -16,6 +16,7 @@ use moves::{Goal, Move, apply, in_check, is_lawful, lawful};
 use std::alloc::Allocator;
 
 /// How many plies the tree wins in for the side to move, if it wins.
+#[tactic(auto, using(crate::proofs::Forced::forced_for_mover))]
 pub fn check<A: Allocator>(position: &Position, tree: &Tree<A>, goal: Goal) -> Option<u8>
     // It wins exactly where the definition says so, in as many plies as its height.
     ensures wins { SomeIff result (Wins goal position.now tree.now) (height tree.now) }
@@ -127,6 +128,7 @@ fn agreeing<A: Allocator>(moves: &[Move], replies: &[(Move, Tree<A>)]) -> usize
 }
 
 /// Whether the reply is the move at this place of the list.
+#[tactic(auto, using(std::proofs::lemmas::Option::gets))]
 fn stands_at(moves: &[Move], i: usize, reply: Move) -> bool
     ensures { IsTrue result ↔ (slice_get moves.now i ≡ Some reply) }
 {
@@ -156,6 +158,7 @@ fn is_same(m: Move, other: Move) -> bool
 }
 
 /// Whether the line may end so.
+#[tactic(auto, using(crate::proofs::Endings::goes_on))]
 fn ends_at(position: &Position, end: End, goal: Goal) -> bool
     ensures { IsTrue result ↔ EndsAt goal position.now end }
 {

@@ -1,28 +1,7 @@
 use Rattle.std.proofs.Common.{◌+◌, slice_get, inl, inr, sym, ◌∙◌}
-use Rattle.std.proofs.lemmas.Result.{err_from_is_err_and}
-use Rattle.wintree.proofs.MoveReads.{leaves_0, leaves_1, leaves_2, leaves_3, four, read_ply, reads_move}
+use Rattle.wintree.proofs.MoveReads.{four, read_ply, reads_move}
 use Rattle.wintree.proofs.read.move_at.Goals as goal
 use Rattle.wintree.proofs.read.move_at.Goals.{then-is_some, else-is_some}
-
-pub returns-in_err-cell_at-clause-fault : goal.returns-in_err-cell_at-clause-fault
-returns-in_err-cell_at-clause-fault c =
-    let p = err_from_is_err_and c.from_residual.result c.from_residual.ensures.1 in
-    rw (p.1, p.2) (leaves_0 c.args.bytes.now c.args.at c.requires _ c.in_err-cell_at.ensures.fault)
-
-pub returns-in_err-cell_at-2-clause-fault : goal.returns-in_err-cell_at-2-clause-fault
-returns-in_err-cell_at-2-clause-fault c =
-    let p = err_from_is_err_and c.from_residual-in_err-cell_at-2.result c.from_residual-in_err-cell_at-2.ensures.1 in
-    rw (p.1, p.2) (leaves_1 c.args.bytes.now c.args.at c.requires _ c.in_ok-cell_at.ensures.read _ c.in_err-cell_at-2.ensures.fault)
-
-pub returns-in_err-cell_at-3-clause-fault : goal.returns-in_err-cell_at-3-clause-fault
-returns-in_err-cell_at-3-clause-fault c =
-    let p = err_from_is_err_and c.from_residual-in_err-cell_at-3.result c.from_residual-in_err-cell_at-3.ensures.1 in
-    rw (p.1, p.2) (leaves_2 c.args.bytes.now c.args.at c.requires _ c.in_ok-cell_at.ensures.read _ c.in_ok-cell_at-2.ensures.read _ c.in_err-cell_at-3.ensures.fault)
-
-pub returns-in_err-cell_at-4-clause-fault : goal.returns-in_err-cell_at-4-clause-fault
-returns-in_err-cell_at-4-clause-fault c =
-    let p = err_from_is_err_and c.from_residual-in_err-cell_at-4.result c.from_residual-in_err-cell_at-4.ensures.1 in
-    rw (p.1, p.2) (leaves_3 c.args.bytes.now c.args.at c.requires _ c.in_ok-cell_at.ensures.read _ c.in_ok-cell_at-2.ensures.read _ c.in_ok-cell_at-3.ensures.read _ c.in_err-cell_at-4.ensures.fault)
 
 pub returns-clause-read : goal.returns-clause-read
 returns-clause-read c =

@@ -1,6 +1,6 @@
 use Rattle.std.proofs.Common.{◌≡◌, [], ◌∷◌, length, sym, ◌∙◌, ap, subst, arith, refl}
 use Rattle.wintree.proofs.Common.{false≢true, ends, depth, plan_of, plan_after, Wins, IsFlaw, height}
-use Rattle.wintree.proofs.Lists.{opened, depth-plan_of}
+use Rattle.wintree.proofs.Lists.{opened}
 use Rattle.wintree.proofs.Heights.{height_limit, height-plan_of, depth_of_item}
 use Rattle.wintree.proofs.Winning.{wins_plan_of, wrong_ends, flaw_plan_of}
 use Rattle.wintree.proofs.Agreeing.{reply_at, stands}
@@ -9,8 +9,7 @@ use Rattle.wintree.proofs.wins.+checker.Goals as goal
 pub height_or_flaw-highest_or_flaw-requires : goal.height_or_flaw-highest_or_flaw-requires
 height_or_flaw-highest_or_flaw-requires g t c κs within =
     let node = opened _ _ _ _ _ _ c.tree.view_is c.tree.invariant.some c.deref.ensures c.in-Replies.is c.deref-in-Replies.ensures.value in
-    let deep = ap depth node.1 ∙ depth-plan_of c.tree.inside.attack _ node.0 in
-    (omega (arith, deep, c.decreases), (within, omega (arith, deep, ap depth c.tree.view_is, c.tree.invariant.depth_is, c.tree.invariant.limit)))
+    (omega (arith, node.2, c.decreases), (within, omega (arith, node.2, ap depth c.tree.view_is, c.tree.invariant.depth_is, c.tree.invariant.limit)))
 
 pub height_or_flaw-overflow_add-result : goal.height_or_flaw-overflow_add-result
 height_or_flaw-overflow_add-result g t c =
@@ -23,8 +22,7 @@ height_or_flaw-overflow_add-result g t c =
 pub height_or_flaw-behind-requires-in-Err : goal.height_or_flaw-behind-requires-in-Err
 height_or_flaw-behind-requires-in-Err g t c =
     let node = opened _ _ _ _ _ _ c.tree.view_is c.tree.invariant.some c.deref.ensures c.in-Replies.is c.deref-in-Replies.ensures.value in
-    let deep = ap depth node.1 ∙ depth-plan_of c.tree.inside.attack _ node.0 in
-    omega (arith, deep, ap depth c.tree.view_is, c.tree.invariant.depth_is, c.tree.invariant.limit, c.in-Err.ensures.short)
+    omega (arith, node.2, ap depth c.tree.view_is, c.tree.invariant.depth_is, c.tree.invariant.limit, c.in-Err.ensures.short)
 
 pub height_or_flaw-returns-else-ends_at-clause-flaw :
     goal.height_or_flaw-returns-else-ends_at-clause-flaw
@@ -57,8 +55,7 @@ height_or_flaw-returns-in-Err-clause-flaw g t c =
 pub height_or_flaw-returns-in-Err-clause-short : goal.height_or_flaw-returns-in-Err-clause-short
 height_or_flaw-returns-in-Err-clause-short g t c =
     let node = opened _ _ _ _ _ _ c.tree.view_is c.tree.invariant.some c.deref.ensures c.in-Replies.is c.deref-in-Replies.ensures.value in
-    let deep = ap depth node.1 ∙ depth-plan_of c.tree.inside.attack _ node.0 in
-    omega (arith, deep, ap length c.behind-in-Err.ensures.line, c.in-Err.ensures.short)
+    omega (arith, node.2, ap length c.behind-in-Err.ensures.line, c.in-Err.ensures.short)
 
 pub highest_or_flaw-apply-requires : goal.highest_or_flaw-apply-requires
 highest_or_flaw-apply-requires g t c =
