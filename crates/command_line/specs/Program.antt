@@ -55,9 +55,11 @@ tree_app = search_app (codes "tree") (text_rule (codes "first") [] ∷ [])
 abbrev pub certify_app : App
 certify_app = search_app (codes "certify") []
 
--- `solution [--set] [--tries] [--figurines] [--short] FEN`, and the options of a search
+-- `solution [--set] [--tries] [--figurines] [--short] [--json] FEN`, and the options of a search
 abbrev pub solution_app : App
-solution_app = search_app (codes "solution") (flag_rule (codes "set") ∷ flag_rule (codes "tries") ∷ flag_rule (codes "figurines") ∷ flag_rule (codes "short") ∷ [])
+solution_app =
+    search_app (codes "solution")
+    (flag_rule (codes "set") ∷ flag_rule (codes "tries") ∷ flag_rule (codes "figurines") ∷ flag_rule (codes "short") ∷ flag_rule (codes "json") ∷ [])
 
 -- `check [--goal GOAL] FEN`
 abbrev pub check_app : App

@@ -91,6 +91,7 @@ pub record HasSolutionOptions (rows : List Row) (options : SolutionOptions) : Ty
   pub tries : IsTrue options.tries ↔ IsGiven (codes "tries") rows
   pub figurines : IsTrue options.figurines ↔ IsGiven (codes "figurines") rows
   pub short : IsTrue options.short ↔ IsGiven (codes "short") rows
+  pub json : IsTrue options.json ↔ IsGiven (codes "json") rows
 
 -- what was found for the position and for the goal
 abbrev pub HasSubject : List Row → Subject → Type 0

@@ -139,7 +139,7 @@ More examples:
   minimate solution --mate 3 --short '2k3/6/6/2K3/6/5Q w'
   minimate solution --mate 2 --figurines 'k5/6/2K3/6/6/1R4 w'",
     searches: true,
-    own: &[FEN, SET, TRIES, FIGURINES, SHORT],
+    own: &[FEN, SET, TRIES, FIGURINES, SHORT, DATA],
 };
 
 pub const CHECK: Verb = Verb {
@@ -365,6 +365,16 @@ const SHORT: Argument = Argument {
     more: "\
 Tells the best line alone behind each reply to a key, in place of all
 that follows it.",
+};
+
+const DATA: Argument = Argument {
+    name: "json",
+    form: Form::Flag,
+    help: "Write the solution as a JSON object",
+    more: "\
+Writes the short form as a JSON object, with position, goal, plies,
+short, keys, set_play and tries, which are null where they aren't
+asked for. Moves are named by their squares.",
 };
 
 const SVG: Argument = Argument {

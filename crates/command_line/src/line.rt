@@ -31,6 +31,8 @@ pub struct SolutionOptions {
     pub figurines: bool,
     /// Whether one line stands behind each reply to a key, in place of all that follows.
     pub short: bool,
+    /// Whether the short form is written as JSON.
+    pub json: bool,
 }
 
 /// How the replies of a batch are written, and what is known of its input.

@@ -154,6 +154,7 @@ fn solution_options(values: &ArgMatches<'_>) -> SolutionOptions
         tries: is_given(values, "tries"),
         figurines: is_given(values, "figurines"),
         short: is_given(values, "short"),
+        json: is_given(values, "json"),
     }
 }
 

@@ -1,7 +1,8 @@
 -- What `solution` writes.
-use Rattle.std.specs.Prelude.{◌≡◌, ◌⊎◌, ◌≤◌, ◌+◌, ◌/◌, ℕ, nat_lt, List, Bool, true, false}
+use Rattle.std.specs.Prelude.{◌≡◌, ◌⊎◌, ◌≤◌, ◌+◌, ◌/◌, ℕ, nat_lt, List, Bool, true, false, if◌then◌else◌}
 use Rattle.std.specs.declared.alloc.Global.{Global}
 use Rattle.board.specs.Board.{PlainBoard}
+use Rattle.board.specs.Fen.{IsFenText}
 use Rattle.rules.specs.declared.goal.Goal.{Goal}
 use Rattle.problems.specs.Answer.{IsFewest, ForcesNothing}
 use Rattle.algebraic.specs.declared.naming.Notation.{Notation}
@@ -12,9 +13,12 @@ use Rattle.solutions.specs.declared.solution.Solution.{Solution}
 use Rattle.solutions.specs.Solutions.{IsSolution}
 use Rattle.solution_text.specs.Text.{IsSolutionText}
 use Rattle.solution_text.specs.WholeText.{IsWholeSolution}
+use Rattle.solution_text.specs.Data.{none_data, solution_data}
 use Rattle.command_line.specs.declared.line.Limits.{Limits}
 use Rattle.command_line.specs.declared.line.Subject.{Subject}
 use Rattle.command_line.specs.declared.line.SolutionOptions.{SolutionOptions}
+use Rattle.composing.specs.declared.problem.Form.{Form}
+use Rattle.composing.specs.declared.problem.Form.TheVariants.{Whole, Short, Data}
 use Rattle.refusals.specs.Reply.{Reply, answered}
 use Rattle.answer_texts.specs.Answers.{none_text}
 use Rattle.endings.specs.Outcome.{IsReplyAt}
@@ -38,21 +42,37 @@ symbols_of false = Letters
 abbrev pub notation_of : Goal → SolutionOptions → Notation
 notation_of goal options = record { symbols = symbols_of options.figurines; goal = goal }
 
--- the text is that of the solution of the position, in its short form or whole
-abbrev pub IsInForm : Bool → Goal → PlainBoard → SolutionOptions → Bool → List ℕ → Type 0
-IsInForm true goal b options sooner text =
+-- the form that is asked for
+abbrev pub form_of : SolutionOptions → Form
+form_of options = if options.json then Data else (if options.short then Short else Whole)
+
+-- the text is that of the solution of the position, whole, in its short form, or that as data behind the position's text
+abbrev pub IsInForm : Form → Goal → PlainBoard → SolutionOptions → Bool → List ℕ → Type 0
+IsInForm Whole goal b options sooner text = IsWholeSolution (symbols_of options.figurines) goal b (extras_of options sooner) text
+IsInForm Short goal b options sooner text =
     (solution : Solution Global) × IsSolution goal b (extras_of options sooner) solution × IsSolutionText (notation_of goal options) b sooner solution text
-IsInForm false goal b options sooner text = IsWholeSolution (symbols_of options.figurines) goal b (extras_of options sooner) text
+IsInForm Data goal b options sooner text =
+    (fen : List ℕ) × IsFenText fen b
+    × ((solution : Solution Global) × IsSolution goal b (extras_of options sooner) solution × (text ≡ solution_data fen goal sooner solution))
+
+-- the text says that nothing is forced within the limit
+abbrev pub SaysNone : Bool → Goal → PlainBoard → ℕ → List ℕ → Type 0
+SaysNone false goal b limit text = text ≡ none_text limit
+SaysNone true goal b limit text = (fen : List ℕ) × IsFenText fen b × (text ≡ none_data fen goal)
+
+-- it is shown that nothing is
+abbrev pub ShowsNoSolution : Bool → Goal → PlainBoard → ℕ → Reply → Type 0
+ShowsNoSolution json goal b limit reply = (text : List ℕ) × SaysNone json goal b limit text × (reply ≡ answered text)
 
 -- the text is that of the solution of the position, in the form that is asked for
 abbrev pub IsPublished : Goal → PlainBoard → SolutionOptions → Bool → List ℕ → Type 0
-IsPublished goal b options sooner text = IsInForm options.short goal b options sooner text
+IsPublished goal b options sooner text = IsInForm (form_of options) goal b options sooner text
 
 -- the solution, where the goal is forced in some number of plies up to the limit, or that it is in none
 abbrev pub ShowsPublished : Goal → PlainBoard → SolutionOptions → ℕ → Reply → Type 0
 ShowsPublished goal b options limit reply =
     ((plies : ℕ) × (plies ≤ limit) × IsFewest goal b plies × ((text : List ℕ) × IsPublished goal b options (is_sooner plies limit) text × (reply ≡ answered text)))
-    ⊎ (ForcesNothing goal b limit × (reply ≡ answered (none_text limit)))
+    ⊎ (ForcesNothing goal b limit × ShowsNoSolution options.json goal b limit reply)
 
 -- the same, or the refusal of the first value that is outside its limits
 abbrev pub ShowsSolution : Goal → PlainBoard → SolutionOptions → Limits → Reply → Type 0

@@ -4,10 +4,10 @@ ghost use Rattle.problems.specs.Answer.{IsFewest};
 ghost use Rattle.endings.specs.Outcome.{Gives};
 ghost use Rattle.problems.specs.Roots.{IsRoot};
 ghost use Rattle.searcher.specs.declared.halt.Halt.TheVariants.{Stopped};
-ghost use Rattle.composing.specs.Solution.{IsPublished, IsSolutionReply, ShowsSolution, is_sooner, notation_of};
+ghost use Rattle.composing.specs.Solution.{IsPublished, IsSolutionReply, ShowsNoSolution, ShowsSolution, form_of, is_sooner, notation_of};
 
 use algebraic::{Notation, Symbols};
-use board::Position;
+use board::{Position, fen_text};
 use command_line::{Limits, SolutionOptions, Subject};
 use decision::{Memory, Never, Scout};
 use moves::{Board, Goal, read_sound};
@@ -15,12 +15,34 @@ use problems::{Answer, Problem, Root};
 use refusals::Refusal;
 use replies::{Context, keys, none_line, search_of, searched_at};
 use searcher::{Decider, Halt, Searcher, Table};
-use solution_text::{solution_text, whole_solution};
+use solution_text::{none_data, solution_data, solution_text, whole_solution};
 use solutions::{Extras, solution_of};
 use std::alloc::{AllocError, Global};
 use std::sync::Wait;
 use std::thread::Threads;
 use std::time::Clock;
+
+/// How a solution is written.
+#[derive(Clone, Copy, PartialEq, Eq)]
+pub enum Form {
+    Whole,
+    /// One line behind each reply to a key.
+    Short,
+    /// The short form as data.
+    Data,
+}
+
+fn form_of(options: SolutionOptions) -> Form
+    ensures { result ≡ form_of options }
+{
+    if options.json {
+        Form::Data
+    } else if options.short {
+        Form::Short
+    } else {
+        Form::Whole
+    }
+}
 
 fn notation_of(goal: Goal, options: SolutionOptions) -> Notation
     ensures { result ≡ notation_of goal options }
@@ -52,14 +74,41 @@ fn form_text<D: Decider>(
         sooner,
     };
     let notation = notation_of(root.goal, options);
-    if !options.short {
-        return whole_solution(alloc, decider, root, notation.symbols, extras);
+    match form_of(options) {
+        Form::Whole => whole_solution(alloc, decider, root, notation.symbols, extras),
+        Form::Short => {
+            let solution = solution_of(alloc, decider, root, root.limit, extras)?;
+            match solution_text(alloc, notation, &root.board, sooner, &solution) {
+                Ok(text) => Ok(text),
+                Err(_) => Err(Halt::NoMemory),
+            }
+        }
+        Form::Data => {
+            let solution = solution_of(alloc, decider, root, root.limit, extras)?;
+            let fen = fen_text(&root.board.position());
+            match solution_data(alloc, fen.as_str(), root.goal, sooner, &solution) {
+                Ok(text) => Ok(text),
+                Err(_) => Err(Halt::NoMemory),
+            }
+        }
     }
-    let solution = solution_of(alloc, decider, root, root.limit, extras)?;
-    match solution_text(alloc, notation, &root.board, sooner, &solution) {
-        Ok(text) => Ok(text),
-        Err(_) => Err(Halt::NoMemory),
+}
+
+/// What is written where nothing is forced within the limit.
+fn none_written(
+    alloc: Global,
+    position: &Position,
+    goal: Goal,
+    limit: u8,
+    json: bool,
+) -> Result<Vec<u8>, Refusal>
+    ensures { Gives vec_items (ShowsNoSolution json goal position.now limit) result }
+{
+    if !json {
+        return none_line(alloc, limit);
     }
+    let fen = fen_text(position);
+    Ok(none_data(alloc, fen.as_str(), goal)?.into_bytes())
 }
 
 /// The text of the solution of a root whose limit is the fewest plies, by the table of what has found them.
@@ -135,7 +184,7 @@ fn solution_at<R: Threads + Wait + Eprint + Clock + Sync + AllocGlobal>(
             let sooner = is_sooner(plies, search_of(limits).limit);
             Ok(published(alloc, found.table, &root, options, sooner)?)
         }
-        Answer::NoneWithin(limit) => none_line(alloc, limit),
+        Answer::NoneWithin(limit) => none_written(alloc, position, goal, limit, options.json),
     }
 }
 

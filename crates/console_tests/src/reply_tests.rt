@@ -227,6 +227,8 @@ minimate,solution,--limit,2,--tries,k5/6/2K3/6/6/1R4 w||none within 2;
 minimate,solution,--mate,3,k5/6/2K3/6/6/1R4 w||mate in 2, short;1.Kc5! threat 2.Ra1#;  1...Ka5 2.Ra1#;
 minimate,solution,--limit,4,k5/6/2K3/6/6/1R4 w||mate in 2;1.Kc5! threat 2.Ra1#;  1...Ka5 2.Ra1#;
 minimate,solution,--mate,2,k4/2P2/1K3/5/5 w||mate in 1, short;1.c5=Q#!;1.c5=R#!;
+minimate,solution,--json,--set,--mate,2,k5/6/2K3/6/6/1R4 w||{\"position\":\"k5/6/2K3/6/6/1R4 w\",\"goal\":\"mate\",\"plies\":3,\"short\":false,\"keys\":[{\"first\":\"c4c5\",\"threats\":{\"plies\":1,\"moves\":[\"b1a1\"]},\"variations\":[{\"reply\":\"a6a5\",\"plies\":1,\"moves\":[\"b1a1\"],\"line\":[\"b1a1\"]}]}],\"set_play\":[],\"tries\":null};
+minimate,solution,--json,--limit,2,k5/6/2K3/6/6/1R4 w||{\"position\":\"k5/6/2K3/6/6/1R4 w\",\"goal\":\"mate\",\"plies\":null,\"short\":false,\"keys\":[],\"set_play\":null,\"tries\":null};
 minimate,solution,--mate,3,2k2/5/5/2K2/4R w||mate in 3;1.Kc3! threat 2.Re5#;  1...Kb5 2.Ra1 zugzwang;    2...Kc5 3.Ra5#;  1...Kd5 2.Re2 zugzwang, dual 2.Re3;    2...Kc5 3.Re5#;
 minimate,solution,--mate,3,--short,2k2/5/5/2K2/4R w||mate in 3;1.Kc3! threat 2.Re5#;  1...Kb5 2.Ra1 Kc5 3.Ra5#;  1...Kd5 2.Re2 Kc5 3.Re5#, dual 2.Re3;
 minimate,solution,--mate,2,--short,k5/6/2K3/6/6/1R4 w||mate in 2;1.Kc5! threat 2.Ra1#;  1...Ka5 2.Ra1#;",

@@ -1,5 +1,6 @@
 -- to be believed
 pub mod Text
 pub mod WholeText
+pub mod Data
 -- inside
 pub mod Telling

@@ -2,6 +2,7 @@
 #![tactic(auto)]
 
 mod broken;
+mod data;
 mod keys;
 mod lines;
 mod sequels;
@@ -12,5 +13,6 @@ mod virtual_play;
 mod whole;
 mod whole_lines;
 
+pub use data::{none_data, solution_data};
 pub use whole::solution_text;
 pub use whole_lines::whole_solution;

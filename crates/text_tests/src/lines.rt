@@ -173,13 +173,14 @@ fn reads_a_solution(rt: HostRuntime) {
         FEN,
         "--tries",
         "--figurines",
+        "--json",
     ];
     match read_order(rt.alloc(), &words) {
         Ok(Order::Solution(subject, limits, telling)) => {
             assert_eq!(rt; subject.fen, FEN.as_bytes());
             assert!(rt; subject.goal == Goal::Mate);
             assert_eq!(rt; limits.limit, 3);
-            assert!(rt; telling.tries && telling.figurines);
+            assert!(rt; telling.tries && telling.figurines && telling.json);
             assert!(rt; !telling.set_play && !telling.short);
         }
         _ => panic!(rt; "no solution"),
