@@ -31,23 +31,23 @@ abbrev pub threats_data : {A : Type 0} → Threats A → List ℕ
 threats_data End = codes "\"end\""
 threats_data Check = codes "\"check\""
 threats_data Zugzwang = codes "\"zugzwang\""
-threats_data (Moves plies moves) = codes "{\"plies\":" ++ (decimal plies ++ (codes ",\"moves\":" ++ (array_of move_data moves.items ++ codes "}")))
+threats_data (Moves plies moves) = codes "{\"plies\":" ++ (decimal plies ++ (codes ",\"moves\":[" ++ (parted move_data moves.items ++ codes "]}")))
 
 -- a reply, the plies behind it, all continuations and the best line
 abbrev pub variation_data : {A : Type 0} → Variation A → List ℕ
 variation_data v =
-    codes "{\"reply\":" ++ (move_data v.reply ++ (codes ",\"plies\":" ++ (decimal v.plies ++ (codes ",\"moves\":" ++ (array_of move_data v.moves.items
-    ++ (codes ",\"line\":" ++ (array_of move_data v.line.items ++ codes "}")))))))
+    codes "{\"reply\":\"" ++ (move_text v.reply ++ (codes "\",\"plies\":" ++ (decimal v.plies ++ (codes ",\"moves\":[" ++ (parted move_data v.moves.items
+    ++ (codes "],\"line\":[" ++ (parted move_data v.line.items ++ codes "]}")))))))
 
 -- a key, what it threatens and its variations
 abbrev pub key_data : {A : Type 0} → KeyPlay A → List ℕ
 key_data k =
-    codes "{\"first\":" ++ (move_data k.first ++ (codes ",\"threats\":" ++ (threats_data k.threats
-    ++ (codes ",\"variations\":" ++ (array_of variation_data k.variations.items ++ codes "}")))))
+    codes "{\"first\":\"" ++ (move_text k.first ++ (codes "\",\"threats\":" ++ (threats_data k.threats
+    ++ (codes ",\"variations\":[" ++ (parted variation_data k.variations.items ++ codes "]}")))))
 
 -- a try and the reply that refutes it
 abbrev pub try_data : Try → List ℕ
-try_data t = codes "{\"first\":" ++ (move_data t.first ++ (codes ",\"refutation\":" ++ (move_data t.refutation ++ codes "}")))
+try_data t = codes "{\"first\":\"" ++ (move_text t.first ++ (codes "\",\"refutation\":\"" ++ (move_text t.refutation ++ codes "\"}")))
 
 -- what was asked for, or null
 abbrev pub data_if_asked : {X : Type 0} → (X → List ℕ) → Option X → List ℕ
@@ -56,12 +56,12 @@ data_if_asked text (Some x) = text x
 
 -- the goal's word
 abbrev pub goal_data : Goal → List ℕ
-goal_data goal.Mate = codes "\"mate\""
-goal_data goal.MateOrStale = codes "\"stale\""
+goal_data goal.Mate = codes "mate"
+goal_data goal.MateOrStale = codes "stale"
 
 -- the position's text and the goal
 abbrev pub problem_data : List ℕ → Goal → List ℕ
-problem_data fen goal = codes "{\"position\":\"" ++ (fen ++ (codes "\",\"goal\":" ++ goal_data goal))
+problem_data fen goal = codes "{\"position\":\"" ++ (fen ++ (codes "\",\"goal\":\"" ++ (goal_data goal ++ codes "\"")))
 
 -- whether the problem is short
 abbrev pub short_data : Bool → List ℕ
@@ -71,8 +71,8 @@ short_data false = codes ",\"short\":false"
 -- the fewest plies, whether the problem is short, the keys, and the set play and the tries where they were asked for
 abbrev pub solution_data : {A : Type 0} → List ℕ → Goal → Bool → Solution A → List ℕ
 solution_data fen goal sooner s =
-    problem_data fen goal ++ (codes ",\"plies\":" ++ (decimal s.plies ++ (short_data sooner ++ (codes ",\"keys\":" ++ (array_of key_data s.keys.items
-    ++ (codes ",\"set_play\":" ++ (data_if_asked (λ list. array_of variation_data list.items) s.set_play
+    problem_data fen goal ++ (codes ",\"plies\":" ++ (decimal s.plies ++ (short_data sooner ++ (codes ",\"keys\":[" ++ (parted key_data s.keys.items
+    ++ (codes "],\"set_play\":" ++ (data_if_asked (λ list. array_of variation_data list.items) s.set_play
     ++ (codes ",\"tries\":" ++ (data_if_asked (λ list. array_of try_data list.items) s.tries ++ codes "}\n")))))))))
 
 -- that nothing is forced
