@@ -1,7 +1,8 @@
 -- A solution, from what its parts give.
-use Rattle.std.proofs.Common.{◌≡◌, ◌≤◌, ℕ, Bool, true, false, List, None, Result, Vec, inl, refl, subst, sym, vec_items}
+use Rattle.std.proofs.Common.{◌≡◌, ◌≤◌, ℕ, Bool, false, List, None, Result, Vec, inl, refl, subst, sym, vec_items}
 use Rattle.std.specs.declared.alloc.Global.{Global}
 use Rattle.board.specs.Board.{PlainBoard}
+use Rattle.board.specs.Fen.{IsFenText}
 use Rattle.rules.specs.declared.goal.Goal.{Goal}
 use Rattle.problems.specs.Answer.{IsFewest}
 use Rattle.command_line.specs.declared.line.Limits.{Limits}
@@ -16,23 +17,39 @@ use Rattle.solutions.specs.declared.solution.Solution.{Solution}
 use Rattle.solutions.specs.Solutions.{IsSolution}
 use Rattle.solution_text.specs.Text.{IsSolutionText}
 use Rattle.solution_text.specs.WholeText.{IsWholeSolution}
-use Rattle.composing.specs.Solution.{IsInForm, IsPublished, IsSolutionReply, ShowsSolution, extras_of, is_sooner, notation_of}
+use Rattle.solution_text.specs.Data.{solution_data}
+use Rattle.answer_texts.specs.Answers.{none_text}
+use Rattle.composing.specs.declared.problem.Form.{Form}
+use Rattle.composing.specs.declared.problem.Form.TheVariants.{Whole, Short, Data}
+use Rattle.composing.specs.Solution.{IsInForm, IsPublished, IsSolutionReply, SaysNone, ShowsNoSolution, ShowsSolution, extras_of, form_of, is_sooner, notation_of}
 use Rattle.replies.proofs.ReplyLemmas.{gives_weaker}
 
--- the short form is published where it is asked for
-pub short_text : (goal : Goal) (b : PlainBoard) (options : SolutionOptions) (sooner : Bool) (notation : Notation) (solution : Solution Global) (text : List ℕ)
-    → options.short ≡ true → IsSolution goal b (extras_of options sooner) solution → notation ≡ notation_of goal options
-    → IsSolutionText notation b sooner solution text → IsPublished goal b options sooner text
-short_text goal b options sooner notation solution text short is same_notation is_text =
-    subst (λ (s : Bool). IsInForm s goal b options sooner text) (sym short) (solution, is, subst (λ n. IsSolutionText n b sooner solution text) same_notation is_text)
+module _ (goal : Goal) (b : PlainBoard) (options : SolutionOptions) (sooner : Bool) where
+  -- what is in the form that is asked for is published
+  in_form : (form : Form) (text : List ℕ) → form_of options ≡ form → IsInForm form goal b options sooner text → IsPublished goal b options sooner text
+  in_form form text same is = subst (λ f. IsInForm f goal b options sooner text) (sym same) is
 
--- and else the whole solution
-pub whole_text : (goal : Goal) (b : PlainBoard) (options : SolutionOptions) (sooner : Bool) (notation : Notation) (text : List ℕ)
-    → options.short ≡ false → notation ≡ notation_of goal options → IsWholeSolution notation.symbols goal b (extras_of options sooner) text
-    → IsPublished goal b options sooner text
-whole_text goal b options sooner notation text whole same_notation is =
-    subst (λ (s : Bool). IsInForm s goal b options sooner text) (sym whole)
-    (subst (λ (n : Notation). IsWholeSolution n.symbols goal b (extras_of options sooner) text) same_notation is)
+  pub whole_text : (notation : Notation) (text : List ℕ) → form_of options ≡ Whole → notation ≡ notation_of goal options
+      → IsWholeSolution notation.symbols goal b (extras_of options sooner) text → IsPublished goal b options sooner text
+  whole_text notation text same same_notation is =
+      in_form Whole text same (subst (λ (n : Notation). IsWholeSolution n.symbols goal b (extras_of options sooner) text) same_notation is)
+
+  pub short_text : (notation : Notation) (solution : Solution Global) (text : List ℕ) → form_of options ≡ Short
+      → IsSolution goal b (extras_of options sooner) solution → notation ≡ notation_of goal options → IsSolutionText notation b sooner solution text
+      → IsPublished goal b options sooner text
+  short_text notation solution text same is same_notation is_text =
+      in_form Short text same (solution, is, subst (λ n. IsSolutionText n b sooner solution text) same_notation is_text)
+
+  pub data_text : (fen : List ℕ) (solution : Solution Global) (text : List ℕ) → form_of options ≡ Data → IsFenText fen b
+      → IsSolution goal b (extras_of options sooner) solution → text ≡ solution_data fen goal sooner solution → IsPublished goal b options sooner text
+  data_text fen solution text same is_fen is is_text = in_form Data text same (fen, is_fen, (solution, is, is_text))
+
+-- that nothing is forced, as text or as data
+pub plain_none : (json : Bool) (goal : Goal) (b : PlainBoard) (limit : ℕ) (r : Result (Vec ℕ Global) Refusal) → json ≡ false
+    → Gives vec_items (λ reply. reply ≡ answered (none_text limit)) r → Gives vec_items (ShowsNoSolution json goal b limit) r
+plain_none json goal b limit r plain gives =
+    gives_weaker vec_items (λ reply. reply ≡ answered (none_text limit)) (ShowsNoSolution json goal b limit) r
+    (λ reply is. (none_text limit, subst (λ (j : Bool). SaysNone j goal b limit (none_text limit)) (sym plain) refl, is)) gives
 
 -- the solution is shown
 pub published_shown : (goal : Goal) (b : PlainBoard) (options : SolutionOptions) (limits : Limits) (plies : ℕ) (text : List ℕ) → fault_of limits ≡ None → plies ≤ limits.limit
