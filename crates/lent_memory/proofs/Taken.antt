@@ -5,7 +5,7 @@ use mir.Syntax.{Ty, Width, w8, w16, w32, w64, w128}
 use mir.Val.{Val, vcons, vnil, of_list, bytes}
 use base.Logic.{ent, sep, never, id⊢}
 use base.Fml.{fwand, froom}
-use prog.Region.{size, capped}
+use prog.Memory.{size, capped}
 use prog.Align.{Dv, align_w, align-bytes}
 use prog.Capped.{capped_is, capped_small}
 use types.Logic.{Logic, sem}

@@ -4,7 +4,7 @@ use mir.Syntax.{Ty, Fn}
 use mir.Val.{Val, vint, vptr}
 use base.Logic.{SProp, ent, id⊢}
 use base.Fml.{froom}
-use prog.Region.{size, align, capped}
+use prog.Memory.{size, align, capped}
 use prog.Wp.{Env, WpFn}
 use contract.Monad.{fact}
 use contract.Running.{tables}

@@ -4,7 +4,7 @@ use mir.Syntax.{Ty, Fn}
 use mir.Val.{Val, vint, vptr, vunit}
 use base.Logic.{SProp, emp, id⊢, apply∗}
 use base.Fml.{ftrue}
-use prog.Region.{size, align, capped}
+use prog.Memory.{size, align, capped}
 use prog.Wp.{Env, WpFn}
 use contract.Monad.{fact, fact_i}
 use contract.Running.{tables}
