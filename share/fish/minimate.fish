@@ -45,6 +45,7 @@ complete -c minimate -n '__fish_seen_subcommand_from solution' -l set -d 'Tells 
 complete -c minimate -n '__fish_seen_subcommand_from solution' -l tries -d 'Tells the tries too'
 complete -c minimate -n '__fish_seen_subcommand_from solution' -l figurines -d 'Names units by figurines in place of the letters K Q R B N'
 complete -c minimate -n '__fish_seen_subcommand_from solution' -l short -d 'Tells the best line alone behind each reply to a key'
+complete -c minimate -n '__fish_seen_subcommand_from solution' -l json -d 'Writes the short form as a JSON object'
 complete -c minimate -n '__fish_seen_subcommand_from solution' -l help -d 'Print help (see a summary with -h)'
 complete -c minimate -n '__fish_seen_subcommand_from check' -l goal -x -a 'mate stale' -d 'What the attacker plays for'
 complete -c minimate -n '__fish_seen_subcommand_from check' -l help -d 'Print help (see a summary with -h)'
