@@ -1,1 +1,2 @@
 pub mod DrawingLemmas
+pub mod EscapeLemmas

@@ -1,5 +1,5 @@
--- A diagram as a picture in Scalable Vector Graphics, made of shapes alone, on white paper.
-use Rattle.std.specs.Prelude.{ℕ, ◌+◌, ◌*◌, ◌%◌, ◌==◌, List, [], ◌++◌, Option, None, Some, IfSome, codes, if◌then◌else◌}
+-- A diagram as a picture in Scalable Vector Graphics, made of shapes alone, on white paper. A caption alone is text, which needs a font.
+use Rattle.std.specs.Prelude.{ℕ, ◌+◌, ◌*◌, ◌%◌, ◌==◌, List, [], ◌∷◌, ◌++◌, Option, None, Some, IfSome, codes, if◌then◌else◌}
 use Rattle.std.specs.List.{flat_map, range_with_len}
 use Rattle.std.specs.Fmt.{decimal}
 use Rattle.board.specs.declared.game.Side.{Side}
@@ -130,15 +130,22 @@ abbrev pub arrow_picture : View → Ply → List ℕ
 arrow_picture v m = arrow_between (middle_x v m.from) (middle_y v m.from) (middle_x v m.to) (middle_y v m.to)
 
 -- the head of the file: how wide and high it is
-abbrev pub head : ℕ → List ℕ
-head side =
-    codes "<?xml version=\"1.0\" encoding=\"UTF-8\"?>\n<svg xmlns=\"http://www.w3.org/2000/svg\" width=\"" ++ (decimal side ++ (codes "\" height=\"" ++ (decimal side
-    ++ (codes "\" viewBox=\"0 0 " ++ (decimal side ++ (codes " " ++ (decimal side ++ codes "\" role=\"img\">\n")))))))
+abbrev pub sized_head : ℕ → ℕ → List ℕ
+sized_head wide high =
+    codes "<?xml version=\"1.0\" encoding=\"UTF-8\"?>\n<svg xmlns=\"http://www.w3.org/2000/svg\" width=\"" ++ (decimal wide ++ (codes "\" height=\"" ++ (decimal high
+    ++ (codes "\" viewBox=\"0 0 " ++ (decimal wide ++ (codes " " ++ (decimal high ++ codes "\" role=\"img\">\n")))))))
 
 -- who moves, for who hears a picture, and the paper
+abbrev pub sized_paper : ℕ → ℕ → List ℕ → List ℕ
+sized_paper wide high mover =
+    codes "<title>" ++ (mover ++ (codes "</title>\n<path d=\"M0 0h" ++ (decimal wide ++ (codes "v" ++ (decimal high ++ codes "H0z\" fill=\"#fff\"/>\n")))))
+
+-- both of a picture that is as high as wide
+abbrev pub head : ℕ → List ℕ
+head side = sized_head side side
+
 abbrev pub paper : ℕ → List ℕ → List ℕ
-paper side mover =
-    codes "<title>" ++ (mover ++ (codes "</title>\n<path d=\"M0 0h" ++ (decimal side ++ (codes "v" ++ (decimal side ++ codes "H0z\" fill=\"#fff\"/>\n")))))
+paper side mover = sized_paper side side mover
 
 -- the line around a board of this width and height
 abbrev pub frame : ℕ → List ℕ
@@ -154,3 +161,29 @@ abbrev pub picture : View → Option Ply → List ℕ
 picture v arrow =
     head (48 + 100 * width v) ++ (paper (48 + 100 * width v) (mover_drawn v.board.mover) ++ (rows_picture v ++ (frame (100 * width v)
     ++ (all_signs_picture v ++ (mover_mark (100 * width v) v.board.mover ++ (picture_of (arrow_picture v) arrow ++ codes "</svg>\n"))))))
+
+-- a byte of a text in XML: `&`, `<` and `>` stand there by name
+abbrev pub escaped_byte : ℕ → List ℕ
+escaped_byte b = if b == 38 then codes "&amp;" else (if b == 60 then codes "&lt;" else (if b == 62 then codes "&gt;" else b ∷ []))
+
+-- a text in XML
+abbrev pub escaped : List ℕ → List ℕ
+escaped text = flat_map escaped_byte text
+
+-- below a board of this width two texts, one from its left edge on, and one up to its right edge
+abbrev pub caption : ℕ → List ℕ → List ℕ → List ℕ
+caption side left right =
+    codes "<g font-family=\"serif\" font-size=\"28\" fill=\"#23251f\"><text x=\"44\" y=\"" ++ (decimal (74 + side) ++ (codes "\">" ++ (left
+    ++ (codes "</text><text x=\"" ++ (decimal (44 + side) ++ (codes "\" y=\"" ++ (decimal (74 + side) ++ (codes "\" text-anchor=\"end\">" ++ (right
+    ++ codes "</text></g>\n")))))))))
+
+-- a picture of this height, and what is below its board
+abbrev pub picture_with : View → Option Ply → ℕ → List ℕ → List ℕ
+picture_with v arrow high below =
+    sized_head (48 + 100 * width v) high ++ (sized_paper (48 + 100 * width v) high (mover_drawn v.board.mover) ++ (rows_picture v ++ (frame (100 * width v)
+    ++ (all_signs_picture v ++ (mover_mark (100 * width v) v.board.mover ++ (picture_of (arrow_picture v) arrow ++ (below ++ codes "</svg>\n")))))))
+
+-- `picture`, 40 higher, with a stipulation and keys below the board
+abbrev pub captioned_picture : View → Option Ply → List ℕ → List ℕ → List ℕ
+captioned_picture v arrow stipulation keys =
+    picture_with v arrow (88 + 100 * width v) (caption (100 * width v) (escaped stipulation) (escaped keys))

@@ -1,6 +1,7 @@
 //! Diagrams of positions: as text, and as pictures that stand alone.
 #![tactic(auto)]
 
+mod caption;
 mod diagram;
 mod drawing;
 mod place;
@@ -12,4 +13,4 @@ mod svg;
 pub use diagram::Diagram;
 pub use drawing::board_drawn;
 pub use style::Style;
-pub use svg::svg_of;
+pub use svg::{captioned_svg, svg_of};

@@ -1,9 +1,10 @@
 //! A diagram as a picture in Scalable Vector Graphics.
-ghost use Rattle.std.specs.Prelude.{◌≡◌, ℕ, ◌++◌, ◌<◌, ◌≤◌, List, IfOk, OnOk, string_bytes};
+ghost use Rattle.std.specs.Prelude.{◌≡◌, ℕ, ◌*◌, ◌++◌, ◌<◌, ◌≤◌, List, IfOk, OnOk, string_bytes};
 ghost use Rattle.board.specs.Games.{width_of};
 ghost use Rattle.rules.specs.Squares.{IsOnBoard};
-ghost use Rattle.diagrams.specs.Pictures.{view_of, width, row_picture, rows_picture, sign_picture, rank_picture, file_picture, all_signs_picture, middle_x, middle_y, AreOnBoard, arrow_between, arrow_picture, picture_of, head, paper, frame, mover_mark, picture};
+ghost use Rattle.diagrams.specs.Pictures.{view_of, width, row_picture, rows_picture, sign_picture, rank_picture, file_picture, all_signs_picture, middle_x, middle_y, AreOnBoard, arrow_between, arrow_picture, picture_of, sized_head, sized_paper, frame, mover_mark, picture, picture_with, captioned_picture};
 
+use crate::caption::{caption, escaped};
 use crate::diagram::Diagram;
 use crate::drawing::mover_drawn;
 use crate::place::{column_of, row_of};
@@ -13,6 +14,14 @@ use board::Side;
 use moves::{Move, Square};
 use std::alloc::{AllocError, Global};
 use std::fmt::Write;
+
+/// How wide and high the board is.
+fn board_side(diagram: &Diagram<'_>) -> u16
+    ensures value { result ≡ 100 * width (view_of diagram.now) }
+    ensures at_most { result ≤ 600 }
+{
+    100 * u16::from(diagram.position.game().width())
+}
 
 fn draw_row(text: &mut String, diagram: &Diagram<'_>, row: u8) -> Result<(), AllocError>
     requires { row < width (view_of diagram.now) }
@@ -56,10 +65,13 @@ fn draw_file(text: &mut String, diagram: &Diagram<'_>, column: u8) -> Result<(),
     requires { column < width (view_of diagram.now) }
     ensures { OnOk result (string_bytes text.new ≡ string_bytes text.old ++ file_picture (view_of diagram.now) column) }
 {
-    let game = diagram.position.game();
-    let sign = file_sign(column_of(game, diagram.below, column));
-    let below = 9 + 100 * u16::from(game.width());
-    draw_sign(text, 79 + 100 * u16::from(column), below, sign)
+    let sign = file_sign(column_of(diagram.position.game(), diagram.below, column));
+    draw_sign(
+        text,
+        79 + 100 * u16::from(column),
+        9 + board_side(diagram),
+        sign,
+    )
 }
 
 fn draw_signs(text: &mut String, diagram: &Diagram<'_>) -> Result<(), AllocError>
@@ -118,21 +130,21 @@ fn draw_arrow_of(text: &mut String, diagram: &Diagram<'_>) -> Result<(), AllocEr
     Ok(())
 }
 
-fn draw_head(text: &mut String, side: u16) -> Result<(), AllocError>
-    ensures { OnOk result (string_bytes text.new ≡ string_bytes text.old ++ head side) }
+fn draw_head(text: &mut String, wide: u16, high: u16) -> Result<(), AllocError>
+    ensures { OnOk result (string_bytes text.new ≡ string_bytes text.old ++ sized_head wide high) }
 {
     write!(
         text,
-        "<?xml version=\"1.0\" encoding=\"UTF-8\"?>\n<svg xmlns=\"http://www.w3.org/2000/svg\" width=\"{side}\" height=\"{side}\" viewBox=\"0 0 {side} {side}\" role=\"img\">\n"
+        "<?xml version=\"1.0\" encoding=\"UTF-8\"?>\n<svg xmlns=\"http://www.w3.org/2000/svg\" width=\"{wide}\" height=\"{high}\" viewBox=\"0 0 {wide} {high}\" role=\"img\">\n"
     )
 }
 
-fn draw_paper(text: &mut String, side: u16, mover: &str) -> Result<(), AllocError>
-    ensures { OnOk result (string_bytes text.new ≡ string_bytes text.old ++ paper side mover.now) }
+fn draw_paper(text: &mut String, wide: u16, high: u16, mover: &str) -> Result<(), AllocError>
+    ensures { OnOk result (string_bytes text.new ≡ string_bytes text.old ++ sized_paper wide high mover.now) }
 {
     write!(
         text,
-        "<title>{mover}</title>\n<path d=\"M0 0h{side}v{side}H0z\" fill=\"#fff\"/>\n"
+        "<title>{mover}</title>\n<path d=\"M0 0h{wide}v{high}H0z\" fill=\"#fff\"/>\n"
     )
 }
 
@@ -161,22 +173,48 @@ fn draw_mover(text: &mut String, side: u16, mover: Side) -> Result<(), AllocErro
     }
 }
 
-/// The diagram as the text of a file that stands alone, of shapes and no fonts.
-pub fn svg_of(alloc: Global, diagram: &Diagram<'_>) -> Result<String, AllocError>
+/// Draws a picture of this height, and what is below its board.
+fn drawn(alloc: Global, diagram: &Diagram<'_>, high: u16, below: &str) -> Result<String, AllocError>
     requires { AreOnBoard (view_of diagram.now) diagram.now.arrow }
-    ensures { IfOk result (λ text. string_bytes text ≡ picture (view_of diagram.now) diagram.now.arrow) }
+    ensures { IfOk result (λ text. string_bytes text ≡ picture_with (view_of diagram.now) diagram.now.arrow high below.now) }
 {
     let mut text = String::new(alloc);
-    let position = diagram.position;
-    let side = 100 * u16::from(position.game().width());
-    let mover = position.mover();
-    draw_head(&mut text, 48 + side)?;
-    draw_paper(&mut text, 48 + side, mover_drawn(mover))?;
+    let side = board_side(diagram);
+    let mover = diagram.position.mover();
+    draw_head(&mut text, 48 + side, high)?;
+    draw_paper(&mut text, 48 + side, high, mover_drawn(mover))?;
     draw_rows(&mut text, diagram)?;
     draw_frame(&mut text, side)?;
     draw_signs(&mut text, diagram)?;
     draw_mover(&mut text, side, mover)?;
     draw_arrow_of(&mut text, diagram)?;
+    text.push_str(below)?;
     text.push_str("</svg>\n")?;
     Ok(text)
+}
+
+/// The diagram as the text of a file that stands alone, of shapes and no fonts.
+pub fn svg_of(alloc: Global, diagram: &Diagram<'_>) -> Result<String, AllocError>
+    requires { AreOnBoard (view_of diagram.now) diagram.now.arrow }
+    ensures { IfOk result (λ text. string_bytes text ≡ picture (view_of diagram.now) diagram.now.arrow) }
+{
+    drawn(alloc, diagram, 48 + board_side(diagram), "")
+}
+
+/// The same with a line below the board: a stipulation at its left, and keys at its right. These are text, and need a font.
+pub fn captioned_svg(
+    alloc: Global,
+    diagram: &Diagram<'_>,
+    stipulation: &str,
+    keys: &str,
+) -> Result<String, AllocError>
+    requires { AreOnBoard (view_of diagram.now) diagram.now.arrow }
+    ensures { IfOk result (λ text. string_bytes text
+        ≡ captioned_picture (view_of diagram.now) diagram.now.arrow stipulation.now keys.now) }
+{
+    let side = board_side(diagram);
+    let stipulation = escaped(alloc, stipulation)?;
+    let keys = escaped(alloc, keys)?;
+    let caption = caption(alloc, side, stipulation.as_str(), keys.as_str())?;
+    drawn(alloc, diagram, 88 + side, caption.as_str())
 }
