@@ -11,7 +11,7 @@ use crate::place::{column_of, row_of};
 use crate::shapes::{file_sign, rank_sign};
 use crate::square::draw_square;
 use board::Side;
-use moves::{Move, Square};
+use moves::Square;
 use std::alloc::{AllocError, Global};
 use std::fmt::Write;
 
@@ -84,20 +84,16 @@ fn draw_signs(text: &mut String, diagram: &Diagram<'_>) -> Result<(), AllocError
     Ok(())
 }
 
-/// How far the middle of a square is from the left.
-fn middle_x(diagram: &Diagram<'_>, square: Square) -> u16
+/// How far the middle of a square is from the left, and from above.
+fn middle(diagram: &Diagram<'_>, square: Square) -> (u16, u16)
     requires { IsOnBoard diagram.now.position.now.game square }
-    ensures { result ≡ middle_x (view_of diagram.now) square }
+    ensures x { result.0 ≡ middle_x (view_of diagram.now) square }
+    ensures y { result.1 ≡ middle_y (view_of diagram.now) square }
 {
-    94 + 100 * u16::from(column_of(diagram.position.game(), diagram.below, square.file))
-}
-
-/// How far it is from above.
-fn middle_y(diagram: &Diagram<'_>, square: Square) -> u16
-    requires { IsOnBoard diagram.now.position.now.game square }
-    ensures { result ≡ middle_y (view_of diagram.now) square }
-{
-    54 + 100 * u16::from(row_of(diagram.position.game(), diagram.below, square.rank))
+    let game = diagram.position.game();
+    let column = column_of(game, diagram.below, square.file);
+    let row = row_of(game, diagram.below, square.rank);
+    (94 + 100 * u16::from(column), 54 + 100 * u16::from(row))
 }
 
 fn draw_arrow(text: &mut String, x: u16, y: u16, to_x: u16, to_y: u16) -> Result<(), AllocError>
@@ -109,23 +105,15 @@ fn draw_arrow(text: &mut String, x: u16, y: u16, to_x: u16, to_y: u16) -> Result
     )
 }
 
-fn draw_move(text: &mut String, diagram: &Diagram<'_>, m: Move) -> Result<(), AllocError>
-    requires from { IsOnBoard diagram.now.position.now.game m.from }
-    requires to { IsOnBoard diagram.now.position.now.game m.to }
-    ensures { OnOk result (string_bytes text.new ≡ string_bytes text.old ++ arrow_picture (view_of diagram.now) m) }
-{
-    let (x, y) = (middle_x(diagram, m.from), middle_y(diagram, m.from));
-    let (to_x, to_y) = (middle_x(diagram, m.to), middle_y(diagram, m.to));
-    draw_arrow(text, x, y, to_x, to_y)
-}
-
 fn draw_arrow_of(text: &mut String, diagram: &Diagram<'_>) -> Result<(), AllocError>
     requires { AreOnBoard (view_of diagram.now) diagram.now.arrow }
     ensures { OnOk result (string_bytes text.new
         ≡ string_bytes text.old ++ picture_of (arrow_picture (view_of diagram.now)) diagram.now.arrow) }
 {
     if let Some(m) = diagram.arrow {
-        draw_move(text, diagram, m)?;
+        let (x, y) = middle(diagram, m.from);
+        let (to_x, to_y) = middle(diagram, m.to);
+        draw_arrow(text, x, y, to_x, to_y)?;
     }
     Ok(())
 }
