@@ -22,11 +22,11 @@ RefutesOnce goal q n xs (Some r) = Contains xs r × Refutes goal q n r × ((s : 
 
 module _ (goal : Goal) (q : PlainBoard) (n : ℕ) where
   -- a reply that is met doesn't refute
-  met_not : (r : Ply) → IsMet goal q n r → Refutes goal q n r → ⊥
+  pub met_not : (r : Ply) → IsMet goal q n r → Refutes goal q n r → ⊥
   met_not r met refutes = refutes.2 (met_here goal q r refutes.0 refutes.1 n met)
 
   -- a lawful reply that isn't met does
-  not_met : (r : Ply) → IsLawful q r → (IsMet goal q n r → ⊥) → Refutes goal q n r
+  pub not_met : (r : Ply) → IsLawful q r → (IsMet goal q n r → ⊥) → Refutes goal q n r
   not_met r lawful not = (lawful.0, lawful.1, λ f. not (lawful.0, lawful.1, f))
 
   module _ (xs : List Ply) (lists : ListsLawful q xs) where

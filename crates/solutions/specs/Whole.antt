@@ -4,14 +4,14 @@ use Rattle.board.specs.Board.{PlainBoard}
 use Rattle.rules.specs.declared.goal.Goal.{Goal}
 use Rattle.rules.specs.Squares.{Ply}
 use Rattle.rules.specs.Reach.{IsSound}
-use Rattle.rules.specs.Moves.{IsMove}
+use Rattle.rules.specs.Moves.{IsMove, IsLawful, IsStalemated}
 use Rattle.rules.specs.Order.{ListsLawful}
 use Rattle.rules.specs.Forces.{IsReached}
-use Rattle.problems.specs.Answer.{IsFewest, ForcesNothing}
+use Rattle.problems.specs.Answer.{Wins, IsFewest, ForcesNothing}
 use Rattle.solutions.specs.declared.extras.Extras.{Extras}
 use Rattle.solutions.specs.declared.first_try.Try.{Try}
 use Rattle.solutions.specs.Lines.{ListsMoves, ListsContinuations, IsMet}
-use Rattle.solutions.specs.Solutions.{passed, IsTry, ListsTries, IsWhereAsked}
+use Rattle.solutions.specs.Solutions.{passed, Refutes, IsTry, ListsTries, IsWhereAsked}
 
 mutual
   -- a continuation, the other continuations, which are its duals, and the play behind it
@@ -83,6 +83,22 @@ IsPlayedTry goal b n (t, then) = IsTry goal b n t × ((q : PlainBoard) × IsMove
 pub record ListsPlayedTries (goal : Goal) (b : PlainBoard) (n : ℕ) (tries : List (Try × Play)) : Type 0 where
   pub tried : ListsTries goal b n (map (λ t. t.0) tries)
   pub each : All (IsPlayedTry goal b n) tries
+
+-- a first move that is given: a key and the play behind it; another move, the virtual play behind it and the replies that refute it; or one that stalemates
+pub data FirstPlay : Type 0 where
+  key : Play → FirstPlay
+  refuted : Play → List Ply → FirstPlay
+  stalemate : FirstPlay
+
+-- Where n plies are the fewest: the move is a key, with its play; or it is none and leaves replies, with its virtual play and exactly the replies that
+-- refute it, in order; or it stalemates, where that isn't the goal
+abbrev pub IsPlayedFirst : Goal → PlainBoard → ℕ → Ply → FirstPlay → Type 0
+IsPlayedFirst goal b n m (key then) = Wins goal b n m × IsPlayedKey goal b n (m, then)
+IsPlayedFirst goal b n m (refuted then refutations) =
+    (Wins goal b n m → ⊥)
+    × ((q : PlainBoard) × IsMove b m q × ((r : Ply) × IsLawful q r)
+    × IsVirtualPlay goal q (n - 2) then × ListsMoves q.game (Refutes goal q (n - 2)) refutations)
+IsPlayedFirst goal b n m stalemate = (q : PlainBoard) × IsMove b m q × IsStalemated q × (IsReached goal q → ⊥)
 
 -- the set play: after a pass, exactly the replies that are met within n - 2 plies, in order, each with its sequel; none where the pass isn't sound
 pub record IsWholeSetPlay (goal : Goal) (b : PlainBoard) (n : ℕ) (replies : Sequels) : Type 0 where
