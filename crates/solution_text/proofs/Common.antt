@@ -9,13 +9,13 @@ pub use Rattle.rules.specs.Moves.{IsLawful, IsMove}
 pub use Rattle.rules.specs.Order.{ListsLawful}
 pub use Rattle.rules.specs.Squares.{Ply}
 pub use Rattle.rules.specs.declared.goal.Goal.{Goal}
-pub use Rattle.solution_text.specs.Telling.{TellsEach, TellsKeys, TellsLong, TellsPlayedTries, TellsReplies, TellsReply, TellsSequel, TellsSetPlay, TellsTries}
+pub use Rattle.solution_text.specs.Telling.{LeavesReplies, TellsEach, TellsFirst, TellsKeys, TellsLong, TellsPlayedTries, TellsReplies, TellsReply, TellsSequel, TellsSetPlay, TellsTries}
 pub use Rattle.solution_text.specs.Text.{AreDualsText, AreTexts, AreThreatsText, IsKeyText, IsLineText, IsNumbered, IsSetPlayText, IsTryText, IsVariationText, headline, threat_word}
-pub use Rattle.solution_text.specs.WholeText.{AreSequelsText, AreThreatened, IsLongText, IsPlayText, IsPlayedText, IsPlayedTryText, IsThreatText, IsWholeSolution}
+pub use Rattle.solution_text.specs.WholeText.{AreSequelsText, AreThreatened, IsLongText, IsFirstSolution, IsPlayText, IsPlayedText, IsPlayedTryText, IsRefutationText, IsThreatText, IsWholeSolution}
 pub use Rattle.solutions.proofs.Forcing.{key_meets, key_reaches, mate_found, met_here, nothing_found}
 pub use Rattle.solutions.proofs.Lists.{PicksMoves, pick_all, pick_one, pick_skip, take_more}
 pub use Rattle.solutions.specs.Lines.{IsBestLine, IsMet, ListsContinuations, ListsMoves}
-pub use Rattle.solutions.specs.Solutions.{AreThreats, IsKeyPlay, IsTry, IsVariation, ListsTries, TellsVariation, passed}
+pub use Rattle.solutions.specs.Solutions.{AreThreats, IsKeyPlay, IsTry, IsVariation, ListsTries, Refutes, TellsVariation, passed}
 pub use Rattle.solutions.specs.Whole.{AreSequels, IsPlay, IsPlayedKey, IsPlayedTry, IsThreat, IsVirtualPlay, IsWholeSetPlay, Play, Sequel, Sequels, Threat, check, done, long, more, over, play, replies_in, sequel, short, zugzwang}
 pub use Rattle.solutions.specs.declared.variation.Variation.{Variation}
 pub use Rattle.std.proofs.lemmas.List.{append-nil, length-map, map-append, take_all}

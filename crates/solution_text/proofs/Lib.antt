@@ -4,4 +4,5 @@ pub mod BestLine
 pub mod Asked
 pub mod Told
 pub mod Played
+pub mod First
 pub mod Breaks

@@ -1,6 +1,6 @@
 -- Keys and tries with the play behind each, and the set play.
 use Rattle.std.proofs.Common.{true, false, ◌==◌, codes, Some, ◌≡◌, ℕ, ◌+◌, ◌-◌, ◌<◌, ◌≤◌, List, [], ◌∷◌, ◌++◌, length, take, get_or, map, All, refl, sym, ◌∙◌, ap, subst}
-use Rattle.solution_text.proofs.Common.{decimal, map-append, length-map, take_all, All-push, All-nil, PlainBoard, Goal, Ply, IsMove, IsLawful, one_after, Notation, name_text, IsFewest, ListsContinuations, passed, IsTry, ListsTries, Play, Sequels, done, more, IsPlayedTry, IsWholeSetPlay, headline, AreTexts, AreSequelsText, IsPlayedTryText, IsWholeSolution, TellsReplies, TellsEach, TellsKeys, TellsPlayedTries, TellsSetPlay, TellsTries, take_more}
+use Rattle.solution_text.proofs.Common.{decimal, map-append, length-map, take_all, All-push, All-nil, PlainBoard, Ply, Notation, name_text, IsFewest, ListsContinuations, passed, ListsTries, Play, Sequels, done, more, IsPlayedTry, IsWholeSetPlay, headline, AreTexts, AreSequelsText, IsPlayedTryText, IsWholeSolution, TellsReplies, TellsEach, TellsKeys, TellsPlayedTries, TellsSetPlay, TellsTries, take_more}
 use Rattle.std.proofs.Math.Dec.{eqb-suc-zero}
 use Rattle.std.proofs.lemmas.Bool.{false≢true}
 use Rattle.rules.specs.Reach.{IsSound}
@@ -25,12 +25,6 @@ module _ {X : Type 0} (P : X × Play → Type 0) (IsText : X × Play → List �
   each_all i text all told = subst (λ ys. TellsEach P IsText ys text) (take_all i xs all) told
 
 -- ---- tries
-
--- the reply that refutes a try
-pub refutation_lawful : (goal : Goal) (b : PlainBoard) (n : ℕ) (t : Try) (q : PlainBoard) → IsMove b t.first q → IsTry goal b n t → IsLawful q t.refutation
-refutation_lawful goal b n t q move is =
-    let refutes = is.refutation.refutes in
-    (refutes.0, subst (λ (x : PlainBoard). IsMove x t.refutation refutes.0) (one_after b t.first is.after q is.move move) refutes.1)
 
 module _ (notation : Notation) (b : PlainBoard) (n : ℕ) where
   pub tries_none : (tries : List Try) (text : List ℕ) → ListsTries notation.goal b n tries → (length tries == 0) ≡ true → text ≡ codes "no tries\n" → TellsTries notation b n true text

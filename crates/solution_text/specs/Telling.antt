@@ -1,14 +1,15 @@
 -- What the makers of a whole solution's lines promise: that the text is that of something that is so.
-use Rattle.std.specs.Prelude.{◌≡◌, ℕ, List, ◌∷◌, map, All, Bool, Option}
+use Rattle.std.specs.Prelude.{◌≡◌, ℕ, ◌-◌, List, ◌∷◌, map, All, Bool, Option}
 use Rattle.board.specs.Board.{PlainBoard}
 use Rattle.rules.specs.Squares.{Ply}
+use Rattle.rules.specs.Moves.{IsMove, IsLawful}
 use Rattle.algebraic.specs.declared.naming.Notation.{Notation}
 use Rattle.solutions.specs.declared.first_try.Try.{Try}
 use Rattle.solutions.specs.Lines.{ListsMoves, IsMet}
 use Rattle.solutions.specs.Solutions.{passed, IsWhereAsked}
-use Rattle.solutions.specs.Whole.{Sequel, sequel, Play, long, Sequels, done, more, replies_in, IsSequel, AreSequels, IsPlayedKey, IsVirtualPlay, IsPlayedTry, ListsPlayedTries, IsWholeSetPlay}
+use Rattle.solutions.specs.Whole.{Sequel, sequel, Play, long, Sequels, done, more, replies_in, IsSequel, AreSequels, IsPlayedKey, IsVirtualPlay, IsPlayedTry, ListsPlayedTries, FirstPlay, IsPlayedFirst, IsWholeSetPlay}
 use Rattle.solution_text.specs.Text.{AreTexts, IsTextOf}
-use Rattle.solution_text.specs.WholeText.{IsSequelText, IsPlayText, IsLongText, AreSequelsText, IsPlayedText, IsPlayedTryText, ArePlayedTriesText, IsWholeSetPlayText}
+use Rattle.solution_text.specs.WholeText.{IsSequelText, IsPlayText, IsLongText, AreSequelsText, IsPlayedText, IsRefutedText, IsPlayedTryText, ArePlayedTriesText, IsFirstText, IsWholeSetPlayText}
 
 -- the sequel and its text, where these are all continuations
 abbrev pub TellsSequel : Notation → ℕ → PlainBoard → ℕ → List Ply → List ℕ → Type 0
@@ -42,6 +43,19 @@ TellsReplies notation number q n text =
 -- the key with its play, and their text
 abbrev pub TellsKey : Notation → PlainBoard → ℕ → Ply → List ℕ → Type 0
 TellsKey notation b n key text = (then : Play) × IsPlayedKey notation.goal b n (key, then) × IsPlayedText notation b (key, then) text
+
+-- the move leaves replies, and these are lawful ones
+abbrev pub LeavesReplies : PlainBoard → Ply → List Ply → Type 0
+LeavesReplies b m replies = (q : PlainBoard) × IsMove b m q × ((r : Ply) × IsLawful q r) × All (IsLawful q) replies
+
+-- the virtual play behind the move, and their text with these refutations
+abbrev pub TellsRefuted : Notation → PlainBoard → ℕ → Ply → List Ply → List ℕ → Type 0
+TellsRefuted notation b n m refutations text =
+    (then : Play) × ((q : PlainBoard) × IsMove b m q × IsVirtualPlay notation.goal q (n - 2) then) × IsRefutedText notation b m then refutations text
+
+-- the first move with what follows it, and their text
+abbrev pub TellsFirst : Notation → PlainBoard → ℕ → Ply → List ℕ → Type 0
+TellsFirst notation b n m text = (first : FirstPlay) × IsPlayedFirst notation.goal b n m first × IsFirstText notation b m first text
 
 -- the try with its play, and their text
 abbrev pub TellsTry : Notation → PlainBoard → ℕ → Try → List ℕ → Type 0

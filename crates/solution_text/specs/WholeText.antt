@@ -13,7 +13,8 @@ use Rattle.algebraic.specs.Naming.{IsName}
 use Rattle.solutions.specs.declared.extras.Extras.{Extras}
 use Rattle.solutions.specs.declared.first_try.Try.{Try}
 use Rattle.solutions.specs.Solutions.{passed}
-use Rattle.solutions.specs.Whole.{Sequel, sequel, Play, play, Threat, over, check, zugzwang, short, long, Sequels, done, more, Whole, IsComplete}
+use Rattle.problems.specs.Answer.{IsFewest}
+use Rattle.solutions.specs.Whole.{Sequel, sequel, Play, play, Threat, over, check, zugzwang, short, long, Sequels, done, more, FirstPlay, key, refuted, stalemate, IsPlayedFirst, Whole, IsComplete}
 use Rattle.solution_text.specs.Text.{AreTexts, IsNumbered, AreDualsText, threat_word, IsTextOf, headline}
 
 -- two blanks for each
@@ -74,9 +75,9 @@ abbrev mutual
 -- a key, as `1.Qf5! threat 2.Kc4`, and the lines behind it
 abbrev pub IsPlayedText : Notation → PlainBoard → Ply × Play → List ℕ → Type 0
 IsPlayedText notation b (m, then) text =
-    (q : PlainBoard) × IsMove b m q × (key : Name) × IsName notation b m key
+    (q : PlainBoard) × IsMove b m q × (first : Name) × IsName notation b m first
     × (rest : List ℕ) × IsPlayText notation 1 q [] then rest
-    × (text ≡ codes "1." ++ (name_text key ++ (codes "!" ++ rest)))
+    × (text ≡ codes "1." ++ (name_text first ++ (codes "!" ++ rest)))
 
 -- the set play, under a heading
 abbrev pub IsWholeSetPlayText : Notation → PlainBoard → Sequels → List ℕ → Type 0
@@ -84,13 +85,21 @@ IsWholeSetPlayText notation b done text = text ≡ codes "no set play\n"
 IsWholeSetPlayText notation b (more r s others) text =
     (lines : List ℕ) × AreSequelsText notation 1 (passed b) (more r s others) lines × (text ≡ codes "set play\n" ++ lines)
 
--- a try, as `1.Kd4? threats 2.Qa1# 2.Qf5#`, the lines behind it, and last the reply that refutes it, as `  but 1...Kb6!`
-abbrev pub IsPlayedTryText : Notation → PlainBoard → Try × Play → List ℕ → Type 0
-IsPlayedTryText notation b (t, then) text =
-    (q : PlainBoard) × IsMove b t.first q × (first : Name) × IsName notation b t.first first
+-- a reply that refutes, on a line of its own, as `  but 1...Kb6!`
+abbrev pub IsRefutationText : Notation → PlainBoard → Ply → List ℕ → Type 0
+IsRefutationText notation q r text = (reply : Name) × IsName notation q r reply × (text ≡ codes "  but 1..." ++ (name_text reply ++ codes "!\n"))
+
+-- a first move that is refuted, as `1.Kd4? threats 2.Qa1# 2.Qf5#`, the lines behind it, and last the replies that refute it
+abbrev pub IsRefutedText : Notation → PlainBoard → Ply → Play → List Ply → List ℕ → Type 0
+IsRefutedText notation b m then refutations text =
+    (q : PlainBoard) × IsMove b m q × (first : Name) × IsName notation b m first
     × (rest : List ℕ) × IsPlayText notation 1 q [] then rest
-    × (refutation : Name) × IsName notation q t.refutation refutation
-    × (text ≡ codes "1." ++ (name_text first ++ (codes "?" ++ (rest ++ (codes "  but 1..." ++ (name_text refutation ++ codes "!\n"))))))
+    × (last : List ℕ) × AreTexts (IsRefutationText notation q) refutations last
+    × (text ≡ codes "1." ++ (name_text first ++ (codes "?" ++ (rest ++ last))))
+
+-- a try: the one reply that refutes it stands last
+abbrev pub IsPlayedTryText : Notation → PlainBoard → Try × Play → List ℕ → Type 0
+IsPlayedTryText notation b (t, then) text = IsRefutedText notation b t.first then (t.refutation ∷ []) text
 
 -- the tries with their play, under a heading
 abbrev pub ArePlayedTriesText : Notation → PlainBoard → List (Try × Play) → List ℕ → Type 0
@@ -110,3 +119,15 @@ IsWholeText notation b sooner w text =
 abbrev pub IsWholeSolution : Symbols → Goal → PlainBoard → Extras → List ℕ → Type 0
 IsWholeSolution symbols goal b extras text =
     (w : Whole) × IsComplete goal b extras w × IsWholeText (record { symbols = symbols; goal = goal }) b extras.sooner w text
+
+-- a first move that is given: a key as ever, one that is refuted, or one that stalemates, as `1.Qb6? stalemate`
+abbrev pub IsFirstText : Notation → PlainBoard → Ply → FirstPlay → List ℕ → Type 0
+IsFirstText notation b m (key then) text = IsPlayedText notation b (m, then) text
+IsFirstText notation b m (refuted then refutations) text = IsRefutedText notation b m then refutations text
+IsFirstText notation b m stalemate text = (first : Name) × IsName notation b m first × (text ≡ codes "1." ++ (name_text first ++ codes "? stalemate\n"))
+
+-- the text is that of the play behind this first move, in a problem of the fewest plies
+abbrev pub IsFirstSolution : Symbols → Goal → PlainBoard → Ply → List ℕ → Type 0
+IsFirstSolution symbols goal b m text =
+    (n : ℕ) × IsFewest goal b n × (first : FirstPlay) × IsPlayedFirst goal b n m first
+    × IsFirstText (record { symbols = symbols; goal = goal }) b m first text

@@ -3,6 +3,7 @@
 
 mod broken;
 mod data;
+mod first_move;
 mod keys;
 mod lines;
 mod sequels;
@@ -14,5 +15,6 @@ mod whole;
 mod whole_lines;
 
 pub use data::{none_data, solution_data};
+pub use first_move::first_move_solution;
 pub use whole::solution_text;
 pub use whole_lines::whole_solution;

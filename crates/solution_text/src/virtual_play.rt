@@ -1,18 +1,64 @@
-//! Tries with the play behind them, told as it is found.
+//! Tries and other moves that are refuted, with the play behind them, told as it is found.
 ghost use Rattle.std.specs.Prelude.{◌≡◌, All, IfErr, IfOk, string_bytes};
+ghost use Rattle.rules.specs.Moves.{IsLawful};
 ghost use Rattle.problems.specs.Roots.{IsRoot};
 ghost use Rattle.searcher.specs.declared.halt.Halt.TheVariants.{Stopped};
 ghost use Rattle.solutions.specs.Solutions.{IsTry};
-ghost use Rattle.solution_text.specs.Telling.{TellsTry, TellsPlayedTries, TellsTries};
+ghost use Rattle.solution_text.specs.Text.{AreTexts};
+ghost use Rattle.solution_text.specs.WholeText.{IsRefutationText};
+ghost use Rattle.solution_text.specs.Telling.{LeavesReplies, TellsRefuted, TellsTry, TellsPlayedTries, TellsTries};
 
 use crate::broken::Broken;
 use crate::sequels::play_text;
 use crate::teller::Teller;
-use moves::after;
+use algebraic::Notation;
+use moves::{Board, Move, after};
 use problems::Root;
 use searcher::Decider;
 use solutions::{Try, tries_of};
-use std::alloc::Allocator;
+use std::alloc::{AllocError, Allocator};
+use std::fmt::Write;
+
+/// Each as a reply that refutes, on a line of its own.
+fn refutations_text<A: Allocator>(
+    alloc: A,
+    notation: Notation,
+    board: &Board,
+    replies: &[Move],
+) -> Result<String<A>, AllocError>
+    requires { All (IsLawful board.now) replies.now }
+    ensures { IfOk result (λ text. AreTexts (IsRefutationText notation board.now) replies.now (string_bytes text)) }
+{
+    let mut text = String::new(alloc);
+    for reply in replies {
+        let name = notation.name(board, *reply);
+        write!(text, "  but 1...{name}!\n")?;
+    }
+    Ok(text)
+}
+
+/// A first move with the virtual play behind it, and last the replies that refute it, where the root's limit is the fewest plies.
+pub(crate) fn refuted_text<D: Decider, A: Allocator + Copy>(
+    teller: &Teller<A>,
+    decider: &mut D,
+    root: &Root,
+    first: Move,
+    refutations: &[Move],
+) -> Result<String<A>, Broken>
+    requires number { teller.now.number ≡ 1 }
+    requires goal { teller.now.notation.goal ≡ root.now.goal }
+    requires replies { LeavesReplies root.now.board first refutations.now }
+    ensures goes { D.goes decider.old decider.new }
+    ensures refuted { IfOk result (λ text.
+        TellsRefuted teller.now.notation root.now.board root.now.limit first refutations.now (string_bytes text)) }
+    ensures halt { IfErr result (λ broken. broken.halt ≡ Stopped → D.told decider.new) }
+{
+    let next = after(&root.board, first);
+    let name = teller.notation.name(&root.board, first);
+    let play = play_text(teller, decider, &next, root.limit.saturating_sub(2), "")?;
+    let last = refutations_text(teller.alloc, teller.notation, &next, refutations)?;
+    Ok(format!(in teller.alloc; "1.{name}?{play}{last}")?)
+}
 
 /// A try with the play behind it, and last the reply that refutes it, where the root's limit is the fewest plies.
 fn played_try<D: Decider, A: Allocator + Copy>(
@@ -30,11 +76,7 @@ fn played_try<D: Decider, A: Allocator + Copy>(
     ensures halt { IfErr result (λ broken. broken.halt ≡ Stopped → D.told decider.new) }
 {
     let Try { first, refutation } = first_try;
-    let next = after(&root.board, first);
-    let name = teller.notation.name(&root.board, first);
-    let play = play_text(teller, decider, &next, root.limit.saturating_sub(2), "")?;
-    let reply = teller.notation.name(&next, refutation);
-    Ok(format!(in teller.alloc; "1.{name}?{play}  but 1...{reply}!\n")?)
+    refuted_text(teller, decider, root, first, &[refutation])
 }
 
 /// These tries, each with the play behind it.

@@ -19,7 +19,7 @@ use solutions::{Extras, continuations_of, passed};
 use std::alloc::Allocator;
 
 /// A key with the play behind it, where the root's limit is the fewest plies.
-fn played_text<D: Decider, A: Allocator + Copy>(
+pub(crate) fn played_text<D: Decider, A: Allocator + Copy>(
     teller: &Teller<A>,
     decider: &mut D,
     root: &Root,
