@@ -1,7 +1,7 @@
 //! The squares of a picture, with what stands on them.
 ghost use Rattle.std.specs.Prelude.{◌≡◌, ◌++◌, ◌<◌, OnOk, string_bytes};
 ghost use Rattle.board.specs.Games.{width_of};
-ghost use Rattle.diagrams.specs.Pictures.{ground, colours, inner_colour, group, unit_shape, unit_picture, view_of, square_picture};
+ghost use Rattle.diagrams.specs.Pictures.{left_edge, top_edge, ground, colours, inner_colour, group, unit_shape, unit_picture, view_of, square_picture};
 
 use crate::diagram::Diagram;
 use crate::place::{column_of, row_of};
@@ -29,42 +29,25 @@ fn inner_colour(side: Side) -> &'static str
     }
 }
 
-/// A place in a picture.
-#[derive(Clone, Copy)]
-pub(crate) struct Corner {
-    pub row: u8,
-    pub column: u8,
-}
-
-impl Corner {
-    ghost use Rattle.std.specs.Prelude.{◌≡◌, ◌+◌, ◌*◌};
-
-    /// How far it is from the left.
-    fn x(self) -> u16
-        ensures { result ≡ 44 + 100 * self.column }
-    {
-        44 + 100 * u16::from(self.column)
-    }
-
-    /// How far it is from above.
-    fn y(self) -> u16
-        ensures { result ≡ 4 + 100 * self.row }
-    {
-        4 + 100 * u16::from(self.row)
-    }
+/// How far the corner of a square is from the left, and from above.
+fn corner(row: u8, column: u8) -> (u16, u16)
+    ensures x { result.0 ≡ left_edge column }
+    ensures y { result.1 ≡ top_edge row }
+{
+    (44 + 100 * u16::from(column), 4 + 100 * u16::from(row))
 }
 
 /// Draws a square's ground, where it is dark.
-fn draw_ground(text: &mut String, square: Square, corner: Corner) -> Result<(), AllocError>
+fn draw_ground(text: &mut String, square: Square, row: u8, column: u8) -> Result<(), AllocError>
     requires file { square.file < 6 }
     requires rank { square.rank < 6 }
     ensures { OnOk result (string_bytes text.new
-        ≡ string_bytes text.old ++ ground square corner.row corner.column) }
+        ≡ string_bytes text.old ++ ground square row column) }
 {
     if (square.file + square.rank) % 2 != 0 {
         return Ok(());
     }
-    let (x, y) = (corner.x(), corner.y());
+    let (x, y) = corner(row, column);
     write!(
         text,
         "<path d=\"M{x} {y}h100v100h-100z\" fill=\"#c9cfbf\"/>\n"
@@ -90,11 +73,12 @@ fn draw_shape(text: &mut String, outline: &str, detail: &str, inner: &str) -> Re
     )
 }
 
-fn draw_unit(text: &mut String, unit: Unit, corner: Corner) -> Result<(), AllocError>
+fn draw_unit(text: &mut String, unit: Unit, row: u8, column: u8) -> Result<(), AllocError>
     ensures { OnOk result (string_bytes text.new
-        ≡ string_bytes text.old ++ unit_picture unit corner.row corner.column) }
+        ≡ string_bytes text.old ++ unit_picture unit row column) }
 {
-    draw_group(text, corner.x(), corner.y(), colours(unit.side))?;
+    let (x, y) = corner(row, column);
+    draw_group(text, x, y, colours(unit.side))?;
     let (outline, detail) = (outline(unit.kind), detail(unit.kind));
     draw_shape(text, outline, detail, inner_colour(unit.side))?;
     Ok(())
@@ -115,10 +99,9 @@ pub(crate) fn draw_square(
     let game = diagram.position.game();
     let file = column_of(game, diagram.below, column);
     let rank = row_of(game, diagram.below, row);
-    let corner = Corner { row, column };
-    draw_ground(text, Square { file, rank }, corner)?;
+    draw_ground(text, Square { file, rank }, row, column)?;
     if let Some(unit) = diagram.position.unit(file + game.width() * rank) {
-        draw_unit(text, unit, corner)?;
+        draw_unit(text, unit, row, column)?;
     }
     Ok(())
 }
