@@ -28,8 +28,8 @@ pub two_drawn : (old one new a b : List ℕ) → one ≡ old ++ a → new ≡ on
 two_drawn old one new a b first second = second ∙ ap (λ l. l ++ b) first ∙ append_assoc old a b
 
 -- what was drawn in nine steps, from nothing
-pub nine_drawn : (s t u v w x y z last end a b c d e f g h i : List ℕ) → s ≡ [] → t ≡ s ++ a → u ≡ t ++ b → v ≡ u ++ c → w ≡ v ++ d → x ≡ w ++ e → y ≡ x ++ f
-    → z ≡ y ++ g → last ≡ z ++ h → end ≡ last ++ i → end ≡ a ++ (b ++ (c ++ (d ++ (e ++ (f ++ (g ++ (h ++ i)))))))
+pub nine_drawn : (s t u v w x y z last end a b c d e f g h i : List ℕ) → s ≡ [] → t ≡ s ++ a → u ≡ t ++ b → v ≡ u ++ c → w ≡ v ++ d
+    → x ≡ w ++ e → y ≡ x ++ f → z ≡ y ++ g → last ≡ z ++ h → end ≡ last ++ i → end ≡ a ++ (b ++ (c ++ (d ++ (e ++ (f ++ (g ++ (h ++ i)))))))
 nine_drawn s t u v w x y z last end a b c d e f g h i none one two three four five six seven eight nine =
     two_drawn s t end a _ one (two_drawn t u end b _ two (two_drawn u v end c _ three (two_drawn v w end d _ four (two_drawn w x end e _ five
     (two_drawn x y end f _ six (two_drawn y z end g _ seven (two_drawn z last end h i eight nine)))))))

@@ -180,8 +180,9 @@ caption side left right =
 -- a picture of this height, and what is below its board
 abbrev pub picture_with : View → Option Ply → ℕ → List ℕ → List ℕ
 picture_with v arrow high below =
-    sized_head (48 + 100 * width v) high ++ (sized_paper (48 + 100 * width v) high (mover_drawn v.board.mover) ++ (rows_picture v ++ (frame (100 * width v)
-    ++ (all_signs_picture v ++ (mover_mark (100 * width v) v.board.mover ++ (picture_of (arrow_picture v) arrow ++ (below ++ codes "</svg>\n")))))))
+    sized_head (48 + 100 * width v) high ++ (sized_paper (48 + 100 * width v) high (mover_drawn v.board.mover) ++ (rows_picture v
+    ++ (frame (100 * width v) ++ (all_signs_picture v ++ (mover_mark (100 * width v) v.board.mover ++ (picture_of (arrow_picture v) arrow
+    ++ (below ++ codes "</svg>\n")))))))
 
 -- `picture`, 40 higher, with a stipulation and keys below the board
 abbrev pub captioned_picture : View → Option Ply → List ℕ → List ℕ → List ℕ

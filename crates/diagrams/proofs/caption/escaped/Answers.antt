@@ -16,5 +16,5 @@ loop-character-preserved c =
 pub returns : goal.returns
 returns c =
     let written = string_bytes c.loop-character.text in
-    sym (append-nil written) ∙ ap (λ l. written ++ l) (sym (escaped_none (chars_rest c.loop-character.character-iterator) c.in-None.ensures.steps.0.0))
-    ∙ c.loop-character.invariant
+    let none = escaped_none (chars_rest c.loop-character.character-iterator) c.in-None.ensures.steps.0.0 in
+    sym (append-nil written) ∙ ap (λ l. written ++ l) (sym none) ∙ c.loop-character.invariant

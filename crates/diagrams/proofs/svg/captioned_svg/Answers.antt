@@ -10,4 +10,5 @@ returns c =
     let keys = c.as_str-2.ensures.value ∙ c.in_ok-keys.ensures in
     let line = c.as_str-3.ensures.value ∙ c.in_ok-caption.ensures ∙ (λ i. caption n (stipulation i) (keys i)) in
     let shown = λ (n : ℕ) (below : List ℕ). IfOk c.drawn.result (λ text. string_bytes text ≡ picture_with (view_of d) d.arrow (88 + n) below) in
-    subst (λ n. shown n (caption n (escaped c.args.stipulation.now) (escaped c.args.keys.now))) c.board_side-side.ensures.value (subst (shown n) line c.drawn.ensures)
+    subst (λ n. shown n (caption n (escaped c.args.stipulation.now) (escaped c.args.keys.now))) c.board_side-side.ensures.value
+    (subst (shown n) line c.drawn.ensures)

@@ -18,7 +18,8 @@ returns c =
     (string_bytes c.draw_signs.new.text) (string_bytes c.draw_mover.new.text) (string_bytes c.draw_arrow_of.new.text)
     (string_bytes c.push_str.new.self) (string_bytes c.push_str-2.new.self)
     (sized_head (48 + 100 * w) high) (sized_paper (48 + 100 * w) high (mover_drawn d.board.mover)) (rows_picture d) (frame (100 * w))
-    (all_signs_picture d) (mover_mark (100 * w) d.board.mover) (picture_of (arrow_picture d) c.args.diagram.now.arrow) c.args.below.now (codes "</svg>\n")
+    (all_signs_picture d) (mover_mark (100 * w) d.board.mover) (picture_of (arrow_picture d) c.args.diagram.now.arrow)
+    c.args.below.now (codes "</svg>\n")
     c.new-text.ensures.bytes
     (c.in_ok-draw_head.ensures ∙ ap (λ n. string_bytes c.new-text.result ++ sized_head n high) side)
     (c.in_ok-draw_paper.ensures ∙ (λ i. one ++ sized_paper (side i) high (mover i)))
