@@ -55,11 +55,12 @@ tree_app = search_app (codes "tree") (text_rule (codes "first") [] ∷ [])
 abbrev pub certify_app : App
 certify_app = search_app (codes "certify") []
 
--- `solution [--set] [--tries] [--figurines] [--short] [--json] FEN`, and the options of a search
+-- `solution [--set] [--tries] [--figurines] [--short] [--json] [--svg] [--first MOVE] FEN`, and the options of a search
 abbrev pub solution_app : App
 solution_app =
     search_app (codes "solution")
-    (flag_rule (codes "set") ∷ flag_rule (codes "tries") ∷ flag_rule (codes "figurines") ∷ flag_rule (codes "short") ∷ flag_rule (codes "json") ∷ [])
+    (flag_rule (codes "set") ∷ flag_rule (codes "tries") ∷ flag_rule (codes "figurines") ∷ flag_rule (codes "short") ∷ flag_rule (codes "json")
+    ∷ flag_rule (codes "svg") ∷ text_rule (codes "first") [] ∷ [])
 
 -- `check [--goal GOAL] FEN`
 abbrev pub check_app : App

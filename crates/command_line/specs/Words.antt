@@ -92,6 +92,8 @@ pub record HasSolutionOptions (rows : List Row) (options : SolutionOptions) : Ty
   pub figurines : IsTrue options.figurines ↔ IsGiven (codes "figurines") rows
   pub short : IsTrue options.short ↔ IsGiven (codes "short") rows
   pub json : IsTrue options.json ↔ IsGiven (codes "json") rows
+  pub svg : IsTrue options.svg ↔ IsGiven (codes "svg") rows
+  pub first : MatchOption options.first (first_of (codes "first") rows ≡ None) (λ name. first_of (codes "first") rows ≡ Some name.now)
 
 -- what was found for the position and for the goal
 abbrev pub HasSubject : List Row → Subject → Type 0

@@ -137,9 +137,11 @@ of the defender, the move that meets it and its duals, and so on to the end;
 More examples:
   minimate solution --mate 2 --set --tries 'k5/6/2K3/6/6/1R4 w'
   minimate solution --mate 3 --short '2k3/6/6/2K3/6/5Q w'
-  minimate solution --mate 2 --figurines 'k5/6/2K3/6/6/1R4 w'",
+  minimate solution --mate 2 --figurines 'k5/6/2K3/6/6/1R4 w'
+  minimate solution --mate 2 --svg 'k5/6/2K3/6/6/1R4 w' > problem.svg
+  minimate solution --mate 2 --first b1b2 'k5/6/2K3/6/6/1R4 w'",
     searches: true,
-    own: &[FEN, SET, TRIES, FIGURINES, SHORT, DATA],
+    own: &[FEN, SET, TRIES, FIGURINES, SHORT, DATA, CAPTIONED, TOLD],
 };
 
 pub const CHECK: Verb = Verb {
@@ -375,6 +377,26 @@ const DATA: Argument = Argument {
 Writes the short form as a JSON object, with position, goal, plies,
 short, keys, set_play and tries, which are null where they aren't
 asked for. Moves are named by their squares.",
+};
+
+const CAPTIONED: Argument = Argument {
+    name: "svg",
+    form: Form::Flag,
+    help: "Draw the diagram, with stipulation and keys",
+    more: "\
+Draws the diagram in place of the solution's text, as `minimate show
+--svg` does, and below it the stipulation, as `#2`, or `=2` where the
+goal is stale, and the keys.",
+};
+
+const TOLD: Argument = Argument {
+    name: "first",
+    form: Form::Value("MOVE", &[]),
+    help: "The first move that is told of, as c4c5",
+    more: "\
+Tells of this first move alone: what it threatens, the replies that
+are met in as few plies as the problem takes, and each that refutes
+it, as `but 1...Ka5!`. With it only --figurines changes the text.",
 };
 
 const SVG: Argument = Argument {

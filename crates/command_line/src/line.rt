@@ -17,12 +17,12 @@ pub enum Order<'a> {
     /// The tree of a first move that is given.
     TreeAfter(NamedMove<'a>, Goal, Limits),
     /// The keys of a problem and what follows them.
-    Solution(Subject<'a>, Limits, SolutionOptions),
+    Solution(Subject<'a>, Limits, SolutionOptions<'a>),
 }
 
 /// What a solution tells beside its keys, and how it is written.
-#[derive(Clone, Copy, PartialEq, Eq)]
-pub struct SolutionOptions {
+#[derive(Clone, Copy)]
+pub struct SolutionOptions<'a> {
     /// Whether it tells what follows if the defender were to move.
     pub set_play: bool,
     /// Whether it tells the first moves that a single reply refutes.
@@ -33,6 +33,10 @@ pub struct SolutionOptions {
     pub short: bool,
     /// Whether the short form is written as JSON.
     pub json: bool,
+    /// Whether it is a diagram with stipulation and keys, unless it is JSON.
+    pub svg: bool,
+    /// The name of the first move that alone is told of, where one is given: then figurines are all that else counts.
+    pub first: Option<&'a [u8]>,
 }
 
 /// How the replies of a batch are written, and what is known of its input.

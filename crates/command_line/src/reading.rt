@@ -146,7 +146,7 @@ fn batch_options(values: &ArgMatches<'_>) -> BatchOptions
     }
 }
 
-fn solution_options(values: &ArgMatches<'_>) -> SolutionOptions
+fn solution_options<'a>(values: &ArgMatches<'a>) -> SolutionOptions<'a>
     ensures { HasSolutionOptions (rows_of (found_of values.now)) result }
 {
     SolutionOptions {
@@ -155,6 +155,8 @@ fn solution_options(values: &ArgMatches<'_>) -> SolutionOptions
         figurines: is_given(values, "figurines"),
         short: is_given(values, "short"),
         json: is_given(values, "json"),
+        svg: is_given(values, "svg"),
+        first: word_of(values, "first"),
     }
 }
 

@@ -19,10 +19,9 @@ use command_line::{BatchOptions, Line, LineFault, NamedMove, Order, asks_progres
 use devices::{Sink, Source};
 use endings::{
     ANSWERED, REFUSED_WORDS, ReplyFault, end_wordless, explain_if_refused, fail_to_read,
-    fail_to_write, finish, give_up_for_memory, has_no_answer, refuse, refuse_and_tell,
-    search_refused,
+    fail_to_write, finish, give_up_for_memory, refuse_and_tell, refuse_move, search_refused,
 };
-use refusals::{Asking, Refusal, Refused, advise, advise_move};
+use refusals::Refusal;
 use replies::{Context, Tally, after_reply, context_of, first_reply, reply_to};
 use std::convert::AsStr;
 use std::io::{self, Write, sink};
@@ -143,40 +142,6 @@ pub fn run_batch<
         },
         Err(refusal) => refuse_batch(context.rt, batch.options.json, writer, errors, refusal),
     }
-}
-
-/// Tells why no position is written for a move.
-fn tell_move<E: Write>(errors: &mut E, played: &NamedMove<'_>, refusal: Refusal) -> io::Result<()> {
-    match refusal {
-        Refusal::Move => advise_move(errors, played.fen, played.name),
-        _ => {
-            let refused = Refused {
-                refusal,
-                fen: played.fen,
-                asking: Asking::Plain,
-            };
-            advise(errors, &refused)
-        }
-    }
-}
-
-/// Writes why a move isn't played, and tells it with a sentence.
-fn refuse_move<R: AllocGlobal, K: Sink, E: Write>(
-    rt: &R,
-    writer: &mut K,
-    errors: &mut E,
-    played: &NamedMove<'_>,
-    refusal: Refusal,
-) -> u8
-    requires { K.failures writer.old < u64.MAX }
-    ensures refuses { Refuses (ending_of K.contents K.failures writer.old writer.new result) refusal }
-    ensures silent { MayTell result ⊎ (errors.new ≡ errors.old) }
-{
-    let status = refuse(rt.alloc(), writer, errors, refusal);
-    if has_no_answer(status) {
-        let _ = tell_move(errors, played, refusal);
-    }
-    status
 }
 
 /// Writes a reply to a move that is named, or why there is none.

@@ -13,5 +13,5 @@ pub use ending::{
     has_no_answer, refuse,
 };
 pub use reply_fault::ReplyFault;
-pub use telling::{proof_refused, refuse_and_tell, search_refused};
+pub use telling::{proof_refused, refuse_and_tell, refuse_move, search_refused};
 pub use words::{end_wordless, explain_if_refused};

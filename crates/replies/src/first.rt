@@ -21,7 +21,7 @@ use std::thread::Threads;
 use std::time::Clock;
 
 /// The number of the lawful move of this name.
-fn named_job(root: &Root, name: &[u8]) -> Option<u16>
+pub fn named_job(root: &Root, name: &[u8]) -> Option<u16>
     requires { IsRoot root.now }
     ensures { MatchOption result (NamesNone root.now.board name.now)
         (λ job. IsJobOf root.now job × NamesJob root.now.moves.items name.now job) }
@@ -35,8 +35,8 @@ fn named_job(root: &Root, name: &[u8]) -> Option<u16>
     None
 }
 
-/// The first reply behind which the goal isn't forced within so many plies: what all threads find of the replies up to it stands in
-/// the table. After a want of memory it is none.
+/// The first reply behind which the goal isn't forced within so many plies, by all threads over what the table has. After a want of memory it is
+/// none.
 fn refutation<R: Threads + Wait + Eprint + Clock + Sync + AllocGlobal>(
     rt: &R,
     table: &mut Table,
@@ -59,9 +59,19 @@ fn refutation<R: Threads + Wait + Eprint + Clock + Sync + AllocGlobal>(
     None
 }
 
-/// Tells what refutes a first move, where a reply does.
-fn tell_refutation<E: Write>(errors: &mut E, first: Move, found: Option<Move>) {
-    if let Some(reply) = found {
+/// Tells what refutes the root's move of this number, where a reply does.
+fn tell_refutation<R: Threads + Wait + Eprint + Clock + Sync + AllocGlobal, E: Write>(
+    rt: &R,
+    table: &mut Table,
+    root: &Root,
+    job: u16,
+    errors: &mut E,
+)
+    requires { IsJobOf root.now job }
+{
+    let first = root.moves[usize::from(job)];
+    let next = after(&root.board, first);
+    if let Some(reply) = refutation(rt, table, &next, root.goal, root.limit.saturating_sub(2)) {
         let _ = advise_refuted(errors, first, reply);
     }
 }
@@ -80,19 +90,10 @@ fn opened_text<R: Threads + Wait + Eprint + Clock + Sync + AllocGlobal, E: Write
     ensures silent { MissesJob root.now job limits.limit ⊎ (errors.new ≡ errors.old) }
 {
     let mut table = table_within(rt.alloc(), limits)?;
-    let first = root.moves[usize::from(job)];
-    let next = after(&root.board, first);
-    let found = refutation(
-        rt,
-        &mut table,
-        &next,
-        root.goal,
-        root.limit.saturating_sub(2),
-    );
-    match tree_of(rt.alloc(), table, root, job) {
+    match tree_of(rt.alloc(), &mut table, root, job) {
         Ok(Some(tree)) => Ok(tree_line(rt.alloc(), &tree)?),
         Ok(None) => {
-            tell_refutation(errors, first, found);
+            tell_refutation(rt, &mut table, root, job, errors);
             none_line(rt.alloc(), root.limit)
         }
         Err(_) => Err(Refusal::NoMemory),

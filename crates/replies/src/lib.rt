@@ -14,7 +14,7 @@ mod solving;
 mod tally;
 
 pub use context::{Context, context_of, last_round};
-pub use first::first_reply;
+pub use first::{first_reply, named_job};
 pub use gate::{Watched, watched_keeps_on};
 pub use over::tell_if_over;
 pub use played::after_reply;

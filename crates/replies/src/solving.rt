@@ -132,27 +132,30 @@ pub fn tree<R: Threads + Wait + Eprint + Clock + Sync + AllocGlobal>(
     )
 }
 
-/// The same tree behind the root's move of this number, by the caller's own thread, where it wins within the limit.
+/// The same tree behind the root's move of this number, by the caller's own thread, where it wins within the limit. What was found stands in
+/// the table, which serves the next call.
 pub fn tree_of(
     alloc: Global,
-    table: Table,
+    table: &mut Table,
     root: &Root,
     job: u16,
 ) -> Result<Option<Tree>, AllocError>
     requires { IsJobOf root.now job }
     ensures { IfOk result (IsOpenedJob root.now job) }
 {
-    let (slots, mut seat) = table.into_alone();
+    let mut own = table.seats.take_last();
     let mut scout = Scout {
         stop: Never,
         memory: Memory::new(),
     };
     let mut searcher = Searcher {
-        slots: &slots,
-        seat: &mut seat,
+        slots: &table.slots,
+        seat: &mut own,
         scout: &mut scout,
     };
-    match tree_of_first(alloc, &mut searcher, root, job) {
+    let found = tree_of_first(alloc, &mut searcher, root, job);
+    table.seats.push_reserved(own);
+    match found {
         Ok(tree) => Ok(tree),
         Err(Halt::NoMemory) => Err(AllocError),
         Err(Halt::Stopped) => unreachable!(),

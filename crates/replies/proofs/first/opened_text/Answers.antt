@@ -1,17 +1,9 @@
 use Rattle.std.proofs.Common.{inl, vec_items}
-use Rattle.problems.proofs.Jobs.{got_at, move_at}
-use Rattle.replies.proofs.FirstLemmas.{job_lawful, job_missed, none_shown, tree_shown}
+use Rattle.replies.proofs.FirstLemmas.{job_missed, none_shown, tree_shown}
 use Rattle.replies.proofs.first.opened_text.Goals as goal
 
-pub after-next-requires : goal.after-next-requires
-after-next-requires g c =
-    let items = c.args.root.now.moves.items in
-    let m = c.index-deref-from.result in
-    let is = move_at items c.deref.result.now c.from.result c.args.job m c.deref.ensures.0 c.from.ensures c.index-deref-from.is in
-    job_lawful c.args.root.now c.args.job m c.requires.job (got_at items c.args.job m c.requires.job.1 is)
-
-pub returns-in_ok-tree_line-in-Ok-Some-clause-shown : goal.returns-in_ok-tree_line-in-Ok-Some-clause-shown
-returns-in_ok-tree_line-in-Ok-Some-clause-shown g c =
+pub returns-in-Ok-Some-clause-shown : goal.returns-in-Ok-Some-clause-shown
+returns-in-Ok-Some-clause-shown g c =
     tree_shown c.args.root.now c.args.job c.args.limits c.in-Ok-Some.tree (vec_items c.in_ok-tree_line-in-Ok-Some.field-0)
     c.in_ok-table.ensures.0 (c.requires.limit c.in_ok-table.ensures.0) (rw c.in-Ok-Some.field-0-is at c.in-Ok-Some.ensures) c.in_ok-tree_line-in-Ok-Some.ensures
 
