@@ -1,5 +1,7 @@
 """A diagram of a position as a picture in SVG: the drawing of `minimate show --svg`, made apart from it."""
 
+import html
+
 OUTLINES = {
     "K": "M46 8h8v7h8v8h-8v9q6 1 8 7 20-9 23 8 1 12-14 28H29Q14 59 15 47q3-17 23-8 2-6 8-7v-9h-8v-8h8z",
     "Q": "M18 28a6 6 0 1 1 5 0l13 18-1-24a6 6 0 1 1 6 0l9 22 9-22a6 6 0 1 1 6 0l-1 24 13-18a6 6 0 1 1 5 0l-10 47H28z",
@@ -57,17 +59,24 @@ def square_svg(file, rank, column, row, unit):
         yield unit_svg(unit, x, y)
 
 
-def svg(position, is_black_below=False):
-    """The picture of a position of check_tree.py, as a file that stands alone."""
+def caption_svg(stipulation, keys, side):
+    """What stands below a board of this width: text, which alone needs a font."""
+    left, right = (f'y="{74 + side}"' + more for more in (">" + html.escape(stipulation, False), ' text-anchor="end">' + html.escape(keys, False)))
+    return f'<g font-family="serif" font-size="28" fill="{LINE}"><text x="44" {left}</text><text x="{44 + side}" {right}</text></g>\n'
+
+
+def svg(position, is_black_below=False, caption=None):
+    """The picture of a position of check_tree.py, as a file that stands alone; with a caption, its stipulation and keys, it is higher."""
     width, side = position.width, 48 + 100 * position.width
+    high = side + 40 if caption else side
 
     def seen(place):
         return width - 1 - place if is_black_below else place
 
     parts = ['<?xml version="1.0" encoding="UTF-8"?>\n']
-    parts.append(f'<svg xmlns="http://www.w3.org/2000/svg" width="{side}" height="{side}" viewBox="0 0 {side} {side}" role="img">\n')
+    parts.append(f'<svg xmlns="http://www.w3.org/2000/svg" width="{side}" height="{high}" viewBox="0 0 {side} {high}" role="img">\n')
     parts.append(f"<title>{'White' if position.side == 'w' else 'Black'} to move</title>\n")
-    parts.append(f'<path d="M0 0h{side}v{side}H0z" fill="#fff"/>\n')
+    parts.append(f'<path d="M0 0h{side}v{high}H0z" fill="#fff"/>\n')
     for row in range(width):
         rank = width - 1 - seen(row)
         for column in range(width):
@@ -78,4 +87,6 @@ def svg(position, is_black_below=False):
         parts.append(sign_svg(FILES[seen(n)], 79 + 100 * n, 9 + 100 * width))
     if position.side == "b":
         parts.append(f'<path d="M11 {26 + 100 * width}a11 11 0 1 0 22 0 11 11 0 1 0-22 0z" fill="{LINE}"/>\n')
+    if caption:
+        parts.append(caption_svg(*caption, 100 * width))
     return "".join([*parts, "</svg>\n"])

@@ -6,15 +6,15 @@ use crate::tables::{last_seat, position};
 use algebraic::Symbols;
 use decision::{Memory, Never, Scout};
 use entry::MateLore;
-use moves::{Board, Goal};
+use moves::{Board, Goal, Move, read_move};
 use problems::{Answer, Root};
 use searcher::{Halt, Searcher, solve_by};
 use slots::Slots;
-use solution_text::whole_solution;
+use solution_text::{first_move_solution, whole_solution};
 use std::process::Abort;
 
-/// The text of the whole solution of a root whose side to move forces the goal within its plies.
-fn whole_in<R: Abort + AllocGlobal>(rt: &R, root: &Root) -> Result<String, Halt>
+/// The text of the whole solution of a root whose side to move forces the goal within its plies; or of the play behind one of its moves.
+fn told_in<R: Abort + AllocGlobal>(rt: &R, root: &Root, first: Option<Move>) -> Result<String, Halt>
     requires { IsRoot root.now }
 {
     let (table, mut seats) = Slots::<MateLore>::make(rt.alloc(), 4096, 1).expect(rt, "a table");
@@ -34,7 +34,15 @@ fn whole_in<R: Abort + AllocGlobal>(rt: &R, root: &Root) -> Result<String, Halt>
         panic!(rt; "no mate")
     };
     let fewest = Root::on(root.board.copied(), root.goal, plies);
-    whole_solution(rt.alloc(), &mut searcher, &fewest, Symbols::Letters, ALL)
+    let Some(first) = first else {
+        return whole_solution(rt.alloc(), &mut searcher, &fewest, Symbols::Letters, ALL);
+    };
+    for job in 0..fewest.jobs() {
+        if fewest.moves[usize::from(job)] == first {
+            return first_move_solution(rt.alloc(), &mut searcher, &fewest, Symbols::Letters, job);
+        }
+    }
+    panic!(rt; "no such move")
 }
 
 /// A position, the goal, the plies it is searched for, and the text.
@@ -121,7 +129,36 @@ no tries\n\
 fn whole_texts_are_those_of_another_program(rt: HostRuntime) {
     for (text, goal, limit, expected) in &WHOLE {
         let root = Root::on(Board::of(&position(&rt, text)), *goal, *limit);
-        let told = whole_in(&rt, &root).expect(&rt, "a solution");
+        let told = told_in(&rt, &root, None).expect(&rt, "a solution");
         assert_eq!(rt; told.as_str(), *expected, "{text}");
+    }
+}
+
+/// A first move of a mate in three, and the text of the play behind it: a key, a try, one that three replies refute and one that gives check.
+const FIRSTS: [(&[u8], &str); 4] = [
+    (
+        b"c3c4",
+        "1.Kc4! threat 2.Qf6#\n  1...Kb6 2.Qa1 zugzwang, dual 2.Qf5\n    2...Kc6 3.Qa6#, dual 3.Qf6#\n  1...Kd6 2.Qf6#\n",
+    ),
+    (
+        b"c3d4",
+        "1.Kd4? threat 2.Qa6#\n  1...Kd6 2.Qa6#, dual 2.Qf6#\n  but 1...Kb6!\n",
+    ),
+    (
+        b"f1b1",
+        "1.Qb1? threat 2.Kd4\n  1...~ 2.Kd4 zugzwang\n    2...Kd6 3.Qb6#\n  but 1...Kc5!\n  but 1...Kd5!\n  but 1...Kd6!\n",
+    ),
+    (
+        b"f1c4",
+        "1.Qc4+?\n  but 1...Kb6!\n  but 1...Kd6!\n",
+    ),
+];
+
+#[test]
+fn first_moves_are_told_as_by_another_program(rt: HostRuntime) {
+    let root = Root::on(Board::of(&position(&rt, "2k3/6/6/2K3/6/5Q w")), Goal::Mate, 5);
+    for (name, expected) in &FIRSTS {
+        let told = told_in(&rt, &root, read_move(name)).expect(&rt, "a solution");
+        assert_eq!(rt; told.as_str(), *expected);
     }
 }

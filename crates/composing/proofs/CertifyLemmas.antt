@@ -26,7 +26,7 @@ use Rattle.verifying.specs.declared.words.Word.{Word}
 use Rattle.verifying.specs.Certificate.{IsCertificate}
 use Rattle.verifying.specs.Checking.{HasTakenText, HasTaken, IsProvedBy, TakesMore, RefusesMore}
 use Rattle.verifying.specs.FirstLine.{IsInRange, HasNamedMove, first_line}
-use Rattle.verifying.proofs.OneAnswer.{lawful_named}
+use Rattle.rules.proofs.Naming.{ply_of_lawful}
 use Rattle.verifying.proofs.Refused.{begun_answer}
 use Rattle.certifying.specs.Lines.{claim_line, claim_lines}
 use Rattle.refusals.specs.Reply.{refused}
@@ -77,7 +77,7 @@ answer_ranged goal b limits (NoneWithin limit) taken (is, nothing) =
     (omega (arith, is, most.0), omega (arith, is, most.1))
 
 pub answer_named : (goal : Goal) (b : PlainBoard) (limit : ℕ) (answer : Answer) → IsAnswer goal b limit answer → HasNamedMove answer
-answer_named goal b limit (Mate plies first) (within, fewest, least) = lawful_named b first (least.wins.0, least.wins.1)
+answer_named goal b limit (Mate plies first) (within, fewest, least) = ply_of_lawful b first (least.wins.0, least.wins.1)
 answer_named goal b limit (NoneWithin n) is = tt
 
 pub begun_at : (goal : Goal) (b : PlainBoard) (limits : Limits) (answer : Answer) (begun : Begun) → fault_of limits ≡ None → IsAnswer goal b limits.limit answer → vec_items begun.line ≡ answer_text goal answer → HasTakenText goal b begun.certificate.checker (first_line goal answer ++ 10 ∷ []) → BeginsAt goal b limits (Ok begun)

@@ -1,2 +1,4 @@
 mod CertifyLemmas
+mod DiagramLemmas
+mod FirstMoveLemmas
 mod SolutionLemmas

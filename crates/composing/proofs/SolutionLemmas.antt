@@ -20,8 +20,8 @@ use Rattle.solution_text.specs.WholeText.{IsWholeSolution}
 use Rattle.solution_text.specs.Data.{solution_data}
 use Rattle.answer_texts.specs.Answers.{none_text}
 use Rattle.composing.specs.declared.problem.Form.{Form}
-use Rattle.composing.specs.declared.problem.Form.TheVariants.{Whole, Short, Data}
-use Rattle.composing.specs.Solution.{IsInForm, IsPublished, IsSolutionReply, SaysNone, ShowsNoSolution, ShowsSolution, extras_of, form_of, is_sooner, notation_of}
+use Rattle.composing.specs.declared.problem.Form.TheVariants.{Whole, Short, Data, Picture}
+use Rattle.composing.specs.Solution.{IsDiagram, IsInForm, IsPublished, IsSolutionReply, SaysNone, ShowsComposed, ShowsNoSolution, ShowsSolution, extras_of, form_of, is_sooner, notation_of}
 use Rattle.replies.proofs.ReplyLemmas.{gives_weaker}
 
 module _ (goal : Goal) (b : PlainBoard) (options : SolutionOptions) (sooner : Bool) where
@@ -44,6 +44,10 @@ module _ (goal : Goal) (b : PlainBoard) (options : SolutionOptions) (sooner : Bo
       → IsSolution goal b (extras_of options sooner) solution → text ≡ solution_data fen goal sooner solution → IsPublished goal b options sooner text
   data_text fen solution text same is_fen is is_text = in_form Data text same (fen, is_fen, (solution, is, is_text))
 
+  pub diagram_text : (notation : Notation) (text : List ℕ) → form_of options ≡ Picture → notation ≡ notation_of goal options → IsDiagram notation b text
+      → IsPublished goal b options sooner text
+  diagram_text notation text same same_notation is = in_form Picture text same (subst (λ n. IsDiagram n b text) same_notation is)
+
 -- that nothing is forced, as text or as data
 pub plain_none : (json : Bool) (goal : Goal) (b : PlainBoard) (limit : ℕ) (r : Result (Vec ℕ Global) Refusal) → json ≡ false
     → Gives vec_items (λ reply. reply ≡ answered (none_text limit)) r → Gives vec_items (ShowsNoSolution json goal b limit) r
@@ -57,7 +61,12 @@ pub published_shown : (goal : Goal) (b : PlainBoard) (options : SolutionOptions)
 published_shown goal b options limits plies text none within fewest is = rw none (inl (plies, within, fewest, (text, is, refl)))
 
 -- what is shown at the sound position is the reply
-pub solution_at_text : (subject : Subject) (options : SolutionOptions) (limits : Limits) (b : PlainBoard) (r : Result (Vec ℕ Global) Refusal) → IsSoundText subject.fen.now b
-    → Gives vec_items (ShowsSolution subject.goal b options limits) r → Gives vec_items (IsSolutionReply subject options limits) r
-solution_at_text subject options limits b r sound gives =
-    gives_weaker vec_items (ShowsSolution subject.goal b options limits) (IsSolutionReply subject options limits) r (λ reply shows. inl (b, sound, shows)) gives
+module _ (subject : Subject) (options : SolutionOptions) (limits : Limits) (b : PlainBoard) (r : Result (Vec ℕ Global) Refusal) where
+  pub composed_at_text : IsSoundText subject.fen.now b → Gives vec_items (ShowsComposed subject.goal b options limits) r → Gives vec_items (IsSolutionReply subject options limits) r
+  composed_at_text sound gives =
+      gives_weaker vec_items (ShowsComposed subject.goal b options limits) (IsSolutionReply subject options limits) r (λ reply shows. inl (b, sound, shows)) gives
+
+  pub solution_at_text : options.first ≡ None → IsSoundText subject.fen.now b → Gives vec_items (ShowsSolution subject.goal b options limits) r
+      → Gives vec_items (IsSolutionReply subject options limits) r
+  solution_at_text none sound gives = composed_at_text sound
+      (gives_weaker vec_items (ShowsSolution subject.goal b options limits) (ShowsComposed subject.goal b options limits) r (λ reply shows. rw none shows) gives)

@@ -3,6 +3,8 @@
 #![tactic(auto)]
 
 mod certificate;
+mod diagram;
+mod first_move;
 mod problem;
 mod program;
 mod running;

@@ -6,12 +6,14 @@ ghost use Rattle.problems.specs.Roots.{IsRoot};
 ghost use Rattle.searcher.specs.declared.halt.Halt.TheVariants.{Stopped};
 ghost use Rattle.composing.specs.Solution.{IsPublished, IsSolutionReply, ShowsNoSolution, ShowsSolution, form_of, is_sooner, notation_of};
 
+use crate::diagram::diagram_text;
+use crate::first_move::first_at;
 use algebraic::{Notation, Symbols};
 use board::{Position, fen_text};
 use command_line::{Limits, SolutionOptions, Subject};
 use decision::{Memory, Never, Scout};
 use moves::{Board, Goal, read_sound};
-use problems::{Answer, Problem, Root};
+use problems::{Answer, MOST_LIMIT, Problem, Root};
 use refusals::Refusal;
 use replies::{Context, keys, none_line, search_of, searched_at};
 use searcher::{Decider, Halt, Searcher, Table};
@@ -30,13 +32,17 @@ pub enum Form {
     Short,
     /// The short form as data.
     Data,
+    /// The diagram, with stipulation and keys.
+    Picture,
 }
 
-fn form_of(options: SolutionOptions) -> Form
+fn form_of(options: SolutionOptions<'_>) -> Form
     ensures { result ≡ form_of options }
 {
     if options.json {
         Form::Data
+    } else if options.svg {
+        Form::Picture
     } else if options.short {
         Form::Short
     } else {
@@ -44,7 +50,7 @@ fn form_of(options: SolutionOptions) -> Form
     }
 }
 
-fn notation_of(goal: Goal, options: SolutionOptions) -> Notation
+fn notation_of(goal: Goal, options: SolutionOptions<'_>) -> Notation
     ensures { result ≡ notation_of goal options }
 {
     let symbols = if options.figurines {
@@ -60,7 +66,7 @@ fn form_text<D: Decider>(
     alloc: Global,
     decider: &mut D,
     root: &Root,
-    options: SolutionOptions,
+    options: SolutionOptions<'_>,
     sooner: bool,
 ) -> Result<String, Halt>
     requires root { IsRoot root.now }
@@ -76,6 +82,7 @@ fn form_text<D: Decider>(
     let notation = notation_of(root.goal, options);
     match form_of(options) {
         Form::Whole => whole_solution(alloc, decider, root, notation.symbols, extras),
+        Form::Picture => diagram_text(alloc, decider, root, notation),
         Form::Short => {
             let solution = solution_of(alloc, decider, root, root.limit, extras)?;
             match solution_text(alloc, notation, &root.board, sooner, &solution) {
@@ -116,7 +123,7 @@ fn published(
     alloc: Global,
     table: Table,
     root: &Root,
-    options: SolutionOptions,
+    options: SolutionOptions<'_>,
     sooner: bool,
 ) -> Result<Vec<u8>, AllocError>
     requires root { IsRoot root.now }
@@ -167,7 +174,7 @@ fn solution_at<R: Threads + Wait + Eprint + Clock + Sync + AllocGlobal>(
     position: &Position,
     goal: Goal,
     limits: Limits,
-    options: SolutionOptions,
+    options: SolutionOptions<'_>,
 ) -> Result<Vec<u8>, Refusal>
     ensures { Gives vec_items (ShowsSolution goal position.now options limits) result }
 {
@@ -188,15 +195,23 @@ fn solution_at<R: Threads + Wait + Eprint + Clock + Sync + AllocGlobal>(
     }
 }
 
-/// The solution of the position of a text.
+/// The solution of the position of a text, or the play behind the first move that is named.
 pub fn solution_reply<R: Threads + Wait + Eprint + Clock + Sync + AllocGlobal>(
     context: &Context<'_, R>,
     subject: &Subject<'_>,
     limits: Limits,
-    options: SolutionOptions,
+    options: SolutionOptions<'_>,
 ) -> Result<Vec<u8>, Refusal>
     ensures { Gives vec_items (IsSolutionReply subject.now options limits) result }
 {
     let position = read_sound(subject.fen)?;
-    solution_at(context, &position, subject.goal, limits, options)
+    match options.first {
+        None => solution_at(context, &position, subject.goal, limits, options),
+        Some(name) => {
+            let limit = search_of(limits).limit.min(MOST_LIMIT);
+            let root = Root::on(Board::of(&position), subject.goal, limit);
+            let symbols = notation_of(subject.goal, options).symbols;
+            first_at(context, root, name, limits, symbols)
+        }
+    }
 }

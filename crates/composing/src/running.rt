@@ -14,11 +14,13 @@ ghost use Rattle.composing.specs.Solution.{IsSolutionReply};
 use crate::certificate::{Begun, Cut, begin, write_claims};
 use crate::problem::solution_reply;
 use certifying::Checked;
-use command_line::{Limits, LineFault, Order, SolutionOptions, Subject, read_order};
+use command_line::{
+    Limits, LineFault, NamedMove, Order, SolutionOptions, Subject, read_order,
+};
 use devices::{Sink, write_all};
 use endings::{
     ANSWERED, REFUSED_WORDS, fail_to_write, finish, give_up_for_memory, proof_refused,
-    refuse_and_tell, search_refused,
+    refuse_and_tell, refuse_move, search_refused,
 };
 use replies::{Context, Tally, context_of, tell_if_over};
 use std::convert::AsStr;
@@ -105,7 +107,7 @@ fn write_begun<R: Clock + Eprint + AllocGlobal, K: Sink, E: Write>(
 fn run_solution<R: Threads + Wait + Eprint + Clock + Sync + AllocGlobal, K: Sink, E: Write>(
     context: &Context<'_, R>,
     subject: &Subject<'_>,
-    asked: (Limits, SolutionOptions),
+    asked: (Limits, SolutionOptions<'_>),
     writer: &mut K,
     errors: &mut E,
 ) -> u8
@@ -120,10 +122,16 @@ fn run_solution<R: Threads + Wait + Eprint + Clock + Sync + AllocGlobal, K: Sink
             tell_if_over(errors, subject.fen, None);
             finish(writer, errors, text.as_slice(), ANSWERED)
         }
-        Err(refusal) => {
-            let refused = search_refused(subject.fen, refusal);
-            refuse_and_tell(context.rt, writer, errors, &refused)
-        }
+        Err(refusal) => match options.first {
+            None => {
+                let refused = search_refused(subject.fen, refusal);
+                refuse_and_tell(context.rt, writer, errors, &refused)
+            }
+            Some(name) => {
+                let fen = subject.fen;
+                refuse_move(context.rt, writer, errors, &NamedMove { fen, name }, refusal)
+            }
+        },
     }
 }
 

@@ -231,12 +231,20 @@ minimate,solution,--json,--set,--mate,2,k5/6/2K3/6/6/1R4 w||{\"position\":\"k5/6
 minimate,solution,--json,--limit,2,k5/6/2K3/6/6/1R4 w||{\"position\":\"k5/6/2K3/6/6/1R4 w\",\"goal\":\"mate\",\"plies\":null,\"short\":false,\"keys\":[],\"set_play\":null,\"tries\":null};
 minimate,solution,--mate,3,2k2/5/5/2K2/4R w||mate in 3;1.Kc3! threat 2.Re5#;  1...Kb5 2.Ra1 zugzwang;    2...Kc5 3.Ra5#;  1...Kd5 2.Re2 zugzwang, dual 2.Re3;    2...Kc5 3.Re5#;
 minimate,solution,--mate,3,--short,2k2/5/5/2K2/4R w||mate in 3;1.Kc3! threat 2.Re5#;  1...Kb5 2.Ra1 Kc5 3.Ra5#;  1...Kd5 2.Re2 Kc5 3.Re5#, dual 2.Re3;
-minimate,solution,--mate,2,--short,k5/6/2K3/6/6/1R4 w||mate in 2;1.Kc5! threat 2.Ra1#;  1...Ka5 2.Ra1#;",
+minimate,solution,--mate,2,--short,k5/6/2K3/6/6/1R4 w||mate in 2;1.Kc5! threat 2.Ra1#;  1...Ka5 2.Ra1#;
+minimate,solution,--mate,2,--first,c4c5,k5/6/2K3/6/6/1R4 w||1.Kc5! threat 2.Ra1#;  1...Ka5 2.Ra1#;
+minimate,solution,--mate,2,--first,b1b2,k5/6/2K3/6/6/1R4 w||1.Rb2? zugzwang;  but 1...Ka5!;
+minimate,solution,--mate,2,--first,b1c1,k5/6/2K3/6/6/1R4 w||1.Rc1? zugzwang;  but 1...Ka5!;  but 1...Kb6!;
+minimate,solution,--mate,2,--figurines,--first,b1b5,k5/6/2K3/6/6/1R4 w||1.\u{2656}b5? stalemate;
+minimate,solution,--limit,2,--first,c4c5,k5/6/2K3/6/6/1R4 w||none within 2;
+minimate,solution,--limit,2,--svg,k5/6/2K3/6/6/1R4 w||none within 2;",
     );
     expect_runs(
         &rt,
         1,
         "minimate,solution,--limit,64,k5/6/2K3/6/6/1R4 w||refused: Limit;
+minimate,solution,--limit,64,--first,c4c6,k5/6/2K3/6/6/1R4 w||refused: Move;
+minimate,solution,--limit,64,--first,c4c5,k5/6/2K3/6/6/1R4 w||refused: Limit;
 minimate,solution,--limit,64,k5 w||refused: Shape;",
     );
 }

@@ -17,7 +17,7 @@ two_is (a ∷ b ∷ xs) x y some first second =
     ap (λ ys. a ∷ b ∷ ys) (sym all) ∙ ap (λ z. z ∷ b ∷ take (length (a ∷ b ∷ xs) - 2) xs) (sym first) ∙ ap (λ z. x ∷ z ∷ take (length (a ∷ b ∷ xs) - 2) xs) (sym second)
 
 -- nothing is forced in no ply
-some_plies : (goal : Goal) (b : PlainBoard) (n : ℕ) → IsFewest goal b n → 0 < n
+pub some_plies : (goal : Goal) (b : PlainBoard) (n : ℕ) → IsFewest goal b n → 0 < n
 some_plies goal b zero fewest = absurd (on_own _ _ _ (same_side-self b.mover) fewest.forced)
 some_plies goal b (suc n) fewest = omega arith
 

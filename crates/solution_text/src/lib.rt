@@ -16,5 +16,6 @@ mod whole_lines;
 
 pub use data::{none_data, solution_data};
 pub use first_move::first_move_solution;
+pub use lines::numbered_moves;
 pub use whole::solution_text;
 pub use whole_lines::whole_solution;

@@ -10,7 +10,7 @@ use std::alloc::{AllocError, Allocator};
 use std::fmt::Write;
 
 /// Each as the attacker's move of this number.
-pub(crate) fn numbered_moves<A: Allocator>(
+pub fn numbered_moves<A: Allocator>(
     alloc: A,
     notation: Notation,
     number: u16,

@@ -1,6 +1,6 @@
 //! Diagrams, drawn by hand.
 use board::{Position, Side, read_fen};
-use diagrams::{Diagram, Style, board_drawn, svg_of};
+use diagrams::{Diagram, Style, board_drawn, captioned_svg, svg_of};
 use moves::{Move, Square};
 use std::process::Abort;
 use std::test::*;
@@ -107,4 +107,31 @@ fn black_below_turns_the_picture(rt: HostRuntime) {
         "<g transform=\"translate(44 4)\" fill=\"#fff\"",
     );
     assert!(rt; !picture.contains("marker"));
+}
+
+#[test]
+fn a_caption_stands_below_the_board(rt: HostRuntime) {
+    let position = read(&rt, ROOK_MATES_IN_THREE);
+    let diagram = Diagram {
+        position: &position,
+        below: Side::White,
+        arrow: None,
+    };
+    let Ok(text) = captioned_svg(rt.alloc(), &diagram, "<#2 & =1>", "1.\u{2656}b5=") else {
+        panic!(rt; "no memory")
+    };
+    let picture = text.as_str();
+    has(&rt, picture, "width=\"648\" height=\"688\"");
+    has(&rt, picture, "viewBox=\"0 0 648 688\"");
+    has(&rt, picture, "<path d=\"M0 0h648v688H0z\"");
+    has(
+        &rt,
+        picture,
+        "<text x=\"44\" y=\"674\">&lt;#2 &amp; =1&gt;</text>",
+    );
+    has(
+        &rt,
+        picture,
+        "<text x=\"644\" y=\"674\" text-anchor=\"end\">1.\u{2656}b5=</text></g>\n</svg>\n",
+    );
 }

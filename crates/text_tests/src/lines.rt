@@ -181,7 +181,18 @@ fn reads_a_solution(rt: HostRuntime) {
             assert!(rt; subject.goal == Goal::Mate);
             assert_eq!(rt; limits.limit, 3);
             assert!(rt; telling.tries && telling.figurines && telling.json);
-            assert!(rt; !telling.set_play && !telling.short);
+            assert!(rt; !telling.set_play && !telling.short && !telling.svg);
+            assert!(rt; telling.first.is_none());
+        }
+        _ => panic!(rt; "no solution"),
+    }
+    let words = [
+        "minimate", "solution", "--mate", "2", "--svg", "--first", "c4c5", FEN,
+    ];
+    match read_order(rt.alloc(), &words) {
+        Ok(Order::Solution(_, _, telling)) => {
+            assert!(rt; telling.svg && !telling.json);
+            assert_eq!(rt; telling.first, Some(b"c4c5".as_slice()));
         }
         _ => panic!(rt; "no solution"),
     }

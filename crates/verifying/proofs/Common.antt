@@ -27,7 +27,7 @@ pub use Rattle.rules.proofs.Keeps.{mover-after, one_after}
 pub use Rattle.rules.proofs.Lists.{IsNumbered-lawful, split3}
 pub use Rattle.rules.specs.Forces.{Forces, IsReached}
 pub use Rattle.rules.specs.MoveText.{move_text, promotion_text, square_text}
-pub use Rattle.rules.specs.Moves.{IsLawful, IsMove, IsPromoted, IsPromotion}
+pub use Rattle.rules.specs.Moves.{IsLawful, IsMove, IsPly, IsPromoted, IsPromotion}
 pub use Rattle.rules.specs.Order.{IsPlyBefore, ListsLawful}
 pub use Rattle.rules.specs.Squares.{IsOnBoard, Place, Ply}
 pub use Rattle.rules.specs.declared.goal.Goal.{Goal}
@@ -45,7 +45,7 @@ pub use Rattle.std.specs.Fmt.{decimal}
 pub use Rattle.std.specs.Io.KnownBytes.{Consumes}
 pub use Rattle.verifying.specs.Certificate.{AreLinesFrom, FailsBecause, IsCertificate, IsLesserLine, IsMoveAt, IsNoLine, IsRefusedWith, IsSomeYesLine, IsYesLine, MeetReplies, Meets, MeetsReply, NoLinesMake, NoneAbout, ProveAnswer, ReachesNothing, Resists, ShowFailures, ShowWin, TellInTurn, TellsFailure, YesLinesMake, shorter_claim, with_claim}
 pub use Rattle.verifying.specs.Checking.{HasTakenText, IsProvedBy, RefusesMore, TakesMore}
-pub use Rattle.verifying.specs.FirstLine.{HasFirstLine, HasName, HasNamedMove, IsInRange, IsNamedSquare, first_line, goal_text}
+pub use Rattle.verifying.specs.FirstLine.{HasFirstLine, HasNamedMove, IsInRange, first_line, goal_text}
 pub use Rattle.verifying.specs.Index.{AreWordsOf, IsFoundIn, IsIndexOf}
 pub use Rattle.verifying.specs.Reading.{AreApart, HasRead, IsEnded, IsLineAt, IsLineOf, ReadsAnswer, ReadsLine, ReadsOn, ReadsWords, answer_of, begun_claims, begun_part, behind_yes, part_behind}
 pub use Rattle.verifying.specs.Refusals.{AreLines, HasLongLine, IsClaimLine, TellsOf, fault_of_input, fed, reads_lost}

@@ -1,11 +1,10 @@
 -- The first line of a certificate, which is its answer.
 --     answer = ('mate' | 'goal') ' ' plies ' ' move | 'none within ' plies
-use Rattle.std.specs.Prelude.{ℕ, ◌≡◌, ◌<◌, ◌≤◌, ⊤, List, ◌∷◌, ◌++◌, codes, IfSome}
+use Rattle.std.specs.Prelude.{ℕ, ◌≡◌, ◌<◌, ◌≤◌, ⊤, List, ◌∷◌, ◌++◌, codes}
 use Rattle.std.specs.Fmt.{decimal}
 use Rattle.rules.specs.declared.goal.Goal.{Goal}
 use Rattle.rules.specs.declared.goal.Goal.TheVariants as goal
-use Rattle.rules.specs.Squares.{Place, Ply}
-use Rattle.rules.specs.Moves.{IsPromoted}
+use Rattle.rules.specs.Moves.{IsPly}
 use Rattle.rules.specs.MoveText.{move_text}
 use Rattle.problems.specs.declared.answer.Answer.{Answer}
 use Rattle.problems.specs.declared.answer.Answer.TheVariants.{Mate, NoneWithin}
@@ -26,17 +25,9 @@ abbrev pub IsInRange : Answer → Type 0
 IsInRange (Mate plies first) = IsOdd plies × (plies ≤ 63)
 IsInRange (NoneWithin limit) = (0 < limit) × (limit ≤ 63)
 
--- the square is on the larger board
-abbrev pub IsNamedSquare : Place → Type 0
-IsNamedSquare s = (s.file < 6) × (s.rank < 6)
-
--- the move has a name: both squares are on the larger board, and it names what a pawn may become, or nothing
-abbrev pub HasName : Ply → Type 0
-HasName m = IsNamedSquare m.from × IsNamedSquare m.to × IfSome m.promotion IsPromoted
-
 -- a mate's first move has a name
 abbrev pub HasNamedMove : Answer → Type 0
-HasNamedMove (Mate plies first) = HasName first
+HasNamedMove (Mate plies first) = IsPly first
 HasNamedMove (NoneWithin limit) = ⊤
 
 -- the text's first line is the answer's

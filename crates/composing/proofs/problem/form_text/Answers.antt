@@ -2,7 +2,7 @@ use Rattle.std.proofs.Common.{◌∙◌, ℕ, List, string_bytes, subst, sym}
 use Rattle.std.proofs.lemmas.Result.{IfOk-weaker}
 use Rattle.board.specs.Board.{PlainBoard}
 use Rattle.board.specs.Fen.{IsFenText}
-use Rattle.composing.proofs.SolutionLemmas.{data_text, short_text, whole_text}
+use Rattle.composing.proofs.SolutionLemmas.{data_text, diagram_text, short_text, whole_text}
 use Rattle.composing.proofs.problem.form_text.Goals as goal
 
 pub returns-in-Whole-clause-text : goal.returns-in-Whole-clause-text
@@ -11,6 +11,13 @@ returns-in-Whole-clause-text g c =
     let notation = c.notation_of-notation in
     IfOk-weaker c.whole_solution.result _ _ (λ text is. whole_text r.goal r.board c.args.options c.args.sooner notation.result (string_bytes text)
     (sym c.form_of.ensures ∙ c.in-Whole.is) notation.ensures is) c.whole_solution.ensures.solution
+
+pub returns-in-Picture-clause-text : goal.returns-in-Picture-clause-text
+returns-in-Picture-clause-text g c =
+    let r = c.args.root.now in
+    let notation = c.notation_of-notation in
+    IfOk-weaker c.diagram_text.result _ _ (λ text is. diagram_text r.goal r.board c.args.options c.args.sooner notation.result (string_bytes text)
+    (sym c.form_of.ensures ∙ c.in-Picture.is) notation.ensures is) c.diagram_text.ensures.text
 
 pub returns-in-Ok-clause-text : goal.returns-in-Ok-clause-text
 returns-in-Ok-clause-text g c =

@@ -1,5 +1,5 @@
 use Rattle.std.proofs.Common.{◌≡◌, ◌≢◌, ◌++◌, ◌∷◌, ◌∙◌, ◌/◌, [], List, ℕ, ap, arith, sym}
-use Rattle.verifying.proofs.Common.{Decides-eqb, append_cancel_left, MatchOption-at_none, MatchOption-at_some, strip_prefix_is, decimal, move_text}
+use Rattle.verifying.proofs.Common.{Decides-eqb, append_cancel_left, MatchOption-at_none, MatchOption-at_some, none-some, strip_prefix_is, decimal, move_text}
 use Rattle.verifying.proofs.OneAnswer.{same_cons}
 use Rattle.verifying.proofs.first_line.mate_in.Goals as goal
 
@@ -17,13 +17,13 @@ returns-in_err-first c = rw c.from_residual-in_err-first.ensures (λ m odd named
     let rest = c.in_ok-rest.rest.now in
     let spaced : rest ≡ 32 ∷ c.in_ok-name.name.now = MatchOption-at_some ((more : List ℕ) → rest ≢ 32 ∷ more) (λ x. rest ≡ 32 ∷ x.now) c.in_ok-name.name c.in_ok-name.was (strip_prefix_is Decides-eqb rest (32 ∷ []) c.strip_prefix.result c.strip_prefix.ensures.cases) in
     let mine = append_cancel_left (decimal c.args.plies) rest (32 ∷ move_text m) (sym c.in_ok-rest.ensures ∙ is) in
-    c.in_err-first.ensures m named (sym (same_cons 32 32 c.in_ok-name.name.now (move_text m) (sym spaced ∙ mine)).1))
+    none-some m (c.in_err-first.ensures.read m named (sym (same_cons 32 32 c.in_ok-name.name.now (move_text m) (sym spaced ∙ mine)).1)))
 
 pub returns : goal.returns
 returns c =
     let rest = c.in_ok-rest.rest.now in
     let spaced : rest ≡ 32 ∷ c.in_ok-name.name.now = MatchOption-at_some ((more : List ℕ) → rest ≢ 32 ∷ more) (λ x. rest ≡ 32 ∷ x.now) c.in_ok-name.name c.in_ok-name.was (strip_prefix_is Decides-eqb rest (32 ∷ []) c.strip_prefix.result c.strip_prefix.ensures.cases) in (
       (c.args.plies / 2, omega (arith, c.if-plies-eq0.false)),
-      c.in_ok-first.ensures.1,
-      c.in_ok-rest.ensures ∙ ap (λ (l : List ℕ). decimal c.args.plies ++ l) (spaced ∙ ap (λ (l : List ℕ). 32 ∷ l) (sym c.in_ok-first.ensures.0)),
+      c.in_ok-first.ensures.some.0,
+      c.in_ok-rest.ensures ∙ ap (λ (l : List ℕ). decimal c.args.plies ++ l) (spaced ∙ ap (λ (l : List ℕ). 32 ∷ l) (sym c.in_ok-first.ensures.some.1)),
     )
