@@ -1,5 +1,5 @@
 -- A row of verdicts, read and written at a job.
-use Rattle.std.proofs.Common.{◌≡◌, ◌≢◌, ℕ, ◌<◌, ◌≤◌, List, length, get_or, sym, ap, subst, ◌∙◌, arith}
+use Rattle.std.proofs.Common.{◌≡◌, ◌≢◌, ℕ, zero, suc, ◌<◌, ◌≤◌, List, length, get_or, replicate, refl, sym, ap, subst, ◌∙◌, arith}
 use Rattle.std.proofs.lemmas.Grind.{common_steps, elements}
 use mathlib.Core.Logic.{dite}
 use native.Mathlib.Decide.{ℕ_discrete}
@@ -11,6 +11,9 @@ use Rattle.rounds.specs.Shares.{KnowsWins}
 
 loses_apart : Loses ≡ Wins → ⊥
 loses_apart e = grind arith
+
+open_apart : Open ≡ Wins → ⊥
+open_apart e = grind arith
 
 -- within a row no default is read
 same_default : (row : List Verdict) (i : ℕ) (d v : Verdict) → i < length row → v ≡ get_or row i v → get_or row i d ≡ v
@@ -24,6 +27,21 @@ set_there row i k d v h = grind (arith, common_steps, elements)
 
 set_length : (row : List Verdict) (i : ℕ) (v : Verdict) → length (set row i v) ≡ length row
 set_length row i v = grind (arith, common_steps, elements)
+
+all_open : (n k : ℕ) → get_or (replicate n Open) k Open ≡ Open
+all_open zero k = refl
+all_open (suc n) zero = refl
+all_open (suc n) (suc k) = all_open n k
+
+open_row : (row : List Verdict) (n : ℕ) → row ≡ replicate n Open → (k : ℕ) → get_or row k Open ≡ Open
+open_row row n e k = ap (λ r. get_or r k Open) e ∙ all_open n k
+
+-- nothing is found yet
+pub fresh_right : (win : ℕ → Type 0) (row : List Verdict) (n : ℕ) → row ≡ replicate n Open → AreRight win row
+fresh_right win row n e k = subst (IsVerdictRight (win k)) (sym (open_row row n e k)) tt
+
+pub fresh_knows : (row : List Verdict) (n known : ℕ) → row ≡ replicate n Open → KnowsWins row known
+fresh_knows row n known e k wins = absurd (open_apart (sym (open_row row n e k) ∙ wins))
 
 module _ (win : ℕ → Type 0) (row : List Verdict) (right : AreRight win row) where
   -- what is read of a job is right

@@ -1,6 +1,6 @@
 -- What a share's finds say of the round.
-use Rattle.std.proofs.Common.{◌≡◌, ℕ, ◌<◌, List, [], ◌∷◌, ◌++◌, length, map, reverse, All, sym, ap, subst, ◌∙◌, arith, append_assoc}
-use Rattle.std.proofs.lemmas.List.{reverse-append, map-append, length-reverse, length-map}
+use Rattle.std.proofs.Common.{◌≡◌, ℕ, ◌+◌, ◌-◌, ◌<◌, List, [], ◌∷◌, ◌++◌, length, map, reverse, All, sym, ap, subst, ◌∙◌, arith, append_assoc}
+use Rattle.std.proofs.lemmas.List.{length-append, reverse-append, map-append, length-reverse, length-map}
 use Rattle.std.proofs.lemmas.List.Elements.{All-nil, All-same, All-push, All-head, All-tail}
 use Rattle.std.proofs.lemmas.Grind.{reverse_onto}
 use Rattle.atomic_table.specs.Seated.{TableId}
@@ -10,7 +10,6 @@ use Rattle.slots.specs.Promise.{IsSeatOf}
 use Rattle.crossbeam_deque.specs.Handles.{worker_view}
 use Rattle.rounds.specs.declared.shared.Round.{Round}
 use Rattle.rounds.specs.declared.shared.RootJobs.{RootJobs}
-use Rattle.rounds.specs.declared.share.Part.{Part}
 use Rattle.rounds.specs.declared.share.Share.{Share}
 use Rattle.problems.specs.Jobs.{RootJobWins}
 use Rattle.jobs.specs.Deals.{Deals}
@@ -19,7 +18,7 @@ use Rattle.rounds.specs.Shares.{IsRound, WinsHere, AreDealt, seats_back}
 use Rattle.rounds.proofs.Lists.{Each-snoc}
 
 -- a job that wins in the round is one that the round's word may tell of
-pub may_lower : {T : Type 0} (b : Round T) (n job : ℕ) → IsRound n b → job < n → WinsHere b job
+pub may_lower : {J T : Type 0} (b : Round J T) (n job : ℕ) → IsRound n b → job < n → WinsHere b job
     → (job < b.least.now.jobs) × RootJobWins b.least.now.wins.goal b.least.now.wins.position b.least.now.wins.plies job
 may_lower b n job is below win = (
   omega (arith, is.jobs, below),
@@ -27,10 +26,10 @@ may_lower b n job is below win = (
 )
 
 -- one thread more is dealt its part
-pub dealt_more : {J : Type 0} (n threads step count from : ℕ) (xs ys : List (Part J)) (s : Part J) (put : List ℕ) → ys ≡ xs ++ s ∷ [] → step ≡ threads → count ≡ n → length xs ≡ from
-    → worker_view s.local ≡ put → Deals step count from put → AreDealt n threads xs → AreDealt n threads ys
-dealt_more n threads step count from xs ys s put e same_step same_count here same_put dealt so_far =
-    Each-snoc (λ k u. Deals threads n k (worker_view u.local)) xs ys s e so_far
+pub dealt_more : {J : Type 0} (n threads step count part : ℕ) (xs ys : List (Share J)) (s : Share J) (put : List ℕ) → ys ≡ xs ++ s ∷ [] → step ≡ threads → count ≡ n
+    → threads - 1 - length xs ≡ part → worker_view s.local ≡ put → Deals step count part put → AreDealt n threads xs → AreDealt n threads ys
+dealt_more n threads step count part xs ys s put e same_step same_count here same_put dealt so_far =
+    Each-snoc (λ k u. Deals threads n (threads - 1 - k) (worker_view u.local)) xs ys s e so_far
     (subst (λ (p : ℕ × ℕ × ℕ × List ℕ). Deals p.0 p.1 p.2 p.3) (λ i. (same_step i, same_count i, sym here i, sym same_put i)) dealt)
 
 -- one share more: its seat is the first
@@ -43,12 +42,12 @@ pub seat_taken : {J : Type 0} (seats seats' all : List (Seat ℕ View)) (seat : 
 seat_taken seats seats' all seat xs ys s taken put same so_far =
     ap (λ l. seats' ++ l) (back_more xs ys s put ∙ ap (λ x. x ∷ seats_back xs) same) ∙ sym (append_assoc seats' (seat ∷ []) (seats_back xs)) ∙ sym (ap (λ l. l ++ seats_back xs) taken) ∙ so_far
 
-back_length : {J : Type 0} (xs : List (Share J)) → length (seats_back xs) ≡ length xs
+pub back_length : {J : Type 0} (xs : List (Share J)) → length (seats_back xs) ≡ length xs
 back_length xs = length-reverse (map (λ s. s.seat) xs) ∙ length-map xs (λ (s : Share _). s.seat)
 
--- as many shares as there were seats
-pub back_count : {J : Type 0} (xs : List (Share J)) (seats : List (Seat ℕ View)) → seats_back xs ≡ seats → length xs ≡ length seats
-back_count xs seats same = sym (back_length xs) ∙ ap length same
+-- as many seats are left, or stand in shares, as were lent
+pub lent_count : {J : Type 0} (left lent : List (Seat ℕ View)) (xs : List (Share J)) → left ++ seats_back xs ≡ lent → length left + length xs ≡ length lent
+lent_count left lent xs same = omega (arith, ap length same, length-append left (seats_back xs), back_length xs)
 
 -- they are seats of the table, one a share
 module _ {J : Type 0} (t : TableId) where

@@ -49,7 +49,7 @@ fn after_first_reply(memory: &Memory, q: &Question, plies: u8) -> Option<Questio
 /// Searches the positions after the attacker's moves that follow the first reply to the job's move: all of them are refuted
 /// where the job loses. Helpers take these moves from the last one on, each its own, since the thread that is at the job begins
 /// with the first.
-pub(crate) fn help<J: Count, T: Gate>(round: &Round<'_, T>, out: &AtHand<J>, seat: &mut Seat)
+fn help<J: Count, T: Gate>(round: &Round<'_, J, T>, out: &AtHand<J>, seat: &mut Seat)
     requires round { IsRound J.jobs round.now }
     requires seat { IsSeatOf round.now.search.now.slots.now seat.old }
     ensures { Continues round.now.search.now.slots.now seat.old seat.new }
@@ -79,5 +79,16 @@ pub(crate) fn help<J: Count, T: Gate>(round: &Round<'_, T>, out: &AtHand<J>, sea
         let place = moves.len() - 1 - taken;
         let below = q.after(moves[place]);
         decide_until(search.slots, seat, &mut scout, &below, round.plies - 3);
+    }
+}
+
+/// Helps with each job that is out.
+pub(crate) fn help_all<J: Count, T: Gate>(round: &Round<'_, J, T>, seat: &mut Seat)
+    requires round { IsRound J.jobs round.now }
+    requires seat { IsSeatOf round.now.search.now.slots.now seat.old }
+    ensures { Continues round.now.search.now.slots.now seat.old seat.new }
+{
+    for out in round.outs {
+        help(round, out, seat);
     }
 }

@@ -10,7 +10,7 @@ use crate::gated::Gated;
 use crate::shared::Solve;
 use crate::task::Task;
 use problems::{Key, Root};
-use searcher::{Decider, Gate, Halt, keys_of, plies_of};
+use searcher::{Decider, Gate, keys_of, plies_of};
 use slots::Seat;
 use std::alloc::{AllocError, Global};
 use std::sync::Wait;
@@ -72,7 +72,7 @@ fn own_keys<T: Gate>(
     alloc: Global,
     search: &Solve<'_, T>,
     seat: &mut Seat,
-) -> Result<Vec<Key>, Halt>
+) -> Result<Vec<Key>, AllocError>
     requires root { IsRoot search.now.root }
     requires seat { IsSeatOf search.now.slots.now seat.old }
     ensures seat { IsSeatOf search.now.slots.now seat.new }
@@ -85,7 +85,10 @@ fn own_keys<T: Gate>(
         seat,
         gate: search.gate,
     };
-    keys_of(alloc, &mut gated, &search.root)
+    match keys_of(alloc, &mut gated, &search.root) {
+        Ok(keys) => Ok(keys),
+        Err(_) => Err(AllocError),
+    }
 }
 
 /// Each first move that forces the goal within the limit, in order, with the fewest plies that it takes:
@@ -112,5 +115,5 @@ pub fn keys_over<T: Gate, R: Threads + Wait + Sync>(
     let mut own = seats.take_last();
     let keys = own_keys(alloc, &search, &mut own);
     seats.push_reserved(own);
-    keys.map_err(|_| AllocError)
+    keys
 }

@@ -5,14 +5,14 @@ ghost use Rattle.jobs.specs.Promise.{IsJobSeatOf};
 use board::Position;
 use decision::Stop;
 use entry::MateLore;
-use jobs::{JobSeat, Least, Wins};
+use jobs::{AtHand, Count, JobSeat, Least, Wins};
 use moves::Goal;
 use problems::Root;
 use searcher::Gate;
 use slots::Slots;
 
 /// The jobs that win in a round: those whose moves win within so many plies.
-#[derive(Clone, Copy)]
+#[derive(Drop)]
 pub(crate) struct RootJobs {
     pub position: Position,
     pub goal: Goal,
@@ -25,24 +25,6 @@ impl Wins for RootJobs {
     ghost wins = { λ w job. RootJobWins w.goal w.position w.plies job };
 }
 
-impl RootJobs {
-    ghost use Rattle.std.specs.Prelude.{◌≡◌};
-    ghost use Rattle.rounds.specs.RootSets.{root_jobs};
-
-    /// The jobs that win within so many plies, as a set.
-    pub(crate) fn of(root: &Root, plies: u8) -> RootJobs
-        ensures { result ≡ root_jobs root.now plies }
-    {
-        let position = root.board.position();
-        let goal = root.goal;
-        RootJobs {
-            position,
-            goal,
-            plies,
-        }
-    }
-}
-
 /// What all rounds of a solve share.
 #[derive(Drop)]
 pub(crate) struct Solve<'a, T: Gate> {
@@ -53,11 +35,13 @@ pub(crate) struct Solve<'a, T: Gate> {
 
 /// What all threads of a round read.
 #[derive(Drop)]
-pub(crate) struct Round<'a, T: Gate> {
+pub(crate) struct Round<'a, J: Count, T: Gate> {
     pub search: &'a Solve<'a, T>,
+    pub plies: u8,
     /// The least job known to win.
     pub least: &'a Least<RootJobs>,
-    pub plies: u8,
+    /// The job that each thread is at.
+    pub outs: &'a Vec<AtHand<J>>,
 }
 
 /// Stops the search of a job once one below it wins: the round's word, a thread's seat of it, and the job

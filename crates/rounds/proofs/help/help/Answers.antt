@@ -1,6 +1,6 @@
 use Rattle.std.proofs.Common.{arith, sym, subst, length, ap}
 use Rattle.problems.specs.Tried.{ListsAll}
-use Rattle.decision.proofs.Calls.{continues_more}
+use Rattle.decision.proofs.Calls.{continues_none, continues_more}
 use Rattle.problems.proofs.Jobs.{listed_move}
 use Rattle.rounds.proofs.help.help.Goals as goal
 
@@ -11,8 +11,8 @@ after-below-requires g c =
     listed_move q.position c.deref.result.now (subst (ListsAll q.position) (sym c.deref.ensures.0) c.in_order.ensures) _ c.index-deref-place.result
     (omega (arith, as_long, c.len-in-loop.ensures.value, c.len.ensures.value, c.if-len-taken.false)) c.index-deref-place.is
 
+pub loop-init : goal.loop-init
+loop-init g c = continues_none c.args.round.now.search.now.slots.now c.args.seat.now c.requires.seat
+
 pub loop-preserved : goal.loop-preserved
-loop-preserved g c = record {
-  seat = c.decide_until.ensures.continues.seat;
-  goes_on = continues_more c.args.round.now.search.now.slots.now c.args.seat.now c.loop.seat c.decide_until.new.seat c.loop.invariant.goes_on c.decide_until.ensures.continues;
-}
+loop-preserved g c = continues_more c.args.round.now.search.now.slots.now c.args.seat.now c.loop.seat c.decide_until.new.seat c.loop.invariant c.decide_until.ensures.continues

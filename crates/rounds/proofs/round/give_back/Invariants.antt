@@ -6,7 +6,7 @@ use Rattle.rounds.proofs.round.give_back.Given as goal
 abbrev pub invariant-loop-share : goal.invariant-loop-share
 invariant-loop-share g l =
     record {
-      same : seats_back l.fn.shares.items ≡ l.seats.items ++ seats_back l.shares.items;
+      same : l.fn.seats.items ++ seats_back l.fn.shares.items ≡ l.seats.items ++ seats_back l.shares.items;
       room : length l.seats.items + length l.shares.items ≤ vec_capacity l.seats;
     }
 

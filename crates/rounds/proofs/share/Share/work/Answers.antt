@@ -1,12 +1,13 @@
 use Rattle.std.proofs.Common.{rules}
 use Rattle.rounds.specs.Going.{SeatGoesOn}
-use Rattle.rounds.proofs.Going.{goes_none, goes_more}
+use Rattle.rounds.specs.Going.SeatGoesOn.{searched, onward}
+use Rattle.rounds.proofs.Going.{goes_none}
 use Rattle.rounds.proofs.share.Share.work.Goals as goal
 
 pub loop-preserved : goal.loop-preserved
 loop-preserved g c = record {
   share = c.take_up.ensures.share;
-  goes_on = goes_more g.T.Gate.keeps c.args.round.now.search.now.slots.now c.args.self.now.seat c.loop.self.seat c.take_up.new.self.seat c.loop.invariant.goes_on c.take_up.ensures.goes_on;
+  goes_on = onward c.loop.invariant.goes_on c.take_up.ensures.goes_on;
 }
 
 pub loop-init : goal.loop-init
@@ -17,7 +18,5 @@ loop-init g c = record {
 
 pub returns-clause-goes_on : goal.returns-clause-goes_on
 returns-clause-goes_on g c =
-    let keeps = g.T.Gate.keeps in
-    let t = c.args.round.now.search.now.slots.now in
-    let taken : SeatGoesOn keeps t c.args.self.now.seat c.match-next.self.seat = search rules in
-    goes_more keeps t c.args.self.now.seat c.match-next.self.seat c.help_all.new.self.seat taken c.help_all.ensures.goes_on
+    let taken : SeatGoesOn g.T.Gate.keeps c.args.round.now.search.now.slots.now c.args.self.now.seat c.match-next.self.seat = search rules in
+    onward taken (searched c.help_all.ensures)
