@@ -148,15 +148,16 @@ const FIRSTS: [(&[u8], &str); 4] = [
         b"f1b1",
         "1.Qb1? threat 2.Kd4\n  1...~ 2.Kd4 zugzwang\n    2...Kd6 3.Qb6#\n  but 1...Kc5!\n  but 1...Kd5!\n  but 1...Kd6!\n",
     ),
-    (
-        b"f1c4",
-        "1.Qc4+?\n  but 1...Kb6!\n  but 1...Kd6!\n",
-    ),
+    (b"f1c4", "1.Qc4+?\n  but 1...Kb6!\n  but 1...Kd6!\n"),
 ];
 
 #[test]
 fn first_moves_are_told_as_by_another_program(rt: HostRuntime) {
-    let root = Root::on(Board::of(&position(&rt, "2k3/6/6/2K3/6/5Q w")), Goal::Mate, 5);
+    let root = Root::on(
+        Board::of(&position(&rt, "2k3/6/6/2K3/6/5Q w")),
+        Goal::Mate,
+        5,
+    );
     for (name, expected) in &FIRSTS {
         let told = told_in(&rt, &root, read_move(name)).expect(&rt, "a solution");
         assert_eq!(rt; told.as_str(), *expected);

@@ -40,7 +40,7 @@ fn drawn(
     requires { All (IsLawful root.now.board) keys.now }
     ensures { IfOk result (λ text. (named : List ℕ) × AreTexts (IsNumbered notation 1 root.now.board) keys.now named
         × (string_bytes text ≡ captioned_picture (record { board = root.now.board; below = White }) None
-            (stipulation root.now.goal root.now.limit) named)) }
+        (stipulation root.now.goal root.now.limit) named)) }
 {
     let position = root.board.position();
     let diagram = Diagram {

@@ -14,9 +14,7 @@ ghost use Rattle.composing.specs.Solution.{IsSolutionReply};
 use crate::certificate::{Begun, Cut, begin, write_claims};
 use crate::problem::solution_reply;
 use certifying::Checked;
-use command_line::{
-    Limits, LineFault, NamedMove, Order, SolutionOptions, Subject, read_order,
-};
+use command_line::{Limits, LineFault, NamedMove, Order, SolutionOptions, Subject, read_order};
 use devices::{Sink, write_all};
 use endings::{
     ANSWERED, REFUSED_WORDS, fail_to_write, finish, give_up_for_memory, proof_refused,
@@ -129,7 +127,13 @@ fn run_solution<R: Threads + Wait + Eprint + Clock + Sync + AllocGlobal, K: Sink
             }
             Some(name) => {
                 let fen = subject.fen;
-                refuse_move(context.rt, writer, errors, &NamedMove { fen, name }, refusal)
+                refuse_move(
+                    context.rt,
+                    writer,
+                    errors,
+                    &NamedMove { fen, name },
+                    refusal,
+                )
             }
         },
     }

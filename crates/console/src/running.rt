@@ -21,7 +21,7 @@ use endings::{
     ANSWERED, REFUSED_WORDS, ReplyFault, end_wordless, explain_if_refused, fail_to_read,
     fail_to_write, finish, give_up_for_memory, refuse_and_tell, refuse_move, search_refused,
 };
-use refusals::Refusal;
+use refusals::{Refusal, Refused};
 use replies::{Context, Tally, after_reply, context_of, first_reply, reply_to};
 use std::convert::AsStr;
 use std::io::{self, Write, sink};

@@ -164,7 +164,8 @@ fn draw_mover(text: &mut String, side: u16, mover: Side) -> Result<(), AllocErro
 /// Draws a picture of this height, and what is below its board.
 fn drawn(alloc: Global, diagram: &Diagram<'_>, high: u16, below: &str) -> Result<String, AllocError>
     requires { AreOnBoard (view_of diagram.now) diagram.now.arrow }
-    ensures { IfOk result (λ text. string_bytes text ≡ picture_with (view_of diagram.now) diagram.now.arrow high below.now) }
+    ensures { IfOk result (λ text. string_bytes text
+        ≡ picture_with (view_of diagram.now) diagram.now.arrow high below.now) }
 {
     let mut text = String::new(alloc);
     let side = board_side(diagram);

@@ -7,6 +7,9 @@ use Rattle.composing.proofs.diagram.drawn.Goals as goal
 
 pub returns : goal.returns
 returns g c =
-    IfOk-weaker c.captioned_svg.result _ _ (λ text drawn. (string_bytes c.in_ok-named.named, c.in_ok-named.ensures,
-    subst (λ (x : PlainBoard × List ℕ × List ℕ). string_bytes text ≡ captioned_picture (record { board = x.0; below = White }) None x.1 x.2)
-    (λ i. (c.position-position.ensures i, c.as_str-stipulation.ensures.value i, c.as_str-named.ensures.value i)) drawn)) c.captioned_svg.ensures
+    IfOk-weaker c.captioned_svg.result _ _ (λ text drawn. (
+      string_bytes c.in_ok-named.named,
+      c.in_ok-named.ensures,
+      subst (λ (x : PlainBoard × List ℕ × List ℕ). string_bytes text ≡ captioned_picture (record { board = x.0; below = White }) None x.1 x.2)
+          (λ i. (c.position-position.ensures i, c.as_str-stipulation.ensures.value i, c.as_str-named.ensures.value i)) drawn,
+    )) c.captioned_svg.ensures
