@@ -4,3 +4,4 @@ pub mod Forcing
 pub mod Variations
 pub mod Tries
 pub mod Plays
+pub mod Changes

@@ -2,3 +2,4 @@
 pub mod Lines
 pub mod Solutions
 pub mod Whole
+pub mod Changes

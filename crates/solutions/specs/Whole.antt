@@ -84,13 +84,13 @@ pub record ListsPlayedTries (goal : Goal) (b : PlainBoard) (n : ℕ) (tries : Li
   pub tried : ListsTries goal b n (map (λ t. t.0) tries)
   pub each : All (IsPlayedTry goal b n) tries
 
--- a first move that is given: a key and the play behind it; another move, the virtual play behind it and the replies that refute it; or one that stalemates
+-- what follows a first move that is given: a key's play; the virtual play behind another move, and the replies that refute it; or stalemate
 pub data FirstPlay : Type 0 where
   key : Play → FirstPlay
   refuted : Play → List Ply → FirstPlay
   stalemate : FirstPlay
 
--- Where n plies are the fewest: the move is a key, with its play; or it is none and leaves replies, with its virtual play and exactly the replies that
+-- Where n plies are the fewest: the move is a key, with its play; or it is none and leaves replies, with its virtual play and exactly those that
 -- refute it, in order; or it stalemates, where that isn't the goal
 abbrev pub IsPlayedFirst : Goal → PlainBoard → ℕ → Ply → FirstPlay → Type 0
 IsPlayedFirst goal b n m (key then) = Wins goal b n m × IsPlayedKey goal b n (m, then)

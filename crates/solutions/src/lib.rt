@@ -1,6 +1,7 @@
 //! What a composer publishes of a problem: its keys with their threats and variations, its set play and its tries.
 #![tactic(auto)]
 
+mod changing;
 mod continuing;
 mod extras;
 mod first_try;
@@ -17,6 +18,7 @@ mod trying;
 mod variation;
 mod varying;
 
+pub use changing::{SetMove, is_changed, set_move_of};
 pub use continuing::continuations_of;
 pub use extras::Extras;
 pub use first_try::Try;
