@@ -6,3 +6,4 @@ pub mod Told
 pub mod Played
 pub mod First
 pub mod Breaks
+pub mod Beside

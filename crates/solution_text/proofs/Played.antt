@@ -1,11 +1,12 @@
 -- Keys and tries with the play behind each, and the set play.
-use Rattle.std.proofs.Common.{true, false, ◌==◌, codes, Some, ◌≡◌, ℕ, ◌+◌, ◌-◌, ◌<◌, ◌≤◌, List, [], ◌∷◌, ◌++◌, length, take, get_or, map, All, refl, sym, ◌∙◌, ap, subst}
+use Rattle.std.proofs.Common.{None, true, false, ◌==◌, codes, Some, ◌≡◌, ℕ, ◌+◌, ◌-◌, ◌<◌, ◌≤◌, List, [], ◌∷◌, ◌++◌, length, take, get_or, map, All, refl, sym, ◌∙◌, ap, subst}
 use Rattle.solution_text.proofs.Common.{decimal, map-append, length-map, take_all, All-push, All-nil, PlainBoard, Ply, Notation, name_text, IsFewest, ListsContinuations, passed, ListsTries, Play, Sequels, done, more, IsPlayedTry, IsWholeSetPlay, headline, AreTexts, AreSequelsText, IsPlayedTryText, IsWholeSolution, TellsReplies, TellsEach, TellsKeys, TellsPlayedTries, TellsSetPlay, TellsTries, take_more}
 use Rattle.std.proofs.Math.Dec.{eqb-suc-zero}
 use Rattle.std.proofs.lemmas.Bool.{false≢true}
 use Rattle.rules.specs.Reach.{IsSound}
 use Rattle.solutions.specs.declared.extras.Extras.{Extras}
 use Rattle.solutions.specs.declared.first_try.Try.{Try}
+use Rattle.solution_text.specs.WholeText.{held_against}
 use Rattle.solution_text.proofs.Texts.{AreTexts-push}
 
 module _ {X : Type 0} (P : X × Play → Type 0) (IsText : X × Play → List ℕ → Type 0) (xs : List X) where
@@ -44,12 +45,12 @@ begun_some : (x : ℕ) (xs : List ℕ) → (length (x ∷ xs) == 0) ≡ true →
 begun_some x xs none = false≢true (sym (eqb-suc-zero (length xs)) ∙ none)
 
 -- with no line there is no reply
-no_reply : (notation : Notation) (q : PlainBoard) (replies : Sequels) (lines : List ℕ) → AreSequelsText notation 1 q replies lines → (length lines == 0) ≡ true → replies ≡ done
+no_reply : (notation : Notation) (q : PlainBoard) (replies : Sequels) (lines : List ℕ) → AreSequelsText notation 1 None q replies lines → (length lines == 0) ≡ true → replies ≡ done
 no_reply notation q done lines text none = refl
-no_reply notation q (more r s others) lines (first, rest, (p, move, reply, named, line, sequel, begun), below, is) none =
+no_reply notation q (more r s others) lines (first, rest, (p, move, reply, named, last, unchanged, line, sequel, begun), below, is) none =
     absurd (begun_some 32 (32 ∷ (decimal 1 ++ (codes "..." ++ (name_text reply ++ line))) ++ rest) (subst (λ l. (length l == 0) ≡ true) (is ∙ ap (λ f. f ++ rest) begun) none))
 
-module _ (notation : Notation) (b : PlainBoard) (n : ℕ) (sound : IsSound (passed b)) (lines text : List ℕ) (told : TellsReplies notation 1 (passed b) (n - 2) lines) where
+module _ (notation : Notation) (b : PlainBoard) (n : ℕ) (sound : IsSound (passed b)) (lines text : List ℕ) (told : TellsReplies notation 1 None (passed b) (n - 2) lines) where
   is_set_play : IsWholeSetPlay notation.goal b n told.0
   is_set_play = record { met = λ _. told.1; each = λ _. told.2; unsound = λ not. absurd (not sound) }
 
@@ -59,7 +60,7 @@ module _ (notation : Notation) (b : PlainBoard) (n : ℕ) (sound : IsSound (pass
   pub set_play_told : (length lines == 0) ≡ false → text ≡ codes "set play\n" ++ lines → TellsSetPlay notation b n true text
   set_play_told some is = by_replies told.0 is_set_play told.3
     where
-      by_replies : (replies : Sequels) → IsWholeSetPlay notation.goal b n replies → AreSequelsText notation 1 (passed b) replies lines → TellsSetPlay notation b n true text
+      by_replies : (replies : Sequels) → IsWholeSetPlay notation.goal b n replies → AreSequelsText notation 1 None (passed b) replies lines → TellsSetPlay notation b n true text
       by_replies done play none = cc
       by_replies (more r s others) play told = (Some (more r s others), play, (lines, told, is))
 
@@ -71,7 +72,7 @@ set_play_unsound notation b n text unsound is =
 -- ---- the whole
 
 pub whole_told : (notation : Notation) (b : PlainBoard) (n : ℕ) (extras : Extras) (firsts : List Ply) (head set_play tries keys text : List ℕ) → IsFewest notation.goal b n → ListsContinuations notation.goal b n firsts
-    → head ≡ headline notation.goal extras.sooner n (length firsts) → TellsSetPlay notation b n extras.set_play set_play → TellsTries notation b n extras.tries tries → TellsKeys notation b n firsts keys
+    → head ≡ headline notation.goal extras.sooner n (length firsts) → TellsSetPlay notation b n extras.set_play set_play → TellsTries notation b n extras.tries tries → TellsKeys notation (held_against b n extras.set_play) b n firsts keys
     → text ≡ head ++ (set_play ++ (tries ++ keys)) → IsWholeSolution notation.symbols notation.goal b extras text
 whole_told notation b n extras firsts head set_play tries keys text fewest lists begins (sets, set_is, set_text) (found, found_is, found_text) told is =
     let count : length firsts ≡ length told.played = ap (length {A = Ply}) (sym told.firsts) ∙ length-map told.played (λ (k : Ply × Play). k.0) in (

@@ -1,6 +1,8 @@
 -- Replies with their sequels, one after another, and the threats before them.
-use Rattle.std.proofs.Common.{Vec, ◌≡◌, ℕ, ◌+◌, ◌<◌, ◌≤◌, List, [], ◌∷◌, ◌++◌, zero, suc, length, take, drop, get_or, append_assoc, refl, sym, ◌∙◌, ap, subst, arith}
+use Rattle.std.proofs.Common.{Vec, Bool, true, false, Option, None, Some, IfSome, ◌≡◌, ℕ, ◌+◌, ◌<◌, ◌≤◌, List, [], ◌∷◌, ◌++◌, zero, suc, length, take, drop, get_or, append_assoc, refl, sym, ◌∙◌, ap, subst, arith}
 use Rattle.solution_text.proofs.Common.{PlainBoard, Goal, Ply, IsLawful, ListsLawful, IsFewest, Notation, ListsMoves, ListsContinuations, IsMet, passed, AreThreats, Sequel, sequel, Play, play, Threat, over, check, zugzwang, short, long, Sequels, done, more, replies_in, IsThreat, IsPlay, IsVirtualPlay, AreSequels, AreThreatsText, AreSequelsText, AreThreatened, IsThreatText, IsLongText, TellsLong, TellsReply, TellsReplies, PicksMoves, pick_one, pick_skip, pick_all}
+use Rattle.solution_text.specs.WholeText.{held_against}
+use Rattle.solution_text.specs.declared.posed.Posed.{Posed}
 use Rattle.problems.proofs.Winning.{none_forced, nothing_at_once}
 use Rattle.solutions.specs.declared.threats.Threats.{Threats}
 use Rattle.solutions.specs.declared.threats.Threats.TheVariants.{End, Check, Zugzwang, Moves}
@@ -19,22 +21,22 @@ AreSequels-snoc : (goal : Goal) (q : PlainBoard) (list : Sequels) (r : Ply) (s :
 AreSequels-snoc goal q done r s each here = here
 AreSequels-snoc goal q (more l t others) r s each here = (each.0, AreSequels-snoc goal q others r s each.1 here)
 
-AreSequelsText-snoc : (notation : Notation) (number : ℕ) (q : PlainBoard) (list : Sequels) (r : Ply) (s : Sequel) (text one : List ℕ)
-    → AreSequelsText notation number q list text → AreSequelsText notation number q (more r s done) one → AreSequelsText notation number q (snoc list r s) (text ++ one)
-AreSequelsText-snoc notation number q done r s text one all here = subst (λ t. AreSequelsText notation number q (more r s done) (t ++ one)) (sym all) here
-AreSequelsText-snoc notation number q (more l t others) r s text one all here =
+AreSequelsText-snoc : (notation : Notation) (number : ℕ) (set : Option Posed) (q : PlainBoard) (list : Sequels) (r : Ply) (s : Sequel) (text one : List ℕ)
+    → AreSequelsText notation number set q list text → AreSequelsText notation number set q (more r s done) one → AreSequelsText notation number set q (snoc list r s) (text ++ one)
+AreSequelsText-snoc notation number set q done r s text one all here = subst (λ t. AreSequelsText notation number set q (more r s done) (t ++ one)) (sym all) here
+AreSequelsText-snoc notation number set q (more l t others) r s text one all here =
     let (first, rest, line, below, is) = all in
-    (first, rest ++ one, line, AreSequelsText-snoc notation number q others r s rest one below here, ap (λ x. x ++ one) is ∙ append_assoc first rest one)
+    (first, rest ++ one, line, AreSequelsText-snoc notation number set q others r s rest one below here, ap (λ x. x ++ one) is ∙ append_assoc first rest one)
 
 -- of these replies exactly those that are met within n plies, with their sequels and their text
-pub record TellsOver (notation : Notation) (number : ℕ) (q : PlainBoard) (n : ℕ) (xs : List Ply) (text : List ℕ) : Type 0 where
+pub record TellsOver (notation : Notation) (number : ℕ) (set : Option Posed) (q : PlainBoard) (n : ℕ) (xs : List Ply) (text : List ℕ) : Type 0 where
   pub replies : Sequels
   pub picks : PicksMoves q.game (IsMet notation.goal q n) xs (replies_in replies)
   pub each : AreSequels notation.goal q replies
-  pub lines : AreSequelsText notation number q replies text
+  pub lines : AreSequelsText notation number set q replies text
 
-module _ (notation : Notation) (number : ℕ) (q : PlainBoard) (n : ℕ) (xs : List Ply) where
-  pub tell_none : (text : List ℕ) → text ≡ [] → TellsOver notation number q n (take 0 xs) text
+module _ (notation : Notation) (number : ℕ) (set : Option Posed) (q : PlainBoard) (n : ℕ) (xs : List Ply) where
+  pub tell_none : (text : List ℕ) → text ≡ [] → TellsOver notation number set q n (take 0 xs) text
   tell_none text none = record {
     replies = done;
     picks = record {
@@ -45,19 +47,19 @@ module _ (notation : Notation) (number : ℕ) (q : PlainBoard) (n : ℕ) (xs : L
     lines = none;
   }
 
-  module _ (lists : ListsLawful q xs) (text : List ℕ) (i : ℕ) (r : Ply) (within : i < length xs) (is : r ≡ get_or xs i r) (so_far : TellsOver notation number q n (take i xs) text) where
+  module _ (lists : ListsLawful q xs) (text : List ℕ) (i : ℕ) (r : Ply) (within : i < length xs) (is : r ≡ get_or xs i r) (so_far : TellsOver notation number set q n (take i xs) text) where
     -- the reply is met
-    pub tell_one : (one new : List ℕ) → TellsReply notation number q n r one → new ≡ text ++ one → TellsOver notation number q n (take (i + 1) xs) new
-    tell_one one new (met, (s, here, line)) added = subst (TellsOver notation number q n (take (i + 1) xs)) (sym added) (record {
+    pub tell_one : (one new : List ℕ) → TellsReply notation number set q n r one → new ≡ text ++ one → TellsOver notation number set q n (take (i + 1) xs) new
+    tell_one one new (met, (s, here, line)) added = subst (TellsOver notation number set q n (take (i + 1) xs)) (sym added) (record {
       replies = snoc so_far.replies r s;
       picks = subst (PicksMoves q.game (IsMet notation.goal q n) (take (i + 1) xs)) (sym (replies_in-snoc so_far.replies r s))
           (pick_one q (IsMet notation.goal q n) xs lists (replies_in so_far.replies) i r within is so_far.picks met);
       each = AreSequels-snoc notation.goal q so_far.replies r s so_far.each here;
-      lines = AreSequelsText-snoc notation number q so_far.replies r s text one so_far.lines line;
+      lines = AreSequelsText-snoc notation number set q so_far.replies r s text one so_far.lines line;
     })
 
     -- it isn't
-    pub tell_skip : (IsMet notation.goal q n r → ⊥) → TellsOver notation number q n (take (i + 1) xs) text
+    pub tell_skip : (IsMet notation.goal q n r → ⊥) → TellsOver notation number set q n (take (i + 1) xs) text
     tell_skip not = record {
       replies = so_far.replies;
       picks = pick_skip q (IsMet notation.goal q n) xs lists (replies_in so_far.replies) i r within is so_far.picks not;
@@ -65,7 +67,7 @@ module _ (notation : Notation) (number : ℕ) (q : PlainBoard) (n : ℕ) (xs : L
       lines = so_far.lines;
     }
 
-  pub tell_all : ListsLawful q xs → (text : List ℕ) (i : ℕ) → length xs ≤ i → TellsOver notation number q n (take i xs) text → TellsReplies notation number q n text
+  pub tell_all : ListsLawful q xs → (text : List ℕ) (i : ℕ) → length xs ≤ i → TellsOver notation number set q n (take i xs) text → TellsReplies notation number set q n text
   tell_all lists text i all so_far =
       (so_far.replies, pick_all q (IsMet notation.goal q n) xs lists (replies_in so_far.replies) i all so_far.picks (λ m w. (w.0, w.1)), so_far.each, so_far.lines)
 
@@ -82,6 +84,18 @@ all_lawful goal q n moves met lists = record {
 -- and virtual play is the play
 pub all_played : (goal : Goal) (q : PlainBoard) (n : ℕ) (then : Play) → ((r : Ply) → IsLawful q r → IsMet goal q n r) → IsVirtualPlay goal q n then → IsPlay goal q n then
 all_played goal q n (play threat replies) met (is, lists, each) = (is, all_lawful goal q n (replies_in replies) met lists, each)
+
+-- ---- what is compared
+
+-- nothing
+pub no_set : (set : Option Posed) → set ≡ None → IfSome set (λ posed. posed.plies ≤ 63)
+no_set None none = tt
+no_set (Some posed) none = cc
+
+-- the set play, if it is asked for
+pub few_held : (b : PlainBoard) (n : ℕ) (asked : Bool) → n ≤ 63 → IfSome (held_against b n asked) (λ posed. posed.plies ≤ 63)
+few_held b n true few = few
+few_held b n false few = tt
 
 -- ---- continuations
 

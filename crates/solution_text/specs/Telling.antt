@@ -8,14 +8,15 @@ use Rattle.solutions.specs.declared.first_try.Try.{Try}
 use Rattle.solutions.specs.Lines.{ListsMoves, IsMet}
 use Rattle.solutions.specs.Solutions.{passed, IsWhereAsked}
 use Rattle.solutions.specs.Whole.{Sequel, sequel, Play, long, Sequels, done, more, replies_in, IsSequel, AreSequels, IsPlayedKey, IsVirtualPlay, IsPlayedTry, ListsPlayedTries, FirstPlay, IsPlayedFirst, IsWholeSetPlay}
+use Rattle.solution_text.specs.declared.posed.Posed.{Posed}
 use Rattle.solution_text.specs.Text.{AreTexts, IsTextOf}
 use Rattle.solution_text.specs.WholeText.{IsSequelText, IsPlayText, IsLongText, AreSequelsText, IsPlayedText, IsRefutedText, IsPlayedTryText, ArePlayedTriesText, IsFirstText, IsWholeSetPlayText}
 
--- the sequel and its text, where these are all continuations
-abbrev pub TellsSequel : Notation → ℕ → PlainBoard → ℕ → List Ply → List ℕ → Type 0
-TellsSequel notation number b n moves text =
+-- the sequel and its text, where these are all continuations, and this stands last on their line
+abbrev pub TellsSequel : Notation → ℕ → PlainBoard → ℕ → List Ply → List ℕ → List ℕ → Type 0
+TellsSequel notation number b n moves last text =
     (m : Ply) × (duals : List Ply) × (moves ≡ m ∷ duals)
-    × (then : Play) × IsSequel notation.goal b n (sequel m duals then) × IsSequelText notation number b (sequel m duals then) text
+    × (then : Play) × IsSequel notation.goal b n (sequel m duals then) × IsSequelText notation number b last (sequel m duals then) text
 
 -- the same behind a pass, as a longer threat
 abbrev pub TellsLong : Notation → ℕ → PlainBoard → ℕ → List Ply → List ℕ → Type 0
@@ -24,25 +25,25 @@ TellsLong notation number q n moves text =
     × (then : Play) × IsSequel notation.goal (passed q) n (sequel m duals then) × IsLongText notation number q (long (sequel m duals then)) text
 
 -- the threat, exactly the replies that are met within n plies, with their sequels, and their text
-abbrev pub TellsPlay : Notation → ℕ → PlainBoard → ℕ → List ℕ → List ℕ → Type 0
-TellsPlay notation number q n end text =
-    (then : Play) × IsVirtualPlay notation.goal q n then × IsPlayText notation number q end then text
+abbrev pub TellsPlay : Notation → ℕ → Option Posed → PlainBoard → ℕ → List ℕ → List ℕ → Type 0
+TellsPlay notation number set q n end text =
+    (then : Play) × IsVirtualPlay notation.goal q n then × IsPlayText notation number set q end then text
 
 -- the reply is met within n plies, with its sequel and their text
-abbrev pub TellsReply : Notation → ℕ → PlainBoard → ℕ → Ply → List ℕ → Type 0
-TellsReply notation number q n r text =
+abbrev pub TellsReply : Notation → ℕ → Option Posed → PlainBoard → ℕ → Ply → List ℕ → Type 0
+TellsReply notation number set q n r text =
     IsMet notation.goal q n r
-    × ((s : Sequel) × AreSequels notation.goal q (more r s done) × AreSequelsText notation number q (more r s done) text)
+    × ((s : Sequel) × AreSequels notation.goal q (more r s done) × AreSequelsText notation number set q (more r s done) text)
 
 -- exactly the replies that are met within n plies, with their sequels and their text
-abbrev pub TellsReplies : Notation → ℕ → PlainBoard → ℕ → List ℕ → Type 0
-TellsReplies notation number q n text =
+abbrev pub TellsReplies : Notation → ℕ → Option Posed → PlainBoard → ℕ → List ℕ → Type 0
+TellsReplies notation number set q n text =
     (replies : Sequels) × ListsMoves q.game (IsMet notation.goal q n) (replies_in replies)
-    × AreSequels notation.goal q replies × AreSequelsText notation number q replies text
+    × AreSequels notation.goal q replies × AreSequelsText notation number set q replies text
 
 -- the key with its play, and their text
-abbrev pub TellsKey : Notation → PlainBoard → ℕ → Ply → List ℕ → Type 0
-TellsKey notation b n key text = (then : Play) × IsPlayedKey notation.goal b n (key, then) × IsPlayedText notation b (key, then) text
+abbrev pub TellsKey : Notation → Option Posed → PlainBoard → ℕ → Ply → List ℕ → Type 0
+TellsKey notation set b n key text = (then : Play) × IsPlayedKey notation.goal b n (key, then) × IsPlayedText notation set b (key, then) text
 
 -- the move leaves replies, and these are lawful ones
 abbrev pub LeavesReplies : PlainBoard → Ply → List Ply → Type 0
@@ -69,8 +70,8 @@ pub record TellsEach {X : Type 0} (P : X × Play → Type 0) (IsText : X × Play
   pub texts : AreTexts IsText played text
 
 -- these keys with their play, and their text
-abbrev pub TellsKeys : Notation → PlainBoard → ℕ → List Ply → List ℕ → Type 0
-TellsKeys notation b n keys text = TellsEach (IsPlayedKey notation.goal b n) (IsPlayedText notation b) keys text
+abbrev pub TellsKeys : Notation → Option Posed → PlainBoard → ℕ → List Ply → List ℕ → Type 0
+TellsKeys notation set b n keys text = TellsEach (IsPlayedKey notation.goal b n) (IsPlayedText notation set b) keys text
 
 -- these tries with their play, and their text
 abbrev pub TellsPlayedTries : Notation → PlainBoard → ℕ → List Try → List ℕ → Type 0

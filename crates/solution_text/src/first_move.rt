@@ -1,5 +1,5 @@
 //! The play behind a first move that is given, told as it is found.
-ghost use Rattle.std.specs.Prelude.{◌≡◌, IfErr, IfOk, Some, slice_get, string_bytes};
+ghost use Rattle.std.specs.Prelude.{◌≡◌, IfErr, IfOk, None, Some, slice_get, string_bytes};
 ghost use Rattle.rules.specs.Squares.{Ply};
 ghost use Rattle.rules.specs.Moves.{IsLawful};
 ghost use Rattle.problems.specs.Answer.{Wins, IsFewest};
@@ -29,6 +29,7 @@ fn missed_text<D: Decider, A: Allocator + Copy>(
 ) -> Result<String<A>, Broken>
     requires number { teller.now.number ≡ 1 }
     requires goal { teller.now.notation.goal ≡ root.now.goal }
+    requires set { teller.now.set ≡ None }
     requires first { IsLawful root.now.board first }
     requires no_key { Wins root.now.goal root.now.board root.now.limit first → ⊥ }
     ensures goes { D.goes decider.old decider.new }
@@ -56,6 +57,7 @@ fn first_text<D: Decider, A: Allocator + Copy>(
 ) -> Result<String<A>, Broken>
     requires number { teller.now.number ≡ 1 }
     requires goal { teller.now.notation.goal ≡ root.now.goal }
+    requires set { teller.now.set ≡ None }
     requires job { IsJobOf root.now job }
     requires fewest { IsFewest root.now.goal root.now.board root.now.limit }
     ensures goes { D.goes decider.old decider.new }
@@ -97,6 +99,7 @@ pub fn first_move_solution<D: Decider, A: Allocator + Copy>(
             goal: root.goal,
         },
         number: 1,
+        set: None,
     };
     match first_text(&teller, decider, root, job) {
         Ok(text) => Ok(text),

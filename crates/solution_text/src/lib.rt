@@ -6,6 +6,7 @@ mod data;
 mod first_move;
 mod keys;
 mod lines;
+mod posed;
 mod sequels;
 mod teller;
 mod tries;

@@ -1,28 +1,47 @@
 //! What lines are told with.
-ghost use Rattle.std.specs.Prelude.{◌≡◌, ◌+◌, ◌<◌, IfOk, string_bytes};
-ghost use Rattle.solution_text.specs.WholeText.{indent};
+ghost use Rattle.std.specs.Prelude.{◌≡◌, ◌+◌, ◌<◌, IfOk, None, string_bytes};
+ghost use Rattle.solution_text.specs.WholeText.{held_against, indent};
 
+use crate::posed::Posed;
 use algebraic::Notation;
+use problems::Root;
 use std::alloc::{AllocError, Allocator};
 
-/// What each line of a play is told with: how moves are named, and the number of the attacker's move that comes next or came last.
+/// What each line of a play is told with: how moves are named, the number of the attacker's move that comes next or came last, and the
+/// problem with whose set play the replies to a key are compared.
 #[derive(Drop)]
 pub(crate) struct Teller<A: Allocator> {
     pub(crate) alloc: A,
     pub(crate) notation: Notation,
     pub(crate) number: u16,
+    pub(crate) set: Option<Posed>,
 }
 
-/// The same, one move of the attacker farther on.
+/// The problem of the root, if its set play is asked for.
+pub(crate) fn held_against(root: &Root, asked: bool) -> Option<Posed>
+    ensures { result ≡ held_against root.now.board root.now.limit asked }
+{
+    if !asked {
+        return None;
+    }
+    Some(Posed {
+        board: root.board.copied(),
+        plies: root.limit,
+    })
+}
+
+/// The same, one move of the attacker farther on, where nothing is compared.
 pub(crate) fn farther<A: Allocator + Copy>(teller: &Teller<A>) -> Teller<A>
     requires { teller.now.number < 999 }
     ensures notation { result.notation ≡ teller.now.notation }
     ensures number { result.number ≡ teller.now.number + 1 }
+    ensures set { result.set ≡ None }
 {
     Teller {
         alloc: teller.alloc,
         notation: teller.notation,
         number: teller.number + 1,
+        set: None,
     }
 }
 

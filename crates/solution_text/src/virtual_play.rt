@@ -1,5 +1,5 @@
 //! Tries and other moves that are refuted, with the play behind them, told as it is found.
-ghost use Rattle.std.specs.Prelude.{◌≡◌, All, IfErr, IfOk, string_bytes};
+ghost use Rattle.std.specs.Prelude.{◌≡◌, All, IfErr, IfOk, None, string_bytes};
 ghost use Rattle.rules.specs.Moves.{IsLawful};
 ghost use Rattle.problems.specs.Roots.{IsRoot};
 ghost use Rattle.searcher.specs.declared.halt.Halt.TheVariants.{Stopped};
@@ -47,6 +47,7 @@ pub(crate) fn refuted_text<D: Decider, A: Allocator + Copy>(
 ) -> Result<String<A>, Broken>
     requires number { teller.now.number ≡ 1 }
     requires goal { teller.now.notation.goal ≡ root.now.goal }
+    requires set { teller.now.set ≡ None }
     requires replies { LeavesReplies root.now.board first refutations.now }
     ensures goes { D.goes decider.old decider.new }
     ensures refuted { IfOk result (λ text.
@@ -69,6 +70,7 @@ fn played_try<D: Decider, A: Allocator + Copy>(
 ) -> Result<String<A>, Broken>
     requires number { teller.now.number ≡ 1 }
     requires goal { teller.now.notation.goal ≡ root.now.goal }
+    requires set { teller.now.set ≡ None }
     requires first_try { IsTry root.now.goal root.now.board root.now.limit first_try }
     ensures goes { D.goes decider.old decider.new }
     ensures first_try { IfOk result (λ text.
@@ -88,6 +90,7 @@ fn played_tries<D: Decider, A: Allocator + Copy>(
 ) -> Result<String<A>, Broken>
     requires number { teller.now.number ≡ 1 }
     requires goal { teller.now.notation.goal ≡ root.now.goal }
+    requires set { teller.now.set ≡ None }
     requires tries { All (IsTry root.now.goal root.now.board root.now.limit) tries.now }
     ensures goes { D.goes decider.old decider.new }
     ensures tries { IfOk result (λ text.
@@ -111,6 +114,7 @@ pub(crate) fn whole_tries<D: Decider, A: Allocator + Copy>(
 ) -> Result<String<A>, Broken>
     requires number { teller.now.number ≡ 1 }
     requires goal { teller.now.notation.goal ≡ root.now.goal }
+    requires set { teller.now.set ≡ None }
     requires root { IsRoot root.now }
     ensures goes { D.goes decider.old decider.new }
     ensures tries { IfOk result (λ text.

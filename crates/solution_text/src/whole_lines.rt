@@ -1,5 +1,5 @@
 //! The whole solution of a problem, told as it is found.
-ghost use Rattle.std.specs.Prelude.{◌≡◌, ◌≤◌, All, IfErr, IfOk, string_bytes};
+ghost use Rattle.std.specs.Prelude.{◌≡◌, ◌≤◌, All, IfErr, IfOk, IfSome, None, string_bytes};
 ghost use Rattle.problems.specs.Answer.{Wins, IsFewest};
 ghost use Rattle.problems.specs.Roots.{IsRoot};
 ghost use Rattle.searcher.specs.declared.halt.Halt.TheVariants.{Stopped};
@@ -8,7 +8,7 @@ ghost use Rattle.solution_text.specs.WholeText.{IsWholeSolution};
 
 use crate::broken::Broken;
 use crate::sequels::{play_text, sequels_text};
-use crate::teller::Teller;
+use crate::teller::{Teller, held_against};
 use crate::virtual_play::whole_tries;
 use crate::whole::headline;
 use algebraic::{Notation, Symbols};
@@ -27,10 +27,11 @@ pub(crate) fn played_text<D: Decider, A: Allocator + Copy>(
 ) -> Result<String<A>, Broken>
     requires number { teller.now.number ≡ 1 }
     requires goal { teller.now.notation.goal ≡ root.now.goal }
+    requires set { IfSome teller.now.set (λ posed. posed.plies ≤ 63) }
     requires key { Wins root.now.goal root.now.board root.now.limit key }
     ensures goes { D.goes decider.old decider.new }
     ensures key { IfOk result (λ text.
-        TellsKey teller.now.notation root.now.board root.now.limit key (string_bytes text)) }
+        TellsKey teller.now.notation teller.now.set root.now.board root.now.limit key (string_bytes text)) }
     ensures halt { IfErr result (λ broken. broken.halt ≡ Stopped → D.told decider.new) }
 {
     let next = after(&root.board, key);
@@ -48,10 +49,11 @@ fn plays_text<D: Decider, A: Allocator + Copy>(
 ) -> Result<String<A>, Broken>
     requires number { teller.now.number ≡ 1 }
     requires goal { teller.now.notation.goal ≡ root.now.goal }
+    requires set { IfSome teller.now.set (λ posed. posed.plies ≤ 63) }
     requires keys { All (Wins root.now.goal root.now.board root.now.limit) keys.now }
     ensures goes { D.goes decider.old decider.new }
     ensures keys { IfOk result (λ text.
-        TellsKeys teller.now.notation root.now.board root.now.limit keys.now (string_bytes text)) }
+        TellsKeys teller.now.notation teller.now.set root.now.board root.now.limit keys.now (string_bytes text)) }
     ensures halt { IfErr result (λ broken. broken.halt ≡ Stopped → D.told decider.new) }
 {
     let mut text = String::new(teller.alloc);
@@ -71,6 +73,7 @@ fn whole_set_play<D: Decider, A: Allocator + Copy>(
 ) -> Result<String<A>, Broken>
     requires number { teller.now.number ≡ 1 }
     requires goal { teller.now.notation.goal ≡ root.now.goal }
+    requires set { teller.now.set ≡ None }
     ensures goes { D.goes decider.old decider.new }
     ensures set_play { IfOk result (λ text.
         TellsSetPlay teller.now.notation root.now.board root.now.limit asked (string_bytes text)) }
@@ -98,6 +101,7 @@ fn lines_text<D: Decider, A: Allocator + Copy>(
 ) -> Result<String<A>, Broken>
     requires number { teller.now.number ≡ 1 }
     requires goal { teller.now.notation.goal ≡ root.now.goal }
+    requires set { teller.now.set ≡ None }
     requires root { IsRoot root.now }
     requires fewest { IsFewest root.now.goal root.now.board root.now.limit }
     ensures goes { D.goes decider.old decider.new }
@@ -110,7 +114,13 @@ fn lines_text<D: Decider, A: Allocator + Copy>(
     let head = headline(alloc, root.goal, extras.sooner, root.limit, keys.len())?;
     let set_play = whole_set_play(teller, decider, root, extras.set_play)?;
     let tries = whole_tries(teller, decider, root, extras.tries)?;
-    let plays = plays_text(teller, decider, root, keys.as_slice())?;
+    let beside = Teller {
+        alloc,
+        notation: teller.notation,
+        number: 1,
+        set: held_against(root, extras.set_play),
+    };
+    let plays = plays_text(&beside, decider, root, keys.as_slice())?;
     Ok(format!(in alloc; "{head}{set_play}{tries}{plays}")?)
 }
 
@@ -137,6 +147,7 @@ pub fn whole_solution<D: Decider, A: Allocator + Copy>(
             goal: root.goal,
         },
         number: 1,
+        set: None,
     };
     match lines_text(&teller, decider, root, extras) {
         Ok(text) => Ok(text),

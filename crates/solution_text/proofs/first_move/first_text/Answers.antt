@@ -1,5 +1,6 @@
-use Rattle.std.proofs.Common.{sym, subst, ◌∙◌, string_bytes}
-use Rattle.solution_text.proofs.Common.{IfOk-weaker, Goal}
+use Rattle.std.proofs.Common.{Option, sym, subst, ◌∙◌, string_bytes}
+use Rattle.solution_text.proofs.Common.{IfOk-weaker, Goal, IsPlayedText}
+use Rattle.solution_text.specs.declared.posed.Posed.{Posed}
 use Rattle.problems.specs.Answer.{Wins}
 use Rattle.solutions.specs.Whole.{key}
 use Rattle.std.proofs.lemmas.Bool.{false≢true}
@@ -26,8 +27,12 @@ returns-then-wins-clause-first g c =
     let is = move_at r.moves.items c.deref.result.now c.from.result c.args.job m c.deref.ensures.0 c.from.ensures c.index-deref-from.is in
     let at = got_at r.moves.items c.args.job m c.requires.job.1 is in
     let wins = subst (λ (x : Goal). Wins x r.board r.limit m) (sym c.requires.goal) (job_wins r r.limit c.args.job m at (c.in-Some.ensures.wins.0 c.if-wins.true)) in
-    IfOk-weaker c.played_text.result _ _ (λ text (then, played, told).
-    (m, at, first_told notation r.goal r.board r.limit m (string_bytes text) c.requires.goal c.requires.fewest (key then, (wins, played), told))) c.played_text.ensures.key
+    IfOk-weaker c.played_text.result _ _ (λ text (then, played, told). (
+      m,
+      at,
+      first_told notation r.goal r.board r.limit m (string_bytes text) c.requires.goal c.requires.fewest
+          (key then, (wins, played), subst (λ (set : Option Posed). IsPlayedText notation set r.board (m, then) (string_bytes text)) c.requires.set told),
+    )) c.played_text.ensures.key
 
 pub missed_text-requires-clause-first : goal.missed_text-requires-clause-first
 missed_text-requires-clause-first g c =

@@ -3,7 +3,7 @@ use Rattle.solution_text.proofs.Told.{TellsOver}
 use Rattle.solution_text.proofs.sequels.+sequels.Given as goal
 
 abbrev pub decreases-sequel_text : goal.decreases-sequel_text
-decreases-sequel_text g l = 4 * l.plies
+decreases-sequel_text g l = 4 * l.found.now.plies
 
 abbrev pub decreases-play_text : goal.decreases-play_text
 decreases-play_text g l = 4 * l.left + 3
@@ -22,5 +22,5 @@ abbrev pub invariant-sequels_text-loop-reply : goal.invariant-sequels_text-loop-
 invariant-sequels_text-loop-reply g l =
     record {
       goes : g.D.Decider.goes l.fn.decider l.decider;
-      tells : TellsOver l.fn.teller.notation l.fn.teller.number l.board l.limit (take l.reply-index l.reply-items) (string_bytes l.text);
+      tells : TellsOver l.fn.teller.notation l.fn.teller.number l.fn.teller.set l.board l.limit (take l.reply-index l.reply-items) (string_bytes l.text);
     }

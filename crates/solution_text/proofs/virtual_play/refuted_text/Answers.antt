@@ -1,5 +1,7 @@
-use Rattle.std.proofs.Common.{All, ◌≡◌, ℕ, ◌-◌, [], subst, arith, string_bytes}
+use Rattle.std.proofs.Common.{All, Option, ◌≡◌, ℕ, ◌-◌, [], subst, arith, string_bytes}
 use Rattle.solution_text.proofs.Common.{PlainBoard, IsLawful, IsVirtualPlay, IsPlayText, one_after}
+use Rattle.solution_text.specs.declared.posed.Posed.{Posed}
+use Rattle.solution_text.proofs.Told.{no_set}
 use Rattle.solution_text.proofs.virtual_play.refuted_text.Goals as goal
 
 pub after-next-requires : goal.after-next-requires
@@ -7,6 +9,9 @@ after-next-requires g c = (c.requires.replies.0, c.requires.replies.1)
 
 pub name-name-requires : goal.name-name-requires
 name-name-requires g c = (c.requires.replies.0, c.requires.replies.1)
+
+pub play_text-requires-clause-set : goal.play_text-requires-clause-set
+play_text-requires-clause-set g c = no_set c.args.teller.now.set c.requires.set
 
 pub play_text-requires-clause-over : goal.play_text-requires-clause-over
 play_text-requires-clause-over g c =
@@ -27,7 +32,7 @@ returns-clause-refuted g c =
     let text = string_bytes c.in_ok-play.play in
     let (then, is, told) = c.in_ok-play.ensures.play in
     let left : c.saturating_sub.result ≡ r.limit - 2 = omega (arith, c.saturating_sub.ensures) in
-    let lines = subst (λ (k : ℕ). IsPlayText notation k q [] then text) c.requires.number told in (
+    let lines = subst (λ (at : ℕ × Option Posed). IsPlayText notation at.0 at.1 q [] then text) (λ i. (c.requires.number i, c.requires.set i)) told in (
       then,
       (q, c.after-next.ensures, subst (λ (k : ℕ). IsVirtualPlay notation.goal q k then) left is),
       (q, c.after-next.ensures, c.name-name.result, c.name-name.ensures, text, lines, string_bytes c.in_ok-last.last, c.in_ok-last.ensures, c.in_ok-format.ensures.ok),

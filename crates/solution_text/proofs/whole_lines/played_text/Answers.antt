@@ -20,7 +20,7 @@ returns-clause-key g c =
     let left : c.saturating_sub.result ≡ r.limit - 2 = omega (arith, c.saturating_sub.ensures) in
     let met = subst (λ (x : Goal). (m : Ply) → IsLawful q m → IsMet x q (r.limit - 2) m) (sym c.requires.goal) (key_meets r.goal r.board c.args.key q c.after-next.ensures r.limit c.requires.key) in
     let virtual = subst (λ (k : ℕ). IsVirtualPlay notation.goal q k then) left is in
-    let lines = subst (λ (k : ℕ). IsPlayText notation k q [] then text) c.requires.number told in (
+    let lines = subst (λ (k : ℕ). IsPlayText notation k c.args.teller.now.set q [] then text) c.requires.number told in (
       then,
       (q, c.after-next.ensures, all_played notation.goal q (r.limit - 2) then met virtual),
       (q, c.after-next.ensures, c.name-name.result, c.name-name.ensures, text, lines, c.in_ok-format.ensures.ok),

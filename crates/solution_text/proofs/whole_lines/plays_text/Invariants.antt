@@ -7,5 +7,5 @@ abbrev pub invariant-loop-key : goal.invariant-loop-key
 invariant-loop-key g l =
     record {
       goes : g.D.Decider.goes l.fn.decider l.decider;
-      tells : TellsKeys l.teller.notation l.root.board l.root.limit (take l.key-index l.keys) (string_bytes l.text);
+      tells : TellsKeys l.teller.notation l.teller.set l.root.board l.root.limit (take l.key-index l.keys) (string_bytes l.text);
     }
