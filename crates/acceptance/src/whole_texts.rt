@@ -70,7 +70,7 @@ mate in 3\n\
 set play\n  1...Kd5 2.Kc3 zugzwang\n    2...Kc5 3.Re5#\n\
 tries\n\
 1.Kb3? threat 2.Rd1\n  1...~ 2.Rd1 zugzwang\n    2...Kb5 3.Rd5#\n  1...Kb5 2.Re5#\n  1...Kd5 2.Kc3 zugzwang\n    2...Kc5 3.Re5#\n  but 1...Kd4!\n\
-1.Kc3! threat 2.Re5#\n  1...Kb5 2.Ra1 zugzwang\n    2...Kc5 3.Ra5#\n  1...Kd5 2.Re2 zugzwang, dual 2.Re3\n    2...Kc5 3.Re5#\n",
+1.Kc3! threat 2.Re5#\n  1...Kb5 2.Ra1 zugzwang\n    2...Kc5 3.Ra5#\n  1...Kd5 2.Re2 zugzwang, dual 2.Re3, set 2.Kc3\n    2...Kc5 3.Re5#\n",
     ),
     (
         "2Nk1/pR3/5/2P1P/2K2 w",

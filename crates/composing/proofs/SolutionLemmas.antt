@@ -1,5 +1,6 @@
 -- A solution, from what its parts give.
 use Rattle.std.proofs.Common.{◌≡◌, ◌≤◌, ℕ, Bool, false, List, None, Result, Vec, inl, refl, subst, sym, vec_items}
+use Rattle.std.specs.Prelude.{MatchOption}
 use Rattle.std.specs.declared.alloc.Global.{Global}
 use Rattle.board.specs.Board.{PlainBoard}
 use Rattle.board.specs.Fen.{IsFenText}
@@ -21,7 +22,7 @@ use Rattle.solution_text.specs.Data.{solution_data}
 use Rattle.answer_texts.specs.Answers.{none_text}
 use Rattle.composing.specs.declared.problem.Form.{Form}
 use Rattle.composing.specs.declared.problem.Form.TheVariants.{Whole, Short, Data, Picture}
-use Rattle.composing.specs.Solution.{IsDiagram, IsInForm, IsPublished, IsSolutionReply, SaysNone, ShowsComposed, ShowsNoSolution, ShowsSolution, extras_of, form_of, is_sooner, notation_of}
+use Rattle.composing.specs.Solution.{IsDiagram, IsInForm, IsPublished, IsSolutionReply, SaysNone, ShowsComposed, ShowsFirstNamed, ShowsNoSolution, ShowsSolution, extras_of, form_of, is_sooner, notation_of, symbols_of}
 use Rattle.replies.proofs.ReplyLemmas.{gives_weaker}
 
 module _ (goal : Goal) (b : PlainBoard) (options : SolutionOptions) (sooner : Bool) where
@@ -69,4 +70,6 @@ module _ (subject : Subject) (options : SolutionOptions) (limits : Limits) (b : 
   pub solution_at_text : options.first ≡ None → IsSoundText subject.fen.now b → Gives vec_items (ShowsSolution subject.goal b options limits) r
       → Gives vec_items (IsSolutionReply subject options limits) r
   solution_at_text none sound gives = composed_at_text sound
-      (gives_weaker vec_items (ShowsSolution subject.goal b options limits) (ShowsComposed subject.goal b options limits) r (λ reply shows. rw none shows) gives)
+      (gives_weaker vec_items (ShowsSolution subject.goal b options limits) (ShowsComposed subject.goal b options limits) r
+      (λ reply shows. subst (λ first. MatchOption first (ShowsSolution subject.goal b options limits reply)
+      (λ name. ShowsFirstNamed (symbols_of options.figurines) subject.goal b limits name.now reply)) (sym none) shows) gives)

@@ -37,7 +37,7 @@ pub enum Form {
 }
 
 fn form_of(options: SolutionOptions<'_>) -> Form
-    ensures { result ≡ form_of options }
+    ensures { result ≡ form_of options.entry }
 {
     if options.json {
         Form::Data
@@ -51,7 +51,7 @@ fn form_of(options: SolutionOptions<'_>) -> Form
 }
 
 fn notation_of(goal: Goal, options: SolutionOptions<'_>) -> Notation
-    ensures { result ≡ notation_of goal options }
+    ensures { result ≡ notation_of goal options.entry }
 {
     let symbols = if options.figurines {
         Symbols::Figurines
@@ -71,7 +71,7 @@ fn form_text<D: Decider>(
 ) -> Result<String, Halt>
     requires root { IsRoot root.now }
     requires fewest { IsFewest root.now.goal root.now.board root.now.limit }
-    ensures text { IfOk result (λ text. IsPublished root.now.goal root.now.board options sooner (string_bytes text)) }
+    ensures text { IfOk result (λ text. IsPublished root.now.goal root.now.board options.entry sooner (string_bytes text)) }
     ensures halt { IfErr result (λ halt. halt ≡ Stopped → D.told decider.new) }
 {
     let extras = Extras {
@@ -128,7 +128,7 @@ fn published(
 ) -> Result<Vec<u8>, AllocError>
     requires root { IsRoot root.now }
     requires fewest { IsFewest root.now.goal root.now.board root.now.limit }
-    ensures { IfOk result (λ text. IsPublished root.now.goal root.now.board options sooner text.items) }
+    ensures { IfOk result (λ text. IsPublished root.now.goal root.now.board options.entry sooner text.items) }
 {
     let (slots, mut seat) = table.into_alone();
     let mut scout = Scout {
@@ -176,7 +176,7 @@ fn solution_at<R: Threads + Wait + Eprint + Clock + Sync + AllocGlobal>(
     limits: Limits,
     options: SolutionOptions<'_>,
 ) -> Result<Vec<u8>, Refusal>
-    ensures { Gives vec_items (ShowsSolution goal position.now options limits) result }
+    ensures { Gives vec_items (ShowsSolution goal position.now options.entry limits) result }
 {
     let alloc = context.rt.alloc();
     let mut found = searched_at(context, position, goal, limits)?;
@@ -202,7 +202,7 @@ pub fn solution_reply<R: Threads + Wait + Eprint + Clock + Sync + AllocGlobal>(
     limits: Limits,
     options: SolutionOptions<'_>,
 ) -> Result<Vec<u8>, Refusal>
-    ensures { Gives vec_items (IsSolutionReply subject.now options limits) result }
+    ensures { Gives vec_items (IsSolutionReply subject.now options.entry limits) result }
 {
     let position = read_sound(subject.fen)?;
     match options.first {

@@ -110,7 +110,7 @@ fn run_solution<R: Threads + Wait + Eprint + Clock + Sync + AllocGlobal, K: Sink
     errors: &mut E,
 ) -> u8
     requires { K.failures writer.old < u64.MAX }
-    ensures runs { WritesReply (IsSolutionReply subject.now asked.1 asked.0)
+    ensures runs { WritesReply (IsSolutionReply subject.now asked.entry.1 asked.entry.0)
         (ending_of K.contents K.failures writer.old writer.new result) }
     ensures silent { MayTell result ⊎ IsOver subject.now.fen.now ⊎ (errors.new ≡ errors.old) }
 {

@@ -1,3 +1,3 @@
 pub mod ReplyLemmas
 mod PlayingLemmas
-mod FirstLemmas
+pub mod FirstLemmas

@@ -1,4 +1,4 @@
-use Rattle.std.proofs.Common.{◌≡◌, ◌×◌, ℕ, List, None, subst, sym, string_bytes}
+use Rattle.std.proofs.Common.{◌≡◌, ℕ, List, None, subst, sym, string_bytes}
 use Rattle.std.proofs.lemmas.Result.{IfOk-weaker}
 use Rattle.board.specs.Board.{PlainBoard}
 use Rattle.board.specs.declared.game.Side.TheVariants.{White}
@@ -6,7 +6,7 @@ use Rattle.diagrams.specs.Pictures.{captioned_picture}
 use Rattle.composing.proofs.diagram.drawn.Goals as goal
 
 pub returns : goal.returns
-returns g c =
+returns c =
     IfOk-weaker c.captioned_svg.result _ _ (λ text drawn. (
       string_bytes c.in_ok-named.named,
       c.in_ok-named.ensures,
