@@ -71,7 +71,8 @@ fn form_text<D: Decider>(
 ) -> Result<String, Halt>
     requires root { IsRoot root.now }
     requires fewest { IsFewest root.now.goal root.now.board root.now.limit }
-    ensures text { IfOk result (λ text. IsPublished root.now.goal root.now.board options.entry sooner (string_bytes text)) }
+    ensures text { IfOk result (λ text.
+        IsPublished root.now.goal root.now.board options.entry sooner (string_bytes text)) }
     ensures halt { IfErr result (λ halt. halt ≡ Stopped → D.told decider.new) }
 {
     let extras = Extras {

@@ -172,7 +172,8 @@ fn reply_text<D: Decider, A: Allocator + Copy>(
     requires reply { IsLawful board.now reply }
     ensures goes { D.goes decider.old decider.new }
     ensures reply { IfOk result (λ found. MatchOption found (IsMet teller.now.notation.goal board.now limit reply → ⊥)
-        (λ text. TellsReply teller.now.notation teller.now.number teller.now.set board.now limit reply (string_bytes text))) }
+        (λ text. TellsReply teller.now.notation teller.now.number teller.now.set
+        board.now limit reply (string_bytes text))) }
     ensures halt { IfErr result (λ broken. broken.halt ≡ Stopped → D.told decider.new) }
 {
     let root = Root::on(after(board, reply), teller.notation.goal, limit);
