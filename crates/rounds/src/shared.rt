@@ -67,7 +67,10 @@ impl Stop for JobStop<'_> {
         × (least_known b.seat ≤ least_known a.seat) };
 
     fn is_set(&mut self) -> bool {
-        self.job < self.jobs && self.least.is_below(&mut self.seat, self.job)
+        if self.jobs <= self.job {
+            return false;
+        }
+        self.least.is_below(&mut self.seat, self.job)
     }
 
     ghost stays_at_once = { λ _. (refl, refl, Prim.search rules) };

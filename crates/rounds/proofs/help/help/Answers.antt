@@ -11,6 +11,18 @@ after-below-requires g c =
     listed_move q.position c.deref.result.now (subst (ListsAll q.position) (sym c.deref.ensures.0) c.in_order.ensures) _ c.index-deref-place.result
     (omega (arith, as_long, c.len-in-loop.ensures.value, c.len.ensures.value, c.if-len-taken.false)) c.index-deref-place.is
 
+pub returns-then-round-lt-HELPED_FROM : goal.returns-then-round-lt-HELPED_FROM
+returns-then-round-lt-HELPED_FROM g c = continues_none c.args.round.now.search.now.slots.now c.args.seat.now c.requires.seat
+
+pub returns-in_default : goal.returns-in_default
+returns-in_default g c = continues_none c.args.round.now.search.now.slots.now c.args.seat.now c.requires.seat
+
+pub returns-in_default-after_first_reply : goal.returns-in_default-after_first_reply
+returns-in_default-after_first_reply g c = continues_none c.args.round.now.search.now.slots.now c.args.seat.now c.requires.seat
+
+pub returns-then-len-taken : goal.returns-then-len-taken
+returns-then-len-taken g c = c.loop.invariant
+
 pub loop-init : goal.loop-init
 loop-init g c = continues_none c.args.round.now.search.now.slots.now c.args.seat.now c.requires.seat
 
