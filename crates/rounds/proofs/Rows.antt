@@ -1,6 +1,6 @@
 -- A row of verdicts, read and written at a job.
 use Rattle.std.proofs.Common.{◌≡◌, ◌≢◌, ℕ, zero, suc, ◌<◌, ◌≤◌, List, length, get_or, replicate, refl, sym, ap, subst, ◌∙◌, arith}
-use Rattle.std.proofs.lemmas.Grind.{common_steps, elements}
+use Rattle.std.proofs.lemmas.List.{length-set, get_or-set_same, get_or-set_other, get_or_default}
 use mathlib.Core.Logic.{dite}
 use native.Mathlib.Decide.{ℕ_discrete}
 use lib.ListN.{set}
@@ -10,23 +10,10 @@ use Rattle.rounds.specs.Verdicts.{IsVerdictRight, AreRight}
 use Rattle.rounds.specs.Shares.{KnowsWins}
 
 loses_apart : Loses ≡ Wins → ⊥
-loses_apart e = grind arith
+loses_apart e = cc
 
 open_apart : Open ≡ Wins → ⊥
-open_apart e = grind arith
-
--- within a row no default is read
-same_default : (row : List Verdict) (i : ℕ) (d v : Verdict) → i < length row → v ≡ get_or row i v → get_or row i d ≡ v
-same_default row i d v h e = grind (arith, common_steps, elements)
-
-set_here : (row : List Verdict) (i : ℕ) (d v : Verdict) → i < length row → get_or (set row i v) i d ≡ v
-set_here row i d v h = grind (arith, common_steps, elements)
-
-set_there : (row : List Verdict) (i k : ℕ) (d v : Verdict) → k ≢ i → get_or (set row i v) k d ≡ get_or row k d
-set_there row i k d v h = grind (arith, common_steps, elements)
-
-set_length : (row : List Verdict) (i : ℕ) (v : Verdict) → length (set row i v) ≡ length row
-set_length row i v = grind (arith, common_steps, elements)
+open_apart e = cc
 
 all_open : (n k : ℕ) → get_or (replicate n Open) k Open ≡ Open
 all_open zero k = refl
@@ -47,17 +34,17 @@ module _ (win : ℕ → Type 0) (row : List Verdict) (right : AreRight win row) 
   -- what is read of a job is right
   pub row_says : (at job n : ℕ) (v : Verdict) → at ≡ job → length row ≡ n → job < n → v ≡ get_or row at v → IsVerdictRight (win job) v
   row_says at job n v same count h e =
-      subst (IsVerdictRight (win job)) (same_default row job Open v (omega (arith, count, h)) (e ∙ ap (λ i. get_or row i v) same)) (right job)
+      subst (IsVerdictRight (win job)) (get_or_default row job Open v (omega (arith, count, h)) ∙ sym (e ∙ ap (λ i. get_or row i v) same)) (right job)
 
   row_right : (job : ℕ) (v : Verdict) → job < length row → IsVerdictRight (win job) v → AreRight win (set row job v)
   row_right job v h is k = dite (ℕ_discrete k job)
-      (λ e. subst (λ i. IsVerdictRight (win i) (get_or (set row job v) i Open)) (sym e) (subst (IsVerdictRight (win job)) (sym (set_here row job Open v h)) is))
-      (λ other. subst (IsVerdictRight (win k)) (sym (set_there row job k Open v other)) (right k))
+      (λ e. subst (λ i. IsVerdictRight (win i) (get_or (set row job v) i Open)) (sym e) (subst (IsVerdictRight (win job)) (sym (get_or-set_same row job v Open h)) is))
+      (λ other. subst (IsVerdictRight (win k)) (sym (get_or-set_other row job k v Open other)) (right k))
 
   -- a row with one right verdict more
   pub row_with : (at job n : ℕ) (v : Verdict) → at ≡ job → length row ≡ n → job < n → IsVerdictRight (win job) v → (length (set row at v) ≡ n) × AreRight win (set row at v)
   row_with at job n v same count h is = (
-    set_length row at v ∙ count,
+    length-set row at v ∙ count,
     subst (λ i. AreRight win (set row i v)) (sym same) (row_right job v (omega (arith, count, h)) is),
   )
 
@@ -65,10 +52,10 @@ module _ (win : ℕ → Type 0) (row : List Verdict) (right : AreRight win row) 
 pub knows_win : (row : List Verdict) (a b at job : ℕ) → at ≡ job → b ≤ a → b ≤ job → KnowsWins row a → KnowsWins (set row at Wins) b
 knows_win row a b at job same falls lowered knows k e = dite (ℕ_discrete k at)
     (λ here. omega (arith, here, same, lowered))
-    (λ other. omega (arith, falls, knows k (sym (set_there row at k Open Wins other) ∙ e)))
+    (λ other. omega (arith, falls, knows k (sym (get_or-set_other row at k Wins Open other) ∙ e)))
 
 -- one job more is found to lose
 pub knows_loss : (row : List Verdict) (a b at : ℕ) → at < length row → b ≤ a → KnowsWins row a → KnowsWins (set row at Loses) b
 knows_loss row a b at inside falls knows k e = dite (ℕ_discrete k at)
-    (λ here. absurd (loses_apart (sym (set_here row at Open Loses inside) ∙ ap (λ i. get_or (set row at Loses) i Open) (sym here) ∙ e)))
-    (λ other. omega (arith, falls, knows k (sym (set_there row at k Open Loses other) ∙ e)))
+    (λ here. absurd (loses_apart (sym (get_or-set_same row at Loses Open inside) ∙ ap (λ i. get_or (set row at Loses) i Open) (sym here) ∙ e)))
+    (λ other. omega (arith, falls, knows k (sym (get_or-set_other row at k Loses Open other) ∙ e)))

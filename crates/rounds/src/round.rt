@@ -34,12 +34,12 @@ fn deal_out<'a, J: Count, T: Gate>(
     requires seats { AreCallers round.now.search.now.slots.now seats.old.items }
     requires none { shares.old.items ≡ [] }
     requires room { length seats.old.items ≤ vec_capacity shares.old }
-    ensures shares { All (IsShare J.jobs round.now) shares.new.items }
     ensures same { seats.new.items ++ seats_back shares.new.items ≡ seats.old.items }
     ensures capacity { vec_capacity seats.new ≡ vec_capacity seats.old }
-    ensures count { IfOk result (λ _. (seats.new.items ≡ []) × (length shares.new.items ≡ length seats.old.items)) }
-    ensures thieves { IfOk result (λ thieves. length thieves.items ≡ length seats.old.items) }
-    ensures dealt { IfOk result (λ _. AreDealt J.jobs (length seats.old.items) shares.new.items) }
+    ensures count { IfOk result (λ thieves. (seats.new.items ≡ [])
+        × (length shares.new.items ≡ length seats.old.items) × (length thieves.items ≡ length seats.old.items)) }
+    ensures shares { IfOk result
+        (λ _. All (IsShare J.jobs round.now) shares.new.items × AreDealt J.jobs (length seats.old.items) shares.new.items) }
 {
     let count = round.search.root.jobs();
     let step = seats.len() as u16;
