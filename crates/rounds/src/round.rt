@@ -85,32 +85,6 @@ fn give_back<J: Count>(mut shares: Vec<Share<'_, J>>, seats: &mut Vec<Seat>)
     }
 }
 
-/// Each share is worked on by a thread of its own, where one can be made, and the last share by the
-/// caller's.
-fn work_all<J: Count + Send + Sync, T: Gate, R: Threads + Wait + Sync>(
-    rt: &R,
-    round: &Round<'_, J, T>,
-    thieves: &Vec<Thief<J>>,
-    shares: &mut Vec<Share<'_, J>>,
-)
-    requires some { 0 < length shares.old.items }
-    requires shares { All (IsShare J.jobs round.now) shares.old.items }
-    ensures shares { All (IsShare J.jobs round.now) shares.new.items }
-    ensures go_on { EachGoesOn T.keeps round.now.search.now.slots.now shares.old.items shares.new.items }
-{
-    let threads = shares.len();
-    thread::for_each_mut(
-        rt,
-        shares.as_mut_slice(),
-        threads,
-        &|_, share: &mut Share<'_, J>|
-            requires { IsShare J.jobs round.now share.now }
-            ensures { IsShare J.jobs round.entry.now share.exit.now
-                × SeatGoesOn T.keeps round.entry.now.search.now.slots.now share.entry.now.seat share.exit.now.seat }
-        { share.work(rt, round, thieves) },
-    );
-}
-
 /// What some share says of a job.
 fn found<J: Count, T: Gate>(
     round: &Round<'_, J, T>,
@@ -172,8 +146,9 @@ fn settle<J: Count, T: Gate>(round: &Round<'_, J, T>, shares: &mut Vec<Share<'_,
     None
 }
 
-/// The least job that wins in the round. For want of memory the seats go back as they came.
-fn play<J: Count + Send + Sync, T: Gate, R: Threads + Wait + Sync>(
+/// The least job that wins in the round: each share is worked on by a thread of its own, where one can be made, and the last share by the
+/// caller's. For want of memory the seats go back as they came.
+fn work_all<J: Count + Send + Sync, T: Gate, R: Threads + Wait + Sync>(
     rt: &R,
     alloc: Global,
     round: &Round<'_, J, T>,
@@ -193,7 +168,18 @@ fn play<J: Count + Send + Sync, T: Gate, R: Threads + Wait + Sync>(
         give_back(shares, seats);
         return Err(AllocError);
     };
-    work_all(rt, round, &thieves, &mut shares);
+    let thieves = &thieves;
+    let threads = shares.len();
+    thread::for_each_mut(
+        rt,
+        shares.as_mut_slice(),
+        threads,
+        &|_, share: &mut Share<'_, J>|
+            requires { IsShare J.jobs round.now share.now }
+            ensures { IsShare J.jobs round.entry.now share.exit.now
+                × SeatGoesOn T.keeps round.entry.now.search.now.slots.now share.entry.now.seat share.exit.now.seat }
+        { share.work(rt, round, thieves) },
+    );
     let first = settle(round, &mut shares);
     give_back(shares, seats);
     Ok(first)
@@ -234,5 +220,5 @@ pub(crate) fn round<J: Count + Send + Sync, T: Gate, R: Threads + Wait + Sync>(
         least: &least,
         outs: &outs,
     };
-    play::<J, T, R>(rt, alloc, &round, job_seats, seats)
+    work_all::<J, T, R>(rt, alloc, &round, job_seats, seats)
 }
