@@ -38,8 +38,8 @@ fn deal_out<'a, J: Count, T: Gate>(
     ensures capacity { vec_capacity seats.new ≡ vec_capacity seats.old }
     ensures count { IfOk result (λ thieves. (seats.new.items ≡ [])
         × (length shares.new.items ≡ length seats.old.items) × (length thieves.items ≡ length seats.old.items)) }
-    ensures shares { IfOk result
-        (λ _. All (IsShare J.jobs round.now) shares.new.items × AreDealt J.jobs (length seats.old.items) shares.new.items) }
+    ensures shares { IfOk result (λ _. All (IsShare J.jobs round.now) shares.new.items
+        × AreDealt J.jobs (length seats.old.items) shares.new.items) }
 {
     let count = round.search.root.jobs();
     let step = seats.len() as u16;
