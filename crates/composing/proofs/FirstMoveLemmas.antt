@@ -1,6 +1,6 @@
 -- The play behind a first move that is given, from what its parts give.
 use Rattle.std.proofs.Common.{◌≡◌, ◌≤◌, ◌∙◌, ℕ, List, None, Some, Result, Vec, inl, inr, refl, slice_get, subst, sym, vec_items}
-use mathlib.Core.Option as option
+use Rattle.std.proofs.lemmas.Option.{same_Some}
 use Rattle.std.specs.declared.alloc.Global.{Global}
 use Rattle.rules.specs.Squares.{Ply}
 use Rattle.problems.specs.Answer.{IsFewest, ForcesNothing}
@@ -24,7 +24,7 @@ module _ (symbols : Symbols) (r : Root) (job : ℕ) (limits : Limits) where
   pub play_shown : (plies : ℕ) (text : List ℕ) → fault_of limits ≡ None → plies ≤ limits.limit → IsFewest r.goal r.board plies
       → (m : Ply) × (slice_get r.moves.items job ≡ Some m) × IsFirstSolution symbols r.goal r.board m text → ShowsFirstOf symbols r job limits (answered text)
   play_shown plies text none within fewest (m, at, is) = λ n also.
-      let same : m ≡ n = option.some-injective m n (sym at ∙ also) in
+      let same : m ≡ n = same_Some m n (sym at ∙ also) in
       rw none (inl (plies, within, fewest, (text, subst (λ x. IsFirstSolution symbols r.goal r.board x text) same is, refl)))
 
   -- that nothing is forced

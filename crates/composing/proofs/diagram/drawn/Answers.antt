@@ -1,4 +1,4 @@
-use Rattle.std.proofs.Common.{◌≡◌, ℕ, List, None, subst, sym, string_bytes}
+use Rattle.std.proofs.Common.{◌≡◌, ◌∙◌, ℕ, List, None, subst, sym, string_bytes}
 use Rattle.std.proofs.lemmas.Result.{IfOk-weaker}
 use Rattle.board.specs.Board.{PlainBoard}
 use Rattle.board.specs.declared.game.Side.TheVariants.{White}
@@ -11,5 +11,5 @@ returns c =
       string_bytes c.in_ok-named.named,
       c.in_ok-named.ensures,
       subst (λ (x : PlainBoard × List ℕ × List ℕ). string_bytes text ≡ captioned_picture (record { board = x.0; below = White }) None x.1 x.2)
-          (λ i. (c.position-position.ensures i, c.as_str-stipulation.ensures.value i, c.as_str-named.ensures.value i)) drawn,
+          (λ i. (c.position-position.ensures i, (c.as_str.ensures.value ∙ c.in_ok-stipulation.ensures) i, c.as_str-2.ensures.value i)) drawn,
     )) c.captioned_svg.ensures

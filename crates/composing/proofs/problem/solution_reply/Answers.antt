@@ -21,9 +21,9 @@ returns-in-Some g c =
     let b = c.in_ok-position.position in
     let r = c.on-root.result in
     composed_at_text about c.args.options c.args.limits b c.first_at.result sound
-    (gives_weaker vec_items (ShowsFirstNamed c.notation_of.result.symbols r.goal r.board c.args.limits c.in-Some.name.now)
+    (gives_weaker vec_items (ShowsFirstNamed c.notation_of-symbols.result.symbols r.goal r.board c.args.limits c.in-Some.name.now)
     (ShowsComposed about.goal b c.args.options c.args.limits) c.first_at.result
     (λ reply shows. subst (λ first. MatchOption first (ShowsSolution about.goal b c.args.options c.args.limits reply)
     (λ name. ShowsFirstNamed (symbols_of c.args.options.figurines) about.goal b c.args.limits name.now reply)) (sym c.in-Some.is)
     (subst (λ (x : Symbols × Goal × PlainBoard). ShowsFirstNamed x.0 x.1 x.2 c.args.limits c.in-Some.name.now reply)
-    (λ i. ((c.notation_of.ensures i).symbols, c.on-root.ensures.goal i, (c.on-root.ensures.position ∙ c.of.ensures) i)) shows)) c.first_at.ensures)
+    (λ i. ((c.notation_of-symbols.ensures i).symbols, c.on-root.ensures.goal i, (c.on-root.ensures.position ∙ c.of.ensures) i)) shows)) c.first_at.ensures)

@@ -17,11 +17,11 @@ returns-in-Ok-clause-silent g c = elim c.finish.ensures.silent [
   ]
 ]
 
-pub returns-in-Err-None-clause-runs : goal.returns-in-Err-None-clause-runs
-returns-in-Err-None-clause-runs g c =
+pub returns-in-None-clause-runs : goal.returns-in-None-clause-runs
+returns-in-None-clause-runs g c =
     reply_ran (IsSolutionReply c.args.subject.now c.args.asked.1 c.args.asked.0) _ (Err c.in-Err.refusal) c.in-Err.ensures
     (rw c.search_refused-refused.ensures at c.refuse_and_tell.ensures.refuses)
 
-pub returns-in-Err-Some-clause-runs : goal.returns-in-Err-Some-clause-runs
-returns-in-Err-Some-clause-runs g c =
+pub returns-in-Some-clause-runs : goal.returns-in-Some-clause-runs
+returns-in-Some-clause-runs g c =
     reply_ran (IsSolutionReply c.args.subject.now c.args.asked.1 c.args.asked.0) _ (Err c.in-Err.refusal) c.in-Err.ensures c.refuse_move.ensures.refuses
