@@ -46,6 +46,8 @@ complete -c minimate -n '__fish_seen_subcommand_from solution' -l tries -d 'Tell
 complete -c minimate -n '__fish_seen_subcommand_from solution' -l figurines -d 'Names units by figurines in place of the letters K Q R B N'
 complete -c minimate -n '__fish_seen_subcommand_from solution' -l short -d 'Tells the best line alone behind each reply to a key'
 complete -c minimate -n '__fish_seen_subcommand_from solution' -l json -d 'Writes the short form as a JSON object'
+complete -c minimate -n '__fish_seen_subcommand_from solution' -l svg -d 'Draws the diagram in place of the solutions text'
+complete -c minimate -n '__fish_seen_subcommand_from solution' -l first -x -a '' -d 'Tells of this first move alone'
 complete -c minimate -n '__fish_seen_subcommand_from solution' -l help -d 'Print help (see a summary with -h)'
 complete -c minimate -n '__fish_seen_subcommand_from check' -l goal -x -a 'mate stale' -d 'What the attacker plays for'
 complete -c minimate -n '__fish_seen_subcommand_from check' -l help -d 'Print help (see a summary with -h)'
