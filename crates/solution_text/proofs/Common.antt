@@ -9,7 +9,7 @@ pub use Rattle.rules.specs.Moves.{IsLawful, IsMove}
 pub use Rattle.rules.specs.Order.{ListsLawful}
 pub use Rattle.rules.specs.Squares.{Ply}
 pub use Rattle.rules.specs.declared.goal.Goal.{Goal}
-pub use Rattle.solution_text.specs.Telling.{LeavesReplies, TellsEach, TellsFirst, TellsKeys, TellsLong, TellsPlayedTries, TellsReplies, TellsReply, TellsSequel, TellsSetPlay, TellsTries}
+pub use Rattle.solution_text.specs.Telling.{LeavesReplies, TellsEach, TellsFirst, TellsKey, TellsKeys, TellsLong, TellsPlayedTries, TellsReplies, TellsReply, TellsSequel, TellsSetPlay, TellsTries}
 pub use Rattle.solution_text.specs.Text.{AreDualsText, AreTexts, AreThreatsText, IsKeyText, IsLineText, IsNumbered, IsSetPlayText, IsTryText, IsVariationText, headline, threat_word}
 pub use Rattle.solution_text.specs.WholeText.{AreSequelsText, AreThreatened, IsLongText, IsFirstSolution, IsPlayText, IsPlayedText, IsPlayedTryText, IsRefutationText, IsThreatText, IsWholeSolution}
 pub use Rattle.solutions.proofs.Forcing.{key_meets, key_reaches, mate_found, met_here, nothing_found}

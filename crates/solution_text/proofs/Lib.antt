@@ -7,3 +7,4 @@ pub mod Played
 pub mod First
 pub mod Breaks
 pub mod Beside
+pub mod Parts

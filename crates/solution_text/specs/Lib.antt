@@ -1,6 +1,7 @@
 -- to be believed
 pub mod Text
 pub mod WholeText
+pub mod Cut
 pub mod Data
 -- inside
 pub mod Telling

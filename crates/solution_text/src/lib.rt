@@ -1,6 +1,7 @@
 //! The text of a solution, as composers write it.
 #![tactic(auto)]
 
+mod beginning;
 mod broken;
 mod data;
 mod first_move;
@@ -15,6 +16,7 @@ mod virtual_play;
 mod whole;
 mod whole_lines;
 
+pub use beginning::{Beginning, Style, played_key, whole_beginning};
 pub use data::{none_data, solution_data};
 pub use first_move::first_move_solution;
 pub use lines::numbered_moves;

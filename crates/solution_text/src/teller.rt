@@ -3,7 +3,8 @@ ghost use Rattle.std.specs.Prelude.{◌≡◌, ◌+◌, ◌<◌, IfOk, None, str
 ghost use Rattle.solution_text.specs.WholeText.{held_against, indent};
 
 use crate::posed::Posed;
-use algebraic::Notation;
+use algebraic::{Notation, Symbols};
+use moves::Goal;
 use problems::Root;
 use std::alloc::{AllocError, Allocator};
 
@@ -18,7 +19,7 @@ pub(crate) struct Teller<A: Allocator> {
 }
 
 /// The problem of the root, if its set play is asked for.
-pub(crate) fn held_against(root: &Root, asked: bool) -> Option<Posed>
+fn held_against(root: &Root, asked: bool) -> Option<Posed>
     ensures { result ≡ held_against root.now.board root.now.limit asked }
 {
     if !asked {
@@ -30,7 +31,39 @@ pub(crate) fn held_against(root: &Root, asked: bool) -> Option<Posed>
     })
 }
 
-/// The same, one move of the attacker farther on, where nothing is compared.
+/// What lines are told with from the first move on, where nothing is compared.
+pub(crate) fn teller_of<A: Allocator>(alloc: A, symbols: Symbols, goal: Goal) -> Teller<A>
+    ensures notation { result.notation ≡ record { symbols = symbols; goal = goal } }
+    ensures number { result.number ≡ 1 }
+    ensures set { result.set ≡ None }
+{
+    Teller {
+        alloc,
+        notation: Notation { symbols, goal },
+        number: 1,
+        set: None,
+    }
+}
+
+/// The same for the keys, which are compared with the root's set play, if it is asked for.
+pub(crate) fn teller_of_keys<A: Allocator + Copy>(
+    teller: &Teller<A>,
+    root: &Root,
+    set_play: bool,
+) -> Teller<A>
+    ensures notation { result.notation ≡ teller.now.notation }
+    ensures number { result.number ≡ 1 }
+    ensures set { result.set ≡ held_against root.now.board root.now.limit set_play }
+{
+    Teller {
+        alloc: teller.alloc,
+        notation: teller.notation,
+        number: 1,
+        set: held_against(root, set_play),
+    }
+}
+
+/// What lines are told with one move of the attacker farther on, where nothing is compared.
 pub(crate) fn farther<A: Allocator + Copy>(teller: &Teller<A>) -> Teller<A>
     requires { teller.now.number < 999 }
     ensures notation { result.notation ≡ teller.now.notation }

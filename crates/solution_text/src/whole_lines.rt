@@ -6,16 +6,15 @@ ghost use Rattle.searcher.specs.declared.halt.Halt.TheVariants.{Stopped};
 ghost use Rattle.solution_text.specs.Telling.{TellsKey, TellsKeys, TellsSetPlay};
 ghost use Rattle.solution_text.specs.WholeText.{IsWholeSolution};
 
+use crate::beginning::{Beginning, beginning_of};
 use crate::broken::Broken;
 use crate::sequels::{play_text, sequels_text};
-use crate::teller::{Teller, held_against};
-use crate::virtual_play::whole_tries;
-use crate::whole::headline;
-use algebraic::{Notation, Symbols};
+use crate::teller::{Teller, teller_of, teller_of_keys};
+use algebraic::Symbols;
 use moves::{Move, after};
 use problems::Root;
 use searcher::{Decider, Halt};
-use solutions::{Extras, continuations_of, passed};
+use solutions::{Extras, passed};
 use std::alloc::Allocator;
 
 /// A key with the play behind it, where the root's limit is the fewest plies.
@@ -65,7 +64,7 @@ fn plays_text<D: Decider, A: Allocator + Copy>(
 }
 
 /// The set play, where it is asked for.
-fn whole_set_play<D: Decider, A: Allocator + Copy>(
+pub(crate) fn whole_set_play<D: Decider, A: Allocator + Copy>(
     teller: &Teller<A>,
     decider: &mut D,
     root: &Root,
@@ -109,19 +108,10 @@ fn lines_text<D: Decider, A: Allocator + Copy>(
         teller.now.notation.symbols root.now.goal root.now.board extras (string_bytes text)) }
     ensures halt { IfErr result (λ broken. broken.halt ≡ Stopped → D.told decider.new) }
 {
-    let alloc = teller.alloc;
-    let keys = continuations_of(alloc, decider, root, root.limit)?;
-    let head = headline(alloc, root.goal, extras.sooner, root.limit, keys.len())?;
-    let set_play = whole_set_play(teller, decider, root, extras.set_play)?;
-    let tries = whole_tries(teller, decider, root, extras.tries)?;
-    let beside = Teller {
-        alloc,
-        notation: teller.notation,
-        number: 1,
-        set: held_against(root, extras.set_play),
-    };
+    let Beginning { text, keys } = beginning_of(teller, decider, root, extras)?;
+    let beside = teller_of_keys(teller, root, extras.set_play);
     let plays = plays_text(&beside, decider, root, keys.as_slice())?;
-    Ok(format!(in alloc; "{head}{set_play}{tries}{plays}")?)
+    Ok(format!(in teller.alloc; "{text}{plays}")?)
 }
 
 /// The text of the whole solution of a root whose limit is the fewest plies to the goal; or that the decider was told to stop, or that
@@ -140,15 +130,7 @@ pub fn whole_solution<D: Decider, A: Allocator + Copy>(
         IsWholeSolution symbols root.now.goal root.now.board extras (string_bytes text)) }
     ensures halt { IfErr result (λ halt. halt ≡ Stopped → D.told decider.new) }
 {
-    let teller = Teller {
-        alloc,
-        notation: Notation {
-            symbols,
-            goal: root.goal,
-        },
-        number: 1,
-        set: None,
-    };
+    let teller = teller_of(alloc, symbols, root.goal);
     match lines_text(&teller, decider, root, extras) {
         Ok(text) => Ok(text),
         Err(broken) => Err(broken.halt),
