@@ -204,7 +204,7 @@ module _ (a b c : Option (List ℕ)) (p q r : ℕ) where
 
 -- ---- runs
 
-gives_up : (ending : Ending) → Refuses ending refusal.NoMemory → Finishes ending no_memory 3
+pub gives_up : (ending : Ending) → Refuses ending refusal.NoMemory → Finishes ending no_memory 3
 gives_up ending (inl whole) = whole
 gives_up ending (inr whole) = whole
 

@@ -2,3 +2,4 @@ mod CertifyLemmas
 mod DiagramLemmas
 mod FirstMoveLemmas
 mod SolutionLemmas
+mod WholeFormLemmas

@@ -4,3 +4,4 @@ pub mod Certifying
 pub mod Order
 -- inside
 pub mod Claims
+pub mod Parts

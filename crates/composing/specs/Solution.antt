@@ -21,6 +21,7 @@ use Rattle.solutions.specs.Lines.{ListsContinuations}
 use Rattle.solutions.specs.Solutions.{IsSolution}
 use Rattle.solution_text.specs.Text.{AreTexts, IsNumbered, IsSolutionText}
 use Rattle.solution_text.specs.WholeText.{IsFirstSolution, IsWholeSolution}
+use Rattle.solution_text.specs.Cut.{IsCutSolution}
 use Rattle.solution_text.specs.Data.{none_data, solution_data}
 use Rattle.command_line.specs.declared.line.Limits.{Limits}
 use Rattle.command_line.specs.declared.line.Subject.{Subject}
@@ -31,10 +32,10 @@ use Rattle.diagrams.specs.Pictures.{captioned_picture}
 use Rattle.refusals.specs.Reply.{Reply, answered, refused}
 use Rattle.refusals.specs.declared.refusal.Refusal.TheVariants.{Move}
 use Rattle.answer_texts.specs.Answers.{none_text}
-use Rattle.endings.specs.Outcome.{IsReplyAt}
-use Rattle.replies.specs.Output.{ShowsWithin}
+use Rattle.endings.specs.Outcome.{IsReplyAt, IsSoundText}
+use Rattle.replies.specs.Output.{ShowsWithin, fault_of}
 use Rattle.replies.specs.Playing.{NamesNone}
-use Rattle.endings.specs.Run.{Run, WritesReply}
+use Rattle.endings.specs.Run.{Ending, Finishes, Run, WritesReply, no_memory}
 
 -- what is asked for beside the keys, and whether in more moves than the goal takes
 abbrev pub extras_of : SolutionOptions → Bool → Extras
@@ -133,6 +134,19 @@ ShowsComposed goal b options limits reply =
 abbrev pub IsSolutionReply : Subject → SolutionOptions → Limits → Reply → Type 0
 IsSolutionReply subject options limits reply = IsReplyAt subject.fen.now (λ b. ShowsComposed subject.goal b options limits) reply
 
+-- in the whole form: a solution that was cut off before its last key is written, and want of memory is told behind it
+abbrev pub WritesCut : Subject → SolutionOptions → Limits → Ending → Type 0
+WritesCut subject options limits ending =
+    (options.first ≡ None) × (form_of options ≡ Whole) × (fault_of limits ≡ None)
+    × (b : PlainBoard) × IsSoundText subject.fen.now b
+    × (plies : ℕ) × (plies ≤ limits.limit) × IsFewest subject.goal b plies
+    × (text : List ℕ) × IsCutSolution (symbols_of options.figurines) subject.goal b (extras_of options (is_sooner plies limits.limit)) text
+    × Finishes ending (text ++ no_memory) 3
+
+-- a solution is written, or as much of it as memory sufficed for
+abbrev pub WritesSolution : Subject → SolutionOptions → Limits → Ending → Type 0
+WritesSolution subject options limits ending = WritesReply (IsSolutionReply subject options limits) ending ⊎ WritesCut subject options limits ending
+
 -- the run is one of a solution, which reads nothing
 abbrev pub RunsSolution : Subject → SolutionOptions → Limits → Run → Type 0
-RunsSolution subject options limits run = (run.failed_reads ≡ 0) × WritesReply (IsSolutionReply subject options limits) run.ending
+RunsSolution subject options limits run = (run.failed_reads ≡ 0) × WritesSolution subject options limits run.ending

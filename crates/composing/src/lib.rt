@@ -8,6 +8,7 @@ mod first_move;
 mod problem;
 mod program;
 mod running;
+mod whole_form;
 
 pub use program::run_program;
 pub use running::run;

@@ -1,13 +1,16 @@
 //! The solution of a problem: the answer by all threads, and then what follows it, by one seat over the same table.
-ghost use Rattle.std.specs.Prelude.{◌≡◌, IfErr, IfOk, string_bytes, vec_items};
+ghost use Rattle.std.specs.Prelude.{◌≡◌, ◌≢◌, IfErr, IfOk, string_bytes, vec_items};
 ghost use Rattle.problems.specs.Answer.{IsFewest};
 ghost use Rattle.endings.specs.Outcome.{Gives};
 ghost use Rattle.problems.specs.Roots.{IsRoot};
 ghost use Rattle.searcher.specs.declared.halt.Halt.TheVariants.{Stopped};
-ghost use Rattle.composing.specs.Solution.{IsPublished, IsSolutionReply, ShowsNoSolution, ShowsSolution, form_of, is_sooner, notation_of};
+ghost use Rattle.composing.specs.Solution.{IsPublished, ShowsNoSolution, ShowsSolution, extras_of, form_of, is_sooner, notation_of};
+ghost use Rattle.composing.specs.Parts.{Composes, ComposesReply, IsAskedOf, IsComposed};
+ghost use Rattle.composing.specs.declared.problem.Form.TheVariants.{Whole as whole};
 
 use crate::diagram::diagram_text;
 use crate::first_move::first_at;
+use crate::whole_form::{Asked, Solved};
 use algebraic::{Notation, Symbols};
 use board::{Position, fen_text};
 use command_line::{Limits, SolutionOptions, Subject};
@@ -17,7 +20,7 @@ use problems::{Answer, MOST_LIMIT, Problem, Root};
 use refusals::Refusal;
 use replies::{Context, keys, none_line, search_of, searched_at};
 use searcher::{Decider, Halt, Searcher, Table};
-use solution_text::{none_data, solution_data, solution_text, whole_solution};
+use solution_text::{Style, none_data, solution_data, solution_text};
 use solutions::{Extras, solution_of};
 use std::alloc::{AllocError, Global};
 use std::sync::Wait;
@@ -34,6 +37,14 @@ pub enum Form {
     Data,
     /// The diagram, with stipulation and keys.
     Picture,
+}
+
+/// What a solution is written from.
+#[derive(Drop)]
+pub enum Composed {
+    Text(Vec<u8>),
+    /// The whole form, which is yet to be told.
+    Told(Solved),
 }
 
 fn form_of(options: SolutionOptions<'_>) -> Form
@@ -61,7 +72,17 @@ fn notation_of(goal: Goal, options: SolutionOptions<'_>) -> Notation
     Notation { symbols, goal }
 }
 
-/// The text of the solution in the form that is asked for, where the root's limit is the fewest plies.
+fn extras_of(options: SolutionOptions<'_>, sooner: bool) -> Extras
+    ensures { result ≡ extras_of options.entry sooner }
+{
+    Extras {
+        set_play: options.set_play,
+        tries: options.tries,
+        sooner,
+    }
+}
+
+/// The text of the solution in the form that is asked for, not the whole one, where the root's limit is the fewest plies.
 fn form_text<D: Decider>(
     alloc: Global,
     decider: &mut D,
@@ -69,20 +90,17 @@ fn form_text<D: Decider>(
     options: SolutionOptions<'_>,
     sooner: bool,
 ) -> Result<String, Halt>
+    requires form { form_of options ≢ whole }
     requires root { IsRoot root.now }
     requires fewest { IsFewest root.now.goal root.now.board root.now.limit }
     ensures text { IfOk result (λ text.
         IsPublished root.now.goal root.now.board options.entry sooner (string_bytes text)) }
     ensures halt { IfErr result (λ halt. halt ≡ Stopped → D.told decider.new) }
 {
-    let extras = Extras {
-        set_play: options.set_play,
-        tries: options.tries,
-        sooner,
-    };
+    let extras = extras_of(options, sooner);
     let notation = notation_of(root.goal, options);
     match form_of(options) {
-        Form::Whole => whole_solution(alloc, decider, root, notation.symbols, extras),
+        Form::Whole => unreachable!(),
         Form::Picture => diagram_text(alloc, decider, root, notation),
         Form::Short => {
             let solution = solution_of(alloc, decider, root, root.limit, extras)?;
@@ -119,7 +137,7 @@ fn none_written(
     Ok(none_data(alloc, fen.as_str(), goal)?.into_bytes())
 }
 
-/// The text of the solution of a root whose limit is the fewest plies, by the table of what has found them.
+/// The text of the solution of a root whose limit is the fewest plies, in a form that isn't the whole one, by the table of what has found them.
 fn published(
     alloc: Global,
     table: Table,
@@ -127,6 +145,7 @@ fn published(
     options: SolutionOptions<'_>,
     sooner: bool,
 ) -> Result<Vec<u8>, AllocError>
+    requires form { form_of options ≢ whole }
     requires root { IsRoot root.now }
     requires fewest { IsFewest root.now.goal root.now.board root.now.limit }
     ensures { IfOk result (λ text. IsPublished root.now.goal root.now.board options.entry sooner text.items) }
@@ -145,6 +164,34 @@ fn published(
         Ok(text) => Ok(text.into_bytes()),
         Err(Halt::NoMemory) => Err(AllocError),
         Err(Halt::Stopped) => unreachable!(),
+    }
+}
+
+/// The solution of a root whose limit is the fewest plies, by the table of what has found them: its text, or in the whole form what it is
+/// to be told of.
+fn composed_of(
+    alloc: Global,
+    table: Table,
+    root: Root,
+    options: SolutionOptions<'_>,
+    sooner: bool,
+) -> Result<Composed, AllocError>
+    requires root { IsRoot root }
+    requires fewest { IsFewest root.goal root.board root.limit }
+    ensures { IfOk result (IsComposed root options.entry sooner) }
+{
+    match form_of(options) {
+        Form::Whole => {
+            let symbols = notation_of(root.goal, options).symbols;
+            let extras = extras_of(options, sooner);
+            let style = Style { symbols, extras };
+            let asked = Asked { root, style };
+            Ok(Composed::Told(Solved { asked, table }))
+        }
+        Form::Short | Form::Data | Form::Picture => {
+            let text = published(alloc, table, &root, options, sooner)?;
+            Ok(Composed::Text(text))
+        }
     }
 }
 
@@ -176,8 +223,9 @@ fn solution_at<R: Threads + Wait + Eprint + Clock + Sync + AllocGlobal>(
     goal: Goal,
     limits: Limits,
     options: SolutionOptions<'_>,
-) -> Result<Vec<u8>, Refusal>
-    ensures { Gives vec_items (ShowsSolution goal position.now options.entry limits) result }
+) -> Result<Composed, Refusal>
+    ensures { Composes (ShowsSolution goal position.now options.entry limits)
+        (IsAskedOf goal position.now options.entry limits) result }
 {
     let alloc = context.rt.alloc();
     let mut found = searched_at(context, position, goal, limits)?;
@@ -190,9 +238,12 @@ fn solution_at<R: Threads + Wait + Eprint + Clock + Sync + AllocGlobal>(
             seek_keys(context, &mut found.table, position, goal, within);
             let root = Root::on(Board::of(position), goal, plies);
             let sooner = is_sooner(plies, search_of(limits).limit);
-            Ok(published(alloc, found.table, &root, options, sooner)?)
+            Ok(composed_of(alloc, found.table, root, options, sooner)?)
         }
-        Answer::NoneWithin(limit) => none_written(alloc, position, goal, limit, options.json),
+        Answer::NoneWithin(limit) => {
+            let none = none_written(alloc, position, goal, limit, options.json)?;
+            Ok(Composed::Text(none))
+        }
     }
 }
 
@@ -202,8 +253,8 @@ pub fn solution_reply<R: Threads + Wait + Eprint + Clock + Sync + AllocGlobal>(
     subject: &Subject<'_>,
     limits: Limits,
     options: SolutionOptions<'_>,
-) -> Result<Vec<u8>, Refusal>
-    ensures { Gives vec_items (IsSolutionReply subject.now options.entry limits) result }
+) -> Result<Composed, Refusal>
+    ensures { ComposesReply subject.now options.entry limits result }
 {
     let position = read_sound(subject.fen)?;
     match options.first {
@@ -212,7 +263,8 @@ pub fn solution_reply<R: Threads + Wait + Eprint + Clock + Sync + AllocGlobal>(
             let limit = search_of(limits).limit.min(MOST_LIMIT);
             let root = Root::on(Board::of(&position), subject.goal, limit);
             let symbols = notation_of(subject.goal, options).symbols;
-            first_at(context, root, name, limits, symbols)
+            let text = first_at(context, root, name, limits, symbols)?;
+            Ok(Composed::Text(text))
         }
     }
 }

@@ -3,16 +3,20 @@ ghost use Rattle.std.specs.Prelude.{◌≡◌, ◌⊎◌, ◌<◌, map};
 ghost use Rattle.board.specs.Board.{PlainBoard};
 ghost use Rattle.problems.specs.declared.answer.Answer.{Answer};
 ghost use Rattle.verifying.specs.Checking.{HasTaken};
-ghost use Rattle.endings.specs.Run.{ending_of, readerless, MayTell, WritesReply};
+ghost use Rattle.endings.specs.Run.{ending_of, readerless, MayTell};
 ghost use Rattle.endings.specs.Words.{MeansSome, RunsWords};
 ghost use Rattle.replies.specs.Searching.{IsOver};
 ghost use Rattle.composing.specs.Certifying.{WritesCertificate, WritesClaims};
 ghost use Rattle.composing.specs.Claims.{EndsClaims, HasAnswerLine, writing_of};
 ghost use Rattle.composing.specs.Order.{ComposesOrder, ComposesOver};
-ghost use Rattle.composing.specs.Solution.{IsSolutionReply};
+ghost use Rattle.problems.specs.Answer.{IsFewest};
+ghost use Rattle.problems.specs.Roots.{IsRoot};
+ghost use Rattle.composing.specs.Parts.{WritesAsked};
+ghost use Rattle.composing.specs.Solution.{WritesSolution};
 
 use crate::certificate::{Begun, Cut, begin, write_claims};
-use crate::problem::solution_reply;
+use crate::problem::{Composed, solution_reply};
+use crate::whole_form::{CutOff, Solved, write_solution};
 use certifying::Checked;
 use command_line::{Limits, LineFault, NamedMove, Order, SolutionOptions, Subject, read_order};
 use devices::{Sink, write_all};
@@ -20,6 +24,7 @@ use endings::{
     ANSWERED, REFUSED_WORDS, fail_to_write, finish, give_up_for_memory, proof_refused,
     refuse_and_tell, refuse_move, search_refused,
 };
+use refusals::Refusal;
 use replies::{Context, Tally, context_of, tell_if_over};
 use std::convert::AsStr;
 use std::io::Write;
@@ -101,6 +106,30 @@ fn write_begun<R: Clock + Eprint + AllocGlobal, K: Sink, E: Write>(
     }
 }
 
+/// Writes the whole solution, and behind it that memory is wanting, if it is.
+fn write_solved<R: AllocGlobal, K: Sink, E: Write>(
+    context: &Context<'_, R>,
+    subject: &Subject<'_>,
+    solved: Solved,
+    writer: &mut K,
+    errors: &mut E,
+) -> u8
+    requires root { IsRoot solved.asked.root }
+    requires fewest { IsFewest solved.asked.root.goal solved.asked.root.board solved.asked.root.limit }
+    requires writes { K.failures writer.old < u64.MAX }
+    ensures writes { WritesAsked solved.asked (ending_of K.contents K.failures writer.old writer.new result) }
+    ensures silent { MayTell result ⊎ (errors.new ≡ errors.old) }
+{
+    match write_solution(context.rt.alloc(), solved, writer) {
+        Ok(()) => ANSWERED,
+        Err(CutOff::NoMemory) => {
+            let refused = search_refused(subject.fen, Refusal::NoMemory);
+            refuse_and_tell(context.rt, writer, errors, &refused)
+        }
+        Err(CutOff::WriteFailed) => fail_to_write(errors),
+    }
+}
+
 /// Answers the solution of a position. `errors` is told why it was refused.
 fn run_solution<R: Threads + Wait + Eprint + Clock + Sync + AllocGlobal, K: Sink, E: Write>(
     context: &Context<'_, R>,
@@ -110,16 +139,17 @@ fn run_solution<R: Threads + Wait + Eprint + Clock + Sync + AllocGlobal, K: Sink
     errors: &mut E,
 ) -> u8
     requires { K.failures writer.old < u64.MAX }
-    ensures runs { WritesReply (IsSolutionReply subject.now asked.entry.1 asked.entry.0)
+    ensures runs { WritesSolution subject.now asked.entry.1 asked.entry.0
         (ending_of K.contents K.failures writer.old writer.new result) }
     ensures silent { MayTell result ⊎ IsOver subject.now.fen.now ⊎ (errors.new ≡ errors.old) }
 {
     let (limits, options) = asked;
     match solution_reply(context, subject, limits, options) {
-        Ok(text) => {
+        Ok(Composed::Text(text)) => {
             tell_if_over(errors, subject.fen, None);
             finish(writer, errors, text.as_slice(), ANSWERED)
         }
+        Ok(Composed::Told(solved)) => write_solved(context, subject, solved, writer, errors),
         Err(refusal) => match options.first {
             None => {
                 let refused = search_refused(subject.fen, refusal);

@@ -1,4 +1,4 @@
-use Rattle.std.proofs.Common.{All, arith, subst, sym, string_bytes}
+use Rattle.std.proofs.Common.{All, subst, sym, string_bytes}
 use Rattle.rules.specs.Moves.{IsLawful}
 use Rattle.solution_text.proofs.BestLine.{continuations_lawful, some_plies}
 use Rattle.composing.proofs.DiagramLemmas.{is_diagram}

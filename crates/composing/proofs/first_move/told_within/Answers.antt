@@ -1,8 +1,7 @@
-use Rattle.std.proofs.Common.{◌≡◌, ℕ, None, arith, subst, sym, vec_items, ◌∙◌}
+use Rattle.std.proofs.Common.{◌≡◌, None, subst, vec_items}
 use Rattle.board.specs.Board.{PlainBoard}
 use Rattle.problems.specs.Answer.{IsAnswer, IsFewest, ForcesNothing}
 use Rattle.replies.specs.Output.{fault_of}
-use Rattle.rounds.proofs.Limits.{limit_within}
 use Rattle.composing.proofs.FirstMoveLemmas.{nothing_shown, play_shown}
 use Rattle.composing.proofs.first_move.told_within.Goals as goal
 
