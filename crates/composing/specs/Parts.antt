@@ -37,11 +37,13 @@ naming asked = record { symbols = asked.style.symbols; goal = asked.root.goal }
 
 -- the key's play, and its lines
 abbrev pub TellsLines : Asked → Ply → List ℕ → Type 0
-TellsLines asked key text = TellsKey (naming asked) (held_against asked.root.board asked.root.limit asked.style.extras.set_play) asked.root.board asked.root.limit key text
+TellsLines asked key text =
+    TellsKey (naming asked) (held_against asked.root.board asked.root.limit asked.style.extras.set_play) asked.root.board asked.root.limit key text
 
 -- the same of each of these keys
 abbrev pub TellsAllLines : Asked → List Ply → List ℕ → Type 0
-TellsAllLines asked keys text = TellsKeys (naming asked) (held_against asked.root.board asked.root.limit asked.style.extras.set_play) asked.root.board asked.root.limit keys text
+TellsAllLines asked keys text =
+    TellsKeys (naming asked) (held_against asked.root.board asked.root.limit asked.style.extras.set_play) asked.root.board asked.root.limit keys text
 
 -- this text was written, and nothing failed
 abbrev pub WritesText : Writing → List ℕ → Type 0

@@ -12,7 +12,7 @@ use Rattle.solution_text.specs.Text.{headline}
 use Rattle.solution_text.specs.WholeText.{held_against}
 use Rattle.solution_text.specs.Telling.{TellsKeys, TellsSetPlay, TellsTries}
 
--- what stands before the keys, where n plies are the fewest and these are all keys: the headline, and the set play and the tries where they were asked for
+-- where n plies are the fewest, what stands before the keys, which are these: the headline, and the set play and the tries where asked for
 abbrev pub IsBeginning : Notation → PlainBoard → ℕ → Extras → List Ply → List ℕ → Type 0
 IsBeginning notation b n extras keys text =
     IsFewest notation.goal b n × ListsContinuations notation.goal b n keys

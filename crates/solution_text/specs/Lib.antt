@@ -1,7 +1,6 @@
 -- to be believed
 pub mod Text
 pub mod WholeText
+pub mod Telling
 pub mod Cut
 pub mod Data
--- inside
-pub mod Telling

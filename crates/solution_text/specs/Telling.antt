@@ -1,4 +1,4 @@
--- What the makers of a whole solution's lines promise: that the text is that of something that is so.
+-- Lines of a whole solution: that the text is that of something that is so.
 use Rattle.std.specs.Prelude.{◌≡◌, ℕ, ◌-◌, List, ◌∷◌, map, All, Bool, Option}
 use Rattle.board.specs.Board.{PlainBoard}
 use Rattle.rules.specs.Squares.{Ply}
