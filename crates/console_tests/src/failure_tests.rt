@@ -82,6 +82,29 @@ impl Sink for Dripping {
     }
 }
 
+/// A writer that takes `left` writes, each whole, and then fails.
+#[derive(Drop)]
+struct Closing {
+    taken: Vec<u8>,
+    left: usize,
+    failures: u64,
+}
+
+impl Sink for Closing {
+    ghost contents = { λ writer. Some writer.taken.items };
+
+    ghost failures = { λ writer. writer.failures };
+
+    fn write(&mut self, bytes: &[u8]) -> Result<usize, Failed> {
+        if self.left == 0 || self.taken.extend_from_slice(bytes).is_err() {
+            self.failures += 1;
+            return Err(Failed);
+        }
+        self.left -= 1;
+        Ok(bytes.len())
+    }
+}
+
 /// A writer that takes no byte and reports no error.
 #[derive(Drop)]
 struct Deaf;
@@ -217,6 +240,27 @@ fn expect_told<R: Threads + Wait + Abort + AllocGlobal + Eprint + Clock + Sync>(
 const UNWRITTEN: &str = "error: the output could not be written to its end\n";
 
 const UNREAD: &str = "error: the input could not be read to its end\n";
+
+// The headline is written first, and then each key as soon as its lines are made.
+#[test]
+fn writes_a_solution_key_by_key(rt: HostRuntime) {
+    let words = words_of(&rt, "minimate,solution,--limit,1,k4/2P2/1K3/5/5 w");
+    for (left, output) in [
+        (0, ""),
+        (1, "mate in 1, cooked by 1 key\n"),
+        (2, "mate in 1, cooked by 1 key\n1.c5=Q#!\n"),
+    ] {
+        let mut reader = Counted::new(b"".as_slice());
+        let mut writer = Closing {
+            taken: Vec::new(rt.alloc()),
+            left,
+            failures: 0,
+        };
+        let status = run_quietly(&rt, words.as_slice(), &mut reader, &mut writer);
+        assert_eq!(rt; (status, writer.failures), (4, 1));
+        assert_eq!(rt; writer.taken.as_slice(), output.as_bytes());
+    }
+}
 
 // Of a full disk one sentence is told, and none on what could not be written.
 #[test]
