@@ -24,7 +24,7 @@ use Rattle.solutions.specs.Solutions.{IsSolution}
 use Rattle.solution_text.specs.Text.{IsSolutionText}
 use Rattle.solution_text.specs.WholeText.{IsWholeSolution}
 use Rattle.solution_text.specs.Cut.{IsCutSolution}
-use Rattle.solution_text.specs.declared.beginning.Style.{Style}
+use Rattle.solution_text.specs.declared.beginning.SolutionStyle.{SolutionStyle}
 use Rattle.solution_text.specs.Data.{solution_data}
 use Rattle.answer_texts.specs.Answers.{none_text}
 use Rattle.composing.specs.declared.problem.Composed.{Composed}
@@ -32,9 +32,9 @@ use Rattle.composing.specs.declared.problem.Composed.TheVariants.{Text, Told}
 use Rattle.composing.specs.declared.problem.Form.{Form}
 use Rattle.composing.specs.declared.problem.Form.TheVariants.{Whole, Short, Data, Picture}
 use Rattle.composing.specs.Solution.{IsDiagram, IsInForm, IsPublished, IsSolutionReply, SaysNone, ShowsFirstNamed, ShowsNoSolution, ShowsSolution, WritesSolution, extras_of, form_of, is_sooner, notation_of, symbols_of}
-use Rattle.composing.specs.declared.whole_form.Asked.{Asked}
+use Rattle.composing.specs.declared.whole_form.WholeForm.{WholeForm}
 use Rattle.composing.specs.declared.whole_form.Solved.{Solved}
-use Rattle.composing.specs.Parts.{Composes, ComposesReply, IsAsked, IsAskedOf, IsComposed, WritesAsked, style_of}
+use Rattle.composing.specs.Parts.{Composes, ComposesReply, IsAskedWhole, IsAskedOf, IsComposed, WritesAsked, style_asked}
 use Rattle.replies.proofs.ReplyLemmas.{gives_weaker}
 
 module _ (goal : Goal) (b : PlainBoard) (options : SolutionOptions) (sooner : Bool) where
@@ -83,10 +83,10 @@ composed_shown goal b options limits r sooner (Told solved) root goal_is board_i
   within = subst (λ (x : Root). x.limit ≤ limits.limit) (sym root_is) within;
   taken = taken;
   form = form;
-  style = style_is ∙ ap (style_of options) (same ∙ sym (ap (λ (x : Root). is_sooner x.limit limits.limit) root_is));
+  style = style_is ∙ ap (style_asked options) (same ∙ sym (ap (λ (x : Root). is_sooner x.limit limits.limit) root_is));
 }
 
-composes_weaker : (Is Shows : Reply → Type 0) (IsSo Asks : Asked → Type 0) (r : Result Composed Refusal) → ((reply : Reply) → Is reply → Shows reply) → ((asked : Asked) → IsSo asked → Asks asked)
+composes_weaker : (Is Shows : Reply → Type 0) (IsSo Asks : WholeForm → Type 0) (r : Result Composed Refusal) → ((reply : Reply) → Is reply → Shows reply) → ((asked : WholeForm) → IsSo asked → Asks asked)
     → Composes Is IsSo r → Composes Shows Asks r
 composes_weaker Is Shows IsSo Asks (Ok (Text text)) shows asks is = shows (answered text.items) is
 composes_weaker Is Shows IsSo Asks (Ok (Told solved)) shows asks is = asks solved.asked is
@@ -122,14 +122,14 @@ module _ (subject : Subject) (options : SolutionOptions) (limits : Limits) (b : 
       )
 
   -- the whole solution that is asked for
-  module _ (asked : Asked) (none : options.first ≡ None) (is : IsAskedOf subject.goal b options limits asked) where
+  module _ (asked : WholeForm) (none : options.first ≡ None) (is : IsAskedOf subject.goal b options limits asked) where
     abbrev sooner : Bool
     sooner = is_sooner asked.root.limit limits.limit
 
-    told : (text : List ℕ) → IsAsked asked text → IsSolutionReply subject options limits (answered text)
+    told : (text : List ℕ) → IsAskedWhole asked text → IsSolutionReply subject options limits (answered text)
     told text whole =
         let so : IsWholeSolution (symbols_of options.figurines) subject.goal b (extras_of options sooner) text =
-        subst (λ (x : Style × Goal × PlainBoard). IsWholeSolution x.0.symbols x.1 x.2 x.0.extras text) (λ i. (is.style i, is.for_goal i, is.at i)) whole in
+        subst (λ (x : SolutionStyle × Goal × PlainBoard). IsWholeSolution x.0.symbols x.1 x.2 x.0.extras text) (λ i. (is.style i, is.for_goal i, is.at i)) whole in
         shown_reply (answered text) none
         (published_shown subject.goal b options limits asked.root.limit text is.taken is.within is.fewest (in_form subject.goal b options sooner Whole text is.form so))
 
@@ -146,13 +146,13 @@ module _ (subject : Subject) (options : SolutionOptions) (limits : Limits) (b : 
           is.within,
           is.fewest,
           text,
-          subst (λ (x : Style × Goal × PlainBoard). IsCutSolution x.0.symbols x.1 x.2 x.0.extras text) (λ i. (is.style i, is.for_goal i, is.at i)) cut,
+          subst (λ (x : SolutionStyle × Goal × PlainBoard). IsCutSolution x.0.symbols x.1 x.2 x.0.extras text) (λ i. (is.style i, is.for_goal i, is.at i)) cut,
           finishes,
         )
     asked_ran ending (inr (inr finishes)) = inl (inr finishes)
 
 -- a root whose whole solution is asked for has the fewest plies for its limit
-pub asked_fewest : (goal : Goal) (b : PlainBoard) (options : SolutionOptions) (limits : Limits) (asked : Asked) → IsAskedOf goal b options limits asked
+pub asked_fewest : (goal : Goal) (b : PlainBoard) (options : SolutionOptions) (limits : Limits) (asked : WholeForm) → IsAskedOf goal b options limits asked
     → IsFewest asked.root.goal asked.root.board asked.root.limit
 asked_fewest goal b options limits asked is = subst (λ (x : Goal × PlainBoard). IsFewest x.0 x.1 asked.root.limit) (λ i. (sym is.for_goal i, sym is.at i)) is.fewest
 

@@ -7,8 +7,8 @@ use Rattle.solution_text.specs.Cut.{IsBeginning}
 use Rattle.solution_text.proofs.Parts.{all_told, some_told}
 use Rattle.solution_text.proofs.Played.{each_none, each_one}
 use Rattle.composing.specs.Claims.{Writing}
-use Rattle.composing.specs.Parts.{EndsKeys, EndsSolution, EndsText, FailsText, IsAsked, IsAskedCut, TellsAllLines, TellsLines, WritesAsked, WritesKeys, WritesText, naming}
-use Rattle.composing.specs.declared.whole_form.Asked.{Asked}
+use Rattle.composing.specs.Parts.{EndsKeys, EndsSolution, EndsText, FailsText, IsAskedWhole, IsAskedCut, TellsAllLines, TellsLines, WritesAsked, WritesKeys, WritesText, naming}
+use Rattle.composing.specs.declared.whole_form.WholeForm.{WholeForm}
 use Rattle.composing.specs.declared.whole_form.CutOff.{CutOff}
 use Rattle.composing.specs.declared.whole_form.CutOff.TheVariants.{WriteFailed, NoMemory}
 use Rattle.composing.proofs.CertifyLemmas.{gives_up, idle}
@@ -56,7 +56,7 @@ writes_same a b c p q r text first nothing =
 
 -- ---- keys
 
-module _ (asked : Asked) (keys : List Ply) where
+module _ (asked : WholeForm) (keys : List Ply) where
   pub no_keys : (a : Option (List ℕ)) (n : ℕ) → WritesKeys asked keys 0 (idle a n)
   no_keys a n = ([], each_none _ _ keys [] refl, (Appends-nil a, refl))
 
@@ -85,15 +85,15 @@ module _ (asked : Asked) (keys : List Ply) where
 le_or_lt : (i j : ℕ) → (i ≤ j) ⊎ (j < i)
 le_or_lt i j = grind arith
 
-module _ (asked : Asked) (keys : List Ply) (beginning : List ℕ) (begins : IsBeginning (naming asked) asked.root.board asked.root.limit asked.style.extras keys beginning) where
-  whole : (lines : List ℕ) → TellsAllLines asked keys lines → IsAsked asked (beginning ++ lines)
+module _ (asked : WholeForm) (keys : List Ply) (beginning : List ℕ) (begins : IsBeginning (naming asked) asked.root.board asked.root.limit asked.style.extras keys beginning) where
+  whole : (lines : List ℕ) → TellsAllLines asked keys lines → IsAskedWhole asked (beginning ++ lines)
   whole lines told = all_told (naming asked) asked.root.board asked.root.limit asked.style.extras keys beginning lines begins told
 
   cut : (i : ℕ) (lines : List ℕ) → i < length keys → TellsAllLines asked (take i keys) lines → IsAskedCut asked (beginning ++ lines)
   cut i lines below told = some_told (naming asked) asked.root.board asked.root.limit asked.style.extras keys beginning lines i below begins told
 
-  so_far : (i : ℕ) (lines : List ℕ) → TellsAllLines asked (take i keys) lines → IsAsked asked (beginning ++ lines) ⊎ IsAskedCut asked (beginning ++ lines)
-  so_far i lines told = elim (le_or_lt (length keys) i) as (λ _. IsAsked asked (beginning ++ lines) ⊎ IsAskedCut asked (beginning ++ lines)) [
+  so_far : (i : ℕ) (lines : List ℕ) → TellsAllLines asked (take i keys) lines → IsAskedWhole asked (beginning ++ lines) ⊎ IsAskedCut asked (beginning ++ lines)
+  so_far i lines told = elim (le_or_lt (length keys) i) as (λ _. IsAskedWhole asked (beginning ++ lines) ⊎ IsAskedCut asked (beginning ++ lines)) [
     | inl all ↦ inl (whole lines (subst (λ l. TellsAllLines asked l lines) (take_all i keys all) told))
     | inr below ↦ inr (cut i lines below told)
   ]
@@ -110,13 +110,13 @@ module _ (asked : Asked) (keys : List Ply) (beginning : List ℕ) (begins : IsBe
   beginning_failed w (Ok x) fails err = absurd err.1
   beginning_failed w (Err why) fails err =
       let same : beginning ++ [] ≡ beginning = append-nil beginning in
-      let is : IsAsked asked beginning ⊎ IsAskedCut asked beginning =
-      subst (λ l. IsAsked asked l ⊎ IsAskedCut asked l) same (so_far 0 [] (each_none _ _ keys [] refl)) in
-      let failed : (text : List ℕ) × (IsAsked asked text ⊎ IsAskedCut asked text) × FailsText w text = (beginning, is, fails) in
+      let is : IsAskedWhole asked beginning ⊎ IsAskedCut asked beginning =
+      subst (λ l. IsAskedWhole asked l ⊎ IsAskedCut asked l) same (so_far 0 [] (each_none _ _ keys [] refl)) in
+      let failed : (text : List ℕ) × (IsAskedWhole asked text ⊎ IsAskedCut asked text) × FailsText w text = (beginning, is, fails) in
       subst (λ x. EndsSolution asked w (Err x)) (sym err.1) failed
 
 -- nothing is written for want of memory
-pub solution_wanting : (asked : Asked) (a : Option (List ℕ)) (n : ℕ) (r : Result (Unit {0}) CutOff) → IsErr r × IsErrAnd r (λ cut. cut ≡ NoMemory) → EndsSolution asked (idle a n) r
+pub solution_wanting : (asked : WholeForm) (a : Option (List ℕ)) (n : ℕ) (r : Result (Unit {0}) CutOff) → IsErr r × IsErrAnd r (λ cut. cut ≡ NoMemory) → EndsSolution asked (idle a n) r
 solution_wanting asked a n (Ok x) err = absurd err.1
 solution_wanting asked a n (Err why) err =
     let nothing : EndsSolution asked (idle a n) (Err NoMemory) = inl (Appends-nil a, refl) in
@@ -124,7 +124,7 @@ solution_wanting asked a n (Err why) err =
 
 -- ---- the run
 
-module _ (asked : Asked) (a b : Option (List ℕ)) (p q status : ℕ) where
+module _ (asked : WholeForm) (a b : Option (List ℕ)) (p q status : ℕ) where
   pub solved_whole : (x : Unit {0}) → EndsSolution asked (writing a b p q) (Ok x) → status ≡ 0 → WritesAsked asked (record { before = a; after = b; failed_writes = q - p; status = status })
   solved_whole x (text, is, (written, same)) zero = inl (text, is, inl (written, omega (arith, same), zero))
 

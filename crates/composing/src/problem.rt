@@ -10,7 +10,7 @@ ghost use Rattle.composing.specs.declared.problem.Form.TheVariants.{Whole as who
 
 use crate::diagram::diagram_text;
 use crate::first_move::first_at;
-use crate::whole_form::{Asked, Solved};
+use crate::whole_form::{Solved, WholeForm};
 use algebraic::{Notation, Symbols};
 use board::{Position, fen_text};
 use command_line::{Limits, SolutionOptions, Subject};
@@ -20,7 +20,7 @@ use problems::{Answer, MOST_LIMIT, Problem, Root};
 use refusals::Refusal;
 use replies::{Context, keys, none_line, search_of, searched_at};
 use searcher::{Decider, Halt, Searcher, Table};
-use solution_text::{Style, none_data, solution_data, solution_text};
+use solution_text::{SolutionStyle, none_data, solution_data, solution_text};
 use solutions::{Extras, solution_of};
 use std::alloc::{AllocError, Global};
 use std::sync::Wait;
@@ -184,8 +184,8 @@ fn composed_of(
         Form::Whole => {
             let symbols = notation_of(root.goal, options).symbols;
             let extras = extras_of(options, sooner);
-            let style = Style { symbols, extras };
-            let asked = Asked { root, style };
+            let style = SolutionStyle { symbols, extras };
+            let asked = WholeForm { root, style };
             Ok(Composed::Told(Solved { asked, table }))
         }
         Form::Short | Form::Data | Form::Picture => {

@@ -11,20 +11,20 @@ use devices::{Failed, Sink, write_all};
 use moves::Move;
 use problems::Root;
 use searcher::{Decider, Halt, Searcher, Table};
-use solution_text::{Beginning, Style, played_key, whole_beginning};
+use solution_text::{Beginning, SolutionStyle, played_key, whole_beginning};
 use std::alloc::Global;
 
 /// A root whose limit is the fewest plies, and how its whole solution is told.
 #[derive(Drop)]
-pub struct Asked {
+pub struct WholeForm {
     pub root: Root,
-    pub style: Style,
+    pub style: SolutionStyle,
 }
 
 /// What a whole solution is to be told of, and the table of what has found the fewest plies.
 #[derive(Drop)]
 pub struct Solved {
-    pub asked: Asked,
+    pub asked: WholeForm,
     pub table: Table,
 }
 
@@ -56,7 +56,7 @@ impl From<Halt> for CutOff {
 fn write_key<D: Decider, K: Sink>(
     alloc: Global,
     decider: &mut D,
-    asked: &Asked,
+    asked: &WholeForm,
     key: Move,
     writer: &mut K,
 ) -> Result<(), CutOff>
@@ -73,7 +73,7 @@ fn write_key<D: Decider, K: Sink>(
 fn write_keys<D: Decider, K: Sink>(
     alloc: Global,
     decider: &mut D,
-    asked: &Asked,
+    asked: &WholeForm,
     keys: &[Move],
     writer: &mut K,
 ) -> Result<(), CutOff>
@@ -91,7 +91,7 @@ fn write_keys<D: Decider, K: Sink>(
 fn write_parts<D: Decider, K: Sink>(
     alloc: Global,
     decider: &mut D,
-    asked: &Asked,
+    asked: &WholeForm,
     writer: &mut K,
 ) -> Result<(), CutOff>
     requires root { IsRoot asked.now.root }

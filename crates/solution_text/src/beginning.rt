@@ -21,7 +21,7 @@ use std::alloc::Allocator;
 
 /// How a whole solution is told.
 #[derive(Clone, Copy, PartialEq, Eq, Debug)]
-pub struct Style {
+pub struct SolutionStyle {
     pub symbols: Symbols,
     pub extras: Extras,
 }
@@ -66,7 +66,7 @@ pub fn whole_beginning<D: Decider, A: Allocator + Copy>(
     alloc: A,
     decider: &mut D,
     root: &Root,
-    style: Style,
+    style: SolutionStyle,
 ) -> Result<Beginning<A>, Halt>
     requires root { IsRoot root.now }
     requires fewest { IsFewest root.now.goal root.now.board root.now.limit }
@@ -88,7 +88,7 @@ pub fn played_key<D: Decider, A: Allocator + Copy>(
     alloc: A,
     decider: &mut D,
     root: &Root,
-    style: Style,
+    style: SolutionStyle,
     key: Move,
 ) -> Result<String<A>, Halt>
     requires key { Wins root.now.goal root.now.board root.now.limit key }

@@ -16,7 +16,7 @@ mod virtual_play;
 mod whole;
 mod whole_lines;
 
-pub use beginning::{Beginning, Style, played_key, whole_beginning};
+pub use beginning::{Beginning, SolutionStyle, played_key, whole_beginning};
 pub use data::{none_data, solution_data};
 pub use first_move::first_move_solution;
 pub use lines::numbered_moves;
