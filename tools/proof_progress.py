@@ -4,36 +4,10 @@ import os
 import sys
 import threading
 import time
-from typing import NamedTuple
 
 import checking
+import proof_shares
 import proving
-
-SHARES = os.path.join(os.path.dirname(os.path.abspath(__file__)), "proof_shares.tsv")
-
-
-class Share(NamedTuple):
-    """What the proof of a crate took where the table was made: functions, and seconds of one processor."""
-
-    functions: int
-    seconds: float
-
-
-UNKNOWN = Share(0, 60.0)
-
-
-def read_shares():
-    """The table that tools/proof_times --write makes anew."""
-    if not os.path.exists(SHARES):
-        return {}
-    with open(SHARES, encoding="ascii") as table:
-        rows = [line.split("\t") for line in table if not line.startswith("#")]
-    return {row[0]: Share(int(row[1]), float(row[3])) for row in rows}
-
-
-def processors():
-    return len(os.sched_getaffinity(0))
-
 
 def minutes(seconds):
     return max(1, round(seconds / 60))
@@ -48,7 +22,7 @@ class Progress:
 
     def __init__(self, proofs, programs, is_first):
         self.proofs, self.programs, self.is_first, self.at_terminal = proofs, programs, is_first, sys.stderr.isatty()
-        self.shares = read_shares()
+        self.shares = proof_shares.read_shares()
         # How many crates were done when last one was, and when that was.
         self.done, self.done_at = 0, time.monotonic()
         self.began, self.drawn = time.monotonic(), ""
@@ -66,7 +40,7 @@ class Progress:
         self.draw("")
 
     def share_of(self, name):
-        return self.shares.get(name, UNKNOWN)
+        return self.shares.get(name, proof_shares.UNKNOWN)
 
     def functions_of(self, names):
         return sum(self.share_of(it).functions for it in names)
@@ -77,7 +51,7 @@ class Progress:
         names = self.proofs.names
         what = f"{counted(self.functions_of(names), 'function')} in {counted(len(names), 'crate')}"
         left = counted(minutes(self.left()), "minute")
-        on = f"on {counted(processors(), 'idle processor')}, less where the toolchain has kept some"
+        on = f"on {counted(proving.processors(), 'idle processor')}, less where the toolchain has kept some"
         which = "" if checking.FIRST in self.programs else f" {' and '.join(self.programs)}"
         return f"building{which} for the first time: {what} are proved first, some {left} {on} .."
 
@@ -85,11 +59,8 @@ class Progress:
         """Seconds that the rest may take: the longest chain of crates that stand on each other, or all that is left over all processors,
         whichever is more. What runs longer than the table says is said to be nearly done."""
         waiting = [it for it in self.proofs.names if it not in self.proofs.done]
-        chain = {}
-        for name in reversed(waiting):
-            above = [it for it in waiting if name in self.proofs.crates[it].below]
-            chain[name] = self.share_of(name).seconds + max((chain[it] for it in above), default=0)
-        whole = max([sum(self.share_of(it).seconds for it in waiting) / processors(), *chain.values()])
+        chains = proof_shares.chains(self.proofs.crates, waiting, self.shares)
+        whole = max([sum(self.share_of(it).seconds for it in waiting) / proving.processors(), *chains.values()])
         return max(whole - self.waited(), whole / 10)
 
     def waited(self):

@@ -15,7 +15,10 @@ import signal
 import subprocess
 import sys
 import tempfile
+import time
 from typing import NamedTuple
+
+import proof_shares
 
 PARTS = ("src", "specs", "proofs")
 # What `rt ci` runs a program with: words, input, files, and what has to come of it.
@@ -24,6 +27,9 @@ RUN_WITH = ("args", "stdin", "data", "stdout", "status")
 LOGIC = "dac8208d650f15bf"
 # So many seconds a command has to end in that was interrupted.
 ENDS_WITHIN = 20
+# So many crates are proved at once, each by a run of its own, where there are more processors and so many bytes are free; and how far those are put
+# back whose chain is shorter by a fifth.
+AT_ONCE, ENOUGH, PUT_BACK = 3, 8 << 30, 10
 # What a command starts is a group, which ends whole. It is no session of its own, where it can be: the system shares processors out to
 # sessions first, and who has put the launcher back means the proofs too.
 OWN_GROUP = {"process_group": 0} if sys.version_info >= (3, 11) else {"start_new_session": True}
@@ -144,6 +150,17 @@ def sum_of(top, name, version, lines=None):
 # The toolchain
 
 
+def processors():
+    return len(os.sched_getaffinity(0))
+
+
+def free_memory():
+    """So many bytes can be had, as far as the system tells."""
+    with contextlib.suppress(OSError), open("/proc/meminfo", encoding="ascii") as file:
+        return sum(1024 * int(line.split()[1]) for line in file if line.startswith("MemAvailable:"))
+    return 0
+
+
 class Kit:
     """The toolchain: on the path, or where it is commonly installed."""
 
@@ -167,6 +184,11 @@ class Kit:
             raise NotProved(f"`{self.rt} {word}` ended with status {ran.returncode}: install a newer toolchain, of logic {LOGIC}")
         return lines[0].strip()
 
+    def keeps(self):
+        """Whether a run finds what earlier ones have proved, by what the toolchain says of itself."""
+        ran = subprocess.run([self.rt, "--help"], stdin=subprocess.DEVNULL, stdout=subprocess.PIPE, stderr=subprocess.STDOUT, check=False)
+        return b"What a run passed is kept" in ran.stdout
+
     def has_logic(self):
         """Whether its logic is the one by which all was proved."""
         return self.version.split()[-1] == LOGIC
@@ -183,19 +205,20 @@ class Kit:
 
 
 @contextlib.contextmanager
-def started(kit, words, folder, hold=contextlib.nullcontext):
-    """A command of `rt` in a folder, whose lines are read of it. What of it still runs in the end is interrupted, as by a key at a terminal."""
+def started(kit, words, folder, hold=contextlib.nullcontext, told=subprocess.PIPE):
+    """A command of `rt` in a folder, whose lines are read of it, or go into a file. What of it still runs in the end is interrupted, as by a key at a
+    terminal."""
     process = None
     try:
         with hold():
-            how = {"stdin": subprocess.DEVNULL, "stdout": subprocess.PIPE, "stderr": subprocess.STDOUT, **OWN_GROUP}
+            how = {"stdin": subprocess.DEVNULL, "stdout": told, "stderr": subprocess.STDOUT, **OWN_GROUP}
             process = subprocess.Popen([kit.rt, *words], cwd=folder, encoding="utf-8", errors="replace", **how)
         yield process
     finally:
         with hold():
             if process and process.poll() is None:
                 end(process)
-            if process:
+            if process and process.stdout:
                 process.stdout.close()
 
 
@@ -209,6 +232,12 @@ def end(process):
         with contextlib.suppress(ProcessLookupError):
             os.killpg(process.pid, signal.SIGKILL)
         process.wait()
+
+
+def put_back(process):
+    """Others get the processors before the command and what it starts."""
+    with contextlib.suppress(OSError):
+        os.setpriority(os.PRIO_PGRP, process.pid, PUT_BACK)
 
 
 @contextlib.contextmanager
@@ -255,6 +284,11 @@ def run(kit, words, folder, has_said, hold=contextlib.nullcontext):
             lines.append(line.rstrip("\n"))
             has_said(lines[-1])
         status = process.wait()
+    judge(kit, words, status, lines)
+
+
+def judge(kit, words, status, lines):
+    """Says why where a command of `rt` hasn't ended well."""
     if status < 0:
         raise NotProved(f"`rt {' '.join(words)}` was ended by signal {-status}{', most likely for memory' if status == -signal.SIGKILL else ''}")
     if status:
@@ -263,7 +297,7 @@ def run(kit, words, folder, has_said, hold=contextlib.nullcontext):
 
 
 class Proofs:
-    """The proofs of these crates, and of those that they stand on, by one run of `rt ci` in a folder of their own."""
+    """The proofs of these crates, and of those that they stand on, by `rt ci` in a folder of their own."""
 
     def __init__(self, kit, top, names, folder, hold=contextlib.nullcontext):
         self.kit, self.top, self.folder, self.hold = kit, top, folder, hold
@@ -271,8 +305,8 @@ class Proofs:
         self.done = []
 
     def run(self, log):
-        """Proves and builds all. `rt` minds processors and memory. Its lines go into the log when they come: those of a crate once it is
-        done with that."""
+        """Proves and builds all: what `rt ci NAME` hasn't proved before, by one `rt ci`. The lines of `rt` go into the log when they come: those of a crate once
+        it is done with that."""
 
         def has_said(line):
             log.write(f"{line}\n")
@@ -281,7 +315,42 @@ class Proofs:
             if found and found[1] in self.names and found[1] not in self.done:
                 self.done.append(found[1])
 
+        if AT_ONCE < processors() and ENOUGH < free_memory() and self.kit.keeps():
+            self.run_apart(has_said)
         run(self.kit, ["ci"], self.folder, has_said, self.hold)
+
+    def run_apart(self, has_said):
+        """Proves each crate that others stand on by a run of its own, once those below it are proved. A crate that is alone in its run gets several
+        processors of the toolchain, and the longest chain of crates is what all is waited for: so its next one is begun first, and others are put back
+        behind it. What proves a crate again keeps nothing, and has all proved by one run."""
+        chains = proof_shares.chains(self.crates, self.names, proof_shares.read_shares())
+        with contextlib.ExitStack() as runs:
+            running = {}
+            while True:
+                for name in self.next_apart(chains, running):
+                    file = runs.enter_context(tempfile.TemporaryFile("w+", encoding="utf-8", errors="replace"))
+                    process = runs.enter_context(started(self.kit, ["ci", name], self.folder, self.hold, file))
+                    if any(chains[name] < 0.8 * chains[it] for it in running):
+                        put_back(process)
+                    running[name] = (process, file)
+                if not running:
+                    return
+                time.sleep(0.1)
+                for name in [it for it, (process, _) in running.items() if process.poll() is not None]:
+                    process, file = running.pop(name)
+                    file.seek(0)
+                    lines = file.read().splitlines()
+                    if any(f"rt: {it} proved" in lines for it in self.done):
+                        return
+                    for line in lines:
+                        has_said(line)
+                    judge(self.kit, ["ci", name], process.returncode, lines)
+
+    def next_apart(self, chains, running):
+        """The crates that can be begun now, beside those that run: that on the longest chain first."""
+        on = {below for name in self.names for below in self.crates[name].below}
+        able = [it for it in self.names if it in on and it not in running and it not in self.done and set(self.crates[it].below) <= set(self.done)]
+        return sorted(able, key=lambda it: -chains[it])[: AT_ONCE - len(running)]
 
     def program(self, name):
         """Where the program stands that was built."""
