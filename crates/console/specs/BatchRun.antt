@@ -53,13 +53,7 @@ abbrev pub IsLane : Batch → TableId → Lane → Type 0
 IsLane batch table lane = IsSeatOf table lane.seat × All (IsAhead batch) lane.replies.items
 
 abbrev pub IsBatchRun : BatchRun → Type 0
-IsBatchRun run = IsSearched run.batch × IsUnread run.unread × AreAhead run.batch run.ahead.items
-
--- the run is at the same line of the same batch
-pub record IsSameRun (before after : BatchRun) : Type 0 where
-  pub batch : after.batch ≡ before.batch
-  pub unread : after.unread ≡ before.unread
-  pub number : after.number ≡ before.number
+IsBatchRun run = IsSearched run.batch × IsUnread run.unread × AreAhead run.batch run.lookahead.rows.items
 
 -- a batch in which nothing was read, or the refusal of the limits, or want of memory
 abbrev pub OpensBatchRun : Batch → Result BatchRun Refusal → Type 0

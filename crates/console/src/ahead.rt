@@ -7,9 +7,9 @@ ghost use Rattle.devices.specs.Lines.{IsUnread};
 ghost use Rattle.searcher.specs.Tables.{AreSeats};
 ghost use Rattle.answer_texts.specs.Asking.{IsFoundAt};
 ghost use Rattle.answer_texts.specs.declared.asked.Batch.{Batch as TheBatch};
-ghost use Rattle.console.specs.BatchRun.{AreAhead, GivesNext, IsAhead, IsBatchRun, IsLane, IsSameRun, IsSearched};
+ghost use Rattle.console.specs.BatchRun.{AreAhead, GivesNext, IsAhead, IsLane, IsSearched};
 
-use crate::batch::{BatchRun, echoed, problem_of};
+use crate::batch::{echoed, problem_of};
 use answer_texts::{Batch, Found, asked_in, found_text, is_remark, said_in};
 use decision::{Memory, Scout, Stop};
 use devices::{Next, Unread};
@@ -42,6 +42,15 @@ pub struct Ahead {
 pub struct Lane {
     pub seat: Seat,
     pub replies: Vec<Ahead>,
+}
+
+/// The table of a batch, with replies that were made ahead over it, those to later lines first; and the number of the last line that was looked at for
+/// them.
+#[derive(Drop)]
+pub struct Lookahead {
+    pub table: Table,
+    pub rows: Vec<Vec<Ahead>>,
+    pub looked_at: u64,
 }
 
 /// What the threads share: what is asked of each line, the lines, with their feeds, and how many of them were taken.
@@ -125,33 +134,28 @@ impl Lines<'_, '_> {
         }
     }
 
-    /// The reply to what a line says, where it asks for what is found.
-    fn reply(
-        &self,
-        alloc: Global,
-        seat: &mut Seat,
-        said: &[u8],
-    ) -> Result<Option<Ahead>, AllocError>
+    /// Makes the reply to what a line says, where it asks for what is found.
+    fn answer(&self, alloc: Global, lane: &mut Lane, said: &[u8]) -> Result<(), AllocError>
         requires batch { IsSearched self.now.batch.now }
-        requires seat { IsSeatOf self.now.slots.now seat.old }
-        ensures seat { IsSeatOf self.now.slots.now seat.new }
-        ensures reply { IfOk result (λ reply. IfSome reply (IsAhead self.now.batch.now)) }
+        requires lane { IsLane self.now.batch.now self.now.slots.now lane.old }
+        ensures { IsLane self.now.batch.now self.now.slots.now lane.new }
     {
         if is_remark(said) {
-            return Ok(None);
+            return Ok(());
         }
         let asked = asked_in(alloc, said)?;
         let Ok(problem) = problem_of(self.batch, &asked) else {
-            return Ok(None);
+            return Ok(());
         };
-        let Some(found) = self.find(alloc, seat, &problem)? else {
-            return Ok(None);
+        let Some(found) = self.find(alloc, &mut lane.seat, &problem)? else {
+            return Ok(());
         };
         let plain = found_text(alloc, self.batch, &asked, &found)?;
         let text = echoed(alloc, self.batch, said, plain)?;
         let mut kept = Vec::new(alloc);
         kept.extend_from_slice(said)?;
-        Ok(Some(Ahead { said: kept, text }))
+        lane.replies.push(Ahead { said: kept, text })?;
+        Ok(())
     }
 
     /// Makes the reply to one line after another, from the last one on, as long as one is left and there is memory.
@@ -165,10 +169,8 @@ impl Lines<'_, '_> {
             if self.lines.len() <= taken {
                 return Ok(());
             }
-            let said = said_in(self.lines[self.lines.len() - 1 - taken]);
-            if let Some(reply) = self.reply(alloc, &mut lane.seat, said)? {
-                lane.replies.push(reply)?;
-            }
+            let line = self.lines[self.lines.len() - 1 - taken];
+            self.answer(alloc, lane, said_in(line))?;
         }
         Ok(())
     }
@@ -280,29 +282,33 @@ fn lines_at_hand<'a>(
 /// Looks at the lines at hand, if the line that was read wasn't among those that were looked at, and makes replies ahead where they are several.
 pub(crate) fn look_ahead<R: Threads + Wait + Sync + AllocGlobal>(
     context: &Context<'_, R>,
-    run: &mut BatchRun,
+    batch: &Batch,
+    lookahead: &mut Lookahead,
+    unread: &Unread,
     next: &Next,
 )
-    requires { IsBatchRun run.old }
-    ensures run { IsBatchRun run.new }
-    ensures same { IsSameRun run.old run.new }
+    requires batch { IsSearched batch.now }
+    requires unread { IsUnread unread.now }
+    requires ahead { AreAhead batch.now lookahead.old.rows.items }
+    ensures { AreAhead batch.now lookahead.new.rows.items }
 {
     let Next::Line(line) = next else {
         return;
     };
-    if run.number <= run.looked_at {
+    let number = context.number();
+    if number <= lookahead.looked_at {
         return;
     }
-    let Ok(lines) = lines_at_hand(context.rt.alloc(), line.as_slice(), &run.unread) else {
+    let Ok(lines) = lines_at_hand(context.rt.alloc(), line.as_slice(), unread) else {
         return;
     };
     if lines.len() < 2 {
         return;
     }
-    run.looked_at = run.number.saturating_add(lines.len() as u64 - 1);
+    lookahead.looked_at = number.saturating_add(lines.len() as u64 - 1);
     let most = if context.shows { UNSHOWN } else { u32::MAX };
-    if let Ok(ahead) = replies_ahead(context.rt, &run.batch, &mut run.table, lines, most) {
-        run.ahead = ahead;
+    if let Ok(rows) = replies_ahead(context.rt, batch, &mut lookahead.table, lines, most) {
+        lookahead.rows = rows;
     }
 }
 

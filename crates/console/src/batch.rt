@@ -7,10 +7,10 @@ ghost use Rattle.answer_texts.specs.Asking.{IsFoundAt};
 ghost use Rattle.answer_texts.specs.Said.{said_in};
 ghost use Rattle.console.specs.Batch.{HasReplyText, IsAskedReply, IsReplyText, left_out, next_number, remark_text, with_number, with_position};
 ghost use Rattle.answer_texts.specs.Forms.{IsRefusalText};
-ghost use Rattle.console.specs.BatchRun.{AsksProblem, GivesAsked, GivesNext, IsBatchRun, IsSameRun, IsSearched, OpensBatchRun, PassesOver, TakesAnswered, TakesLines, TakesStep, step_of, stop_of};
+ghost use Rattle.console.specs.BatchRun.{AreAhead, AsksProblem, GivesAsked, GivesNext, IsBatchRun, IsSearched, OpensBatchRun, PassesOver, TakesAnswered, TakesLines, TakesStep, step_of, stop_of};
 ghost use Rattle.console.specs.declared.batch.BatchStop.TheVariants.{NoMemory, WriteFailed};
 
-use crate::ahead::{Ahead, look_ahead, take_ahead};
+use crate::ahead::{Lookahead, look_ahead, take_ahead};
 use answer_texts::{
     Asked, Batch, Found, asked_in, found_text, is_remark, limit_of, refused_object, said_in,
 };
@@ -33,13 +33,10 @@ use std::time::Clock;
 #[derive(Drop)]
 pub struct BatchRun {
     pub batch: Batch,
-    pub table: Table,
+    pub lookahead: Lookahead,
     pub unread: Unread,
     /// The number of the line that was read last.
     pub number: u64,
-    /// Replies that were made ahead, those to later lines first; and the number of the last line that was looked at for them.
-    pub ahead: Vec<Vec<Ahead>>,
-    pub looked_at: u64,
 }
 
 /// What ends a batch before the end of its input.
@@ -82,13 +79,16 @@ pub fn open_batch(alloc: Global, batch: Batch) -> Result<BatchRun, Refusal>
     ensures { OpensBatchRun batch result }
 {
     let table = table_within(alloc, batch.limits)?;
+    let lookahead = Lookahead {
+        table,
+        rows: Vec::new(alloc),
+        looked_at: 0,
+    };
     Ok(BatchRun {
         batch,
-        table,
+        lookahead,
         unread: Unread::new(),
         number: 0,
-        ahead: Vec::new(alloc),
-        looked_at: 0,
     })
 }
 
@@ -332,20 +332,20 @@ fn next_text<R: Threads + Wait + Eprint + Clock + Sync + AllocGlobal, E: Write>(
 /// What is written for what comes next: what was made ahead for it, or else what is made now.
 fn made_text<R: Threads + Wait + Eprint + Clock + Sync + AllocGlobal, E: Write>(
     context: &Context<'_, R>,
-    run: &mut BatchRun,
+    batch: &Batch,
+    lookahead: &mut Lookahead,
     next: Next,
     errors: &mut E,
 ) -> Result<Option<Vec<u8>>, AllocError>
-    requires { IsBatchRun run.old }
-    ensures run { IsBatchRun run.new }
-    ensures same { IsSameRun run.old run.new }
-    ensures text { IfOk result (GivesNext run.old.batch next) }
+    requires batch { IsSearched batch.now }
+    requires ahead { AreAhead batch.now lookahead.old.rows.items }
+    ensures ahead { AreAhead batch.now lookahead.new.rows.items }
+    ensures text { IfOk result (GivesNext batch.now next) }
 {
-    look_ahead(context, run, &next);
-    if let Some(text) = take_ahead(&mut run.ahead, &next) {
+    if let Some(text) = take_ahead(&mut lookahead.rows, &next) {
         return Ok(Some(text));
     }
-    next_text(context, &mut run.table, &run.batch, next, errors)
+    next_text(context, &mut lookahead.table, batch, next, errors)
 }
 
 /// Reads a line, and writes the reply to it. Answers whether more may come.
@@ -375,7 +375,8 @@ fn answer_next<
     let Taken { next, is_last } = run
         .unread
         .next_line(context.rt, context.rt.alloc(), reader)?;
-    let Some(plain) = made_text(context, run, next, errors)? else {
+    look_ahead(context, &run.batch, &mut run.lookahead, &run.unread, &next);
+    let Some(plain) = made_text(context, &run.batch, &mut run.lookahead, next, errors)? else {
         context.tally.clear(errors);
         return Ok(false);
     };

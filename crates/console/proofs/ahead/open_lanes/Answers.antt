@@ -1,5 +1,5 @@
-use Rattle.std.proofs.Common.{◌∙◌, arith}
-use Rattle.std.proofs.lemmas.List.Elements.{All-nil}
+use Rattle.std.proofs.Common.{◌∙◌, arith, []}
+use Rattle.std.proofs.lemmas.List.Elements.{All-nil, All-same}
 use Rattle.slots.specs.Promise.{IsSeatOf}
 use Rattle.console.specs.BatchRun.{IsAhead, IsLane}
 use Rattle.rounds.proofs.Lists.{All-popped, All-snoc}
@@ -13,7 +13,7 @@ loop-seat-preserved c = record {
   lanes = λ batch table all.
       let i = c.loop-seat.invariant.lanes batch table all in
       let seats = All-popped (IsSeatOf table) _ _ _ c.in-Some.ensures.items i.0 in
-      (seats.0, All-snoc (IsLane batch table) _ _ _ c.push_reserved.ensures.items i.1 (seats.1, All-nil (IsAhead batch)));
+      (seats.0, All-snoc (IsLane batch table) _ _ _ c.push_reserved.ensures.items i.1 (seats.1, All-same (IsAhead batch) _ [] c.new.ensures.items (All-nil (IsAhead batch))));
 }
 
 pub returns-clause-lanes : goal.returns-clause-lanes
