@@ -8,20 +8,15 @@ use Rattle.std.proofs.KnownBytes.{Appends-nil, Appends-trans, Consumes-nil, Cons
 use Rattle.std.specs.Io.KnownBytes.{Appends, Consumes}
 use Rattle.std.specs.List.{AllZip}
 use Rattle.std.specs.declared.alloc.Global.{Global}
-use Rattle.board.specs.Board.{PlainBoard}
-use Rattle.board.specs.declared.fault.FenFault.{FenFault}
 use Rattle.answer_texts.specs.Forms.{IsFoundText, IsRefusalText}
 use Rattle.answer_texts.specs.declared.asked.Asked.{Asked}
 use Rattle.answer_texts.specs.declared.asked.Batch.{Batch}
-use Rattle.rules.specs.Reading.{IsSoundFault}
 use Rattle.devices.specs.Device.{AppendsBeginning}
 use Rattle.devices.specs.Input.{OfInput, failed_reads, without_line_feed}
 use Rattle.devices.specs.declared.transfer.InputFault.{InputFault}
 use Rattle.devices.specs.declared.transfer.InputFault.TheVariants as input
-use Rattle.endings.specs.Outcome.{IsSoundText}
-use Rattle.replies.specs.Output.{fault_of, refusal_of_solve, IsRefusedWithin}
+use Rattle.replies.specs.Output.{fault_of, IsRefusedWithin}
 use Rattle.replies.proofs.ReplyLemmas.{refused_by}
-use Rattle.refusals.specs.Refusal.{refusal_of_fen}
 use Rattle.refusals.specs.declared.refusal.Refusal.{Refusal}
 use Rattle.refusals.specs.declared.refusal.Refusal.TheVariants as refusal
 use Rattle.answer_texts.specs.Said.{is_remark, said_in}
@@ -32,7 +27,6 @@ use Rattle.console.specs.Batch.{AnswersLines, EndsBatch, HasReplyText, IsAskedRe
 use Rattle.console.specs.BatchRun.{AsksProblem, Fails, GivesAsked, GivesNext, IsFirstOf, IsAskedRefusal, PassesOver, RepliesToNext, Step, TakesAnswered, TakesLines, TakesStep, stop_of}
 use Rattle.devices.specs.Lines.{HasNoFeed, IsFed, IsLastOf, IsReadAs, TakesLine, left_of}
 use Rattle.endings.specs.Run.{Ending, Finishes, Run}
-use Rattle.rounds.specs.declared.fault.SolveFault.{SolveFault}
 use Rattle.console.specs.declared.batch.BatchStop.{BatchStop}
 use Rattle.console.specs.declared.batch.BatchStop.TheVariants.{ReadFailed, WriteFailed, NoMemory}
 use Rattle.devices.specs.declared.lines.Taken.{Taken}

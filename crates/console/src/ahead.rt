@@ -1,10 +1,9 @@
 //! Replies that are made ahead: the lines at hand, several at once, each by one thread over the batch's table. Which lines these are, and which of them
 //! get a reply so, no promise rests on: a reply that was made is the line's own, and the others are made one by one.
-ghost use Rattle.std.specs.Prelude.{◌≡◌, ◌+◌, ◌<◌, ◌≤◌, [], All, IfErr, IfOk, IfSome, OnErr, length, vec_capacity};
+ghost use Rattle.std.specs.Prelude.{◌≡◌, ◌+◌, ◌<◌, ◌≤◌, [], All, IfOk, IfSome, OnErr, length, vec_capacity};
 ghost use Rattle.atomic_table.specs.Seated.{TableId};
 ghost use Rattle.slots.specs.Promise.{IsSeatOf};
 ghost use Rattle.devices.specs.Lines.{IsUnread};
-ghost use Rattle.searcher.specs.Tables.{AreSeats};
 ghost use Rattle.answer_texts.specs.Asking.{IsFoundAt};
 ghost use Rattle.answer_texts.specs.declared.asked.Batch.{Batch as TheBatch};
 ghost use Rattle.console.specs.BatchRun.{AreAhead, GivesNext, IsAhead, IsLane, IsSearched};

@@ -16,7 +16,10 @@ invariant_of-table-2 g c =
     let table = c.args.table.now.slots in
     let same : length c.for_each_mut.new.s ≡ length c.in_ok-lanes.lanes.items = search rules in
     let whole = take_whole c.in_ok-lanes.lanes.len c.for_each_mut.new.s _ (search rules) in
-    let worked = subst (All (IsLane c.args.batch.now table)) (sym whole) (λ k d lt. search rules) in
+    let lane = IsLane c.args.batch.now table in
+    let worked = subst (All lane) (sym whole) (λ k d lt.
+    let change = (c.for_each_mut.ensures k d (search rules)).1 in
+    subst lane change.left change.call) in
     let seats = c.close_lanes.ensures.seats c.args.batch.now table worked (All-same (IsSeatOf table) _ [] c.in_ok-lanes.ensures.count.0 (All-nil (IsSeatOf table))) in
     record {
       seated = (
@@ -30,5 +33,8 @@ pub returns : goal.returns
 returns g c =
     let table = c.args.table.now.slots in
     let whole = take_whole c.in_ok-lanes.lanes.len c.for_each_mut.new.s _ (search rules) in
-    let worked = subst (All (IsLane c.args.batch.now table)) (sym whole) (λ k d lt. search rules) in
+    let lane = IsLane c.args.batch.now table in
+    let worked = subst (All lane) (sym whole) (λ k d lt.
+    let change = (c.for_each_mut.ensures k d (search rules)).1 in
+    subst lane change.left change.call) in
     c.close_lanes.ensures.ahead c.args.batch.now table worked (All-same (λ row. All (IsAhead c.args.batch.now) row.items) _ [] c.in_ok-ahead.ensures.items (All-nil _))

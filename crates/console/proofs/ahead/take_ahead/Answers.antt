@@ -1,4 +1,4 @@
-use Rattle.std.proofs.Common.{◌≡◌, ◌∙◌, rules, arith, refl, All, ap}
+use Rattle.std.proofs.Common.{◌∙◌, rules, arith, refl, All, ap}
 use Rattle.std.proofs.lemmas.List.Elements.{All-set}
 use Rattle.answer_texts.specs.Said.{said_in}
 use Rattle.console.specs.BatchRun.{IsAhead}
