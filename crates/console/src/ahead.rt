@@ -23,7 +23,7 @@ use std::sync::{Arc, Wait};
 use std::thread;
 use std::thread::Threads;
 
-/// So many positions a thread searches for a line, before it leaves that to all threads once another has no line left.
+/// So many positions a thread searches for a line, before it leaves that to all threads, where another has no line.
 const PATIENCE: u32 = 4096;
 
 /// So many at most where a sign of life is asked for, which a line that several threads search has.
@@ -52,21 +52,22 @@ pub struct Lookahead {
     pub looked_at: u64,
 }
 
-/// What the threads share: what is asked of each line, the lines, with their feeds, and how many of them were taken.
+/// What the threads share: what is asked of each line, the lines, with their feeds, how many of them were taken, and after how many a thread has none.
 #[derive(Drop)]
 struct Lines<'a, 'b> {
     batch: &'a Batch,
     lines: Vec<&'a [u8]>,
     slots: &'b Slots<MateLore>,
     taken: Arc<AtomicU64>,
+    busy: u64,
     most: u32,
 }
 
-/// Stops the search of a line that is long, where another thread has no line left, or where it is too long for its sign of life.
+/// Stops the search of a line that is long, where another thread has no line, or where it is too long for its sign of life.
 #[derive(Drop)]
 struct Patience {
     taken: Arc<AtomicU64>,
-    lines: u64,
+    busy: u64,
     positions: u32,
     most: u32,
 }
@@ -81,7 +82,7 @@ impl Stop for Patience {
         if self.positions < PATIENCE {
             return false;
         }
-        self.most < self.positions || self.lines < self.taken.load(Ordering::SeqCst)
+        self.most < self.positions || self.busy < self.taken.load(Ordering::SeqCst)
     }
 
     ghost stays_at_once = { λ _. tt };
@@ -108,7 +109,7 @@ impl Lines<'_, '_> {
         }
         let stop = Patience {
             taken: Arc::try_clone(&self.taken)?,
-            lines: self.lines.len() as u64,
+            busy: self.busy,
             positions: 0,
             most: self.most,
         };
@@ -209,7 +210,7 @@ fn close_lanes(mut lanes: Vec<Lane>, seats: &mut Vec<Seat>, ahead: &mut Vec<Vec<
     }
 }
 
-/// The replies to these lines, as far as they are made, by a thread for each seat of the table.
+/// The replies to these lines, as far as they are made, by a thread for each seat of the table, or by as many as there are lines.
 fn replies_ahead<'a, R: Threads + Wait + Sync + AllocGlobal>(
     rt: &R,
     batch: &'a Batch,
@@ -224,15 +225,17 @@ fn replies_ahead<'a, R: Threads + Wait + Sync + AllocGlobal>(
     let mut ahead = Vec::with_capacity(alloc, table.seats.len())?;
     let taken = Arc::new(alloc, AtomicU64::new(0))?;
     let mut lanes = open_lanes(alloc, &mut table.seats)?;
+    let threads = lanes.len().min(read.len()).max(1);
+    let busy = if threads < lanes.len() { 0 } else { read.len() };
     let lines = Lines {
         batch,
         lines: read,
         slots: &table.slots,
         taken,
+        busy: busy as u64,
         most,
     };
     let lines = &lines;
-    let threads = lanes.len();
     thread::for_each_mut(
         rt,
         lanes.as_mut_slice(),
@@ -278,7 +281,7 @@ fn lines_at_hand<'a>(
     Ok(lines)
 }
 
-/// Looks at the lines at hand, if the line that was read wasn't among those that were looked at, and makes replies ahead where they are several.
+/// Makes the replies to the lines at hand ahead, if the line that was read wasn't among those that were looked at before.
 pub(crate) fn look_ahead<R: Threads + Wait + Sync + AllocGlobal>(
     context: &Context<'_, R>,
     batch: &Batch,
@@ -301,10 +304,7 @@ pub(crate) fn look_ahead<R: Threads + Wait + Sync + AllocGlobal>(
     let Ok(lines) = lines_at_hand(context.rt.alloc(), line.as_slice(), unread) else {
         return;
     };
-    if lines.len() < 2 {
-        return;
-    }
-    lookahead.looked_at = number.saturating_add(lines.len() as u64 - 1);
+    lookahead.looked_at = (number - 1).saturating_add(lines.len() as u64);
     let most = if context.shows { UNSHOWN } else { u32::MAX };
     if let Ok(rows) = replies_ahead(context.rt, batch, &mut lookahead.table, lines, most) {
         lookahead.rows = rows;
@@ -328,7 +328,8 @@ fn take_if_next(replies: &mut Vec<Ahead>, said: &[u8]) -> Option<Ahead>
 /// What is written for what comes next, where that was made ahead.
 pub(crate) fn take_ahead(ahead: &mut Vec<Vec<Ahead>>, next: &Next) -> Option<Vec<u8>>
     ensures kept { (batch : TheBatch) → AreAhead batch ahead.old.items → AreAhead batch ahead.new.items }
-    ensures text { IfSome result (λ text. (batch : TheBatch) → AreAhead batch ahead.old.items → GivesNext batch next.now (Some text)) }
+    ensures text { IfSome result (λ text. (batch : TheBatch)
+        → AreAhead batch ahead.old.items → GivesNext batch next.now (Some text)) }
 {
     let Next::Line(line) = next else {
         return None;
