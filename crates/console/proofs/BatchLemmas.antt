@@ -8,28 +8,25 @@ use Rattle.std.proofs.KnownBytes.{Appends-nil, Appends-trans, Consumes-nil, Cons
 use Rattle.std.specs.Io.KnownBytes.{Appends, Consumes}
 use Rattle.std.specs.List.{AllZip}
 use Rattle.std.specs.declared.alloc.Global.{Global}
-use Rattle.board.specs.Board.{PlainBoard}
-use Rattle.board.specs.declared.fault.FenFault.{FenFault}
-use Rattle.answer_texts.specs.Forms.{IsRefusalText}
+use Rattle.answer_texts.specs.Forms.{IsFoundText, IsRefusalText}
 use Rattle.answer_texts.specs.declared.asked.Asked.{Asked}
 use Rattle.answer_texts.specs.declared.asked.Batch.{Batch}
-use Rattle.rules.specs.Reading.{IsSoundFault}
 use Rattle.devices.specs.Device.{AppendsBeginning}
 use Rattle.devices.specs.Input.{OfInput, failed_reads, without_line_feed}
 use Rattle.devices.specs.declared.transfer.InputFault.{InputFault}
 use Rattle.devices.specs.declared.transfer.InputFault.TheVariants as input
-use Rattle.endings.specs.Outcome.{IsSoundText}
-use Rattle.replies.specs.Output.{fault_of, refusal_of_solve, IsRefusedWithin}
+use Rattle.replies.specs.Output.{fault_of, IsRefusedWithin}
 use Rattle.replies.proofs.ReplyLemmas.{refused_by}
-use Rattle.refusals.specs.Refusal.{refusal_of_fen}
 use Rattle.refusals.specs.declared.refusal.Refusal.{Refusal}
 use Rattle.refusals.specs.declared.refusal.Refusal.TheVariants as refusal
-use Rattle.answer_texts.specs.Said.{said_in}
-use Rattle.console.specs.Batch.{AnswersLines, EndsBatch, HasReplyText, IsAskedReply, IsLineReply, IsUnnumberedReply, RefusesBatch, RunsBatch, answered_lines, joined, left_out, lines_of, next_number, numbered, onto, wanting_text, with_number}
-use Rattle.console.specs.BatchRun.{Fails, GivesAsked, GivesFound, GivesNext, IsFirstOf, IsAskedRefusal, PassesOver, RepliesToNext, Step, TakesAnswered, TakesLines, TakesStep, stop_of}
+use Rattle.answer_texts.specs.Said.{is_remark, said_in}
+use Rattle.answer_texts.specs.Asking.{IsAskedIn, IsFoundAt}
+use Rattle.answer_texts.specs.declared.asked.Found.{Found}
+use Rattle.problems.specs.declared.problem.Problem.{Problem}
+use Rattle.console.specs.Batch.{AnswersLines, EndsBatch, HasReplyText, IsAskedReply, IsLineReply, IsUnnumberedReply, RefusesBatch, RunsBatch, answered_lines, joined, left_out, lines_of, next_number, numbered, onto, wanting_text, with_number, with_position}
+use Rattle.console.specs.BatchRun.{AsksProblem, Fails, GivesAsked, GivesNext, IsFirstOf, IsAskedRefusal, PassesOver, RepliesToNext, Step, TakesAnswered, TakesLines, TakesStep, stop_of}
 use Rattle.devices.specs.Lines.{HasNoFeed, IsFed, IsLastOf, IsReadAs, TakesLine, left_of}
 use Rattle.endings.specs.Run.{Ending, Finishes, Run}
-use Rattle.rounds.specs.declared.fault.SolveFault.{SolveFault}
 use Rattle.console.specs.declared.batch.BatchStop.{BatchStop}
 use Rattle.console.specs.declared.batch.BatchStop.TheVariants.{ReadFailed, WriteFailed, NoMemory}
 use Rattle.devices.specs.declared.lines.Taken.{Taken}
@@ -40,18 +37,25 @@ use Rattle.devices.proofs.InputLemmas.{of_any, of_input_then}
 
 -- ---- what a line says
 
--- a text of a fault is refused
-pub asked_fault : (batch : Batch) (asked : Asked) (r : Result (Vec ℕ Global) Refusal) (fault : FenFault) → IsSoundFault asked.fen.now fault
-    → IsErr r × IsErrAnd r (λ why. why ≡ refusal_of_fen fault) → GivesAsked batch asked r
-asked_fault batch asked (Ok text) fault is err = absurd err.1
-asked_fault batch asked (Err why) fault is err = inr (inr (fault, is, err.1))
+-- why no problem is asked is why nothing is given
+pub asked_refused : (batch : Batch) (asked : Asked) (r : Result (Vec ℕ Global) Refusal) (why : Refusal) → IsAskedRefusal batch asked why
+    → IsErr r × IsErrAnd r (λ w. w ≡ why) → GivesAsked batch asked r
+asked_refused batch asked (Ok text) why is err = absurd err.1
+asked_refused batch asked (Err w) why is err = inr (subst (IsAskedRefusal batch asked) (sym err.1) is)
 
--- what is given at the sound position is given
-pub asked_gives : (batch : Batch) (asked : Asked) (b : PlainBoard) (r : Result (Vec ℕ Global) Refusal) → IsSoundText asked.fen.now b → GivesFound batch asked b r
-    → GivesAsked batch asked r
-asked_gives batch asked b (Ok text) sound gives = inl (b, sound, gives)
-asked_gives batch asked b (Err why) sound (inl none) = inl none
-asked_gives batch asked b (Err why) sound (inr refused) = inr (inl (b, sound, refused))
+-- what is found at the problem that is asked is a reply
+pub asked_gives : (batch : Batch) (asked : Asked) (problem : Problem) (found : Found) (text : List ℕ) → AsksProblem batch asked (Ok problem)
+    → IsFoundAt batch.options.keys problem.goal problem.position problem.limit found → IsFoundText batch asked found text → IsAskedReply batch asked text
+asked_gives batch asked problem found text (sound, none, is) at written =
+    let goal = subst (λ goal. IsFoundAt batch.options.keys goal problem.position problem.limit found) is.plays_for at in
+    inl (problem.position, sound, rw none (found, subst (λ n. IsFoundAt batch.options.keys batch.goal problem.position n found) is.within goal, written))
+
+-- so it is with the position before it
+pub found_reply : (batch : Batch) (said : List ℕ) (asked : Asked) (problem : Problem) (found : Found) (plain text : List ℕ) → is_remark said ≡ false → IsAskedIn said asked
+    → AsksProblem batch asked (Ok problem) → IsFoundAt batch.options.keys problem.goal problem.position problem.limit found → IsFoundText batch asked found plain
+    → text ≡ with_position batch said plain → HasReplyText batch said text
+found_reply batch said asked problem found plain text none in_said asks at written is =
+    (plain, rw none (asked, in_said, asked_gives batch asked problem found plain asks at written), is)
 
 -- the text of a refusal is a reply
 pub refusal_reply : (batch : Batch) (asked : Asked) (why : Refusal) (text : List ℕ) → IsAskedRefusal batch asked why
@@ -288,6 +292,11 @@ pub line_reply : (batch : Batch) (held : Vec ℕ Global) (text line : List ℕ) 
     → (0 < length line) × IsUnnumberedReply batch line text
 line_reply batch held text line next reply =
     (next.0, rw (le-ltb 256 (length (without_line_feed line)) next.2) (subst (λ l. HasReplyText batch (said_in l) text) next.1 reply))
+
+-- a reply to what a line says is one to the line
+pub ahead_next : (batch : Batch) (held : Vec ℕ Global) (said : List ℕ) (text : Vec ℕ Global) → said ≡ said_in held.items → HasReplyText batch said (vec_items text)
+    → GivesNext batch (Line held) (Some text)
+ahead_next batch held said text is reply = λ line next. line_reply batch held (vec_items text) line next (subst (λ s. HasReplyText batch s (vec_items text)) is reply)
 
 -- how a line was taken
 abbrev IsTaken : Option (List ℕ) → Option (List ℕ) → Bool → List ℕ → Type 0

@@ -1,9 +1,12 @@
 -- The steps of a batch.
-use Rattle.std.specs.Prelude.{◌≡◌, ◌⊎◌, ◌+◌, ◌<◌, ℕ, Bool, true, false, List, [], ◌∷◌, ◌++◌, length, drop, Option, None, Some, IfSome, Result, Ok, Err, vec_items, Vec}
+use Rattle.std.specs.Prelude.{All, ◌≡◌, ◌⊎◌, ◌+◌, ◌<◌, ℕ, Bool, true, false, List, [], ◌∷◌, ◌++◌, length, drop, Option, None, Some, IfSome, Result, Ok, Err, vec_items, Vec}
 use Rattle.std.specs.Io.KnownBytes.{Appends, Consumes}
 use Rattle.std.specs.List.{AllZip}
+use Rattle.atomic_table.specs.Seated.{TableId}
+use Rattle.slots.specs.Promise.{IsSeatOf}
+use Rattle.problems.specs.Problems.{IsProblemOf}
+use Rattle.problems.specs.declared.problem.Problem.{Problem}
 use Rattle.std.specs.declared.alloc.Global.{Global}
-use Rattle.rules.specs.declared.goal.Goal.{Goal}
 use Rattle.command_line.specs.declared.line.Limits.{Limits}
 use Rattle.rounds.specs.declared.fault.SolveFault.{SolveFault}
 use Rattle.devices.specs.Device.{AppendsBeginning}
@@ -19,12 +22,13 @@ use Rattle.refusals.specs.declared.refusal.Refusal.{Refusal}
 use Rattle.refusals.specs.declared.refusal.Refusal.TheVariants as refusal
 use Rattle.devices.specs.declared.transfer.InputFault.{InputFault}
 use Rattle.devices.specs.declared.transfer.InputFault.TheVariants as input
-use Rattle.answer_texts.specs.Asking.{IsFoundAt, limit_of, with_plies}
-use Rattle.console.specs.Batch.{AnswersLines, IsAskedReply, IsFoundReply, IsLineReply, IsUnnumberedReply, answered_lines, joined, lines_of, next_number, numbered}
+use Rattle.answer_texts.specs.Asking.{limit_of, with_plies}
+use Rattle.console.specs.Batch.{AnswersLines, IsAskedReply, HasReplyText, IsLineReply, IsUnnumberedReply, answered_lines, joined, lines_of, next_number, numbered}
 use Rattle.devices.specs.Lines.{IsFed, IsLastOf, IsReadAs, IsUnread, left_of}
 use Rattle.answer_texts.specs.declared.asked.Asked.{Asked}
 use Rattle.answer_texts.specs.declared.asked.Batch.{Batch}
-use Rattle.answer_texts.specs.declared.asked.Found.{Found}
+use Rattle.console.specs.declared.ahead.Ahead.{Ahead}
+use Rattle.console.specs.declared.ahead.Lane.{Lane}
 use Rattle.console.specs.declared.batch.BatchRun.{BatchRun}
 use Rattle.console.specs.declared.batch.BatchStop.{BatchStop}
 use Rattle.console.specs.declared.batch.BatchStop.TheVariants.{ReadFailed, WriteFailed, NoMemory}
@@ -36,33 +40,41 @@ use Rattle.devices.specs.declared.lines.Next.{Next}
 abbrev pub IsSearched : Batch → Type 0
 IsSearched batch = fault_of batch.limits ≡ None
 
+-- it is what is written for a line that says this
+abbrev pub IsAhead : Batch → Ahead → Type 0
+IsAhead batch reply = HasReplyText batch reply.said.items reply.text.items
+
+-- each is so, of whichever thread
+abbrev pub AreAhead : Batch → List (Vec Ahead Global) → Type 0
+AreAhead batch rows = All (λ row. All (IsAhead batch) row.items) rows
+
+-- its seat is one of the table, and its replies are right
+abbrev pub IsLane : Batch → TableId → Lane → Type 0
+IsLane batch table lane = IsSeatOf table lane.seat × All (IsAhead batch) lane.replies.items
+
 abbrev pub IsBatchRun : BatchRun → Type 0
-IsBatchRun run = IsSearched run.batch × IsUnread run.unread
+IsBatchRun run = IsSearched run.batch × IsUnread run.unread × AreAhead run.batch run.lookahead.rows.items
 
 -- a batch in which nothing was read, or the refusal of the limits, or want of memory
 abbrev pub OpensBatchRun : Batch → Result BatchRun Refusal → Type 0
 OpensBatchRun batch result = FindsWithin batch.limits
     (λ run. IsBatchRun run × (run.batch ≡ batch) × (run.unread.from ≡ 0) × (run.unread.to ≡ 0)) result
 
--- what is asked of a position within the limits
-abbrev pub Finds : Bool → Goal → PlainBoard → Limits → Result Found Refusal → Type 0
-Finds keys goal b limits result = FindsWithin limits (IsFoundAt keys goal b limits.limit) result
-
 -- the limits within which a line is searched
 abbrev pub asked_limits : Batch → Asked → Limits
 asked_limits batch asked = with_plies batch.limits (limit_of batch.limits.limit asked.moves)
-
--- a text is a reply at a position, and a refusal is that of the limits or is want of memory
-abbrev pub GivesFound : Batch → Asked → PlainBoard → Result (Vec ℕ Global) Refusal → Type 0
-GivesFound batch asked b (Ok text) = IsFoundReply batch asked b (vec_items text)
-GivesFound batch asked b (Err why) =
-    (why ≡ refusal.NoMemory) ⊎ ((fault : SolveFault) × (fault_of (asked_limits batch asked) ≡ Some fault) × (why ≡ refusal_of_solve fault))
 
 -- what is asked is refused for this: the limits at a sound position, or the text's fault
 abbrev pub IsAskedRefusal : Batch → Asked → Refusal → Type 0
 IsAskedRefusal batch asked why =
     ((b : PlainBoard) × IsSoundText asked.fen.now b × ((fault : SolveFault) × (fault_of (asked_limits batch asked) ≡ Some fault) × (why ≡ refusal_of_solve fault)))
     ⊎ ((fault : FenFault) × IsSoundFault asked.fen.now fault × (why ≡ refusal_of_fen fault))
+
+-- the problem that is asked, at the sound position of the text within limits that are taken; or why what is asked is refused
+abbrev pub AsksProblem : Batch → Asked → Result Problem Refusal → Type 0
+AsksProblem batch asked (Ok problem) = IsSoundText asked.fen.now problem.position × (fault_of (asked_limits batch asked) ≡ None)
+    × IsProblemOf problem.position batch.goal (limit_of batch.limits.limit asked.moves) problem
+AsksProblem batch asked (Err why) = IsAskedRefusal batch asked why
 
 -- a text is a reply to what is asked, and a refusal is one or is want of memory
 abbrev pub GivesAsked : Batch → Asked → Result (Vec ℕ Global) Refusal → Type 0

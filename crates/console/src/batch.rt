@@ -3,17 +3,17 @@ ghost use Rattle.std.specs.Prelude.{◌≡◌, ◌+◌, ◌++◌, ◌<◌, IfOk,
 ghost use Rattle.std.specs.Fmt.{decimal};
 ghost use Rattle.devices.specs.Input.{failed_reads};
 ghost use Rattle.devices.specs.Lines.{IsUnread, left_of};
-ghost use Rattle.answer_texts.specs.Asking.{IsFoundAt, with_plies};
+ghost use Rattle.answer_texts.specs.Asking.{IsFoundAt};
 ghost use Rattle.answer_texts.specs.Said.{said_in};
 ghost use Rattle.console.specs.Batch.{HasReplyText, IsAskedReply, IsReplyText, left_out, next_number, remark_text, with_number, with_position};
 ghost use Rattle.answer_texts.specs.Forms.{IsRefusalText};
-ghost use Rattle.console.specs.BatchRun.{Finds, GivesAsked, GivesFound, GivesNext, IsBatchRun, IsSearched, OpensBatchRun, PassesOver, TakesAnswered, TakesLines, TakesStep, step_of, stop_of};
+ghost use Rattle.console.specs.BatchRun.{AreAhead, AsksProblem, GivesAsked, GivesNext, IsBatchRun, IsSearched, OpensBatchRun, PassesOver, TakesAnswered, TakesLines, TakesStep, step_of, stop_of};
 ghost use Rattle.console.specs.declared.batch.BatchStop.TheVariants.{NoMemory, WriteFailed};
 
+use crate::ahead::{Lookahead, look_ahead, take_ahead};
 use answer_texts::{
     Asked, Batch, Found, asked_in, found_text, is_remark, limit_of, refused_object, said_in,
 };
-use board::Position;
 use command_line::{BatchOptions, Limits};
 use devices::{Failed, InputFault, Next, Sink, Source, Taken, Unread, write_all};
 use moves::read_sound;
@@ -33,7 +33,7 @@ use std::time::Clock;
 #[derive(Drop)]
 pub struct BatchRun {
     pub batch: Batch,
-    pub table: Table,
+    pub lookahead: Lookahead,
     pub unread: Unread,
     /// The number of the line that was read last.
     pub number: u64,
@@ -79,15 +79,20 @@ pub fn open_batch(alloc: Global, batch: Batch) -> Result<BatchRun, Refusal>
     ensures { OpensBatchRun batch result }
 {
     let table = table_within(alloc, batch.limits)?;
+    let lookahead = Lookahead {
+        table,
+        rows: Vec::new(alloc),
+        looked_at: 0,
+    };
     Ok(BatchRun {
         batch,
-        table,
+        lookahead,
         unread: Unread::new(),
         number: 0,
     })
 }
 
-/// The answer of a problem, or its keys.
+/// The answer of a problem, or its keys, by all threads.
 fn find<R: Threads + Wait + Eprint + Clock + Sync + AllocGlobal>(
     rt: &R,
     table: &mut Table,
@@ -104,48 +109,22 @@ fn find<R: Threads + Wait + Eprint + Clock + Sync + AllocGlobal>(
     }
 }
 
-/// What is asked of a position within so many plies, by the table of the batch.
-fn find_at<R: Threads + Wait + Eprint + Clock + Sync + AllocGlobal>(
-    context: &Context<'_, R>,
-    table: &mut Table,
-    batch: &Batch,
-    limit: u32,
-    position: &Position,
-) -> Result<Found, Refusal>
+/// The problem that a line asks, or why it is refused.
+pub(crate) fn problem_of(batch: &Batch, asked: &Asked<'_>) -> Result<Problem, Refusal>
     requires { IsSearched batch.now }
-    ensures { Finds batch.now.options.keys batch.now.goal position.now (with_plies batch.now.limits limit) result }
+    ensures { AsksProblem batch.now asked.now result }
 {
-    let Batch {
-        goal,
-        limits,
-        options,
-    } = *batch;
+    let position = read_sound(asked.fen)?;
+    let Batch { goal, limits, .. } = *batch;
     let limits = Limits {
-        limit,
+        limit: limit_of(limits.limit, asked.moves),
         workers: limits.workers,
         slots: limits.slots,
     };
-    let Some(problem) = Problem::of(position, goal, search_of(limits).limit) else {
-        return Err(Refusal::Limit);
-    };
-    let watch = context.watch_of(position, options.keys, limits);
-    Ok(find(context.rt, table, options.keys, &problem, watch.as_ref())?)
-}
-
-/// What is written for what is found at a position, or why nothing is.
-fn position_text<R: Threads + Wait + Eprint + Clock + Sync + AllocGlobal>(
-    context: &Context<'_, R>,
-    table: &mut Table,
-    batch: &Batch,
-    asked: &Asked<'_>,
-    position: &Position,
-) -> Result<Vec<u8>, Refusal>
-    requires { IsSearched batch.now }
-    ensures { GivesFound batch.now asked.now position.now result }
-{
-    let limit = limit_of(batch.limits.limit, asked.moves);
-    let found = find_at(context, table, batch, limit, position)?;
-    Ok(found_text(context.rt.alloc(), batch, asked, &found)?)
+    match Problem::of(&position, goal, search_of(limits).limit) {
+        Some(problem) => Ok(problem),
+        None => Err(Refusal::Limit),
+    }
 }
 
 /// What is written for what a line asks, or why it is refused.
@@ -158,8 +137,20 @@ fn answered_text<R: Threads + Wait + Eprint + Clock + Sync + AllocGlobal>(
     requires { IsSearched batch.now }
     ensures { GivesAsked batch.now asked.now result }
 {
-    let position = read_sound(asked.fen)?;
-    position_text(context, table, batch, asked, &position)
+    let problem = problem_of(batch, asked)?;
+    let Batch {
+        limits,
+        options,
+        ..
+    } = *batch;
+    let limits = Limits {
+        limit: u32::from(problem.limit),
+        workers: limits.workers,
+        slots: limits.slots,
+    };
+    let watch = context.watch_of(&problem.position, options.keys, limits);
+    let found = find(context.rt, table, options.keys, &problem, watch.as_ref())?;
+    Ok(found_text(context.rt.alloc(), batch, asked, &found)?)
 }
 
 /// Tells why something is refused, in one sentence.
@@ -188,7 +179,12 @@ pub fn refusal_line<E: Write>(
 }
 
 /// The text, with the position before it, if that is asked for.
-fn echoed(alloc: Global, batch: &Batch, said: &[u8], plain: Vec<u8>) -> Result<Vec<u8>, AllocError>
+pub(crate) fn echoed(
+    alloc: Global,
+    batch: &Batch,
+    said: &[u8],
+    plain: Vec<u8>,
+) -> Result<Vec<u8>, AllocError>
     ensures { IfOk result (λ text. text.items ≡ with_position batch.now said.now plain.items) }
 {
     if !batch.options.echo || batch.options.json || is_remark(said) {
@@ -333,6 +329,25 @@ fn next_text<R: Threads + Wait + Eprint + Clock + Sync + AllocGlobal, E: Write>(
     }
 }
 
+/// What is written for what comes next: what was made ahead for it, or else what is made now.
+fn made_text<R: Threads + Wait + Eprint + Clock + Sync + AllocGlobal, E: Write>(
+    context: &Context<'_, R>,
+    batch: &Batch,
+    lookahead: &mut Lookahead,
+    next: Next,
+    errors: &mut E,
+) -> Result<Option<Vec<u8>>, AllocError>
+    requires batch { IsSearched batch.now }
+    requires ahead { AreAhead batch.now lookahead.old.rows.items }
+    ensures ahead { AreAhead batch.now lookahead.new.rows.items }
+    ensures text { IfOk result (GivesNext batch.now next) }
+{
+    if let Some(text) = take_ahead(&mut lookahead.rows, &next) {
+        return Ok(Some(text));
+    }
+    next_text(context, &mut lookahead.table, batch, next, errors)
+}
+
 /// Reads a line, and writes the reply to it. Answers whether more may come.
 fn answer_next<
     R: Threads + Wait + Eprint + Clock + Sync + AllocGlobal,
@@ -360,7 +375,8 @@ fn answer_next<
     let Taken { next, is_last } = run
         .unread
         .next_line(context.rt, context.rt.alloc(), reader)?;
-    let Some(plain) = next_text(context, &mut run.table, &run.batch, next, errors)? else {
+    look_ahead(context, &run.batch, &mut run.lookahead, &run.unread, &next);
+    let Some(plain) = made_text(context, &run.batch, &mut run.lookahead, next, errors)? else {
         context.tally.clear(errors);
         return Ok(false);
     };

@@ -1,6 +1,7 @@
 //! The program over any words and streams: what it reads and writes, and with what status it ends.
 #![tactic(auto)]
 
+mod ahead;
 mod batch;
 mod over;
 mod running;

@@ -1,14 +1,12 @@
-use Rattle.std.proofs.Common.{rules}
-use Rattle.endings.specs.Outcome.{IsSoundText}
-use Rattle.console.proofs.BatchLemmas.{asked_fault, asked_gives}
+use Rattle.std.proofs.Common.{vec_items}
+use Rattle.console.proofs.BatchLemmas.{asked_gives, asked_refused}
 use Rattle.console.proofs.batch.answered_text.Goals as goal
 
-pub returns-in_err-position : goal.returns-in_err-position
-returns-in_err-position g c =
-    asked_fault c.args.batch.now c.args.asked.now c.from_residual.result c.in_err-position.field-0.0
-    c.in_err-position.ensures.fault c.from_residual.ensures
+pub returns-in_err-problem : goal.returns-in_err-problem
+returns-in_err-problem g c =
+    asked_refused c.args.batch.now c.args.asked.now c.from_residual.result c.in_err-problem.field-0.0 c.in_err-problem.ensures c.from_residual.ensures
 
 pub returns : goal.returns
 returns g c =
-    let sound : IsSoundText c.args.asked.now.fen.now c.in_ok-position.position = search rules in
-    asked_gives c.args.batch.now c.args.asked.now c.in_ok-position.position c.position_text.result sound c.position_text.ensures
+    asked_gives c.args.batch.now c.args.asked.now c.in_ok-problem.problem c.in_ok-found.found (vec_items c.in_ok-found_text.field-0)
+    c.in_ok-problem.ensures c.in_ok-found.ensures c.in_ok-found_text.ensures
