@@ -1,6 +1,6 @@
 -- What the first line's texts are, and that each is of one answer at most.
-use Rattle.std.proofs.Common.{◌≡◌, inl, inr, ◌≤◌, ℕ, ◌+◌, ◌/◌, ◌%◌, List, [], ◌∷◌, ◌++◌, length, sym, ap, ◌∙◌, arith, Option, None, Some, codes}
-use Rattle.verifying.proofs.Common.{cases_lt, decimal_digit, decimal_step, decimal_injective, decimal, Kind, King, Queen, Rook, Bishop, Knight, Pawn, Ply, IsPly, IsLawful, promotion_text, move_text, append_cancel_left, PlainBoard, Goal, Answer, Claim, Word, first_line, goal_text, IsInRange, HasNamedMove, YesLinesMake, ProveAnswer, IsCertificate}
+use Rattle.std.proofs.Common.{◌≡◌, inl, inr, ◌≤◌, ℕ, ◌+◌, ◌/◌, ◌%◌, List, [], ◌∷◌, ◌++◌, sym, ap, ◌∙◌, arith, codes}
+use Rattle.verifying.proofs.Common.{cases_lt, decimal_digit, decimal_step, decimal_injective, decimal, Ply, IsPly, IsLawful, move_text, append_cancel_left, PlainBoard, Goal, Answer, Claim, Word, first_line, goal_text, IsInRange, HasNamedMove, YesLinesMake, ProveAnswer, IsCertificate}
 use Rattle.rules.proofs.Naming.{one_name, ply_of_lawful}
 use Rattle.rules.specs.declared.goal.Goal.TheVariants as goal
 use Rattle.problems.specs.declared.answer.Answer.TheVariants as answer
@@ -13,12 +13,6 @@ same_cons x y xs ys e = (cc, cc)
 
 pub high_decimal : (n : ℕ) → 10 ≤ n → n ≤ 63 → decimal n ≡ (48 + n / 10) ∷ (48 + n % 10) ∷ []
 high_decimal n large few = decimal_step n large (omega arith) ∙ ap (λ (x : List ℕ). x ++ (48 + n % 10) ∷ []) (decimal_digit (n / 10) (omega arith))
-
-pub decimal_short : (n : ℕ) → n ≤ 63 → length (decimal n) ≤ 2
-decimal_short n few = elim (cases_lt n 10) as (λ _. length (decimal n) ≤ 2) [
-  | inl low ↦ omega (arith, ap length (decimal_digit n low))
-  | inr large ↦ omega (arith, ap length (high_decimal n large few))
-]
 
 -- a number ends at a space
 pub one_number : (n k : ℕ) (x y : List ℕ) → n ≤ 63 → k ≤ 63 → decimal n ++ 32 ∷ x ≡ decimal k ++ 32 ∷ y → (n ≡ k) × (x ≡ y)
@@ -46,15 +40,6 @@ one_number n k x y few also e = elim (cases_lt n 10) as (λ _. (n ≡ k) × (x �
     rewritten first second = sym (ap (λ (l : List ℕ). l ++ 32 ∷ x) first) ∙ (e ∙ ap (λ (l : List ℕ). l ++ 32 ∷ y) second)
 
 -- ---- answers
-
-pub letter_long : (p : Option Kind) → length (promotion_text p) ≤ 1
-letter_long None = omega arith
-letter_long (Some King) = omega arith
-letter_long (Some Queen) = omega arith
-letter_long (Some Rook) = omega arith
-letter_long (Some Bishop) = omega arith
-letter_long (Some Knight) = omega arith
-letter_long (Some Pawn) = omega arith
 
 one_mate : (n k : ℕ) (m l : Ply) → n ≤ 63 → k ≤ 63 → IsPly m → IsPly l → decimal n ++ 32 ∷ move_text m ≡ decimal k ++ 32 ∷ move_text l → answer.Mate n m ≡ answer.Mate k l
 one_mate n k m l few also named named_too e =

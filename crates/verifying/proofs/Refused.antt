@@ -1,10 +1,10 @@
 -- What a checker has taken, what it refuses and that it is no certificate, and what it proves.
-use Rattle.std.proofs.Common.{◌≡◌, ℕ, ◌+◌, ◌<◌, List, [], ◌++◌, length, Option, None, Some, sym, ap, subst, Err, suc, codes, inl, inr, ◌≤◌, ◌∷◌, map, refl, ◌∙◌, arith, append_assoc, length-append, All, ◌↔◌, nat_lt, Bool, true, false, if◌then◌else◌}
-use Rattle.verifying.proofs.Common.{Consumes, PlainBoard, Goal, Answer, Claim, OfInput, HasNoFeed, any_input, Fault, AnswerFault, NumberedFault, TooLong, NoMemory, ReadFailed, Part, HasRead, answer_of, IsEnded, ReadsLine, ReadsOn, IsLineOf, ReadsAnswer, ReadsWords, begun_claims, begun_part, part_behind, AreLines, HasLongLine, TellsOf, IsClaimLine, fed, All-cons, All-nil, All-weaker, All-push, decimal, promotion_text, move_text, First, Win, Yes, Lesser, No, first_line, goal_text, HasFirstLine, IsInRange, HasNamedMove, words_line, IsCertificate, IsRefusedWith, flat_map-append, append-nil, same_Some, Checker, Mate, Word, HasTakenText, TakesMore, RefusesMore, IsProvedBy, FindsOnly}
+use Rattle.std.proofs.Common.{◌≡◌, ℕ, ◌+◌, ◌<◌, List, [], ◌++◌, length, Option, None, Some, sym, ap, subst, Err, inl, inr, ◌≤◌, ◌∷◌, map, refl, ◌∙◌, arith, append_assoc, length-append, All, ◌↔◌, nat_lt, Bool, true, false, if◌then◌else◌}
+use Rattle.verifying.proofs.Common.{Consumes, PlainBoard, Goal, Answer, Claim, OfInput, HasNoFeed, any_input, Fault, AnswerFault, NumberedFault, TooLong, NoMemory, ReadFailed, Part, HasRead, answer_of, IsEnded, ReadsLine, ReadsOn, IsLineOf, ReadsAnswer, ReadsWords, begun_claims, begun_part, part_behind, AreLines, HasLongLine, TellsOf, IsClaimLine, fed, All-cons, All-nil, All-weaker, All-push, First, Win, Yes, Lesser, No, first_line, HasFirstLine, IsInRange, HasNamedMove, words_line, IsCertificate, IsRefusedWith, flat_map-append, append-nil, same_Some, Checker, Mate, Word, HasTakenText, TakesMore, RefusesMore, IsProvedBy, FindsOnly}
 use Rattle.verifying.specs.Taking.{fault_at}
 use Rattle.verifying.proofs.Making.{finds_none}
-use Rattle.verifying.proofs.Feeds.{answer_no_feed, line_no_feed, left_over, next_of, none_of, long_of}
-use Rattle.verifying.proofs.OneAnswer.{decimal_short, letter_long, one_answer, certificate_named, same_cons}
+use Rattle.verifying.proofs.Feeds.{IsBrief, answer_brief, line_no_feed, left_over, next_of, none_of, long_of}
+use Rattle.verifying.proofs.OneAnswer.{one_answer, certificate_named, same_cons}
 use Rattle.verifying.proofs.Reading.{certificate_read, certificate_of}
 use Rattle.verifying.proofs.Grown.{none_apart, reads_apart}
 use Rattle.verifying.proofs.Sound.{certificate_certifies}
@@ -42,42 +42,21 @@ fault_of_text goal first TooLong told = told (λ e. cc) (λ e. cc)
 fault_of_text goal first NoMemory told = any_input first (λ input. TellsOf goal input (Err NoMemory)) (λ input. tt)
 fault_of_text goal first ReadFailed told = any_input first (λ input. TellsOf goal input (Err ReadFailed)) (λ input. tt)
 
--- ---- an answer's line is short
-
-goal_long : (goal : Goal) → length (goal_text goal) ≡ 5
-goal_long goal.Mate = refl
-goal_long goal.MateOrStale = refl
-
-answer_short : (goal : Goal) (mine : Answer) → IsInRange mine → length (first_line goal mine) ≤ 8192
-answer_short goal (answer.Mate n m) range =
-    let digits = decimal_short n range.1 in
-    let name : length (move_text m) ≡ suc (suc (suc (suc (length (promotion_text m.promotion))))) = refl in
-    let letter = letter_long m.promotion in
-    omega (arith, length-append (goal_text goal) (decimal n ++ 32 ∷ move_text m), length-append (decimal n) (32 ∷ move_text m), goal_long goal, digits, name, letter)
-answer_short goal (answer.NoneWithin limit) range =
-    let digits = decimal_short limit range.1 in
-    let whole : length (first_line goal (answer.NoneWithin limit)) ≡ length (codes "none within ") + length (decimal limit) = length-append (codes "none within ") (decimal limit) in
-    omega (arith, whole, digits)
-
 module _ (goal : Goal) (b : PlainBoard) where
   -- ---- lines that are read
 
-  read_short : (part next : Part) (line : List ℕ) (old new : List Claim) → ReadsLine goal b part line old next new → length line ≤ 8192
-  read_short part next line old new (inl (first, (told, range, named, spelled, is, made))) = omega (arith, ap length spelled, answer_short goal told range)
-  read_short part next line old new (inr (words, spelled, small, read)) = small
-
-  read_no_feed : (part next : Part) (line : List ℕ) (old new : List Claim) → ReadsLine goal b part line old next new → HasNoFeed line
-  read_no_feed part next line old new (inl (first, (told, range, named, spelled, is, made))) = subst HasNoFeed (sym spelled) (answer_no_feed goal told range)
-  read_no_feed part next line old new (inr (words, spelled, small, read)) = subst HasNoFeed (sym spelled) (line_no_feed words)
+  read_brief : (part next : Part) (line : List ℕ) (old new : List Claim) → ReadsLine goal b part line old next new → IsBrief 8192 line
+  read_brief part next line old new (inl (first, (told, range, named, spelled, is, made))) = subst (IsBrief 8192) (sym spelled) (answer_brief goal told range)
+  read_brief part next line old new (inr (words, spelled, small, read)) = (small, subst HasNoFeed (sym spelled) (line_no_feed words))
 
   all_no_feed : (part : Part) (claims : List Claim) (lines : List (List ℕ)) (told : Answer) → ReadsOn goal b part claims lines told → All HasNoFeed lines
   all_no_feed part claims [] told ended = All-nil HasNoFeed
-  all_no_feed part claims (line ∷ lines) told (next, new, read, rest) = All-cons HasNoFeed line lines (read_no_feed part next line claims new read) (all_no_feed next new lines told rest)
+  all_no_feed part claims (line ∷ lines) told (next, new, read, rest) = All-cons HasNoFeed line lines (read_brief part next line claims new read).1 (all_no_feed next new lines told rest)
 
   grammar_no_feed : (o : Option Answer) (lines : List (List ℕ)) → AreLines goal o lines → All HasNoFeed lines
   grammar_no_feed None lines none = subst (All HasNoFeed) (sym none) (All-nil HasNoFeed)
   grammar_no_feed (Some told) lines (range, (claims, is, are)) =
-      subst (All HasNoFeed) (sym is) (All-cons HasNoFeed (first_line goal told) claims (answer_no_feed goal told range)
+      subst (All HasNoFeed) (sym is) (All-cons HasNoFeed (first_line goal told) claims (answer_brief goal told range).1
       (All-weaker IsClaimLine HasNoFeed (λ line words. subst HasNoFeed (sym words.1) (line_no_feed words.0)) claims are))
 
   -- what a certificate has behind what was read of it
@@ -117,7 +96,7 @@ module _ (goal : Goal) (b : PlainBoard) where
           let (more, reads, left) = certificate_left number part claims text (line ++ rest) mine read certificate in
           let (x, others, first, longer) = long_of more line rest none (omega (arith, long)) left in
           let here = subst (λ (l : List (List ℕ)). ReadsOn goal b part claims l mine) first reads in
-          omega (arith, read_short part here.0 x claims here.1 here.2, longer, long),
+          omega (arith, (read_brief part here.0 x claims here.1 here.2).0, longer, long),
     )
 
 -- ---- the answer with which a certificate begins
@@ -130,7 +109,7 @@ pub begun_answer : (goal : Goal) (b : PlainBoard) (told answer : Answer) (rest :
 begun_answer goal b told answer rest range named certificate =
     let text = first_line goal told ++ 10 ∷ rest in
     let xs : List (List ℕ) = first_line goal answer ∷ map words_line certificate.lines in
-    let next = next_of xs (first_line goal told) rest (all_no_feed goal b First [] xs answer (certificate_read goal b answer text certificate)) (answer_no_feed goal told range) (sym certificate.spelled) in
+    let next = next_of xs (first_line goal told) rest (all_no_feed goal b First [] xs answer (certificate_read goal b answer text certificate)) (answer_brief goal told range).1 (sym certificate.spelled) in
     let is = (same_cons (first_line goal answer) (first_line goal told) (map words_line certificate.lines) next.0 next.1).0 in
     one_answer goal answer told certificate.range range (certificate_named goal b answer text certificate) named is
 

@@ -1,7 +1,7 @@
 use Rattle.std.proofs.Common.{◌∙◌, refl, sym, subst, arith, true, false, length, ap}
 use Rattle.verifying.proofs.Common.{Decides-eqb, nil_from_length, not_empty, FailsBecause, ShowFailures, YieldsOnly}
 use Rattle.verifying.proofs.Failing.{lawful_item}
-use Rattle.verifying.proofs.Grown.{reason_grows}
+use Rattle.verifying.proofs.Grown.{reason_fails}
 use Rattle.verifying.proofs.Making.{because, more_plies, no_ply, one_ply, all_left, none_left, not_each, one_less, one_untold}
 use Rattle.verifying.proofs.no_claims.all_fail.Goals as goal
 
@@ -42,7 +42,7 @@ loop-i-preserved g c =
     let here = because c.args.goal it.position it.plies m _ c.after-board.result _ c.loop-i.claims c.fails.new.claims c.after-board.ensures c.in_ok-fails.ensures in
     record {
       same_length = c.loop-i.invariant.same_length;
-      apart = (reason_grows c.args.goal it.position it.plies m _ c.loop-i.claims c.fails.new.claims ((here c.fails.new.claims).1 (c.if-not-branch.false, refl))).1 c.loop-i.invariant.apart;
+      apart = (reason_fails c.args.goal it.position it.plies m _ c.loop-i.claims c.fails.new.claims ((here c.fails.new.claims).1 (c.if-not-branch.false, refl))).0.1 c.loop-i.invariant.apart;
       left = one_less (FailsBecause c.args.goal it.position it.plies) c.args.moves.now c.args.words.now c.args.claims.now c.loop-i.i m _ _ c.loop-i.claims c.loop-i-test.true c.loop-i.invariant.same_length c.index-moves-i.is refl c.loop-i.invariant.left c.fails.new.claims _ c.if-not-branch.false here;
     }
 

@@ -1,7 +1,7 @@
 use Rattle.std.proofs.Common.{List, refl, get_or, ap, ◌∙◌, arith, true, false}
 use Rattle.verifying.proofs.Common.{Ply, MeetsReply}
 use Rattle.verifying.proofs.Failing.{listed_item}
-use Rattle.verifying.proofs.Grown.{reply_grows}
+use Rattle.verifying.proofs.Grown.{reply_met}
 use Rattle.verifying.proofs.Making.{each_met, met_by, all_left, none_left, not_each, one_less, one_untold}
 use Rattle.verifying.proofs.yes_claims.all_met.Goals as goal
 
@@ -27,7 +27,7 @@ loop-i-preserved g c =
     let here = met_by c.args.goal q c.args.left r _ c.after.result _ c.loop-i.claims c.meets.new.claims c.after.ensures c.in_ok-meets.ensures in
     record {
       same_length = c.loop-i.invariant.same_length;
-      apart = (reply_grows c.args.goal q c.args.left r _ c.loop-i.claims c.meets.new.claims ((here c.meets.new.claims).1 (c.if-not-branch.false, refl))).1 c.loop-i.invariant.apart;
+      apart = (reply_met c.args.goal q c.args.left r _ c.loop-i.claims c.meets.new.claims ((here c.meets.new.claims).1 (c.if-not-branch.false, refl))).0.1 c.loop-i.invariant.apart;
       left = one_less (MeetsReply c.args.goal q c.args.left) c.lawful_on-replies.result.items c.args.words.now c.args.claims.now c.loop-i.i r _ _ c.loop-i.claims (omega (arith, c.loop-i-test.true, c.len-i-end.ensures.value)) c.loop-i.invariant.same_length
           (c.index-as_slice-i.is ∙ ap (λ (l : List Ply). get_or l c.loop-i.i r) c.as_slice.ensures.value) refl c.loop-i.invariant.left c.meets.new.claims _ c.if-not-branch.false here;
     }
