@@ -1,6 +1,6 @@
 -- A certificate certifies its answer: what its lines tell holds over the claims that they make.
 use Rattle.std.proofs.Common.{◌≡◌, ◌<◌, ◌≤◌, ℕ, ◌+◌, ◌∷◌, [], List, length, get_or, take, sym, ◌∙◌, ap, subst, arith, All, Contains, Some, slice_get, ◌⊎◌, inl, inr, ◌-◌, ◌/◌, ◌%◌, ◌++◌}
-use Rattle.verifying.proofs.Common.{take_all, take-append-le, get_or-take, length-take, get_or_default, All-weaker, All-contains, All-cons, All-get_or, All-nil, Contains-push, get_or_from_slice_get, slice_get-get_or, same_Some, slice_get_within, Claim, cases_lt, get_or-append_seam, take-length, PlainBoard, Goal, Ply, IsPlyBefore, ListsLawful, split3, Answer, one_way, FailsBy, HoldsOver, IsWon, WinsBy, AllHold, AllWon, Certifies, HasClaim, IsOdd, Word, IsInRange, AreLinesFrom, IsCertificate, IsLesserLine, IsNoLine, IsSomeYesLine, NoLinesMake, ProveAnswer, YesLinesMake, shorter_claim, with_claim}
+use Rattle.verifying.proofs.Common.{take_all, take-append-le, get_or_default, All-weaker, All-contains, All-cons, All-get_or, All-nil, Contains-push, get_or_from_slice_get, slice_get_within, Claim, cases_lt, get_or-append_seam, PlainBoard, Goal, Ply, IsPlyBefore, split3, Answer, one_way, FailsBy, HoldsOver, IsWon, WinsBy, AllHold, AllWon, Certifies, HasClaim, IsOdd, Word, IsInRange, AreLinesFrom, IsCertificate, IsLesserLine, IsNoLine, IsSomeYesLine, NoLinesMake, ProveAnswer, YesLinesMake, shorter_claim, with_claim, get_or_append_left}
 use Rattle.verifying.proofs.Grown.{Extends, extends_same, extends_twice, still_fails, still_holds, still_there, still_wins, still_won, Grows, all_failed, no_line, yes_line}
 use Rattle.verifying.proofs.Failing.{all_more}
 use Rattle.verifying.proofs.Making.{if_less}
@@ -8,49 +8,35 @@ use Rattle.problems.specs.declared.answer.Answer.TheVariants as answer
 
 -- ---- the claims whose lines were read
 
-pub one_item : (x y : Claim) → Some x ≡ Some y → x ≡ y
-one_item x y e = cc
-
-item_at : (xs : List Claim) (i : ℕ) → i < length xs → (x : Claim) × (slice_get xs i ≡ Some x)
-item_at [] i lt = absurd (omega (arith, lt))
-item_at (x ∷ xs) i lt = (get_or (x ∷ xs) i x, slice_get-get_or (x ∷ xs) i x lt)
-
--- what grew has the same front
-same_front : (old new : List Claim) (n : ℕ) → Extends old new → n ≤ length old → take n new ≡ take n old
-same_front old new n (more, is) within = ap (take n) is ∙ take-append-le n old more within
-
 -- one claim more, where what held over the claims holds over more of them
-pub claim_more : (P Q : Claim → Type 0) (old new : List Claim) (n : ℕ) → Extends old new → n < length old → ((c : Claim) → P c → Q c) → All P (take n old) → ((c : Claim) → slice_get old n ≡ Some c → Q c) → All Q (take (n + 1) new)
-claim_more P Q old new n grown lt still before here =
-    let x = item_at old n lt in
-    subst (All Q) (sym (same_front old new (n + 1) grown (omega (arith, lt))))
-    (all_more Q old n x.0 lt (sym (get_or_from_slice_get old n x.0 x.0 x.1)) (All-weaker P Q still (take n old) before) (here x.0 x.1))
+claim_more : (P Q : Claim → Type 0) (old new : List Claim) (n : ℕ) (c : Claim) → Extends old new → slice_get old n ≡ Some c → ((c : Claim) → P c → Q c) → All P (take n old) → Q c → All Q (take (n + 1) new)
+claim_more P Q old new n c (more, is) at still before here =
+    let lt = slice_get_within old n c at in
+    subst (All Q) (sym (ap (take (n + 1)) is ∙ take-append-le (n + 1) old more (omega (arith, lt))))
+    (all_more Q old n c lt (sym (get_or_from_slice_get old n c c at)) (All-weaker P Q still (take n old) before) here)
 
 -- all of them
 pub each_claim : (P : Claim → Type 0) (claims : List Claim) (n : ℕ) → length claims ≤ n → All P (take n claims) → (c : Claim) → Contains claims c → P c
 each_claim P claims n whole all c among = All-contains P claims c (subst (All P) (take_all n claims whole) all) among
 
 module _ (goal : Goal) where
-  -- the moves in front of one's place are those before it
-  module _ (claims : List Claim) (b : PlainBoard) (n : ℕ) (moves : List Ply) (lists : ListsLawful b moves) (place : ℕ) (first : Ply) (at : get_or moves place first ≡ first) (failed : All (FailsBy goal claims b n) (take place moves)) where
-    in_front : (l : Ply) (j : ℕ) → j < length moves → get_or moves j l ≡ l → IsPlyBefore b.game l first → FailsBy goal claims b n l
-    in_front l j lt is before = elim (split3 j place) as (λ _. FailsBy goal claims b n l) [
-      | inl front ↦ subst (FailsBy goal claims b n) (get_or-take place moves j l front ∙ is) (All-get_or (FailsBy goal claims b n) (take place moves) j l (omega (arith, front, lt, length-take place moves)) failed)
-      | inr (inl same) ↦
-          let one : l ≡ first = sym is ∙ ap (λ (k : ℕ). get_or moves k l) same ∙ get_or_default moves place l first (omega (arith, same, lt)) ∙ at in
-          absurd (one_way _ _ _ _ _ _ before (subst (λ (x : Ply). IsPlyBefore b.game first x) (sym one) (subst (λ (x : Ply). IsPlyBefore b.game x first) one before)))
-      | inr (inr behind) ↦
-          let there : get_or moves place l ≡ first = get_or_default moves place l first (omega (arith, behind, lt)) ∙ at in
-          absurd (one_way _ _ _ _ _ _ before (subst (λ (x : Ply). IsPlyBefore b.game x l) there (subst (λ (x : Ply). IsPlyBefore b.game (get_or moves place l) x) is (lists.ordered place j l behind lt))))
-    ]
-
+  -- the moves in front of the answer's are those before it
   lesser_sound : (b : PlainBoard) (n : ℕ) (first : Ply) (line : List Word) (old new : List Claim) → IsLesserLine goal b n first line old new → (l : Ply) → IsPlyBefore b.game l first → FailsBy goal new b n l
   lesser_sound b n first line old new (lesser, others, lists, show) l before q move =
       let list : List Ply = lesser ++ first ∷ others in
-      let front : take (length lesser) list ≡ lesser = take-append-le (length lesser) lesser (first ∷ others) (omega arith) ∙ take-length lesser in
-      let failed : All (FailsBy goal new b n) (take (length lesser) list) = subst (All (FailsBy goal new b n)) (sym front) (all_failed goal b n lesser line old new show).1 in
-      let among : Contains list l = (lists.exact l).1 (q, move) in
-      in_front new b n list lists (length lesser) first (get_or-append_seam lesser first others first) failed l among.0 among.1 among.2 before q move
+      let (j, lt, is) = (lists.exact l).1 (q, move) in
+      let at : get_or list (length lesser) first ≡ first = get_or-append_seam lesser first others first in
+      let fails : FailsBy goal new b n l = elim (split3 j (length lesser)) as (λ _. FailsBy goal new b n l) [
+        | inl front ↦
+            subst (FailsBy goal new b n) (sym (get_or_append_left lesser (first ∷ others) l j front) ∙ is) (All-get_or (FailsBy goal new b n) lesser j l front (all_failed goal b n lesser line old new show).1)
+        | inr (inl same) ↦
+            let one : l ≡ first = sym is ∙ ap (λ (k : ℕ). get_or list k l) same ∙ get_or_default list (length lesser) l first (omega (arith, same, lt)) ∙ at in
+            absurd (one_way _ _ _ _ _ _ before (subst (λ (x : Ply). IsPlyBefore b.game first x) (sym one) (subst (λ (x : Ply). IsPlyBefore b.game x first) one before)))
+        | inr (inr behind) ↦
+            let there : get_or list (length lesser) l ≡ first = get_or_default list (length lesser) l first (omega (arith, behind, lt)) ∙ at in
+            absurd (one_way _ _ _ _ _ _ before (subst (λ (x : Ply). IsPlyBefore b.game x l) there (subst (λ (x : Ply). IsPlyBefore b.game (get_or list (length lesser) l) x) is (lists.ordered (length lesser) j l behind lt))))
+      ] in
+      fails q move
 
   -- ---- lines
 
@@ -62,7 +48,7 @@ module _ (goal : Goal) where
       (extends_same old new are, subst (λ (l : List Claim). All (Good l) (take (place + 0) l)) (sym are) (subst (λ (k : ℕ). All (Good old) (take k old)) same front))
   lines_sound IsLine Good sound still place (line ∷ lines) old new (c, next, at, first, rest) front =
       let here = sound c line old next first in
-      let more = claim_more (Good old) (Good next) old next place here.0.0 (slice_get_within old place c at) (still old next here.0.0) front (λ d there. subst (Good next) (same_Some c d (sym at ∙ there)) here.1) in
+      let more = claim_more (Good old) (Good next) old next place c here.0.0 at (still old next here.0.0) front here.1 in
       let later = lines_sound IsLine Good sound still (place + 1) lines next new rest more in
       let same : place + 1 + length lines ≡ place + length (line ∷ lines) = omega arith in
       (extends_twice old next new here.0.0 later.0, subst (λ (k : ℕ). All (Good new) (take k new)) same later.1)

@@ -5,7 +5,7 @@ ghost use Rattle.certificates.specs.declared.claim.Claim.{Claim};
 ghost use Rattle.certificates.specs.Claims.{ClaimsSoFew};
 ghost use Rattle.verifying.specs.Reading.{AreApart};
 ghost use Rattle.verifying.specs.Yielding.{FindsOnly, YieldsOnly};
-ghost use Rattle.verifying.specs.Certificate.{IsYesLine, MakesClaim, MeetReplies, Meets, ShowWin};
+ghost use Rattle.verifying.specs.Certificate.{IsYesLine, MakesClaim, Meets, ShowWin};
 
 use crate::claims::Claims;
 use crate::leaf::{LEAF, is_forced_within, is_reached};
@@ -66,31 +66,8 @@ fn meets<A: Allocator + Copy>(
     }
 }
 
-/// Whether each reply of the defender is met within the plies that are left, as the words say, one each.
-fn all_met<A: Allocator + Copy>(
-    claims: &mut Claims<A>,
-    goal: Goal,
-    board: &Board,
-    left: u8,
-    words: &[Word],
-) -> Result<bool, AllocError>
-    requires { AreApart claims.old }
-    ensures { IfOk result (λ yes. YieldsOnly (MeetReplies goal board.now left words.now claims.old) yes claims.new) }
-{
-    let replies = lawful_on(board);
-    if words.len() != replies.len() {
-        return Ok(false);
-    }
-    for i in 0..replies.len() {
-        let reply = replies.as_slice()[i];
-        if !meets(claims, goal, after(board, reply), left, words[i])? {
-            return Ok(false);
-        }
-    }
-    Ok(true)
-}
-
-/// Whether the attacker's move, after which the defender is to move, wins within the plies, as the words say.
+/// Whether the attacker's move, after which the defender is to move, wins within the plies: each reply is met, as the words say,
+/// one each.
 fn wins_after<A: Allocator + Copy>(
     claims: &mut Claims<A>,
     goal: Goal,
@@ -107,7 +84,17 @@ fn wins_after<A: Allocator + Copy>(
     if plies < 3 {
         return Ok(false);
     }
-    all_met(claims, goal, board, plies - 2, words)
+    let replies = lawful_on(board);
+    if words.len() != replies.len() {
+        return Ok(false);
+    }
+    for i in 0..replies.len() {
+        let reply = replies.as_slice()[i];
+        if !meets(claims, goal, after(board, reply), plies - 2, words[i])? {
+            return Ok(false);
+        }
+    }
+    Ok(true)
 }
 
 /// The attacker's move, whose place is the first of the words, if it wins within the claim's plies, as the others say.

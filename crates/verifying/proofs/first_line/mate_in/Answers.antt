@@ -3,9 +3,6 @@ use Rattle.verifying.proofs.Common.{Decides-eqb, append_cancel_left, MatchOption
 use Rattle.verifying.proofs.OneAnswer.{same_cons}
 use Rattle.verifying.proofs.first_line.mate_in.Goals as goal
 
-pub returns-then-plies-eq0 : goal.returns-then-plies-eq0
-returns-then-plies-eq0 c = λ m odd named is. omega (arith, odd.1, c.if-plies-eq0.true)
-
 pub returns-in_err-name : goal.returns-in_err-name
 returns-in_err-name c = rw c.from_residual-in_err-name.ensures (λ m odd named is.
     let rest = c.in_ok-rest.rest.now in
