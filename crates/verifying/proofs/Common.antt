@@ -16,7 +16,7 @@ pub use Rattle.devices.specs.Input.{OfInput}
 pub use Rattle.devices.specs.Lines.{HasNoFeed, left_of}
 pub use Rattle.devices.specs.Within.{BeginsLong, ReadsText}
 pub use Rattle.moves.proofs.Packing.{one_spelled, units_in-at, within_36}
-pub use Rattle.moves.specs.Words.{IsPacked, IsUnused, Spells, code_on, digit, flags_of, game_of, game_of_flags, man_of, mover_of_flags, place_of, unpacked, word_of}
+pub use Rattle.moves.specs.Words.{IsPacked, IsUnused, Spells, code_on, digit, flags_of, game_of, game_of_flags, man_of, mover_of_flags, unpacked}
 pub use Rattle.problems.proofs.Tried.{all_listed, ended_answer, gone_answer, lost, none_listed, not_empty, not_reached, now_answer, passed_next, some_listed}
 pub use Rattle.problems.specs.Answer.{ForcesNothing, IsAnswer}
 pub use Rattle.problems.specs.Questions.{question}
@@ -36,9 +36,9 @@ pub use Rattle.std.proofs.lemmas.Bool.{agree_below_at, both_ways, cases_eq, case
 pub use Rattle.std.proofs.lemmas.Bool.Decides.{Decides-eqb, Decides-not, nat_tests}
 pub use Rattle.std.proofs.lemmas.Fmt.{decimal_by_steps, decimal_digit, decimal_injective, decimal_step, length-decimal-le}
 pub use Rattle.std.proofs.lemmas.Grind.{common_steps, flat_map-append}
-pub use Rattle.std.proofs.lemmas.List.{append-nil, append_cancel_left, drop_all, drop_more, get_or_append_left, get_or_default, nil_from_length, same_lists, take-append-drop, take-append-le, take_all, take_at, take_more}
-pub use Rattle.std.proofs.lemmas.List.Elements.{All-append, All-cons, All-contains, All-get_or, All-head, All-nil, All-push, All-replicate, All-tail, All-take, All-weaker, Contains-append_left, Contains-push, Contains-push_cases}
-pub use Rattle.std.proofs.lemmas.Option.{MatchOption-at_none, MatchOption-at_some, get_or_from_slice_get, none-some, same_Some, slice_get-get_or, slice_get_read, slice_get_within}
+pub use Rattle.std.proofs.lemmas.List.{append-nil, append_cancel_left, drop_all, drop_more, get_or_append_left, get_or_default, nil_from_length, same_lists, take-append-drop, take-append-le, take_all, take_at}
+pub use Rattle.std.proofs.lemmas.List.Elements.{All-append, All-cons, All-contains, All-get_or, All-head, All-more, All-nil, All-push, All-replicate, All-tail, All-take, All-weaker, Contains-append_left, Contains-push, Contains-push_cases}
+pub use Rattle.std.proofs.lemmas.Option.{MatchOption-at_none, MatchOption-at_some, get_or_from_slice_get, none-some, same_Some, slice_get_read, slice_get_within}
 pub use Rattle.std.proofs.lemmas.Result.{IfOk-from_err, IfOk-weaker}
 pub use Rattle.std.proofs.lemmas.Slice.Eq.{bytes_eq-Decides, strip_prefix_is}
 pub use Rattle.std.specs.Fmt.{decimal}

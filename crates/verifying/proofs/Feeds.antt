@@ -5,15 +5,12 @@ use Rattle.std.proofs.lemmas.Grind.{elements}
 use Rattle.rules.specs.declared.goal.Goal.TheVariants as goal
 use Rattle.problems.specs.declared.answer.Answer.TheVariants.{Mate, NoneWithin}
 use Rattle.verifying.specs.declared.words.Word.TheVariants.{Place}
-use Rattle.verifying.proofs.OneAnswer.{apart_decimal, one_cut, same_cons}
+use Rattle.verifying.proofs.OneAnswer.{apart_decimal, one_cut}
 
 abbrev NoFeed : ℕ → Type 0
 NoFeed x = x ≢ 10
 
 -- ---- lines without a feed
-
-letter_no_feed : (n : ℕ) → n < 50 → place_letter n ≢ 10
-letter_no_feed n small = grind (arith, nat_tests)
 
 word_no_feed : (w : Word) → HasNoFeed (word_text w)
 word_no_feed Seen = grind (arith, elements)
@@ -21,7 +18,7 @@ word_no_feed Claimed = grind (arith, elements)
 word_no_feed Stalemated = grind (arith, elements)
 word_no_feed (Place n) =
     All-append NoFeed (replicate (n / 50) 90) (place_letter (n % 50) ∷ []) (All-replicate NoFeed (n / 50) 90 (λ e. omega (arith, e)))
-    (All-cons NoFeed (place_letter (n % 50)) [] (letter_no_feed (n % 50) (omega arith)) (All-nil NoFeed))
+    (All-cons NoFeed (place_letter (n % 50)) [] (grind (arith, nat_tests)) (All-nil NoFeed))
 
 pub line_no_feed : (words : List Word) → HasNoFeed (words_line words)
 line_no_feed [] = All-nil NoFeed
@@ -70,9 +67,10 @@ answer_brief goal (NoneWithin limit) range =
 -- a line that is longer than what comes up to the next feed
 longer_line : (x a line rest : List ℕ) → HasNoFeed line → x ++ 10 ∷ a ≡ line ++ rest → length line ≤ length x
 longer_line x a [] rest none e = omega arith
-longer_line [] a (c ∷ line) rest none e = absurd (All-head NoFeed c line none (sym (same_cons 10 c a _ e).0))
+longer_line [] a (c ∷ line) rest none e = let feed : c ≡ 10 = cc in absurd (All-head NoFeed c line none feed)
 longer_line (d ∷ x) a (c ∷ line) rest none e =
-    let later = longer_line x a line rest (All-tail NoFeed c line none) (same_cons d c _ _ e).1 in
+    let others : x ++ 10 ∷ a ≡ line ++ rest = cc in
+    let later = longer_line x a line rest (All-tail NoFeed c line none) others in
     omega (arith, later)
 
 fed_cons : (x : List ℕ) (xs : List (List ℕ)) → fed (x ∷ xs) ≡ x ++ 10 ∷ fed xs

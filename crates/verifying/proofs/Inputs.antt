@@ -69,26 +69,20 @@ line_refused goal b first now after checker line fault (Err f) refuses (none, ne
     let same : (text ++ (line ++ 10 ∷ [])) ++ rest ≡ text ++ (line ++ 10 ∷ rest) = append_assoc text (line ++ 10 ∷ []) rest ∙ ap (λ (l : List ℕ). text ++ l) (append_assoc line (10 ∷ []) rest) in
     subst (λ (l : List ℕ). IsRefusedWith goal b fault l) (sym same) (refuses (λ e. memory (err.1 ∙ e)) none rest goal b text taken)))
 
-long_input : {A : Type 0} (goal : Goal) (b : PlainBoard) (first now : Option (List ℕ)) (checker : Checker A) (fault : Fault) → fault ≡ fault_of_input input.TooLong → HasReadOf goal b first now checker → BeginsLong 8192 now → OfInput first (IsRefusedWith goal b fault)
-long_input goal b first now checker fault is (text, gone, taken) begins =
-    of_gone first now text (λ input. (line : List ℕ) × (rest : List ℕ) × HasNoFeed line × (8192 < length line) × (input ≡ line ++ rest)) (IsRefusedWith goal b fault) gone begins (λ input (line, rest, none, long, same).
-    subst (λ (l : List ℕ). IsRefusedWith goal b fault (text ++ l)) (sym same) (line_long checker line rest fault is long none goal b text taken))
-
 pub unread_refused : {A : Type 0} (goal : Goal) (b : PlainBoard) (first now : Option (List ℕ)) (checker : Checker A) (e : InputFault) (r : Result Answer Fault) → (e ≡ input.TooLong → BeginsLong 8192 now) → HasReadOf goal b first now checker → IsErr r × IsErrAnd r (λ f. f ≡ fault_of_input e) → IsRefusal goal b first r
 unread_refused goal b first now checker e (Ok answer) long read err = tt
 unread_refused goal b first now checker input.ReadFailed (Err f) long read err = λ memory device. absurd (device err.1)
-unread_refused goal b first now checker input.TooLong (Err f) long read err = λ memory device. long_input goal b first now checker f err.1 read (long refl)
+unread_refused goal b first now checker input.TooLong (Err f) long (text, gone, taken) err = λ memory device.
+    of_gone first now text (λ input. (line : List ℕ) × (rest : List ℕ) × HasNoFeed line × (8192 < length line) × (input ≡ line ++ rest)) (IsRefusedWith goal b f) gone (long refl) (λ input (line, rest, none, more, same).
+    subst (λ (l : List ℕ). IsRefusedWith goal b f (text ++ l)) (sym same) (line_long checker line rest f err.1 more none goal b text taken))
 unread_refused goal b first now checker input.NoMemory (Err f) long read err = λ memory device. absurd (memory err.1)
 
 -- ---- what is told
 
-fault_is_told : (goal : Goal) (b : PlainBoard) (first : Option (List ℕ)) (fault : Fault) → IsRefusal goal b first (Err fault) → OfInput first (λ input. TellsOf goal input (Err fault))
-fault_is_told goal b first fault refused =
-    fault_of_text goal first fault (λ memory device. then_so first (IsRefusedWith goal b fault) (λ input. TellsOf goal input (Err fault)) (refused memory device) (λ input told. told.0))
-
 pub ended_told : (goal : Goal) (b : PlainBoard) (first : Option (List ℕ)) (r : Result Answer Fault) → IfOk r (λ answer. OfInput first (IsCertificate goal b answer)) → IsRefusal goal b first r → OfInput first (λ input. TellsOf goal input r)
 ended_told goal b first (Ok answer) certificate refused = then_so first (IsCertificate goal b answer) (λ input. TellsOf goal input (Ok answer)) certificate (λ text is. certificate_begins goal b answer text is)
-ended_told goal b first (Err fault) certificate refused = fault_is_told goal b first fault refused
+ended_told goal b first (Err fault) certificate refused =
+    fault_of_text goal first fault (λ memory device. then_so first (IsRefusedWith goal b fault) (λ input. TellsOf goal input (Err fault)) (refused memory device) (λ input told. told.0))
 
 -- ---- an input that is known
 

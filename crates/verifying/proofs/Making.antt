@@ -2,7 +2,6 @@
 use Rattle.std.proofs.Common.{◌≡◌, ◌↔◌, List, Bool, true, false, IsTrue, None, Some, refl, sym, ap, ◌∙◌, subst, ◌<◌, ◌≤◌, ℕ, suc, ◌+◌, [], ◌∷◌, length, get_or, drop, arith, Option, is_some, ◌≢◌, inl, inr, ◌-◌, ◌++◌, take, All, not, nat_lt, if◌then◌else◌, length-append}
 use Rattle.verifying.proofs.Common.{false≢true, none-some, same_Some, Claim, YieldsOnly, FindsOnly, drop_all, drop_more, take-append-drop, Ply, Word, TellInTurn, NoneAbout, IsMoveAt, Meets, MeetsReply, MeetReplies, ShowWin, IsYesLine, Resists, TellsFailure, FailsBecause, ReachesNothing, ShowFailures, IsLesserLine, with_claim, Decides-not, nat_tests, get_or-append_seam, PlainBoard, Goal, IsMove, IsLawful, IsPlyBefore, ListsLawful, Forces, one_after, one_list, ClaimsSoFew, HasClaim, forced_within, Stalemated, AreApart, take_at, split3, one_way}
 use Rattle.verifying.specs.declared.words.Word.TheVariants.{Place}
-use Rattle.verifying.proofs.OneAnswer.{same_cons}
 use Rattle.verifying.proofs.Failing.{one_move_at}
 
 -- ---- a test
@@ -113,12 +112,13 @@ module _ (goal : Goal) (p : PlainBoard) (n : ℕ) (old : List Claim) where
       to (inr (also, inr (none, is))) = absurd (none (record { position = p; plies = k }) claimed refl)
 
   pub claimed_anew : (new : List Claim) → 3 < n → NoneAbout old p → new ≡ with_claim old p n → YieldsOnly (Resists goal p n old) true new
-  claimed_anew new large none made = yields_one (Resists goal p n old) new (λ other. (to other, λ is. inr (large, inr (none, is ∙ made))))
-    where
-      to : (other : List Claim) → Resists goal p n old other → other ≡ new
-      to other (inl (small, nothing, is)) = absurd (omega (arith, small, large))
-      to other (inr (also, inl ((c, among, about, many), is))) = absurd (none c among about)
-      to other (inr (also, inr (none_too, is))) = is ∙ sym made
+  claimed_anew new large none made = yields_one (Resists goal p n old) new (λ other. (
+    λ resists. elim resists [
+      | inl seen ↦ absurd (omega (arith, seen.0, large))
+      | inr told ↦ elim told.1 [ inl there ↦ absurd (none there.0.0 there.0.1 there.0.2) | inr anew ↦ anew.1 ∙ sym made ]
+    ],
+    λ is. inr (large, inr (none, is ∙ made)),
+  ))
 
 module _ (goal : Goal) (q : PlainBoard) (n : ℕ) (old : List Claim) where
   pub not_stalemated : (some : Bool) → (IsTrue some ↔ ((r : Ply) × IsLawful q r)) → some ≡ true → YieldsOnly (TellsFailure goal q n Stalemated old) (not some) old
@@ -153,16 +153,13 @@ because goal b n m word q answer old new move h =
 -- ---- yes claims
 
 -- the only claim about the position
-pub one_claim : (claims : List Claim) (p : PlainBoard) (n k : ℕ) (few : Bool) → (IsTrue few ↔ (k ≤ n)) → HasClaim claims p k → AreApart claims → IsTrue few ↔ ClaimsSoFew claims p n
-one_claim claims p n k few h claimed apart = (λ answer. (record { position = p; plies = k }, claimed, refl, h.0 answer), to)
+pub one_claim : (claims : List Claim) (p : PlainBoard) (n k : ℕ) (few : Bool) → (IsTrue few ↔ (k ≤ n)) → HasClaim claims p k → AreApart claims → YieldsOnly (λ other. ClaimsSoFew claims p n × (other ≡ claims)) few claims
+one_claim claims p n k few h claimed apart other = (to, λ it. ((record { position = p; plies = k }, claimed, refl, h.0 it.0), it.1))
   where
-    to : ClaimsSoFew claims p n → IsTrue few
-    to (c, among, about, so_few) =
+    to : ClaimsSoFew claims p n × (other ≡ claims) → IsTrue few × (other ≡ claims)
+    to ((c, among, about, so_few), is) =
         let same : c.plies ≡ k = apart p c.plies k (subst (λ (b : PlainBoard). HasClaim claims b c.plies) about among) claimed in
-        h.1 (omega (arith, same, so_few))
-
-pub no_claim : (claims : List Claim) (p : PlainBoard) (n : ℕ) → NoneAbout claims p → IsTrue false ↔ ClaimsSoFew claims p n
-no_claim claims p n none = (λ answer. absurd (false≢true answer), λ few. absurd (none few.0 few.1 few.2))
+        (h.1 (omega (arith, same, so_few)), is)
 
 pub met_by : (goal : Goal) (q : PlainBoard) (n : ℕ) (r : Ply) (word : Word) (p : PlainBoard) (answer : Bool) (old new : List Claim) → IsMove q r p → YieldsOnly (Meets goal p n word old) answer new → YieldsOnly (MeetsReply goal q n r word old) answer new
 met_by goal q n r word p answer old new move h =
@@ -190,11 +187,11 @@ not_there goal c line words old place is none = finds_none (λ n other. IsYesLin
 module _ (goal : Goal) (c : Claim) (line words : List Word) (old : List Claim) (place : ℕ) (m : Ply) (q : PlainBoard) (is : line ≡ Place place ∷ words) (at : IsMoveAt c.position place m) (move : IsMove c.position m q) where
   one_named : (n : Ply) (other : List Claim) → IsYesLine goal c n line old other → (n ≡ m) × ShowWin goal q c.plies words old other
   one_named n other (k, rest, is_too, at_too, some, x, move_too, win) =
-      let same = same_cons (Place place) (Place k) words rest (sym is ∙ is_too) in
-      let here : place ≡ k = cc (same.0) in
+      let here : place ≡ k = cc in
+      let same : rest ≡ words = cc in
       let one : n ≡ m = one_move_at c.position place n m (subst (λ (j : ℕ). IsMoveAt c.position j n) (sym here) at_too) at in
       let there : x ≡ q = one_after c.position m x q (subst (λ (l : Ply). IsMove c.position l x) one move_too) move in
-      (one, subst (λ (b : PlainBoard). ShowWin goal b c.plies words old other) there (subst (λ (l : List Word). ShowWin goal x c.plies l old other) (sym same.1) win))
+      (one, subst (λ (b : PlainBoard). ShowWin goal b c.plies words old other) there (subst (λ (l : List Word). ShowWin goal x c.plies l old other) same win))
 
   pub wins_with : (answer : Bool) (new : List Claim) → 0 < c.plies → answer ≡ true → YieldsOnly (ShowWin goal q c.plies words old) answer new → FindsOnly (λ n other. IsYesLine goal c n line old other) (Some m) new
   wins_with answer new some so h n other = (

@@ -5,10 +5,6 @@ use Rattle.rules.proofs.Naming.{one_name, ply_of_lawful}
 use Rattle.rules.specs.declared.goal.Goal.TheVariants as goal
 use Rattle.problems.specs.declared.answer.Answer.TheVariants as answer
 
--- two lists are one by their heads and their tails
-pub same_cons : {X : Type 0} (x y : X) (xs ys : List X) → x ∷ xs ≡ y ∷ ys → (x ≡ y) × (xs ≡ ys)
-same_cons x y xs ys e = (cc, cc)
-
 -- ---- numbers
 
 pub high_decimal : (n : ℕ) → 10 ≤ n → n ≤ 63 → decimal n ≡ (48 + n / 10) ∷ (48 + n % 10) ∷ []
@@ -22,19 +18,19 @@ apart_decimal s n low few = decimal_by_steps (λ k digits. All (λ c. c ≢ s) d
 
 -- two texts are one up to a byte that neither has in front of it
 pub one_cut : (s : ℕ) (x y a b : List ℕ) → All (λ c. c ≢ s) x → All (λ c. c ≢ s) y → x ++ s ∷ a ≡ y ++ s ∷ b → (x ≡ y) × (a ≡ b)
-one_cut s [] [] a b p q e = (refl, (same_cons s s a b e).1)
-one_cut s [] (d ∷ y) a b p q e = absurd (All-head (λ c. c ≢ s) d y q (sym (same_cons s d a _ e).0))
-one_cut s (c ∷ x) [] a b p q e = absurd (All-head (λ c. c ≢ s) c x p (same_cons c s _ b e).0)
+one_cut s [] [] a b p q e = (refl, cc)
+one_cut s [] (d ∷ y) a b p q e = let same : d ≡ s = cc in absurd (All-head (λ c. c ≢ s) d y q same)
+one_cut s (c ∷ x) [] a b p q e = let same : c ≡ s = cc in absurd (All-head (λ c. c ≢ s) c x p same)
 one_cut s (c ∷ x) (d ∷ y) a b p q e =
-    let both = same_cons c d _ _ e in
-    let rest = one_cut s x y a b (All-tail (λ c. c ≢ s) c x p) (All-tail (λ c. c ≢ s) d y q) both.1 in
-    (ap (λ n. n ∷ x) both.0 ∙ ap (λ (l : List ℕ). d ∷ l) rest.0, rest.1)
+    let others : x ++ s ∷ a ≡ y ++ s ∷ b = cc in
+    let rest = one_cut s x y a b (All-tail (λ c. c ≢ s) c x p) (All-tail (λ c. c ≢ s) d y q) others in
+    (cc (rest.0), rest.1)
 
 -- ---- answers
 
 not_none : (goal : Goal) (n limit : ℕ) (m : Ply) → first_line goal (answer.Mate n m) ≡ first_line goal (answer.NoneWithin limit) → ⊥
-not_none goal.Mate n limit m e = let head = same_cons 109 110 _ _ e in omega (arith, head.0)
-not_none goal.MateOrStale n limit m e = let head = same_cons 103 110 _ _ e in omega (arith, head.0)
+not_none goal.Mate n limit m e = let head : ◌≡◌ {A = ℕ} 109 110 = cc in omega (arith, head)
+not_none goal.MateOrStale n limit m e = let head : ◌≡◌ {A = ℕ} 103 110 = cc in omega (arith, head)
 
 pub one_answer : (goal : Goal) (a b : Answer) → IsInRange a → IsInRange b → HasNamedMove a → HasNamedMove b → first_line goal a ≡ first_line goal b → a ≡ b
 one_answer goal (answer.Mate n m) (answer.Mate k l) range also named named_too e =

@@ -4,7 +4,7 @@ use Rattle.verifying.proofs.Common.{PlainBoard, Goal, Answer, Claim, OfInput, Ha
 use Rattle.verifying.specs.Taking.{fault_at}
 use Rattle.verifying.proofs.Making.{finds_none}
 use Rattle.verifying.proofs.Feeds.{IsBrief, answer_brief, line_no_feed, left_over, next_of, none_of, long_of}
-use Rattle.verifying.proofs.OneAnswer.{one_answer, certificate_named, same_cons}
+use Rattle.verifying.proofs.OneAnswer.{one_answer, certificate_named}
 use Rattle.verifying.proofs.Reading.{certificate_read, certificate_of}
 use Rattle.verifying.proofs.Grown.{none_apart, reads_apart}
 use Rattle.verifying.proofs.Sound.{certificate_certifies}
@@ -58,7 +58,7 @@ begun_answer goal b told answer rest range named certificate =
     let text = first_line goal told ++ 10 ∷ rest in
     let xs : List (List ℕ) = first_line goal answer ∷ map words_line certificate.lines in
     let next = next_of xs (first_line goal told) rest (all_no_feed goal b First [] xs answer (certificate_read goal b answer text certificate)) (answer_brief goal told range).1 (sym certificate.spelled) in
-    let is = (same_cons (first_line goal answer) (first_line goal told) (map words_line certificate.lines) next.0 next.1).0 in
+    let is : first_line goal answer ≡ first_line goal told = cc (next.1) in
     one_answer goal answer told certificate.range range (certificate_named goal b answer text certificate) named is
 
 -- ---- what a line is found to be

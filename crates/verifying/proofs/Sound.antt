@@ -1,8 +1,7 @@
 -- A certificate certifies its answer: what its lines tell holds over the claims that they make.
 use Rattle.std.proofs.Common.{◌≡◌, ◌<◌, ◌≤◌, ℕ, ◌+◌, ◌∷◌, [], List, length, get_or, take, sym, ◌∙◌, ap, subst, arith, All, Contains, Some, slice_get, ◌⊎◌, inl, inr, ◌-◌, ◌/◌, ◌%◌, ◌++◌}
-use Rattle.verifying.proofs.Common.{take_all, take-append-le, get_or_default, All-weaker, All-contains, All-cons, All-get_or, All-nil, Contains-push, get_or_from_slice_get, slice_get_within, Claim, cases_lt, get_or-append_seam, PlainBoard, Goal, Ply, IsPlyBefore, split3, Answer, one_way, FailsBy, HoldsOver, IsWon, WinsBy, AllHold, AllWon, Certifies, HasClaim, IsOdd, Word, IsInRange, AreLinesFrom, IsCertificate, IsLesserLine, IsNoLine, IsSomeYesLine, NoLinesMake, ProveAnswer, YesLinesMake, shorter_claim, with_claim, get_or_append_left}
+use Rattle.verifying.proofs.Common.{take_all, take-append-le, get_or_default, All-weaker, All-contains, All-cons, All-get_or, All-nil, Contains-push, get_or_from_slice_get, slice_get_within, Claim, cases_lt, get_or-append_seam, PlainBoard, Goal, Ply, IsPlyBefore, split3, Answer, one_way, FailsBy, HoldsOver, IsWon, WinsBy, AllHold, AllWon, Certifies, HasClaim, IsOdd, Word, IsInRange, AreLinesFrom, IsCertificate, IsLesserLine, IsNoLine, IsSomeYesLine, NoLinesMake, ProveAnswer, YesLinesMake, shorter_claim, with_claim, get_or_append_left, All-more}
 use Rattle.verifying.proofs.Grown.{Extends, extends_same, extends_twice, still_fails, still_holds, still_there, still_wins, still_won, Grows, all_failed, no_line, yes_line}
-use Rattle.verifying.proofs.Failing.{all_more}
 use Rattle.verifying.proofs.Making.{if_less}
 use Rattle.problems.specs.declared.answer.Answer.TheVariants as answer
 
@@ -13,7 +12,7 @@ claim_more : (P Q : Claim → Type 0) (old new : List Claim) (n : ℕ) (c : Clai
 claim_more P Q old new n c (more, is) at still before here =
     let lt = slice_get_within old n c at in
     subst (All Q) (sym (ap (take (n + 1)) is ∙ take-append-le (n + 1) old more (omega (arith, lt))))
-    (all_more Q old n c lt (sym (get_or_from_slice_get old n c c at)) (All-weaker P Q still (take n old) before) here)
+    (All-more Q old n c lt (All-weaker P Q still (take n old) before) (subst Q (sym (get_or_from_slice_get old n c c at)) here))
 
 -- all of them
 pub each_claim : (P : Claim → Type 0) (claims : List Claim) (n : ℕ) → length claims ≤ n → All P (take n claims) → (c : Claim) → Contains claims c → P c

@@ -1,8 +1,7 @@
 //! Yes claims: that the attacker forces the goal within the claim's plies.
-ghost use Rattle.std.specs.Prelude.{◌↔◌, IfOk, IsTrue, List};
+ghost use Rattle.std.specs.Prelude.{IfOk, List};
 ghost use Rattle.rules.specs.Squares.{Ply};
 ghost use Rattle.certificates.specs.declared.claim.Claim.{Claim};
-ghost use Rattle.certificates.specs.Claims.{ClaimsSoFew};
 ghost use Rattle.verifying.specs.Reading.{AreApart};
 ghost use Rattle.verifying.specs.Yielding.{FindsOnly, YieldsOnly};
 ghost use Rattle.verifying.specs.Certificate.{IsYesLine, MakesClaim, Meets, ShowWin};
@@ -36,17 +35,6 @@ fn claim_anew<A: Allocator + Copy>(
     }
 }
 
-/// Whether a claim says that the goal is forced within the plies that are left.
-fn has_claim<A: Allocator + Copy>(claims: &Claims<A>, position: &Board, left: u8) -> bool
-    requires { AreApart claims.now }
-    ensures { IsTrue result ↔ ClaimsSoFew claims.now position.now left }
-{
-    match claims.find(position) {
-        Some(plies) => plies <= left,
-        None => false,
-    }
-}
-
 /// Whether the attacker, to move at the position, forces the goal within the plies that are left, as the word says.
 fn meets<A: Allocator + Copy>(
     claims: &mut Claims<A>,
@@ -60,7 +48,10 @@ fn meets<A: Allocator + Copy>(
 {
     match word {
         Word::Seen => Ok(is_forced_within(&position, goal, left.min(LEAF))),
-        Word::Claimed => Ok(has_claim(claims, &position, left)),
+        Word::Claimed => match claims.find(&position) {
+            Some(plies) => Ok(plies <= left),
+            None => Ok(false),
+        },
         Word::Place(place) => claim_anew(claims, &position, left, place),
         Word::Stalemated => Ok(false),
     }
