@@ -1,7 +1,9 @@
 -- A text has one list of lines.
-use Rattle.std.proofs.Common.{◌≡◌, ◌≢◌, ◌<◌, ◌≤◌, ℕ, ◌+◌, ◌/◌, ◌%◌, List, [], ◌∷◌, ◌++◌, length, replicate, refl, sym, ap, ◌∙◌, subst, arith, append_assoc, All, codes, Option, None, Some, length-append, Contains}
-use Rattle.verifying.proofs.Common.{nat_tests, All-nil, All-cons, All-head, All-tail, All-append, All-replicate, decimal, Kind, King, Queen, Rook, Bishop, Knight, Pawn, Goal, promotion_text, move_text, Ply, Answer, HasNoFeed, Word, Seen, Claimed, Stalemated, first_line, goal_text, IsInRange, place_letter, word_text, words_line, fed, All-contains, Contains-append_left, Contains-push, length-decimal-le}
+use Rattle.std.proofs.Common.{true, not, nat_eq, ◌≡◌, ◌≢◌, ◌<◌, ◌≤◌, ℕ, ◌+◌, ◌/◌, ◌%◌, List, [], ◌∷◌, ◌++◌, length, replicate, refl, sym, ap, ◌∙◌, subst, arith, append_assoc, All, codes, Option, None, Some, length-append, Contains}
+use Rattle.verifying.proofs.Common.{All-weaker, Decides-eqb, Decides-not, nat_tests, All-nil, All-cons, All-head, All-tail, All-append, All-replicate, decimal, Kind, King, Queen, Rook, Bishop, Knight, Pawn, Goal, promotion_text, move_text, Ply, Answer, HasNoFeed, Word, Seen, Claimed, Stalemated, first_line, goal_text, IsInRange, place_letter, word_text, words_line, fed, All-contains, Contains-append_left, Contains-push, length-decimal-le}
 use Rattle.std.proofs.lemmas.Grind.{elements}
+use Rattle.std.proofs.lemmas.List.Sums.{AllPass-from_list_all}
+use Rattle.std.specs.List.{list_all}
 use Rattle.rules.specs.declared.goal.Goal.TheVariants as goal
 use Rattle.problems.specs.declared.answer.Answer.TheVariants.{Mate, NoneWithin}
 use Rattle.verifying.specs.declared.words.Word.TheVariants.{Place}
@@ -12,10 +14,15 @@ NoFeed x = x ≢ 10
 
 -- ---- lines without a feed
 
+-- a text has no feed where none of its bytes passes for one
+no_feed_in : (xs : List ℕ) → list_all (λ x. not (nat_eq x 10)) xs ≡ true → HasNoFeed xs
+no_feed_in xs e =
+    All-weaker (λ x. not (nat_eq x 10) ≡ true) NoFeed (λ x pass. (Decides-not (nat_eq x 10) (Decides-eqb x 10)).0 pass) xs (AllPass-from_list_all (λ x. not (nat_eq x 10)) xs e)
+
 word_no_feed : (w : Word) → HasNoFeed (word_text w)
-word_no_feed Seen = grind (arith, elements)
-word_no_feed Claimed = grind (arith, elements)
-word_no_feed Stalemated = grind (arith, elements)
+word_no_feed Seen = no_feed_in (codes ".") refl
+word_no_feed Claimed = no_feed_in (codes "=") refl
+word_no_feed Stalemated = no_feed_in (codes "-") refl
 word_no_feed (Place n) =
     All-append NoFeed (replicate (n / 50) 90) (place_letter (n % 50) ∷ []) (All-replicate NoFeed (n / 50) 90 (λ e. omega (arith, e)))
     (All-cons NoFeed (place_letter (n % 50)) [] (grind (arith, nat_tests)) (All-nil NoFeed))
@@ -36,10 +43,10 @@ brief_append j k xs ys (few, none) (also, none_too) = (omega (arith, few, also, 
 letter_brief : (p : Option Kind) → IsBrief 1 (promotion_text p)
 letter_brief None = (omega arith, All-nil NoFeed)
 letter_brief (Some King) = (omega arith, All-nil NoFeed)
-letter_brief (Some Queen) = (omega arith, grind (arith, elements))
-letter_brief (Some Rook) = (omega arith, grind (arith, elements))
-letter_brief (Some Bishop) = (omega arith, grind (arith, elements))
-letter_brief (Some Knight) = (omega arith, grind (arith, elements))
+letter_brief (Some Queen) = (omega arith, no_feed_in (codes "q") refl)
+letter_brief (Some Rook) = (omega arith, no_feed_in (codes "r") refl)
+letter_brief (Some Bishop) = (omega arith, no_feed_in (codes "b") refl)
+letter_brief (Some Knight) = (omega arith, no_feed_in (codes "n") refl)
 letter_brief (Some Pawn) = (omega arith, All-nil NoFeed)
 
 move_brief : (m : Ply) → IsBrief 6 (32 ∷ move_text m)
@@ -51,15 +58,15 @@ decimal_brief : (n : ℕ) → n ≤ 63 → IsBrief 2 (decimal n)
 decimal_brief n few = (length-decimal-le 2 n (omega arith) (omega (arith, few)) (omega (arith, few)), apart_decimal 10 n (omega arith) few)
 
 goal_brief : (goal : Goal) → IsBrief 5 (goal_text goal)
-goal_brief goal.Mate = (omega arith, grind (arith, elements))
-goal_brief goal.MateOrStale = (omega arith, grind (arith, elements))
+goal_brief goal.Mate = (omega arith, no_feed_in (codes "mate ") refl)
+goal_brief goal.MateOrStale = (omega arith, no_feed_in (codes "goal ") refl)
 
 pub answer_brief : (goal : Goal) (answer : Answer) → IsInRange answer → IsBrief 8192 (first_line goal answer)
 answer_brief goal (Mate n first) range =
     let so = brief_append 5 8 (goal_text goal) (decimal n ++ 32 ∷ move_text first) (goal_brief goal) (brief_append 2 6 (decimal n) (32 ∷ move_text first) (decimal_brief n range.1) (move_brief first)) in
     (omega (arith, so.0), so.1)
 answer_brief goal (NoneWithin limit) range =
-    let so = brief_append 12 2 (codes "none within ") (decimal limit) (omega arith, grind (arith, elements)) (decimal_brief limit range.1) in
+    let so = brief_append 12 2 (codes "none within ") (decimal limit) (omega arith, no_feed_in (codes "none within ") refl) (decimal_brief limit range.1) in
     (omega (arith, so.0), so.1)
 
 -- ---- where a line ends

@@ -1,4 +1,4 @@
--- What a line makes of the claims: they grow, no two of them are about one position, if no two were, and what held still holds.
+-- What a line makes of the claims: they grow, no two of them are about one position, if no two were, what held still holds, and so does what it shows.
 use Rattle.std.proofs.Common.{◌≡◌, ℕ, ◌-◌, ◌∷◌, refl, inl, inr, List, [], ◌++◌, sym, ◌∙◌, ap, subst, append_assoc, arith, Contains, ◌+◌, ◌*◌, ◌%◌, Bool, true, false, nat_lt, if◌then◌else◌, min, All, ◌⊎◌}
 use Rattle.verifying.proofs.Common.{append-nil, Contains-append_left, Contains-push, Contains-push_cases, PlainBoard, Goal, Ply, Claim, ClaimsSoMany, ClaimsSoFew, EscapesBy, FailsBy, HoldsOver, MetBy, WinsBy, IsWon, Answer, Part, First, Win, Yes, Lesser, No, Word, Seen, Claimed, Stalemated, AreApart, IsLineOf, ReadsLine, begun_claims, NoneAbout, TellInTurn, Meets, MeetsReply, IsYesLine, IsNoLine, Resists, TellsFailure, FailsBecause, ShowFailures, with_claim, shorter_claim, forced_within, not_reached, ForcesNothing, one_after, IsReached, IsLawful, IsMove, All-cons, All-contains, All-nil, All-weaker, ReachesNothing}
 use Rattle.verifying.specs.declared.words.Word.TheVariants.{Place}

@@ -1,13 +1,13 @@
 -- An input that is read, and what its end or its first fault tells.
 use Rattle.std.proofs.Common.{◌≡◌, ℕ, List, [], ◌∷◌, ◌++◌, Option, None, Some, IfSome, true, Result, Ok, Err, IfOk, IfErr, IsErr, IsErrAnd, refl, sym, ap, ◌∙◌, subst, append_assoc, ◌<◌, length}
 use Rattle.std.specs.Prelude.{⊤}
-use Rattle.verifying.proofs.Common.{append-nil, Consumes, PlainBoard, Goal, Answer, IsAnswer, IsUpTo, OfInput, HasNoFeed, left_of, BeginsLong, ReadsText, Checker, Fault, NoMemory, ReadFailed, TellsOf, fault_of_input, IsCertificate, IsRefusedWith, HasTakenText, TakesMore, RefusesMore, IsProvedBy, then_so, any_input}
+use Rattle.verifying.proofs.Common.{append-nil, Consumes, PlainBoard, Goal, Answer, IsAnswer, IsUpTo, OfInput, HasNoFeed, left_of, BeginsLong, ReadsText, Checker, Fault, NoMemory, ReadFailed, TellsOf, fault_of_input, IsCertificate, IsRefusedWith, HasTakenText, TakesMore, RefusesMore, IsProvedBy, then_so, any_input, AnswerFault, NumberedFault, TooLong}
 use Rattle.std.proofs.KnownBytes.{Consumes-trans}
 use Rattle.certificates.proofs.Certified.{certified}
 use Rattle.devices.specs.declared.lines.Unread.{Unread}
 use Rattle.devices.specs.declared.transfer.InputFault.{InputFault}
 use Rattle.devices.specs.declared.transfer.InputFault.TheVariants as input
-use Rattle.verifying.proofs.Refused.{line_long, certificate_begins, fault_of_text}
+use Rattle.verifying.proofs.Refused.{line_long, certificate_begins}
 use Rattle.verifying.proofs.Sound.{certificate_certifies}
 
 -- a text is gone from the front of the input, and the checker has taken it
@@ -79,13 +79,20 @@ unread_refused goal b first now checker input.NoMemory (Err f) long read err = �
 
 -- ---- what is told
 
+-- a fault that isn't of the text tells nothing of it
+fault_of_text : (goal : Goal) (first : Option (List ℕ)) (fault : Fault) → ((fault ≡ NoMemory → ⊥) → (fault ≡ ReadFailed → ⊥) → OfInput first (λ input. TellsOf goal input (Err fault))) → OfInput first (λ input. TellsOf goal input (Err fault))
+fault_of_text goal first AnswerFault told = told (λ e. cc) (λ e. cc)
+fault_of_text goal first (NumberedFault number) told = told (λ e. cc) (λ e. cc)
+fault_of_text goal first TooLong told = told (λ e. cc) (λ e. cc)
+fault_of_text goal first NoMemory told = any_input first (λ input. TellsOf goal input (Err NoMemory)) (λ input. tt)
+fault_of_text goal first ReadFailed told = any_input first (λ input. TellsOf goal input (Err ReadFailed)) (λ input. tt)
+
 pub ended_told : (goal : Goal) (b : PlainBoard) (first : Option (List ℕ)) (r : Result Answer Fault) → IfOk r (λ answer. OfInput first (IsCertificate goal b answer)) → IsRefusal goal b first r → OfInput first (λ input. TellsOf goal input r)
 ended_told goal b first (Ok answer) certificate refused = then_so first (IsCertificate goal b answer) (λ input. TellsOf goal input (Ok answer)) certificate (λ text is. certificate_begins goal b answer text is)
 ended_told goal b first (Err fault) certificate refused =
     fault_of_text goal first fault (λ memory device. then_so first (IsRefusedWith goal b fault) (λ input. TellsOf goal input (Err fault)) (refused memory device) (λ input told. told.0))
 
--- ---- an input that is known
-
+-- of an input that is known
 pub err_of_known : {E : Type 0} (xs : List ℕ) (P Q : E → Type 0) (R : E → List ℕ → Type 0) (known : Option (List ℕ)) (r : Result Answer E) → known ≡ Some xs → IfErr r (λ e. P e → Q e → OfInput known (R e)) → IfErr r (λ e. P e → Q e → R e xs)
 err_of_known xs P Q R known (Ok told) is none = tt
 err_of_known xs P Q R known (Err e) is none = λ p q.

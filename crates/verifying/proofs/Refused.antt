@@ -1,6 +1,6 @@
 -- What a checker has taken, what it refuses and that it is no certificate, and what it proves.
 use Rattle.std.proofs.Common.{◌≡◌, ℕ, ◌+◌, ◌<◌, List, [], ◌++◌, length, Option, None, Some, sym, ap, subst, Err, inl, inr, ◌≤◌, ◌∷◌, map, refl, ◌∙◌, arith, append_assoc, length-append, All, ◌↔◌, nat_lt, Bool, true, false, if◌then◌else◌}
-use Rattle.verifying.proofs.Common.{PlainBoard, Goal, Answer, Claim, OfInput, HasNoFeed, any_input, Fault, AnswerFault, NumberedFault, TooLong, NoMemory, ReadFailed, Part, HasRead, answer_of, IsEnded, ReadsLine, ReadsOn, IsLineOf, ReadsWords, begun_claims, begun_part, part_behind, AreLines, TellsOf, IsClaimLine, fed, All-cons, All-nil, All-weaker, All-push, First, Win, Yes, Lesser, No, first_line, HasFirstLine, IsInRange, HasNamedMove, words_line, IsCertificate, IsRefusedWith, flat_map-append, append-nil, same_Some, Checker, Mate, Word, HasTakenText, TakesMore, RefusesMore, IsProvedBy, FindsOnly, none-some, IsNoCertificate}
+use Rattle.verifying.proofs.Common.{PlainBoard, Goal, Answer, Claim, HasNoFeed, Fault, TooLong, Part, HasRead, answer_of, IsEnded, ReadsLine, ReadsOn, IsLineOf, ReadsWords, begun_claims, begun_part, part_behind, AreLines, TellsOf, IsClaimLine, fed, All-cons, All-nil, All-weaker, All-push, First, Win, Yes, Lesser, No, first_line, HasFirstLine, IsInRange, HasNamedMove, words_line, IsCertificate, IsRefusedWith, flat_map-append, append-nil, same_Some, Checker, Mate, Word, HasTakenText, TakesMore, RefusesMore, IsProvedBy, FindsOnly, none-some, IsNoCertificate}
 use Rattle.verifying.specs.Taking.{fault_at}
 use Rattle.verifying.proofs.Making.{finds_none}
 use Rattle.verifying.proofs.Feeds.{IsBrief, answer_brief, line_no_feed, left_over, next_of, none_of, long_of}
@@ -9,18 +9,7 @@ use Rattle.verifying.proofs.Reading.{certificate_read, certificate_of}
 use Rattle.verifying.proofs.Grown.{none_apart, reads_apart}
 use Rattle.verifying.proofs.Sound.{certificate_certifies}
 use Rattle.verifying.proofs.Spelling.{one_line}
-use Rattle.rules.specs.declared.goal.Goal.TheVariants as goal
 use Rattle.problems.specs.declared.answer.Answer.TheVariants as answer
-
--- ---- of an input
-
--- a fault that isn't of the text tells nothing of it
-pub fault_of_text : (goal : Goal) (first : Option (List ℕ)) (fault : Fault) → ((fault ≡ NoMemory → ⊥) → (fault ≡ ReadFailed → ⊥) → OfInput first (λ input. TellsOf goal input (Err fault))) → OfInput first (λ input. TellsOf goal input (Err fault))
-fault_of_text goal first AnswerFault told = told (λ e. cc) (λ e. cc)
-fault_of_text goal first (NumberedFault number) told = told (λ e. cc) (λ e. cc)
-fault_of_text goal first TooLong told = told (λ e. cc) (λ e. cc)
-fault_of_text goal first NoMemory told = any_input first (λ input. TellsOf goal input (Err NoMemory)) (λ input. tt)
-fault_of_text goal first ReadFailed told = any_input first (λ input. TellsOf goal input (Err ReadFailed)) (λ input. tt)
 
 module _ (goal : Goal) (b : PlainBoard) where
   -- ---- lines that are read

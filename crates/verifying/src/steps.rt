@@ -1,5 +1,5 @@
 //! One line of claims, and what it shows.
-ghost use Rattle.std.specs.Prelude.{◌≡◌, ◌≢◌, ◌↔◌, ◌<◌, ◌≤◌, ℕ, [], IfOk, IsTrue, length, slice_index_or};
+ghost use Rattle.std.specs.Prelude.{◌≡◌, ◌≢◌, ◌<◌, ◌≤◌, ℕ, [], IfOk, length, slice_index_or};
 ghost use Rattle.verifying.specs.Reading.{AreApart, IsLineAt};
 ghost use Rattle.verifying.specs.Yielding.{YieldsOnly};
 ghost use Rattle.verifying.specs.Certificate.{IsLesserLine, IsNoLine, IsSomeYesLine, IsYesLine, shorter_claim, with_claim};

@@ -67,7 +67,5 @@ pub returns-in_err-next_line_within-clause-text : goal.returns-in_err-next_line_
 returns-in_err-next_line_within-clause-text g c =
     ended_told c.args.goal c.args.board.now (g.S.Source.remaining c.args.reader.now) c.from_residual.result (IfOk-from_err c.from_residual.result _ c.from_residual.ensures.0) (returns-in_err-next_line_within-clause-refused g c)
 
--- ---- lines without end
-
 pub returns-clause-text : goal.returns-clause-text
 returns-clause-text g c = any_input (g.S.Source.remaining c.args.reader.now) _ (λ input. tt)
