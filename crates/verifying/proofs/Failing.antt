@@ -1,6 +1,6 @@
 -- The lawful moves of a list, and the one at a place.
-use Rattle.std.proofs.Common.{◌≡◌, ◌<◌, ℕ, ◌+◌, List, length, get_or, take, refl, sym, ap, ◌∙◌, subst, All, Contains, slice_get}
-use Rattle.verifying.proofs.Common.{take_more, All-push, All-get_or, All-take, get_or_from_slice_get, same_Some, slice_get_read, slice_get_within, PlainBoard, Ply, IsLawful, ListsLawful, all_listed, one_list, IsMoveAt}
+use Rattle.std.proofs.Common.{◌≡◌, ◌<◌, ℕ, List, length, get_or, take, refl, sym, ap, ◌∙◌, subst, All, Contains, slice_get}
+use Rattle.verifying.proofs.Common.{All-get_or, All-take, get_or_from_slice_get, same_Some, slice_get_read, slice_get_within, PlainBoard, Ply, IsLawful, ListsLawful, all_listed, one_list, IsMoveAt}
 
 pub listed_item : (b : PlainBoard) (moves list : List Ply) (i : ℕ) (m : Ply) → ListsLawful b moves → list ≡ moves → i < length moves → m ≡ get_or list i m → IsLawful b m
 listed_item b moves list i m lists same lt is =
@@ -14,10 +14,6 @@ all_lawful b moves list lists same = subst (All (IsLawful b)) (sym same) (all_li
 
 pub front_lawful : (b : PlainBoard) (moves list : List Ply) (place : ℕ) → ListsLawful b moves → list ≡ moves → All (IsLawful b) (take place list)
 front_lawful b moves list place lists same = All-take (IsLawful b) place list (all_lawful b moves list lists same)
-
--- one item more
-pub all_more : {X : Type 0} (P : X → Type 0) (moves : List X) (i : ℕ) (m : X) → i < length moves → m ≡ get_or moves i m → All P (take i moves) → P m → All P (take (i + 1) moves)
-all_more P moves i m lt is before here = subst (All P) (sym (take_more moves i m lt)) (All-push P (take i moves) (get_or moves i m) before (subst P is here))
 
 -- ---- the move at a place
 

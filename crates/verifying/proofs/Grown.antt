@@ -1,6 +1,6 @@
--- What a line makes of the claims: they grow, no two of them are about one position, if no two were, and what held still holds.
-use Rattle.std.proofs.Common.{◌≡◌, ◌≤◌, ℕ, ◌-◌, ◌∷◌, refl, inl, inr, List, [], ◌++◌, sym, ◌∙◌, ap, subst, append_assoc, arith, Contains, ◌+◌, ◌*◌, ◌%◌, Bool, true, false, nat_lt, if◌then◌else◌}
-use Rattle.verifying.proofs.Common.{append-nil, Contains-append_left, Contains-push, Contains-push_cases, PlainBoard, Goal, Ply, Claim, ClaimsSoMany, ClaimsSoFew, EscapesBy, FailsBy, HoldsOver, MetBy, WinsBy, IsWon, Answer, Part, First, Win, Yes, Lesser, No, Word, Seen, Claimed, Stalemated, AreApart, IsLineOf, ReadsLine, begun_claims, NoneAbout, TellInTurn, Meets, MeetsReply, ShowWin, IsYesLine, IsNoLine, IsLesserLine, Resists, TellsFailure, FailsBecause, ShowFailures, with_claim, shorter_claim}
+-- What a line makes of the claims: they grow, no two of them are about one position, if no two were, what held still holds, and so does what it shows.
+use Rattle.std.proofs.Common.{◌≡◌, ℕ, ◌-◌, ◌∷◌, refl, inl, inr, List, [], ◌++◌, sym, ◌∙◌, ap, subst, append_assoc, arith, Contains, ◌+◌, ◌*◌, ◌%◌, Bool, true, false, nat_lt, if◌then◌else◌, min, All, ◌⊎◌}
+use Rattle.verifying.proofs.Common.{append-nil, Contains-append_left, Contains-push, Contains-push_cases, PlainBoard, Goal, Ply, Claim, ClaimsSoMany, ClaimsSoFew, EscapesBy, FailsBy, HoldsOver, MetBy, WinsBy, IsWon, Answer, Part, First, Win, Yes, Lesser, No, Word, Seen, Claimed, Stalemated, AreApart, IsLineOf, ReadsLine, begun_claims, NoneAbout, TellInTurn, Meets, MeetsReply, IsYesLine, IsNoLine, Resists, TellsFailure, FailsBecause, ShowFailures, with_claim, shorter_claim, forced_within, not_reached, ForcesNothing, one_after, IsReached, IsLawful, IsMove, All-cons, All-contains, All-nil, All-weaker, ReachesNothing}
 use Rattle.verifying.specs.declared.words.Word.TheVariants.{Place}
 use Rattle.problems.specs.declared.answer.Answer.TheVariants as answer
 
@@ -15,15 +15,8 @@ pub extends_same : (old new : List Claim) → new ≡ old → Extends old new
 extends_same old new same = ([], same ∙ sym (append-nil old))
 
 -- the claim that was added
-pub claimed_many : (old new : List Claim) (p : PlainBoard) (n : ℕ) → new ≡ old ++ record { position = p; plies = n } ∷ [] → ClaimsSoMany new p n
-claimed_many old new p n is =
-    let added : Claim = record { position = p; plies = n } in
-    (added, subst (λ (l : List Claim). Contains l added) (sym is) (Contains-push old added), refl, omega arith)
-
-pub claimed_few : (old new : List Claim) (p : PlainBoard) (n left : ℕ) → n ≤ left → new ≡ old ++ record { position = p; plies = n } ∷ [] → ClaimsSoFew new p left
-claimed_few old new p n left few is =
-    let added : Claim = record { position = p; plies = n } in
-    (added, subst (λ (l : List Claim). Contains l added) (sym is) (Contains-push old added), refl, few)
+pub added_there : (old new : List Claim) (p : PlainBoard) (n : ℕ) → new ≡ with_claim old p n → Contains new (record { position = p; plies = n })
+added_there old new p n is = subst (λ (l : List Claim). Contains l (record { position = p; plies = n })) (sym is) (Contains-push old (record { position = p; plies = n }))
 
 module _ (old new : List Claim) (grown : Extends old new) where
   pub still_there : (c : Claim) → Contains old c → Contains new c
@@ -101,67 +94,83 @@ same_grows old new is = (extends_same old new is, subst AreApart (sym is))
 more_grows : (old new : List Claim) (p : PlainBoard) (n : ℕ) → NoneAbout old p → new ≡ with_claim old p n → Grows old new
 more_grows old new p n none is = ((record { position = p; plies = n } ∷ [], is), λ apart. subst AreApart (sym is) (more_apart old p n apart none))
 
--- ---- yes claims
+-- what the words tell of their moves is so over the claims at the end
+told_all : (Tells : Ply → Word → List Claim → List Claim → Type 0) (Good : List Claim → Ply → Type 0) → ((m : Ply) (word : Word) (old new : List Claim) → Tells m word old new → Grows old new × Good new m) → ((old new : List Claim) → Extends old new → (m : Ply) → Good old m → Good new m)
+    → (moves : List Ply) (words : List Word) (old new : List Claim) → TellInTurn Tells moves words old new → Grows old new × All (Good new) moves
+told_all Tells Good so still [] [] old new told = (same_grows old new told, All-nil (Good new))
+told_all Tells Good so still [] (word ∷ words) old new told = absurd told
+told_all Tells Good so still (m ∷ moves) [] old new told = absurd told
+told_all Tells Good so still (m ∷ moves) (word ∷ words) old new (next, first, rest) =
+    let here = so m word old next first in
+    let later = told_all Tells Good so still moves words next new rest in
+    ((extends_twice old next new here.0.0 later.0.0, λ apart. later.0.1 (here.0.1 apart)), All-cons (Good new) m moves (still next new later.0.0 m here.1) later.1)
 
-meeting_grows : (goal : Goal) (p : PlainBoard) (n : ℕ) (word : Word) (old new : List Claim) → Meets goal p n word old new → Grows old new
-meeting_grows goal p n Seen old new (f, is) = same_grows old new is
-meeting_grows goal p n Claimed old new (f, is) = same_grows old new is
-meeting_grows goal p n (Place k) old new (none, few, is) = more_grows old new p (2 * k + 1) none is
-meeting_grows goal p n Stalemated old new f = absurd f
+module _ (goal : Goal) where
+  -- ---- yes claims
 
-pub reply_grows : (goal : Goal) (q : PlainBoard) (n : ℕ) (r : Ply) (word : Word) (old new : List Claim) → MeetsReply goal q n r word old new → Grows old new
-reply_grows goal q n r word old new (p, move, meets) = meeting_grows goal p n word old new meets
+  meeting : (p : PlainBoard) (n : ℕ) (word : Word) (old new : List Claim) → Meets goal p n word old new → Grows old new × MetBy goal new p n
+  meeting p n Seen old new (f, is) = (same_grows old new is, inl (forced_within goal p.mover p (min n 3) n (omega arith) f))
+  meeting p n Claimed old new (few, is) = (same_grows old new is, inr (subst (λ (l : List Claim). ClaimsSoFew l p n) (sym is) few))
+  meeting p n (Place k) old new (none, few, is) = (more_grows old new p (2 * k + 1) none is, inr (record { position = p; plies = 2 * k + 1 }, added_there old new p (2 * k + 1) is, refl, few))
+  meeting p n Stalemated old new f = absurd f
 
-pub told_grows : (Tells : Ply → Word → List Claim → List Claim → Type 0) → ((m : Ply) (word : Word) (old new : List Claim) → Tells m word old new → Grows old new) → (moves : List Ply) (words : List Word) (old new : List Claim) → TellInTurn Tells moves words old new → Grows old new
-told_grows Tells grows [] [] old new told = same_grows old new told
-told_grows Tells grows [] (word ∷ words) old new told = absurd told
-told_grows Tells grows (m ∷ moves) [] old new told = absurd told
-told_grows Tells grows (m ∷ moves) (word ∷ words) old new (next, first, rest) =
-    let here = grows m word old next first in
-    let later = told_grows Tells grows moves words next new rest in
-    (extends_twice old next new here.0 later.0, λ apart. later.1 (here.1 apart))
+  -- the reply is met within n plies
+  abbrev IsReplyMet : PlainBoard → ℕ → List Claim → Ply → Type 0
+  IsReplyMet q n claims r = (p : PlainBoard) → IsMove q r p → MetBy goal claims p n
 
-win_grows : (goal : Goal) (q : PlainBoard) (n : ℕ) (words : List Word) (old new : List Claim) → ShowWin goal q n words old new → Grows old new
-win_grows goal q n words old new (inl (stuck, there, none, is)) = same_grows old new is
-win_grows goal q n words old new (inr (some, enough, (replies, lists, told))) = told_grows (MeetsReply goal q (n - 2)) (reply_grows goal q (n - 2)) replies words old new told
+  pub reply_met : (q : PlainBoard) (n : ℕ) (r : Ply) (word : Word) (old new : List Claim) → MeetsReply goal q n r word old new → Grows old new × IsReplyMet q n new r
+  reply_met q n r word old new (p, move, meets) =
+      let so = meeting p n word old new meets in
+      (so.0, λ x also. subst (λ (b : PlainBoard). MetBy goal new b n) (one_after q r p x move also) so.1)
 
-pub yes_grows : (goal : Goal) (c : Claim) (m : Ply) (line : List Word) (old new : List Claim) → IsYesLine goal c m line old new → Grows old new
-yes_grows goal c m line old new (place, words, is, at, some, q, move, win) = win_grows goal q c.plies words old new win
+  pub yes_line : (c : Claim) (m : Ply) (line : List Word) (old new : List Claim) → IsYesLine goal c m line old new → Grows old new × WinsBy goal new c.position c.plies m
+  yes_line c m line old new (place, words, is, at, some, q, move, inl (stuck, there, none, same)) = (same_grows old new same, (some, q, move, inl there))
+  yes_line c m line old new (place, words, is, at, some, q, move, inr (reply, enough, (replies, lists, told))) =
+      let so = told_all (MeetsReply goal q (c.plies - 2)) (IsReplyMet q (c.plies - 2)) (reply_met q (c.plies - 2)) (λ xs ys grown r met p next. still_met xs ys grown goal p (c.plies - 2) (met p next)) replies words old new told in
+      (so.0, (some, q, move, inr (reply, λ r p next. All-contains (IsReplyMet q (c.plies - 2) new) replies r so.1 ((lists.exact r).1 (p, next)) p next)))
 
--- ---- no claims
+  -- ---- no claims
 
-resisting_grows : (goal : Goal) (p : PlainBoard) (n : ℕ) (old new : List Claim) → Resists goal p n old new → Grows old new
-resisting_grows goal p n old new (inl (small, nothing, is)) = same_grows old new is
-resisting_grows goal p n old new (inr (large, inl (some, is))) = same_grows old new is
-resisting_grows goal p n old new (inr (large, inr (none, is))) = more_grows old new p n none is
+  resisting : (p : PlainBoard) (n : ℕ) (old new : List Claim) → Resists goal p n old new → Grows old new × (ForcesNothing goal p n ⊎ ClaimsSoMany new p n)
+  resisting p n old new (inl (small, nothing, is)) = (same_grows old new is, inl nothing)
+  resisting p n old new (inr (large, inl (many, is))) = (same_grows old new is, inr (subst (λ (l : List Claim). ClaimsSoMany l p n) (sym is) many))
+  resisting p n old new (inr (large, inr (none, is))) = (more_grows old new p n none is, inr (record { position = p; plies = n }, added_there old new p n is, refl, omega arith))
 
-failing_grows : (goal : Goal) (q : PlainBoard) (n : ℕ) (word : Word) (old new : List Claim) → TellsFailure goal q n word old new → Grows old new
-failing_grows goal q n Seen old new f = absurd f
-failing_grows goal q n Claimed old new f = absurd f
-failing_grows goal q n Stalemated old new (stuck, out, is) = same_grows old new is
-failing_grows goal q n (Place k) old new (r, p, at, move, resists) = resisting_grows goal p n old new resists
+  failing : (q : PlainBoard) (n : ℕ) (word : Word) (old new : List Claim) → TellsFailure goal q n word old new → Grows old new × (IsReached goal q → ⊥) × (((r : Ply) → IsLawful q r → ⊥) ⊎ EscapesBy goal new q n)
+  failing q n Seen old new f = absurd f
+  failing q n Claimed old new f = absurd f
+  failing q n Stalemated old new (stuck, out, is) = (same_grows old new is, out, inl stuck)
+  failing q n (Place k) old new (r, p, at, move, resists) =
+      let so = resisting p n old new resists in
+      (so.0, not_reached goal q r (p, move), inr (r, p, move, so.1))
 
-pub reason_grows : (goal : Goal) (b : PlainBoard) (n : ℕ) (m : Ply) (word : Word) (old new : List Claim) → FailsBecause goal b n m word old new → Grows old new
-reason_grows goal b n m word old new (q, move, fails) = failing_grows goal q (n - 2) word old new fails
+  pub reason_fails : (b : PlainBoard) (n : ℕ) (m : Ply) (word : Word) (old new : List Claim) → FailsBecause goal b n m word old new → Grows old new × FailsBy goal new b n m
+  reason_fails b n m word old new (q, move, fails) =
+      let so = failing q (n - 2) word old new fails in (
+        so.0,
+        λ x also. subst (λ (y : PlainBoard). (IsReached goal y → ⊥) × ((n ≡ 1) ⊎ ((r : Ply) → IsLawful y r → ⊥) ⊎ EscapesBy goal new y (n - 2))) (one_after b m q x move also)
+            (so.1, elim so.2 [ inl stuck ↦ inr (inl stuck) | inr escapes ↦ inr (inr escapes) ]),
+      )
 
-failures_grow : (goal : Goal) (b : PlainBoard) (n : ℕ) (moves : List Ply) (words : List Word) (old new : List Claim) → ShowFailures goal b n moves words old new → Grows old new
-failures_grow goal b n moves words old new (inl (one, none, nothing, is)) = same_grows old new is
-failures_grow goal b n moves words old new (inr (two, told)) = told_grows (FailsBecause goal b n) (reason_grows goal b n) moves words old new told
+  pub all_failed : (b : PlainBoard) (n : ℕ) (moves : List Ply) (words : List Word) (old new : List Claim) → ShowFailures goal b n moves words old new → Grows old new × All (FailsBy goal new b n) moves
+  all_failed b n moves words old new (inl (one, none, nothing, is)) =
+      (same_grows old new is, All-weaker (ReachesNothing goal b) (FailsBy goal new b n) (λ m out q move. (out q move, inl one)) moves nothing)
+  all_failed b n moves words old new (inr (two, told)) =
+      told_all (FailsBecause goal b n) (λ claims m. FailsBy goal claims b n m) (reason_fails b n) (λ xs ys grown m fails. still_fails xs ys grown goal b n m fails) moves words old new told
 
-pub no_grows : (goal : Goal) (c : Claim) (line : List Word) (old new : List Claim) → IsNoLine goal c line old new → Grows old new
-no_grows goal c line old new (moves, lists, show) = failures_grow goal c.position c.plies moves line old new show
-
-pub lesser_grows : (goal : Goal) (b : PlainBoard) (n : ℕ) (first : Ply) (line : List Word) (old new : List Claim) → IsLesserLine goal b n first line old new → Grows old new
-lesser_grows goal b n first line old new (lesser, others, lists, show) = failures_grow goal b n lesser line old new show
+  pub no_line : (c : Claim) (line : List Word) (old new : List Claim) → IsNoLine goal c line old new → Grows old new × HoldsOver goal new c
+  no_line c line old new (moves, lists, show) =
+      let so = all_failed c.position c.plies moves line old new show in
+      (so.0, λ m q move. All-contains (FailsBy goal new c.position c.plies) moves m so.1 ((lists.exact m).1 (q, move)) q move)
 
 -- ---- lines
 
 line_apart : (goal : Goal) (b : PlainBoard) (part : Part) (words : List Word) (old new : List Claim) → IsLineOf goal b part words old new → AreApart old → AreApart new
 line_apart goal b First words old new line apart = absurd line
-line_apart goal b (Win mate) words old new line apart = (yes_grows goal (record { position = b; plies = mate.plies }) mate.first words (with_claim [] b mate.plies) new line).1 (one_apart b mate.plies)
-line_apart goal b (Yes mate place) words old new (c, at, (m, line)) apart = (yes_grows goal c m words old new line).1 apart
-line_apart goal b (Lesser mate) words old new line apart = (lesser_grows goal b mate.plies mate.first words (shorter_claim b mate.plies) new line).1 (shorter_apart b mate.plies)
-line_apart goal b (No told place) words old new (c, at, line) apart = (no_grows goal c words old new line).1 apart
+line_apart goal b (Win mate) words old new line apart = (yes_line goal (record { position = b; plies = mate.plies }) mate.first words (with_claim [] b mate.plies) new line).0.1 (one_apart b mate.plies)
+line_apart goal b (Yes mate place) words old new (c, at, (m, line)) apart = (yes_line goal c m words old new line).0.1 apart
+line_apart goal b (Lesser mate) words old new (lesser, others, lists, show) apart = (all_failed goal b mate.plies lesser words (shorter_claim b mate.plies) new show).0.1 (shorter_apart b mate.plies)
+line_apart goal b (No told place) words old new (c, at, line) apart = (no_line goal c words old new line).0.1 apart
 
 begun_apart : (b : PlainBoard) (answer : Answer) → AreApart (begun_claims b answer)
 begun_apart b (answer.Mate n first) = none_apart

@@ -1,7 +1,7 @@
 -- The map of claims: a position has one list of words, and what is entered by it is found.
 use Rattle.std.proofs.Common.{◌≡◌, ℕ, zero, suc, ◌+◌, ◌*◌, ◌/◌, ◌%◌, ◌<◌, ◌≤◌, refl, sym, ap, subst, ◌∙◌, arith, inl, inr, true, cond, ◌||◌, eqb, leb, eqb-true, leb-true, List, [], ◌∷◌, ◌++◌, length, get_or, Option, Some, None, unwrap_or, Contains, bytes_eq}
 use Rattle.std.specs.Map.{lookup}
-use Rattle.verifying.proofs.Common.{agree_below_at, or_cases, cases_eq, cond_both, both_ways, same_lists, get_or_default, Contains-append_left, Contains-push, Contains-push_cases, bytes_eq-Decides, Game, LosAlamos, Gardner, Side, White, Black, Kind, King, Queen, Rook, Bishop, Knight, Pawn, PlainBoard, squares_of, digit, man_of, code_on, flags_of, game_of, game_of_flags, mover_of_flags, word_of, place_of, unpacked, IsPacked, IsUnused, units_in-at, within_36, Claim, AreWordsOf, IsFoundIn, IsIndexOf}
+use Rattle.verifying.proofs.Common.{agree_below_at, or_cases, cases_eq, cond_both, both_ways, same_lists, get_or_default, Contains-append_left, Contains-push, Contains-push_cases, bytes_eq-Decides, Game, LosAlamos, Gardner, Side, White, Black, Kind, King, Queen, Rook, Bishop, Knight, Pawn, PlainBoard, squares_of, digit, man_of, code_on, flags_of, game_of, game_of_flags, mover_of_flags, unpacked, IsPacked, IsUnused, units_in-at, within_36, Claim, AreWordsOf, IsFoundIn, IsIndexOf}
 use Rattle.board.specs.declared.game.Unit.{Unit as Man}
 use Rattle.moves.proofs.Digits.{digit_shifted}
 
@@ -62,17 +62,14 @@ module _ (v w : List ℕ) (a : IsPacked v) (b : IsPacked w) (one : unpacked v �
   same_flags : flags_of v ≡ flags_of w
   same_flags = sym (flags_number (flags_of v) a.flags a.colour) ∙ ap (λ (x : PlainBoard). game_number x.game + side_number x.mover) one ∙ flags_number (flags_of w) b.flags b.colour
 
-  digit_at : (k i m j : ℕ) → m ≡ k → j ≡ i → digit (get_or v m 0) j ≡ digit (get_or w m 0) j → digit (get_or v k 0) i ≡ digit (get_or w k 0) i
-  digit_at k i m j x y same = subst (λ q. digit (get_or v k 0) q ≡ digit (get_or w k 0) q) y (subst (λ p. digit (get_or v p 0) j ≡ digit (get_or w p 0) j) x same)
-
   -- what is neither a square's nor the flags' is 0 in both
   same_digit : (k i : ℕ) → digit (get_or v k 0) i ≡ digit (get_or w k 0) i
   same_digit k i = elim (cases_eq (digit (get_or v k 0) i) (digit (get_or w k 0) i)) [
     | inl same ↦ same
     | inr differs ↦
         let free : IsUnused (game_of v) k i = record {
-          no_square = λ n h x y. differs (digit_at k i (word_of (game_of v) n) (place_of (game_of v) n) x y (same_code n h));
-          no_flags = λ x y. differs (digit_at k i 0 12 (sym x) (sym y) same_flags);
+          no_square = λ n h x y. differs (cc (same_code n h));
+          no_flags = λ x y. differs (cc same_flags);
         } in
         a.unused k i free ∙ sym (subst (λ (g : Game). (m j : ℕ) → IsUnused g m j → digit (get_or w m 0) j ≡ 0) game b.unused k i free)
   ]

@@ -1,8 +1,7 @@
 -- What a test, a search and the words of a line yield, by what is known of them.
-use Rattle.std.proofs.Common.{◌≡◌, ◌↔◌, List, Bool, true, false, IsTrue, None, Some, refl, sym, ap, ◌∙◌, subst, ◌<◌, ◌≤◌, ℕ, suc, ◌+◌, [], ◌∷◌, length, get_or, drop, arith, Option, is_some, ◌≢◌, inl, inr, ◌-◌, ◌++◌, ◌⊎◌, take, All, not, nat_lt, if◌then◌else◌, length-append}
-use Rattle.verifying.proofs.Common.{false≢true, cases_lt, cases_eq, none-some, same_Some, Claim, YieldsOnly, FindsOnly, drop_all, drop_more, take-append-le, take-append-drop, Ply, Word, TellInTurn, NoneAbout, IsMoveAt, Meets, MeetsReply, MeetReplies, ShowWin, IsYesLine, Resists, TellsFailure, FailsBecause, ReachesNothing, ShowFailures, IsLesserLine, with_claim, Decides-not, nat_tests, get_or-append_seam, take-length, PlainBoard, Goal, IsMove, IsLawful, IsPlyBefore, ListsLawful, IsReached, Forces, one_after, one_list, lower_once, ClaimsSoFew, HasClaim, forced_within, Seen, Claimed, Stalemated, AreApart}
+use Rattle.std.proofs.Common.{◌≡◌, ◌↔◌, List, Bool, true, false, IsTrue, None, Some, refl, sym, ap, ◌∙◌, subst, ◌<◌, ◌≤◌, ℕ, suc, ◌+◌, [], ◌∷◌, length, get_or, drop, arith, Option, is_some, ◌≢◌, inl, inr, ◌-◌, ◌++◌, take, All, not, nat_lt, if◌then◌else◌, length-append}
+use Rattle.verifying.proofs.Common.{false≢true, none-some, same_Some, Claim, YieldsOnly, FindsOnly, drop_all, drop_more, take-append-drop, Ply, Word, TellInTurn, NoneAbout, IsMoveAt, Meets, MeetsReply, MeetReplies, ShowWin, IsYesLine, Resists, TellsFailure, FailsBecause, ReachesNothing, ShowFailures, IsLesserLine, with_claim, Decides-not, nat_tests, get_or-append_seam, PlainBoard, Goal, IsMove, IsLawful, IsPlyBefore, ListsLawful, Forces, one_after, one_list, ClaimsSoFew, HasClaim, forced_within, Stalemated, AreApart, take_at, split3, one_way}
 use Rattle.verifying.specs.declared.words.Word.TheVariants.{Place}
-use Rattle.verifying.proofs.OneAnswer.{same_cons}
 use Rattle.verifying.proofs.Failing.{one_move_at}
 
 -- ---- a test
@@ -12,10 +11,6 @@ yields_none Makes claims none other = (λ made. absurd (none other made), λ it.
 
 pub yields_one : (Makes : List Claim → Type 0) (claims : List Claim) → ((other : List Claim) → Makes other ↔ (other ≡ claims)) → YieldsOnly Makes true claims
 yields_one Makes claims one other = (λ made. (refl, (one other).0 made), λ it. (one other).1 it.1)
-
--- the old claims, if a fact holds
-pub yields_if : (P : Type 0) (answer : Bool) (old : List Claim) → (IsTrue answer ↔ P) → YieldsOnly (λ other. P × (other ≡ old)) answer old
-yields_if P answer old h other = (λ made. (h.1 made.0, made.1), λ it. (h.0 it.0, it.1))
 
 -- what comes to the same
 pub yields_like : (Makes Like : List Claim → Type 0) (answer : Bool) (claims : List Claim) → ((other : List Claim) → Like other ↔ Makes other) → YieldsOnly Makes answer claims → YieldsOnly Like answer claims
@@ -31,15 +26,13 @@ yields_by Is Makes x answer claims is one h other =
 pub finds_none : {X : Type 0} (Makes : X → List Claim → Type 0) (claims : List Claim) → ((x : X) (other : List Claim) → Makes x other → ⊥) → FindsOnly Makes None claims
 finds_none Makes claims none x other = (λ made. absurd (none x other made), λ it. absurd (none-some x it.0))
 
--- what comes behind the claims that are made
-pub finds_behind : {X : Type 0} (Makes : List Claim → Type 0) (behind : List Claim → X) (x : X) (claims : List Claim) → YieldsOnly Makes true claims → x ≡ behind claims → FindsOnly (λ y other. Makes other × (y ≡ behind other)) (Some x) claims
-finds_behind Makes behind x claims h is y other = (
+-- what comes behind the claims that are made, if any are
+pub finds_behind : {X : Type 0} (Makes : List Claim → Type 0) (behind : List Claim → X) (x : X) (shows : Bool) (claims : List Claim) → YieldsOnly Makes shows claims → x ≡ behind claims → FindsOnly (λ y other. Makes other × (y ≡ behind other)) (if shows then Some x else None) claims
+finds_behind Makes behind x true claims h is y other = (
   λ made. let same = ((h other).0 made.0).1 in (ap Some (is ∙ (ap behind (sym same) ∙ sym made.1)), same),
   λ it. ((h other).1 (refl, it.1), sym (same_Some x y it.0) ∙ (is ∙ ap behind (sym it.1))),
 )
-
-pub nothing_behind : {X : Type 0} (Makes : List Claim → Type 0) (behind : List Claim → X) (claims : List Claim) → YieldsOnly Makes false claims → FindsOnly (λ y other. Makes other × (y ≡ behind other)) None claims
-nothing_behind Makes behind claims h = finds_none (λ y other. Makes other × (y ≡ behind other)) claims (λ y other made. false≢true ((h other).0 made.0).0)
+finds_behind Makes behind x false claims h is y other = finds_none (λ y other. Makes other × (y ≡ behind other)) claims (λ y other made. false≢true ((h other).0 made.0).0) y other
 
 -- ---- whether something is found
 
@@ -64,9 +57,6 @@ abbrev pub IsLeft : (Ply → Word → List Claim → List Claim → Type 0) → 
 IsLeft Tells moves words old i claims = (other : List Claim) → TellInTurn Tells moves words old other ↔ TellInTurn Tells (drop i moves) (drop i words) claims other
 
 module _ (Tells : Ply → Word → List Claim → List Claim → Type 0) (moves : List Ply) (words : List Word) (old : List Claim) where
-  pub all_left : IsLeft Tells moves words old 0 old
-  all_left other = (λ told. told, λ told. told)
-
   -- the next word
   module _ (i : ℕ) (m : Ply) (word d : Word) (claims : List Claim) (within : i < length moves) (same : length words ≡ length moves) (is : m ≡ get_or moves i m) (was : word ≡ get_or words i d) (left : IsLeft Tells moves words old i claims) where
     opened : (other : List Claim) → TellInTurn Tells moves words old other ↔ TellInTurn Tells (m ∷ drop (i + 1) moves) (word ∷ drop (i + 1) words) claims other
@@ -105,11 +95,10 @@ not_each Tells moves words old differ = yields_none (TellInTurn Tells moves word
 
 module _ (goal : Goal) (p : PlainBoard) (n : ℕ) (old : List Claim) where
   pub looked_through : (forced : Bool) → n ≤ 3 → (IsTrue forced ↔ Forces goal p.mover p n) → YieldsOnly (Resists goal p n old) (not forced) old
-  looked_through forced small h other = (to, λ it. inl (small, (λ k within f. (Decides-not forced h).0 it.0 (forced_within goal p.mover p k n within f)), it.1))
-    where
-      to : Resists goal p n old other → IsTrue (not forced) × (other ≡ old)
-      to (inl (also, nothing, is)) = ((Decides-not forced h).1 (nothing n (omega arith)), is)
-      to (inr (large, rest)) = absurd (omega (arith, small, large))
+  looked_through forced small h other = (
+    λ resists. elim resists [ inl seen ↦ ((Decides-not forced h).1 (seen.1 n (omega arith)), seen.2) | inr told ↦ absurd (omega (arith, small, told.0)) ],
+    λ it. inl (small, (λ k within f. (Decides-not forced h).0 it.0 (forced_within goal p.mover p k n within f)), it.1),
+  )
 
   -- no other claim is about the position
   pub claimed_so_many : (k : ℕ) (many : Bool) → 3 < n → (IsTrue many ↔ (n ≤ k)) → HasClaim old p k → AreApart old → YieldsOnly (Resists goal p n old) many old
@@ -123,24 +112,17 @@ module _ (goal : Goal) (p : PlainBoard) (n : ℕ) (old : List Claim) where
       to (inr (also, inr (none, is))) = absurd (none (record { position = p; plies = k }) claimed refl)
 
   pub claimed_anew : (new : List Claim) → 3 < n → NoneAbout old p → new ≡ with_claim old p n → YieldsOnly (Resists goal p n old) true new
-  claimed_anew new large none made = yields_one (Resists goal p n old) new (λ other. (to other, λ is. inr (large, inr (none, is ∙ made))))
-    where
-      to : (other : List Claim) → Resists goal p n old other → other ≡ new
-      to other (inl (small, nothing, is)) = absurd (omega (arith, small, large))
-      to other (inr (also, inl ((c, among, about, many), is))) = absurd (none c among about)
-      to other (inr (also, inr (none_too, is))) = is ∙ sym made
+  claimed_anew new large none made = yields_one (Resists goal p n old) new (λ other. (
+    λ resists. elim resists [
+      | inl seen ↦ absurd (omega (arith, seen.0, large))
+      | inr told ↦ elim told.1 [ inl there ↦ absurd (none there.0.0 there.0.1 there.0.2) | inr anew ↦ anew.1 ∙ sym made ]
+    ],
+    λ is. inr (large, inr (none, is ∙ made)),
+  ))
 
 module _ (goal : Goal) (q : PlainBoard) (n : ℕ) (old : List Claim) where
-  module _ (some : Bool) (h : IsTrue some ↔ ((r : Ply) × IsLawful q r)) where
-    pub no_reply : some ≡ false → (r : Ply) → IsLawful q r → ⊥
-    no_reply none r lawful = false≢true (sym none ∙ h.1 (r, lawful))
-
-    pub stalemated : (there : Bool) → some ≡ false → (IsTrue there ↔ IsReached goal q) → YieldsOnly (TellsFailure goal q n Stalemated old) (not there) old
-    stalemated there none reached other =
-        (λ tells. ((Decides-not there reached).1 tells.1, tells.2), λ it. (no_reply none, (Decides-not there reached).0 it.0, it.1))
-
-    pub not_stalemated : some ≡ true → YieldsOnly (TellsFailure goal q n Stalemated old) (not some) old
-    not_stalemated is = subst (λ t. YieldsOnly (TellsFailure goal q n Stalemated old) (not t) old) (sym is) (yields_none (TellsFailure goal q n Stalemated old) old (λ other tells. let r = h.0 is in tells.0 r.0 r.1))
+  pub not_stalemated : (some : Bool) → (IsTrue some ↔ ((r : Ply) × IsLawful q r)) → some ≡ true → YieldsOnly (TellsFailure goal q n Stalemated old) (not some) old
+  not_stalemated some h is = subst (λ t. YieldsOnly (TellsFailure goal q n Stalemated old) (not t) old) (sym is) (yields_none (TellsFailure goal q n Stalemated old) old (λ other tells. let r = h.0 is in tells.0 r.0 r.1))
 
   pub no_reply_there : (k : ℕ) → ((r : Ply) → IsMoveAt q k r → ⊥) → YieldsOnly (TellsFailure goal q n (Place k) old) false old
   no_reply_there k none = yields_none (TellsFailure goal q n (Place k) old) old (λ other tells. none tells.0 tells.2)
@@ -154,37 +136,15 @@ module _ (goal : Goal) (q : PlainBoard) (n : ℕ) (old : List Claim) where
           let same : x ≡ p = one_after q r x p (subst (λ (m : Ply). IsMove q m x) one move_too) move in
           (h other).0 (subst (λ (b : PlainBoard). Resists goal b n old other) same resists)
 
-  pub no_sign : (word : Word) → (word ≡ Stalemated → ⊥) → ((k : ℕ) → word ≡ Place k → ⊥) → YieldsOnly (TellsFailure goal q n word old) false old
-  no_sign word other also = yields_none (TellsFailure goal q n word old) old (λ new. none word other also new)
-    where
-      none : (word : Word) → (word ≡ Stalemated → ⊥) → ((k : ℕ) → word ≡ Place k → ⊥) → (new : List Claim) → TellsFailure goal q n word old new → ⊥
-      none Seen other also new tells = tells
-      none Claimed other also new tells = tells
-      none Stalemated other also new tells = other refl
-      none (Place k) other also new tells = also k refl
-
 module _ (goal : Goal) (b : PlainBoard) (n : ℕ) (moves : List Ply) (words : List Word) (old : List Claim) where
   -- of one ply nothing is told
   pub one_ply : (nothing : Bool) → n ≡ 1 → words ≡ [] → (IsTrue nothing ↔ All (ReachesNothing goal b) moves) → YieldsOnly (ShowFailures goal b n moves words old) nothing old
-  one_ply nothing one empty h other = (to, λ it. inl (one, empty, h.0 it.0, it.1))
-    where
-      to : ShowFailures goal b n moves words old other → IsTrue nothing × (other ≡ old)
-      to (inl (also, none, all, is)) = (h.1 all, is)
-      to (inr (two, told)) = absurd (omega (arith, one, two))
-
-  pub no_ply : n < 2 → (n ≡ 1 → words ≡ [] → ⊥) → YieldsOnly (ShowFailures goal b n moves words old) false old
-  no_ply few none = yields_none (ShowFailures goal b n moves words old) old untold
-    where
-      untold : (other : List Claim) → ShowFailures goal b n moves words old other → ⊥
-      untold other (inl (one, empty, all, is)) = none one empty
-      untold other (inr (two, told)) = omega (arith, few, two)
+  one_ply nothing one empty h other =
+      (λ show. elim show [ inl none ↦ (h.1 none.2, none.3) | inr told ↦ absurd (omega (arith, one, told.0)) ], λ it. inl (one, empty, h.0 it.0, it.1))
 
   pub more_plies : (answer : Bool) (new : List Claim) → n ≢ 1 → 2 ≤ n → YieldsOnly (TellInTurn (FailsBecause goal b n) moves words old) answer new → YieldsOnly (ShowFailures goal b n moves words old) answer new
-  more_plies answer new other two h = yields_like (TellInTurn (FailsBecause goal b n) moves words old) (ShowFailures goal b n moves words old) answer new (λ claims. (to claims, λ told. inr (two, told))) h
-    where
-      to : (claims : List Claim) → ShowFailures goal b n moves words old claims → TellInTurn (FailsBecause goal b n) moves words old claims
-      to claims (inl (one, empty, all, is)) = absurd (other one)
-      to claims (inr (also, told)) = told
+  more_plies answer new other two h = yields_like (TellInTurn (FailsBecause goal b n) moves words old) (ShowFailures goal b n moves words old) answer new
+      (λ claims. (λ show. elim show [ inl one ↦ absurd (other one.0) | inr told ↦ told.1 ], λ told. inr (two, told))) h
 
 pub because : (goal : Goal) (b : PlainBoard) (n : ℕ) (m : Ply) (word : Word) (q : PlainBoard) (answer : Bool) (old new : List Claim) → IsMove b m q → YieldsOnly (TellsFailure goal q (n - 2) word old) answer new → YieldsOnly (FailsBecause goal b n m word old) answer new
 because goal b n m word q answer old new move h =
@@ -193,73 +153,45 @@ because goal b n m word q answer old new move h =
 -- ---- yes claims
 
 -- the only claim about the position
-pub one_claim : (claims : List Claim) (p : PlainBoard) (n k : ℕ) (few : Bool) → (IsTrue few ↔ (k ≤ n)) → HasClaim claims p k → AreApart claims → IsTrue few ↔ ClaimsSoFew claims p n
-one_claim claims p n k few h claimed apart = (λ answer. (record { position = p; plies = k }, claimed, refl, h.0 answer), to)
+pub one_claim : (claims : List Claim) (p : PlainBoard) (n k : ℕ) (few : Bool) → (IsTrue few ↔ (k ≤ n)) → HasClaim claims p k → AreApart claims → YieldsOnly (λ other. ClaimsSoFew claims p n × (other ≡ claims)) few claims
+one_claim claims p n k few h claimed apart other = (to, λ it. ((record { position = p; plies = k }, claimed, refl, h.0 it.0), it.1))
   where
-    to : ClaimsSoFew claims p n → IsTrue few
-    to (c, among, about, so_few) =
+    to : ClaimsSoFew claims p n × (other ≡ claims) → IsTrue few × (other ≡ claims)
+    to ((c, among, about, so_few), is) =
         let same : c.plies ≡ k = apart p c.plies k (subst (λ (b : PlainBoard). HasClaim claims b c.plies) about among) claimed in
-        h.1 (omega (arith, same, so_few))
-
-pub no_claim : (claims : List Claim) (p : PlainBoard) (n : ℕ) → NoneAbout claims p → IsTrue false ↔ ClaimsSoFew claims p n
-no_claim claims p n none = (λ answer. absurd (false≢true answer), λ few. absurd (none few.0 few.1 few.2))
+        (h.1 (omega (arith, same, so_few)), is)
 
 pub met_by : (goal : Goal) (q : PlainBoard) (n : ℕ) (r : Ply) (word : Word) (p : PlainBoard) (answer : Bool) (old new : List Claim) → IsMove q r p → YieldsOnly (Meets goal p n word old) answer new → YieldsOnly (MeetsReply goal q n r word old) answer new
 met_by goal q n r word p answer old new move h =
     yields_by (IsMove q r) (λ x other. Meets goal x n word old other) p answer new move (λ x also. one_after q r x p also move) h
 
-pub each_met : (goal : Goal) (q : PlainBoard) (n : ℕ) (replies : List Ply) (words : List Word) (answer : Bool) (old new : List Claim) → ListsLawful q replies → YieldsOnly (TellInTurn (MeetsReply goal q n) replies words old) answer new → YieldsOnly (MeetReplies goal q n words old) answer new
-each_met goal q n replies words answer old new lists h =
-    yields_by (ListsLawful q) (λ l other. TellInTurn (MeetsReply goal q n) l words old other) replies answer new lists (λ l also. one_list q l replies also lists) h
+pub few_plies : (goal : Goal) (q : PlainBoard) (n : ℕ) (words : List Word) (old : List Claim) → (r : Ply) × IsLawful q r → n < 3 → YieldsOnly (ShowWin goal q n words old) false old
+few_plies goal q n words old some few =
+    yields_none (ShowWin goal q n words old) old (λ other show. elim show [ inl stuck ↦ stuck.0 some.0 some.1 | inr more ↦ omega (arith, few, more.1) ])
 
-module _ (goal : Goal) (q : PlainBoard) (n : ℕ) (words : List Word) (old : List Claim) (some : Bool) (h : IsTrue some ↔ ((r : Ply) × IsLawful q r)) where
-  pub at_the_end : (there : Bool) → some ≡ false → words ≡ [] → (IsTrue there ↔ IsReached goal q) → YieldsOnly (ShowWin goal q n words old) there old
-  at_the_end there none empty reached other = (to, λ it. inl (no_reply goal q n old some h none, reached.0 it.0, empty, it.1))
-    where
-      to : ShowWin goal q n words old other → IsTrue there × (other ≡ old)
-      to (inl (stuck, is_there, no_words, is)) = (reached.1 is_there, is)
-      to (inr (reply, enough, meet)) = absurd (no_reply goal q n old some h none reply.0 reply.1)
-
-  pub behind_the_end : some ≡ false → (words ≡ [] → ⊥) → YieldsOnly (ShowWin goal q n words old) false old
-  behind_the_end none more = yields_none (ShowWin goal q n words old) old untold
-    where
-      untold : (other : List Claim) → ShowWin goal q n words old other → ⊥
-      untold other (inl (stuck, is_there, no_words, is)) = more no_words
-      untold other (inr (reply, enough, meet)) = no_reply goal q n old some h none reply.0 reply.1
-
-  pub few_plies : some ≡ true → n < 3 → YieldsOnly (ShowWin goal q n words old) false old
-  few_plies answer few = yields_none (ShowWin goal q n words old) old untold
-    where
-      untold : (other : List Claim) → ShowWin goal q n words old other → ⊥
-      untold other (inl (stuck, is_there, no_words, is)) = let r = h.0 answer in stuck r.0 r.1
-      untold other (inr (reply, enough, meet)) = omega (arith, few, enough)
-
-  pub replies_met : (answer : Bool) (new : List Claim) → some ≡ true → 3 ≤ n → YieldsOnly (MeetReplies goal q (n - 2) words old) answer new → YieldsOnly (ShowWin goal q n words old) answer new
-  replies_met answer new is_some enough met = yields_like (MeetReplies goal q (n - 2) words old) (ShowWin goal q n words old) answer new (λ other. (to other, λ meet. inr (h.0 is_some, enough, meet))) met
-    where
-      to : (other : List Claim) → ShowWin goal q n words old other → MeetReplies goal q (n - 2) words old other
-      to other (inl (stuck, is_there, no_words, is)) = absurd (let r = h.0 is_some in stuck r.0 r.1)
-      to other (inr (reply, also, meet)) = meet
-
-same_place : (j k : ℕ) → Place j ≡ Place k → j ≡ k
-same_place j k e = cc
+pub each_met : (goal : Goal) (q : PlainBoard) (n : ℕ) → (r : Ply) × IsLawful q r → (replies : List Ply) (words : List Word) (answer : Bool) (old new : List Claim) → ListsLawful q replies → 3 ≤ n
+    → YieldsOnly (TellInTurn (MeetsReply goal q (n - 2)) replies words old) answer new → YieldsOnly (ShowWin goal q n words old) answer new
+each_met goal q n some replies words answer old new lists enough met =
+    yields_like (MeetReplies goal q (n - 2) words old) (ShowWin goal q n words old) answer new
+    (λ other. (λ show. elim show [ inl stuck ↦ absurd (stuck.0 some.0 some.1) | inr more ↦ more.2 ], λ meet. inr (some, enough, meet)))
+    (yields_by (ListsLawful q) (λ l other. TellInTurn (MeetsReply goal q (n - 2)) l words old other) replies answer new lists (λ l also. one_list q l replies also lists) met)
 
 -- no move stands at the place
 pub not_there : (goal : Goal) (c : Claim) (line words : List Word) (old : List Claim) (place : ℕ) → line ≡ Place place ∷ words → ((m : Ply) → IsMoveAt c.position place m → ⊥) → FindsOnly (λ n other. IsYesLine goal c n line old other) None old
 not_there goal c line words old place is none = finds_none (λ n other. IsYesLine goal c n line old other) old (λ n other told. untold n told.0 told.1 told.2 told.3)
   where
     untold : (n : Ply) (k : ℕ) (rest : List Word) → line ≡ Place k ∷ rest → IsMoveAt c.position k n → ⊥
-    untold n k rest is_too at = let same = same_cons (Place place) (Place k) words rest (sym is ∙ is_too) in none n (subst (λ (j : ℕ). IsMoveAt c.position j n) (sym (same_place place k same.0)) at)
+    untold n k rest is_too at = let here : place ≡ k = cc in none n (subst (λ (j : ℕ). IsMoveAt c.position j n) (sym here) at)
 
 -- a yes line names one move
 module _ (goal : Goal) (c : Claim) (line words : List Word) (old : List Claim) (place : ℕ) (m : Ply) (q : PlainBoard) (is : line ≡ Place place ∷ words) (at : IsMoveAt c.position place m) (move : IsMove c.position m q) where
   one_named : (n : Ply) (other : List Claim) → IsYesLine goal c n line old other → (n ≡ m) × ShowWin goal q c.plies words old other
   one_named n other (k, rest, is_too, at_too, some, x, move_too, win) =
-      let same = same_cons (Place place) (Place k) words rest (sym is ∙ is_too) in
-      let here : place ≡ k = same_place place k same.0 in
+      let here : place ≡ k = cc in
+      let same : rest ≡ words = cc in
       let one : n ≡ m = one_move_at c.position place n m (subst (λ (j : ℕ). IsMoveAt c.position j n) (sym here) at_too) at in
       let there : x ≡ q = one_after c.position m x q (subst (λ (l : Ply). IsMove c.position l x) one move_too) move in
-      (one, subst (λ (b : PlainBoard). ShowWin goal b c.plies words old other) there (subst (λ (l : List Word). ShowWin goal x c.plies l old other) (sym same.1) win))
+      (one, subst (λ (b : PlainBoard). ShowWin goal b c.plies words old other) there (subst (λ (l : List Word). ShowWin goal x c.plies l old other) same win))
 
   pub wins_with : (answer : Bool) (new : List Claim) → 0 < c.plies → answer ≡ true → YieldsOnly (ShowWin goal q c.plies words old) answer new → FindsOnly (λ n other. IsYesLine goal c n line old other) (Some m) new
   wins_with answer new some so h n other = (
@@ -276,24 +208,20 @@ module _ (b : PlainBoard) (list : List Ply) (lists : ListsLawful b list) (first 
   -- a list in order has a move once
   one_place : (i j : ℕ) → i < j → j < length list → get_or list i first ≡ first → get_or list j first ≡ first → ⊥
   one_place i j before within here there =
-      no_self _ _ _ (subst (λ (x : Ply). IsPlyBefore b.game x first) here (subst (λ (x : Ply). IsPlyBefore b.game (get_or list i first) x) there (lists.ordered i j first before within)))
-    where
-      no_self : (f t p : ℕ) → (f < f) ⊎ ((f ≡ f) × (t < t)) ⊎ ((f ≡ f) × (t ≡ t) × (p < p)) → ⊥
-      no_self f t p lower = lower_once f f t t p p lower lower
+      let self : IsPlyBefore b.game first first = subst (λ (x : Ply). IsPlyBefore b.game x first) here (subst (λ (x : Ply). IsPlyBefore b.game (get_or list i first) x) there (lists.ordered i j first before within)) in
+      one_way _ _ _ _ _ _ self self
 
   one_front : (lesser others : List Ply) (place : ℕ) → ListsLawful b (lesser ++ first ∷ others) → place < length list → get_or list place first ≡ first → lesser ≡ take place list
   one_front lesser others place also within there =
       let whole : lesser ++ first ∷ others ≡ list = one_list b (lesser ++ first ∷ others) list also lists in
       let seam : get_or list (length lesser) first ≡ first = ap (λ (l : List Ply). get_or l (length lesser) first) (sym whole) ∙ get_or-append_seam lesser first others first in
       let inside : length lesser < length list = omega (arith, ap length whole, length-append lesser (first ∷ others)) in
-      let at : place ≡ length lesser = elim (cases_lt (length lesser) place) as (λ _. place ≡ length lesser) [
-        | inl before ↦ absurd (one_place (length lesser) place before within seam there)
-        | inr not_before ↦ elim (cases_eq place (length lesser)) as (λ _. place ≡ length lesser) [
-          | inl equal ↦ equal
-          | inr differs ↦ absurd (one_place place (length lesser) (omega (arith, not_before, differs)) inside there seam)
-        ]
+      let at : place ≡ length lesser = elim (split3 place (length lesser)) as (λ _. place ≡ length lesser) [
+        | inl before ↦ absurd (one_place place (length lesser) before inside there seam)
+        | inr (inl same) ↦ same
+        | inr (inr behind) ↦ absurd (one_place (length lesser) place behind within seam there)
       ] in
-      sym (ap (λ n. take n list) at ∙ (ap (λ (l : List Ply). take (length lesser) l) (sym whole) ∙ (take-append-le (length lesser) lesser (first ∷ others) (omega arith) ∙ take-length lesser)))
+      sym (ap (λ n. take n list) at ∙ (ap (λ (l : List Ply). take (length lesser) l) (sym whole) ∙ take_at lesser (first ∷ others) (length lesser) refl))
 
   pub lesser_fail : (goal : Goal) (n place : ℕ) (words : List Word) (answer : Bool) (old new : List Claim) → place < length list → get_or list place first ≡ first → YieldsOnly (ShowFailures goal b n (take place list) words old) answer new → YieldsOnly (IsLesserLine goal b n first words old) answer new
   lesser_fail goal n place words answer old new within there = yields_like (ShowFailures goal b n (take place list) words old) (IsLesserLine goal b n first words old) answer new (λ other. (to other, λ show. (take place list, drop (place + 1) list, subst (ListsLawful b) cut lists, show)))
@@ -314,15 +242,7 @@ module _ (b : PlainBoard) (list : List Ply) (lists : ListsLawful b list) (first 
 -- ---- the claim that no mate is shorter
 
 pub if_less : {X : Type 0} (a b : ℕ) (x y : X) → a < b → (if nat_lt a b then x else y) ≡ x
-if_less a b x y less = when (nat_lt a b) (grind (arith, nat_tests))
-  where
-    when : (t : Bool) → t ≡ true → (if t then x else y) ≡ x
-    when true is = refl
-    when false is = absurd (false≢true is)
+if_less a b x y less = grind (arith, nat_tests)
 
 pub if_not_less : {X : Type 0} (a b : ℕ) (x y : X) → b ≤ a → (if nat_lt a b then x else y) ≡ y
-if_not_less a b x y more = when (nat_lt a b) (grind (arith, nat_tests))
-  where
-    when : (t : Bool) → t ≡ false → (if t then x else y) ≡ y
-    when true is = absurd (false≢true (sym is))
-    when false is = refl
+if_not_less a b x y more = grind (arith, nat_tests)

@@ -1,18 +1,12 @@
 -- The lines of a certificate are read on to their end, and what is read on to its end is a certificate.
 use Rattle.std.proofs.Common.{◌≡◌, ◌<◌, ◌≤◌, inl, inr, ℕ, ◌+◌, ◌-◌, ◌%◌, List, [], ◌∷◌, ◌++◌, length, map, refl, sym, ap, ◌∙◌, subst, arith, All}
-use Rattle.verifying.proofs.Common.{cases_lt, All-cons, All-head, All-nil, All-tail, slice_get_within, PlainBoard, Goal, Answer, Claim, Mate, Part, First, Win, Yes, Lesser, No, Word, first_line, words_line, fed, AreLinesFrom, IsCertificate, IsNoLine, IsSomeYesLine, NoLinesMake, ProveAnswer, with_claim, IsEnded, ReadsLine, ReadsOn, ReadsWords, begun_claims, begun_part, behind_yes}
+use Rattle.verifying.proofs.Common.{cases_lt, All-cons, All-head, All-nil, All-tail, slice_get_within, PlainBoard, Goal, Answer, Claim, Mate, Part, First, Win, Yes, Lesser, No, Word, first_line, words_line, fed, AreLinesFrom, IsCertificate, IsNoLine, IsSomeYesLine, NoLinesMake, ProveAnswer, with_claim, ReadsLine, ReadsOn, ReadsWords, begun_claims, begun_part, behind_yes}
 use Rattle.problems.specs.declared.answer.Answer.TheVariants as answer
 use Rattle.verifying.proofs.Making.{if_less, if_not_less}
 use Rattle.verifying.proofs.OneAnswer.{certificate_named}
 
 abbrev pub IsShort : List Word → Type 0
 IsShort line = length (words_line line) ≤ 8192
-
-another : (mate : Mate) (place count : ℕ) → place < count → behind_yes mate place count ≡ Yes mate place
-another mate place count less = if_less place count (Yes mate place) (Lesser mate) less
-
-no_other : (mate : Mate) (place count : ℕ) → count ≤ place → behind_yes mate place count ≡ Lesser mate
-no_other mate place count whole = if_not_less place count (Yes mate place) (Lesser mate) whole
 
 module _ (goal : Goal) (b : PlainBoard) where
   -- ---- the lines of a certificate
@@ -38,9 +32,9 @@ module _ (goal : Goal) (b : PlainBoard) where
   module _ (mate : Mate) (noes : List (List Word)) (held : List Claim) (make : NoLinesMake goal b mate.plies mate.first noes held) (fewer : length held < length noes) where
     yes_read : (place : ℕ) (yeas : List (List Word)) (old won : List Claim) → AreLinesFrom (IsSomeYesLine goal) place yeas old won → length won ≤ place + length yeas → All IsShort (yeas ++ noes) → ReadsOn goal b (behind_yes mate place (length old)) old (map words_line (yeas ++ noes)) (answer.Mate mate.plies mate.first)
     yes_read place [] old won are whole short =
-        subst (λ (p : Part). ReadsOn goal b p old (map words_line noes) (answer.Mate mate.plies mate.first)) (sym (no_other mate place (length old) (omega (arith, whole, ap length are)))) (lesser_read mate noes old held make fewer short)
+        subst (λ (p : Part). ReadsOn goal b p old (map words_line noes) (answer.Mate mate.plies mate.first)) (sym (if_not_less place (length old) (Yes mate place) (Lesser mate) (omega (arith, whole, ap length are)))) (lesser_read mate noes old held make fewer short)
     yes_read place (line ∷ yeas) old won (c, next, at, first, rest) whole short =
-        subst (λ (p : Part). ReadsOn goal b p old (map words_line ((line ∷ yeas) ++ noes)) (answer.Mate mate.plies mate.first)) (sym (another mate place (length old) (slice_get_within old place c at))) (
+        subst (λ (p : Part). ReadsOn goal b p old (map words_line ((line ∷ yeas) ++ noes)) (answer.Mate mate.plies mate.first)) (sym (if_less place (length old) (Yes mate place) (Lesser mate) (slice_get_within old place c at))) (
           behind_yes mate (place + 1) (length next),
           next,
           inr (line, refl, All-head IsShort line (yeas ++ noes) short, ((c, at, first), refl)),
@@ -111,20 +105,17 @@ module _ (goal : Goal) (b : PlainBoard) where
 
   only_lesser : (told : Answer) (mate : Mate) (place : ℕ) (old : List Claim) (lines : List (List ℕ)) → length old ≤ place → ReadsOn goal b (behind_yes mate place (length old)) old lines told → (answer.Mate mate.plies mate.first ≡ told) × AreOf lines (ShowMate mate place old)
   only_lesser told mate place old lines whole reads =
-      let (one, (words, are, short, lesser)) = lesser_lines told mate old lines (subst (λ (p : Part). ReadsOn goal b p old lines told) (no_other mate place (length old) whole) reads) in
+      let (one, (words, are, short, lesser)) = lesser_lines told mate old lines (subst (λ (p : Part). ReadsOn goal b p old lines told) (if_not_less place (length old) (Yes mate place) (Lesser mate) whole) reads) in
       (one, (words, are, short, ([], words, refl, (old, refl, omega (arith, whole)), lesser)))
 
   yes_lines : (told : Answer) (mate : Mate) (place : ℕ) (old : List Claim) (lines : List (List ℕ)) → ReadsOn goal b (behind_yes mate place (length old)) old lines told → (answer.Mate mate.plies mate.first ≡ told) × AreOf lines (ShowMate mate place old)
   yes_lines told mate place old [] reads = elim (cases_lt place (length old)) as (λ _. (answer.Mate mate.plies mate.first ≡ told) × AreOf [] (ShowMate mate place old)) [
-    | inl less ↦ absurd (not_ended (subst (λ (p : Part). ReadsOn goal b p old [] told) (another mate place (length old) less) reads))
+    | inl less ↦ let (at, is, ended) = subst (λ (p : Part). ReadsOn goal b p old [] told) (if_less place (length old) (Yes mate place) (Lesser mate) less) reads in absurd cc
     | inr whole ↦ only_lesser told mate place old [] whole reads
   ]
-    where
-      not_ended : IsEnded (Yes mate place) old told → ⊥
-      not_ended (at, is, whole) = cc
   yes_lines told mate place old (line ∷ lines) reads = elim (cases_lt place (length old)) as (λ _. (answer.Mate mate.plies mate.first ≡ told) × AreOf (line ∷ lines) (ShowMate mate place old)) [
     | inl less ↦
-        let (next, new, read, rest) = subst (λ (p : Part). ReadsOn goal b p old (line ∷ lines) told) (another mate place (length old) less) reads in
+        let (next, new, read, rest) = subst (λ (p : Part). ReadsOn goal b p old (line ∷ lines) told) (if_less place (length old) (Yes mate place) (Lesser mate) less) reads in
         let (words, spelled, small, ((c, at, is_line), is)) = of_words read in
         let later = yes_lines told mate (place + 1) new lines (subst (λ (p : Part). ReadsOn goal b p new lines told) is rest) in (
           later.0,

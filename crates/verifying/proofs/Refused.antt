@@ -1,83 +1,31 @@
 -- What a checker has taken, what it refuses and that it is no certificate, and what it proves.
-use Rattle.std.proofs.Common.{◌≡◌, ℕ, ◌+◌, ◌<◌, List, [], ◌++◌, length, Option, None, Some, sym, ap, subst, Err, suc, codes, inl, inr, ◌≤◌, ◌∷◌, map, refl, ◌∙◌, arith, append_assoc, length-append, All, ◌↔◌, nat_lt, Bool, true, false, if◌then◌else◌}
-use Rattle.verifying.proofs.Common.{Consumes, PlainBoard, Goal, Answer, Claim, OfInput, HasNoFeed, any_input, Fault, AnswerFault, NumberedFault, TooLong, NoMemory, ReadFailed, Part, HasRead, answer_of, IsEnded, ReadsLine, ReadsOn, IsLineOf, ReadsAnswer, ReadsWords, begun_claims, begun_part, part_behind, AreLines, HasLongLine, TellsOf, IsClaimLine, fed, All-cons, All-nil, All-weaker, All-push, decimal, promotion_text, move_text, First, Win, Yes, Lesser, No, first_line, goal_text, HasFirstLine, IsInRange, HasNamedMove, words_line, IsCertificate, IsRefusedWith, flat_map-append, append-nil, same_Some, Checker, Mate, Word, HasTakenText, TakesMore, RefusesMore, IsProvedBy, FindsOnly}
+use Rattle.std.proofs.Common.{◌≡◌, ℕ, ◌+◌, ◌<◌, List, [], ◌++◌, length, Option, None, Some, sym, ap, subst, Err, inl, inr, ◌≤◌, ◌∷◌, map, refl, ◌∙◌, arith, append_assoc, length-append, All, ◌↔◌, nat_lt, Bool, true, false, if◌then◌else◌}
+use Rattle.verifying.proofs.Common.{PlainBoard, Goal, Answer, Claim, HasNoFeed, Fault, TooLong, Part, HasRead, answer_of, IsEnded, ReadsLine, ReadsOn, IsLineOf, ReadsWords, begun_claims, begun_part, part_behind, AreLines, TellsOf, IsClaimLine, fed, All-cons, All-nil, All-weaker, All-push, First, Win, Yes, Lesser, No, first_line, HasFirstLine, IsInRange, HasNamedMove, words_line, IsCertificate, IsRefusedWith, flat_map-append, append-nil, same_Some, Checker, Mate, Word, HasTakenText, TakesMore, RefusesMore, IsProvedBy, FindsOnly, none-some, IsNoCertificate}
 use Rattle.verifying.specs.Taking.{fault_at}
 use Rattle.verifying.proofs.Making.{finds_none}
-use Rattle.verifying.proofs.Feeds.{answer_no_feed, line_no_feed, left_over, next_of, none_of, long_of}
-use Rattle.verifying.proofs.OneAnswer.{decimal_short, letter_long, one_answer, certificate_named, same_cons}
+use Rattle.verifying.proofs.Feeds.{IsBrief, answer_brief, line_no_feed, left_over, next_of, none_of, long_of}
+use Rattle.verifying.proofs.OneAnswer.{one_answer, certificate_named}
 use Rattle.verifying.proofs.Reading.{certificate_read, certificate_of}
 use Rattle.verifying.proofs.Grown.{none_apart, reads_apart}
 use Rattle.verifying.proofs.Sound.{certificate_certifies}
 use Rattle.verifying.proofs.Spelling.{one_line}
-use Rattle.rules.specs.declared.goal.Goal.TheVariants as goal
 use Rattle.problems.specs.declared.answer.Answer.TheVariants as answer
-
--- ---- what a fault tells
-
--- the fault of the next line
-pub fault_told : (goal : Goal) (b : PlainBoard) (number : ℕ) (part : Part) (claims : List Claim) (text more : List ℕ) (fault : Fault) → fault ≡ fault_at (answer_of part) number → HasRead goal b number part claims text → TellsOf goal (text ++ more) (Err fault)
-fault_told goal b number part claims text more fault is read = subst (λ (f : Fault). TellsOf goal (text ++ more) (Err f)) (sym is) (by_answer (answer_of part) read.grammar)
-  where
-    by_answer : (o : Option Answer) → AreLines goal o read.lines → TellsOf goal (text ++ more) (Err (fault_at o number))
-    by_answer None are = tt
-    by_answer (Some told) are = (told, read.lines, more, are, ap (λ (l : List ℕ). l ++ more) read.spelled, ap (λ (n : ℕ). n + 1) read.count)
-
--- and of a line that is too long
-pub long_told : (goal : Goal) (b : PlainBoard) (number : ℕ) (part : Part) (claims : List Claim) (text line rest : List ℕ) → HasNoFeed line → 8192 < length line → HasRead goal b number part claims text → HasLongLine (text ++ (line ++ rest))
-long_told goal b number part claims text line rest none long read = (read.lines, line, rest, none, long, ap (λ (l : List ℕ). l ++ (line ++ rest)) read.spelled)
-
--- ---- of an input
-
--- some input has lost these bytes
-pub lost : (first now : Option (List ℕ)) (bytes : List ℕ) (P : List ℕ → Type 0) → Consumes first now bytes → ((rest : List ℕ) → P (bytes ++ rest)) → OfInput first P
-lost None now bytes P gone so = (bytes ++ [], tt, so [])
-lost (Some xs) None bytes P gone so = absurd gone
-lost (Some xs) (Some ys) bytes P gone so = (bytes ++ ys, gone, so ys)
-
--- a fault that isn't of the text tells nothing of it
-pub fault_of_text : (goal : Goal) (first : Option (List ℕ)) (fault : Fault) → ((fault ≡ NoMemory → ⊥) → (fault ≡ ReadFailed → ⊥) → OfInput first (λ input. TellsOf goal input (Err fault))) → OfInput first (λ input. TellsOf goal input (Err fault))
-fault_of_text goal first AnswerFault told = told (λ e. cc) (λ e. cc)
-fault_of_text goal first (NumberedFault number) told = told (λ e. cc) (λ e. cc)
-fault_of_text goal first TooLong told = told (λ e. cc) (λ e. cc)
-fault_of_text goal first NoMemory told = any_input first (λ input. TellsOf goal input (Err NoMemory)) (λ input. tt)
-fault_of_text goal first ReadFailed told = any_input first (λ input. TellsOf goal input (Err ReadFailed)) (λ input. tt)
-
--- ---- an answer's line is short
-
-goal_long : (goal : Goal) → length (goal_text goal) ≡ 5
-goal_long goal.Mate = refl
-goal_long goal.MateOrStale = refl
-
-answer_short : (goal : Goal) (mine : Answer) → IsInRange mine → length (first_line goal mine) ≤ 8192
-answer_short goal (answer.Mate n m) range =
-    let digits = decimal_short n range.1 in
-    let name : length (move_text m) ≡ suc (suc (suc (suc (length (promotion_text m.promotion))))) = refl in
-    let letter = letter_long m.promotion in
-    omega (arith, length-append (goal_text goal) (decimal n ++ 32 ∷ move_text m), length-append (decimal n) (32 ∷ move_text m), goal_long goal, digits, name, letter)
-answer_short goal (answer.NoneWithin limit) range =
-    let digits = decimal_short limit range.1 in
-    let whole : length (first_line goal (answer.NoneWithin limit)) ≡ length (codes "none within ") + length (decimal limit) = length-append (codes "none within ") (decimal limit) in
-    omega (arith, whole, digits)
 
 module _ (goal : Goal) (b : PlainBoard) where
   -- ---- lines that are read
 
-  read_short : (part next : Part) (line : List ℕ) (old new : List Claim) → ReadsLine goal b part line old next new → length line ≤ 8192
-  read_short part next line old new (inl (first, (told, range, named, spelled, is, made))) = omega (arith, ap length spelled, answer_short goal told range)
-  read_short part next line old new (inr (words, spelled, small, read)) = small
-
-  read_no_feed : (part next : Part) (line : List ℕ) (old new : List Claim) → ReadsLine goal b part line old next new → HasNoFeed line
-  read_no_feed part next line old new (inl (first, (told, range, named, spelled, is, made))) = subst HasNoFeed (sym spelled) (answer_no_feed goal told range)
-  read_no_feed part next line old new (inr (words, spelled, small, read)) = subst HasNoFeed (sym spelled) (line_no_feed words)
+  read_brief : (part next : Part) (line : List ℕ) (old new : List Claim) → ReadsLine goal b part line old next new → IsBrief 8192 line
+  read_brief part next line old new (inl (first, (told, range, named, spelled, is, made))) = subst (IsBrief 8192) (sym spelled) (answer_brief goal told range)
+  read_brief part next line old new (inr (words, spelled, small, read)) = (small, subst HasNoFeed (sym spelled) (line_no_feed words))
 
   all_no_feed : (part : Part) (claims : List Claim) (lines : List (List ℕ)) (told : Answer) → ReadsOn goal b part claims lines told → All HasNoFeed lines
   all_no_feed part claims [] told ended = All-nil HasNoFeed
-  all_no_feed part claims (line ∷ lines) told (next, new, read, rest) = All-cons HasNoFeed line lines (read_no_feed part next line claims new read) (all_no_feed next new lines told rest)
+  all_no_feed part claims (line ∷ lines) told (next, new, read, rest) = All-cons HasNoFeed line lines (read_brief part next line claims new read).1 (all_no_feed next new lines told rest)
 
   grammar_no_feed : (o : Option Answer) (lines : List (List ℕ)) → AreLines goal o lines → All HasNoFeed lines
   grammar_no_feed None lines none = subst (All HasNoFeed) (sym none) (All-nil HasNoFeed)
   grammar_no_feed (Some told) lines (range, (claims, is, are)) =
-      subst (All HasNoFeed) (sym is) (All-cons HasNoFeed (first_line goal told) claims (answer_no_feed goal told range)
+      subst (All HasNoFeed) (sym is) (All-cons HasNoFeed (first_line goal told) claims (answer_brief goal told range).1
       (All-weaker IsClaimLine HasNoFeed (λ line words. subst HasNoFeed (sym words.1) (line_no_feed words.0)) claims are))
 
   -- what a certificate has behind what was read of it
@@ -87,38 +35,6 @@ module _ (goal : Goal) (b : PlainBoard) where
       let reads = certificate_read goal b mine (text ++ rest) certificate in
       let left = left_over xs read.lines rest (all_no_feed First [] xs mine reads) (grammar_no_feed (answer_of part) read.lines read.grammar) (sym certificate.spelled ∙ ap (λ (l : List ℕ). l ++ rest) read.spelled) in
       (left.0, (read.left left.0 mine).0 (subst (λ (l : List (List ℕ)). ReadsOn goal b First [] l mine) left.1 reads), left.2)
-
-  -- ---- behind what was read
-
-  module _ (number : ℕ) (part : Part) (claims : List Claim) (text : List ℕ) (fault : Fault) (read : HasRead goal b number part claims text) where
-    pub line_refused : (line rest : List ℕ) → fault ≡ fault_at (answer_of part) number → HasNoFeed line → ((next : Part) (new : List Claim) → ReadsLine goal b part line claims next new → ⊥) → IsRefusedWith goal b fault (text ++ (line ++ 10 ∷ rest))
-    line_refused line rest is none wrong = (
-      fault_told goal b number part claims text (line ++ 10 ∷ rest) fault is read,
-      λ mine certificate.
-          let (more, reads, left) = certificate_left number part claims text (line ++ 10 ∷ rest) mine read certificate in
-          let next = next_of more line rest (all_no_feed part claims more mine reads) none left in
-          let here = subst (λ (l : List (List ℕ)). ReadsOn goal b part claims l mine) next.1 reads in
-          wrong here.0 here.1 here.2,
-    )
-
-    pub end_refused : (rest : List ℕ) → fault ≡ fault_at (answer_of part) number → HasNoFeed rest → (rest ≡ [] → (told : Answer) → IsEnded part claims told → ⊥) → IsRefusedWith goal b fault (text ++ rest)
-    end_refused rest is none wrong = (
-      fault_told goal b number part claims text rest fault is read,
-      λ mine certificate.
-          let (more, reads, left) = certificate_left number part claims text rest mine read certificate in
-          let gone = none_of more rest none left in
-          wrong gone.1 mine (subst (λ (l : List (List ℕ)). ReadsOn goal b part claims l mine) gone.0 reads),
-    )
-
-    pub long_refused : (line rest : List ℕ) → fault ≡ TooLong → HasNoFeed line → 8192 < length line → IsRefusedWith goal b fault (text ++ (line ++ rest))
-    long_refused line rest is none long = subst (λ (f : Fault). IsRefusedWith goal b f (text ++ (line ++ rest))) (sym is) (
-      long_told goal b number part claims text line rest none long read,
-      λ mine certificate.
-          let (more, reads, left) = certificate_left number part claims text (line ++ rest) mine read certificate in
-          let (x, others, first, longer) = long_of more line rest none (omega (arith, long)) left in
-          let here = subst (λ (l : List (List ℕ)). ReadsOn goal b part claims l mine) first reads in
-          omega (arith, read_short part here.0 x claims here.1 here.2, longer, long),
-    )
 
 -- ---- the answer with which a certificate begins
 
@@ -130,51 +46,34 @@ pub begun_answer : (goal : Goal) (b : PlainBoard) (told answer : Answer) (rest :
 begun_answer goal b told answer rest range named certificate =
     let text = first_line goal told ++ 10 ∷ rest in
     let xs : List (List ℕ) = first_line goal answer ∷ map words_line certificate.lines in
-    let next = next_of xs (first_line goal told) rest (all_no_feed goal b First [] xs answer (certificate_read goal b answer text certificate)) (answer_no_feed goal told range) (sym certificate.spelled) in
-    let is = (same_cons (first_line goal answer) (first_line goal told) (map words_line certificate.lines) next.0 next.1).0 in
+    let next = next_of xs (first_line goal told) rest (all_no_feed goal b First [] xs answer (certificate_read goal b answer text certificate)) (answer_brief goal told range).1 (sym certificate.spelled) in
+    let is : first_line goal answer ≡ first_line goal told = cc (next.1) in
     one_answer goal answer told certificate.range range (certificate_named goal b answer text certificate) named is
 
 -- ---- what a line is found to be
 
 module _ (goal : Goal) (b : PlainBoard) (line : List ℕ) where
-  found_answer : (answer : Answer) → IsInRange answer → HasNamedMove answer → line ≡ first_line goal answer → FindsOnly (ReadsAnswer goal b line) (Some (begun_part answer)) (begun_claims b answer)
-  found_answer answer range named is next new = (
-    λ (mine, also, named_too, spelled, comes, made).
-        let one : mine ≡ answer = one_answer goal mine answer also range named_too named (sym spelled ∙ is) in
-        (ap Some (sym (comes ∙ ap begun_part one)), made ∙ ap (begun_claims b) one),
-    λ it. (answer, range, named, is, sym (same_Some (begun_part answer) next it.0), it.1),
+  -- the answer of the first line
+  pub answer_found : (part : Part) (old claims : List Claim) (answer : Answer) (next : Part) → part ≡ First → IsInRange answer → HasNamedMove answer → line ≡ first_line goal answer → next ≡ begun_part answer → claims ≡ begun_claims b answer → FindsOnly (ReadsLine goal b part line old) (Some next) claims
+  answer_found part old claims answer next first range named is comes made other new =
+      (to, λ it. inl (first, (answer, range, named, is, sym (same_Some next other it.0) ∙ comes, it.1 ∙ made)))
+    where
+      to : ReadsLine goal b part line old other new → (Some next ≡ Some other) × (new ≡ claims)
+      to (inl (also, (mine, in_range, named_too, spelled, begun, begun_made))) =
+          let one : mine ≡ answer = one_answer goal mine answer in_range range named_too named (sym spelled ∙ is) in
+          (ap Some (comes ∙ sym (begun ∙ ap begun_part one)), begun_made ∙ (ap (begun_claims b) one ∙ sym made))
+      to (inr (words, spelled, small, (is_line, behind))) = absurd (subst (λ (p : Part). IsLineOf goal b p words old new) first is_line)
+
+  -- or what words show
+  pub words_found : (part : Part) (old claims : List Claim) (found : Option Part) (words : List Word) → (part ≡ First → ⊥) → line ≡ words_line words → length line ≤ 8192 → FindsOnly (ReadsWords goal b part words old) found claims → FindsOnly (ReadsLine goal b part line old) found claims
+  words_found part old claims found words other is small h next new = (
+    λ reads. elim reads [ inl told ↦ absurd (other told.0) | inr read ↦ (h next new).0 (subst (λ (l : List Word). ReadsWords goal b part l old next new) (one_line read.0 words (sym read.1 ∙ is)) read.3) ],
+    λ it. inr (words, is, small, (h next new).1 it),
   )
 
-  module _ (part : Part) (old claims : List Claim) (found : Option Part) where
-    first_found : part ≡ First → FindsOnly (ReadsAnswer goal b line) found claims → FindsOnly (ReadsLine goal b part line old) found claims
-    first_found first h next new = (to, λ it. inl (first, (h next new).1 it))
-      where
-        to : ReadsLine goal b part line old next new → (found ≡ Some next) × (new ≡ claims)
-        to (inl (also, reads)) = (h next new).0 reads
-        to (inr (words, spelled, small, (is_line, is))) = absurd (subst (λ (p : Part). IsLineOf goal b p words old new) first is_line)
-
-    pub words_found : (words : List Word) → (part ≡ First → ⊥) → line ≡ words_line words → length line ≤ 8192 → FindsOnly (ReadsWords goal b part words old) found claims → FindsOnly (ReadsLine goal b part line old) found claims
-    words_found words other is small h next new = (to, λ it. inr (words, is, small, (h next new).1 it))
-      where
-        to : ReadsLine goal b part line old next new → (found ≡ Some next) × (new ≡ claims)
-        to (inl (first, reads)) = absurd (other first)
-        to (inr (mine, spelled, also, read)) = (h next new).0 (subst (λ (l : List Word). ReadsWords goal b part l old next new) (one_line mine words (sym spelled ∙ is)) read)
-
-  -- the answer of the first line, or that there is none
-  pub answer_found : (part : Part) (old claims : List Claim) (answer : Answer) (next : Part) → part ≡ First → IsInRange answer → HasNamedMove answer → line ≡ first_line goal answer → next ≡ begun_part answer → claims ≡ begun_claims b answer → FindsOnly (ReadsLine goal b part line old) (Some next) claims
-  answer_found part old claims answer next first range named is comes made =
-      subst (λ (p : Part). FindsOnly (ReadsLine goal b part line old) (Some p) claims) (sym comes) (subst (λ (l : List Claim). FindsOnly (ReadsLine goal b part line old) (Some (begun_part answer)) l) (sym made)
-      (first_found part old (begun_claims b answer) (Some (begun_part answer)) first (found_answer answer range named is)))
-
-  pub no_answer_found : (part : Part) (old claims : List Claim) → part ≡ First → ((answer : Answer) → IsInRange answer → HasNamedMove answer → line ≡ first_line goal answer → ⊥) → FindsOnly (ReadsLine goal b part line old) None claims
-  no_answer_found part old claims first none = first_found part old claims None first (finds_none (ReadsAnswer goal b line) claims (λ next new reads. none reads.0 reads.1 reads.2 reads.3))
-
   pub no_words_found : (part : Part) (old claims : List Claim) → (part ≡ First → ⊥) → ((words : List Word) → line ≡ words_line words → ⊥) → FindsOnly (ReadsLine goal b part line old) None claims
-  no_words_found part old claims other none = finds_none (ReadsLine goal b part line old) claims untold
-    where
-      untold : (next : Part) (new : List Claim) → ReadsLine goal b part line old next new → ⊥
-      untold next new (inl (first, reads)) = other first
-      untold next new (inr (words, spelled, small, read)) = none words spelled
+  no_words_found part old claims other none =
+      finds_none (ReadsLine goal b part line old) claims (λ next new reads. elim reads [ inl answer ↦ other answer.0 | inr words ↦ none words.0 words.1 ])
 
 -- ---- what was read
 
@@ -246,24 +145,16 @@ line_read goal b number part next before claims text line found so_far =
 both : {A : Type 0} (goal : Goal) (b : PlainBoard) (checker : Checker A) (text : List ℕ) (P : Goal → PlainBoard → Type 0) → HasTakenText goal b checker text → P checker.goal checker.board → P goal b
 both goal b checker text P taken so = subst (λ (x : PlainBoard). P goal x) taken.board_is (subst (λ (x : Goal). P x checker.board) taken.goal_is so)
 
--- it has taken what leads to its part and claims
-taken_as : {A : Type 0} (goal : Goal) (b : PlainBoard) (checker : Checker A) (number : ℕ) (part : Part) (claims : List Claim) (text : List ℕ) → checker.goal ≡ goal → checker.board ≡ b → checker.number ≡ number → checker.part ≡ part → checker.claims ≡ claims → HasRead goal b number part claims text → HasTakenText goal b checker text
-taken_as goal b checker number part claims text goal_is board_is counts is made read = record {
-  goal_is = goal_is;
-  board_is = board_is;
-  read = subst (λ (n : ℕ). HasRead goal b n checker.part checker.claims text) (sym counts)
-      (subst (λ (p : Part). HasRead goal b number p checker.claims text) (sym is) (subst (λ (l : List Claim). HasRead goal b number part l text) (sym made) read));
-}
-
-pub none_taken : {A : Type 0} (goal : Goal) (b : PlainBoard) (checker : Checker A) → checker.goal ≡ goal → checker.board ≡ b → checker.number ≡ 0 → checker.part ≡ First → checker.claims ≡ [] → HasTakenText goal b checker []
-none_taken goal b checker goal_is board_is none first empty = taken_as goal b checker 0 First [] [] goal_is board_is none first empty (nothing_read goal b)
-
 -- the line of an answer was taken
 pub answer_taken : {A : Type 0} (goal : Goal) (b : PlainBoard) (answer : Answer) (checker : Checker A) → IsInRange answer → HasNamedMove answer → checker.goal ≡ goal → checker.board ≡ b → checker.number ≡ 1 → checker.part ≡ begun_part answer → checker.claims ≡ begun_claims b answer → HasTakenText goal b checker (first_line goal answer ++ 10 ∷ [])
 answer_taken goal b answer checker range named goal_is board_is one is made =
     let line = first_line goal answer in
-    taken_as goal b checker 1 (begun_part answer) (begun_claims b answer) (line ++ 10 ∷ []) goal_is board_is one is made
-    (line_read goal b 0 First (begun_part answer) [] (begun_claims b answer) [] line (answer_found goal b line First [] (begun_claims b answer) answer (begun_part answer) refl range named refl refl refl) (nothing_read goal b))
+    record {
+      goal_is = goal_is;
+      board_is = board_is;
+      read = subst (λ (n : ℕ). HasRead goal b n checker.part checker.claims (line ++ 10 ∷ [])) (sym one)
+          (line_read goal b 0 First checker.part [] checker.claims [] line (answer_found goal b line First [] checker.claims answer checker.part refl range named refl is made) (nothing_read goal b));
+    }
 
 -- a line more was taken
 pub line_taken : {A : Type 0} (old new : Checker A) (line : List ℕ) → new.goal ≡ old.goal → new.board ≡ old.board → new.number ≡ old.number + 1 → FindsOnly (ReadsLine old.goal old.board old.part line old.claims) (Some new.part) new.claims → TakesMore old new (line ++ 10 ∷ [])
@@ -274,29 +165,46 @@ line_taken old new line goal_is board_is counts found goal b text taken = record
       (line_read goal b old.number old.part new.part old.claims new.claims text line (both goal b old text (λ (g : Goal) (x : PlainBoard). FindsOnly (ReadsLine g x old.part line old.claims) (Some new.part) new.claims) taken found) taken.read);
 }
 
--- a line is refused
-pub line_wrong : {A : Type 0} (checker : Checker A) (line rest : List ℕ) (claims : List Claim) (fault : Fault) → fault ≡ fault_at (answer_of checker.part) checker.number → FindsOnly (ReadsLine checker.goal checker.board checker.part line checker.claims) None claims → HasNoFeed line → RefusesMore checker (line ++ 10 ∷ rest) fault
-line_wrong checker line rest claims fault is wrong none goal b text taken =
-    let mine = both goal b checker text (λ (g : Goal) (x : PlainBoard). FindsOnly (ReadsLine g x checker.part line checker.claims) None claims) taken wrong in
-    line_refused goal b checker.number checker.part checker.claims text fault taken.read line rest is none (λ next new reads. absurd (none_is next ((mine next new).0 reads).0))
-  where
-    none_is : (next : Part) → None ≡ Some next → ⊥
-    none_is next e = cc
+-- the fault of the next line tells of the text
+fault_told : (goal : Goal) (number : ℕ) (o : Option Answer) (lines : List (List ℕ)) (text more : List ℕ) → AreLines goal o lines → text ≡ fed lines → number ≡ length lines → TellsOf goal (text ++ more) (Err (fault_at o number))
+fault_told goal number None lines text more are spelled count = tt
+fault_told goal number (Some told) lines text more are spelled count = (told, lines, more, are, ap (λ (l : List ℕ). l ++ more) spelled, ap (λ (n : ℕ). n + 1) count)
 
-pub line_long : {A : Type 0} (checker : Checker A) (line rest : List ℕ) (fault : Fault) → fault ≡ TooLong → 8192 < length line → HasNoFeed line → RefusesMore checker (line ++ rest) fault
-line_long checker line rest fault is long none goal b text taken = long_refused goal b checker.number checker.part checker.claims text fault taken.read line rest is none long
+module _ {A : Type 0} (checker : Checker A) where
+  refused : (fault : Fault) (goal : Goal) (b : PlainBoard) (text more : List ℕ) → fault ≡ fault_at (answer_of checker.part) checker.number → HasTakenText goal b checker text → IsNoCertificate goal b (text ++ more) → IsRefusedWith goal b fault (text ++ more)
+  refused fault goal b text more is taken none = (
+    subst (λ (f : Fault). TellsOf goal (text ++ more) (Err f)) (sym is) (fault_told goal checker.number (answer_of checker.part) taken.read.lines text more taken.read.grammar taken.read.spelled taken.read.count),
+    none,
+  )
 
--- the end
-pub end_wrong : {A : Type 0} (checker : Checker A) (rest : List ℕ) (fault : Fault) → fault ≡ fault_at (answer_of checker.part) checker.number → (rest ≡ [] → (told : Answer) → IsEnded checker.part checker.claims told → ⊥) → HasNoFeed rest → RefusesMore checker rest fault
-end_wrong checker rest fault is wrong none goal b text taken = end_refused goal b checker.number checker.part checker.claims text fault taken.read rest is none wrong
+  -- a line is refused
+  pub line_wrong : (line rest : List ℕ) (claims : List Claim) (fault : Fault) → fault ≡ fault_at (answer_of checker.part) checker.number → FindsOnly (ReadsLine checker.goal checker.board checker.part line checker.claims) None claims → HasNoFeed line → RefusesMore checker (line ++ 10 ∷ rest) fault
+  line_wrong line rest claims fault is wrong none goal b text taken = refused fault goal b text (line ++ 10 ∷ rest) is taken (λ mine certificate.
+      let (more, reads, left) = certificate_left goal b checker.number checker.part checker.claims text (line ++ 10 ∷ rest) mine taken.read certificate in
+      let next = next_of more line rest (all_no_feed goal b checker.part checker.claims more mine reads) none left in
+      let here = subst (λ (l : List (List ℕ)). ReadsOn goal b checker.part checker.claims l mine) next.1 reads in
+      let found = both goal b checker text (λ (g : Goal) (x : PlainBoard). FindsOnly (ReadsLine g x checker.part line checker.claims) None claims) taken wrong in
+      none-some here.0 ((found here.0 here.1).0 here.2).0)
+
+  pub line_long : (line rest : List ℕ) (fault : Fault) → fault ≡ TooLong → 8192 < length line → HasNoFeed line → RefusesMore checker (line ++ rest) fault
+  line_long line rest fault is long none goal b text taken = subst (λ (f : Fault). IsRefusedWith goal b f (text ++ (line ++ rest))) (sym is) (
+    (taken.read.lines, line, rest, none, long, ap (λ (l : List ℕ). l ++ (line ++ rest)) taken.read.spelled),
+    λ mine certificate.
+        let (more, reads, left) = certificate_left goal b checker.number checker.part checker.claims text (line ++ rest) mine taken.read certificate in
+        let (x, others, first, longer) = long_of more line rest none (omega (arith, long)) left in
+        let here = subst (λ (l : List (List ℕ)). ReadsOn goal b checker.part checker.claims l mine) first reads in
+        omega (arith, (read_brief goal b checker.part here.0 x checker.claims here.1 here.2).0, longer, long),
+  )
+
+  -- the end
+  pub end_wrong : (rest : List ℕ) (fault : Fault) → fault ≡ fault_at (answer_of checker.part) checker.number → (rest ≡ [] → (told : Answer) → IsEnded checker.part checker.claims told → ⊥) → HasNoFeed rest → RefusesMore checker rest fault
+  end_wrong rest fault is wrong none goal b text taken = refused fault goal b text rest is taken (λ mine certificate.
+      let (more, reads, left) = certificate_left goal b checker.number checker.part checker.claims text rest mine taken.read certificate in
+      let gone = none_of more rest none left in
+      wrong gone.1 mine (subst (λ (l : List (List ℕ)). ReadsOn goal b checker.part checker.claims l mine) gone.0 reads))
 
 pub end_proved : {A : Type 0} (checker : Checker A) (told : Answer) → IsEnded checker.part checker.claims told → IsProvedBy checker told
 end_proved checker told ended goal b text taken =
     let reads = subst (λ (l : List (List ℕ)). ReadsOn goal b First [] l told) (append-nil taken.read.lines) ((taken.read.left [] told).1 ended) in
     let whole : IsCertificate goal b told text = subst (λ (l : List ℕ). IsCertificate goal b told l) (sym taken.read.spelled) (certificate_of goal b told taken.read.lines reads) in
     (whole, certificate_certifies goal b told text whole)
-
--- no fault of a line is a failed read
-pub no_read : (told : Option Answer) (number : ℕ) (fault : Fault) → fault ≡ fault_at told number → fault ≡ ReadFailed → ⊥
-no_read None number fault is failed = cc
-no_read (Some told) number fault is failed = cc

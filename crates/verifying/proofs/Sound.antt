@@ -1,146 +1,69 @@
 -- A certificate certifies its answer: what its lines tell holds over the claims that they make.
-use Rattle.std.proofs.Common.{◌≡◌, ◌<◌, ◌≤◌, ℕ, ◌+◌, ◌∷◌, [], List, length, get_or, take, sym, ◌∙◌, ap, subst, arith, All, Contains, Some, slice_get, ◌⊎◌, inl, inr, ◌-◌, ◌*◌, ◌/◌, ◌%◌, ◌++◌, min}
-use Rattle.verifying.proofs.Common.{take_all, take-append-le, get_or-take, length-take, get_or_default, All-weaker, All-contains, All-cons, All-get_or, All-nil, Contains-push, get_or_from_slice_get, slice_get-get_or, same_Some, slice_get_within, Claim, cases_lt, get_or-append_seam, take-length, PlainBoard, Goal, Ply, IsMove, IsLawful, IsPlyBefore, ListsLawful, IsReached, one_after, split3, ForcesNothing, Answer, not_reached, one_way, ClaimsSoMany, EscapesBy, FailsBy, HoldsOver, IsWon, MetBy, WinsBy, AllHold, AllWon, Certifies, HasClaim, IsOdd, forced_within, Word, Seen, Claimed, Stalemated, IsInRange, AreLinesFrom, FailsBecause, IsCertificate, IsLesserLine, IsNoLine, IsSomeYesLine, IsYesLine, Meets, MeetsReply, NoLinesMake, ProveAnswer, ReachesNothing, Resists, ShowFailures, TellInTurn, TellsFailure, YesLinesMake, shorter_claim, with_claim}
-use Rattle.verifying.proofs.Grown.{Extends, claimed_few, claimed_many, extends_same, extends_twice, still_fails, still_holds, still_met, still_there, still_wins, still_won, Grows, lesser_grows, no_grows, reason_grows, reply_grows, told_grows, yes_grows}
-use Rattle.verifying.proofs.Failing.{all_more}
-use Rattle.verifying.specs.declared.words.Word.TheVariants.{Place}
+use Rattle.std.proofs.Common.{◌≡◌, ◌<◌, ◌≤◌, ℕ, ◌+◌, ◌∷◌, [], List, length, get_or, take, sym, ◌∙◌, ap, subst, arith, All, Contains, Some, slice_get, ◌⊎◌, inl, inr, ◌-◌, ◌/◌, ◌%◌, ◌++◌}
+use Rattle.verifying.proofs.Common.{take_all, take-append-le, get_or_default, All-weaker, All-contains, All-cons, All-get_or, All-nil, Contains-push, get_or_from_slice_get, slice_get_within, Claim, cases_lt, get_or-append_seam, PlainBoard, Goal, Ply, IsPlyBefore, split3, Answer, one_way, FailsBy, HoldsOver, IsWon, WinsBy, AllHold, AllWon, Certifies, HasClaim, IsOdd, Word, IsInRange, AreLinesFrom, IsCertificate, IsLesserLine, IsNoLine, IsSomeYesLine, NoLinesMake, ProveAnswer, YesLinesMake, shorter_claim, with_claim, get_or_append_left, All-more}
+use Rattle.verifying.proofs.Grown.{Extends, extends_same, extends_twice, still_fails, still_holds, still_there, still_wins, still_won, Grows, all_failed, no_line, yes_line}
 use Rattle.verifying.proofs.Making.{if_less}
 use Rattle.problems.specs.declared.answer.Answer.TheVariants as answer
 
 -- ---- the claims whose lines were read
 
-pub one_item : (x y : Claim) → Some x ≡ Some y → x ≡ y
-one_item x y e = cc
-
-item_at : (xs : List Claim) (i : ℕ) → i < length xs → (x : Claim) × (slice_get xs i ≡ Some x)
-item_at [] i lt = absurd (omega (arith, lt))
-item_at (x ∷ xs) i lt = (get_or (x ∷ xs) i x, slice_get-get_or (x ∷ xs) i x lt)
-
--- what grew has the same front
-same_front : (old new : List Claim) (n : ℕ) → Extends old new → n ≤ length old → take n new ≡ take n old
-same_front old new n (more, is) within = ap (take n) is ∙ take-append-le n old more within
-
 -- one claim more, where what held over the claims holds over more of them
-pub claim_more : (P Q : Claim → Type 0) (old new : List Claim) (n : ℕ) → Extends old new → n < length old → ((c : Claim) → P c → Q c) → All P (take n old) → ((c : Claim) → slice_get old n ≡ Some c → Q c) → All Q (take (n + 1) new)
-claim_more P Q old new n grown lt still before here =
-    let x = item_at old n lt in
-    subst (All Q) (sym (same_front old new (n + 1) grown (omega (arith, lt))))
-    (all_more Q old n x.0 lt (sym (get_or_from_slice_get old n x.0 x.0 x.1)) (All-weaker P Q still (take n old) before) (here x.0 x.1))
+claim_more : (P Q : Claim → Type 0) (old new : List Claim) (n : ℕ) (c : Claim) → Extends old new → slice_get old n ≡ Some c → ((c : Claim) → P c → Q c) → All P (take n old) → Q c → All Q (take (n + 1) new)
+claim_more P Q old new n c (more, is) at still before here =
+    let lt = slice_get_within old n c at in
+    subst (All Q) (sym (ap (take (n + 1)) is ∙ take-append-le (n + 1) old more (omega (arith, lt))))
+    (All-more Q old n c lt (All-weaker P Q still (take n old) before) (subst Q (sym (get_or_from_slice_get old n c c at)) here))
 
 -- all of them
 pub each_claim : (P : Claim → Type 0) (claims : List Claim) (n : ℕ) → length claims ≤ n → All P (take n claims) → (c : Claim) → Contains claims c → P c
 each_claim P claims n whole all c among = All-contains P claims c (subst (All P) (take_all n claims whole) all) among
 
--- ---- words
-
--- what each word tells of its move is so over the claims at the end
-told_sound : (Tells : Ply → Word → List Claim → List Claim → Type 0) (Good : List Claim → Ply → Type 0) → ((m : Ply) (word : Word) (old new : List Claim) → Tells m word old new → Grows old new) → ((m : Ply) (word : Word) (old new : List Claim) → Tells m word old new → Good new m) → ((old new : List Claim) → Extends old new → (m : Ply) → Good old m → Good new m)
-    → (moves : List Ply) (words : List Word) (old new : List Claim) → TellInTurn Tells moves words old new → All (Good new) moves
-told_sound Tells Good grows sound still [] [] old new told = All-nil (Good new)
-told_sound Tells Good grows sound still [] (word ∷ words) old new told = absurd told
-told_sound Tells Good grows sound still (m ∷ moves) [] old new told = absurd told
-told_sound Tells Good grows sound still (m ∷ moves) (word ∷ words) old new (next, first, rest) =
-    All-cons (Good new) m moves (still next new (told_grows Tells grows moves words next new rest).0 m (sound m word old next first)) (told_sound Tells Good grows sound still moves words next new rest)
-
 module _ (goal : Goal) where
-  -- ---- yes claims
-
-  meeting_sound : (p : PlainBoard) (n : ℕ) (word : Word) (old new : List Claim) → Meets goal p n word old new → MetBy goal new p n
-  meeting_sound p n Seen old new (f, is) = inl (forced_within goal p.mover p (min n 3) n (omega arith) f)
-  meeting_sound p n Claimed old new ((c, among, about, few), is) = inr (c, subst (λ (l : List Claim). Contains l c) (sym is) among, about, few)
-  meeting_sound p n (Place k) old new (none, few, is) = inr (claimed_few old new p (2 * k + 1) n few is)
-  meeting_sound p n Stalemated old new f = absurd f
-
-  -- the reply is met within n plies
-  abbrev IsReplyMet : PlainBoard → ℕ → List Claim → Ply → Type 0
-  IsReplyMet q n claims r = (p : PlainBoard) → IsMove q r p → MetBy goal claims p n
-
-  reply_sound : (q : PlainBoard) (n : ℕ) (r : Ply) (word : Word) (old new : List Claim) → MeetsReply goal q n r word old new → IsReplyMet q n new r
-  reply_sound q n r word old new (p, move, meets) x also = subst (λ (b : PlainBoard). MetBy goal new b n) (one_after q r p x move also) (meeting_sound p n word old new meets)
-
-  yes_sound : (c : Claim) (m : Ply) (line : List Word) (old new : List Claim) → IsYesLine goal c m line old new → WinsBy goal new c.position c.plies m
-  yes_sound c m line old new (place, words, is, at, some, q, move, inl (stuck, there, none, same)) = (some, q, move, inl there)
-  yes_sound c m line old new (place, words, is, at, some, q, move, inr (reply, enough, (replies, lists, told))) =
-      let all = told_sound (MeetsReply goal q (c.plies - 2)) (IsReplyMet q (c.plies - 2)) (reply_grows goal q (c.plies - 2)) (reply_sound q (c.plies - 2)) (λ xs ys grown r met p next. still_met xs ys grown goal p (c.plies - 2) (met p next)) replies words old new told in
-      (some, q, move, inr (reply, λ r p next. All-contains (IsReplyMet q (c.plies - 2) new) replies r all ((lists.exact r).1 (p, next)) p next))
-
-  -- ---- no claims
-
-  resisting_sound : (p : PlainBoard) (n : ℕ) (old new : List Claim) → Resists goal p n old new → ForcesNothing goal p n ⊎ ClaimsSoMany new p n
-  resisting_sound p n old new (inl (small, nothing, is)) = inl nothing
-  resisting_sound p n old new (inr (large, inl ((c, among, about, many), is))) = inr (c, subst (λ (l : List Claim). Contains l c) (sym is) among, about, many)
-  resisting_sound p n old new (inr (large, inr (none, is))) = inr (claimed_many old new p n is)
-
-  failing_sound : (q : PlainBoard) (n : ℕ) (word : Word) (old new : List Claim) → TellsFailure goal q n word old new → (IsReached goal q → ⊥) × (((r : Ply) → IsLawful q r → ⊥) ⊎ EscapesBy goal new q n)
-  failing_sound q n Seen old new f = absurd f
-  failing_sound q n Claimed old new f = absurd f
-  failing_sound q n Stalemated old new (stuck, out, is) = (out, inl stuck)
-  failing_sound q n (Place k) old new (r, p, at, move, resists) = (not_reached goal q r (p, move), inr (r, p, move, resisting_sound p n old new resists))
-
-  reason_sound : (b : PlainBoard) (n : ℕ) (m : Ply) (word : Word) (old new : List Claim) → FailsBecause goal b n m word old new → FailsBy goal new b n m
-  reason_sound b n m word old new (q, move, fails) x also =
-      let so = failing_sound q (n - 2) word old new fails in
-      subst (λ (y : PlainBoard). (IsReached goal y → ⊥) × ((n ≡ 1) ⊎ ((r : Ply) → IsLawful y r → ⊥) ⊎ EscapesBy goal new y (n - 2))) (one_after b m q x move also)
-      (so.0, elim so.1 [ inl stuck ↦ inr (inl stuck) | inr escapes ↦ inr (inr escapes) ])
-
-  failures_sound : (b : PlainBoard) (n : ℕ) (moves : List Ply) (words : List Word) (old new : List Claim) → ShowFailures goal b n moves words old new → All (FailsBy goal new b n) moves
-  failures_sound b n moves words old new (inl (one, none, nothing, is)) = All-weaker (ReachesNothing goal b) (FailsBy goal new b n) (λ m out q move. (out q move, inl one)) moves nothing
-  failures_sound b n moves words old new (inr (two, told)) =
-      told_sound (FailsBecause goal b n) (λ claims m. FailsBy goal claims b n m) (reason_grows goal b n) (reason_sound b n) (λ xs ys grown m fails. still_fails xs ys grown goal b n m fails) moves words old new told
-
-  no_sound : (c : Claim) (line : List Word) (old new : List Claim) → IsNoLine goal c line old new → HoldsOver goal new c
-  no_sound c line old new (moves, lists, show) m q move =
-      All-contains (FailsBy goal new c.position c.plies) moves m (failures_sound c.position c.plies moves line old new show) ((lists.exact m).1 (q, move)) q move
-
-  -- the moves in front of one's place are those before it
-  module _ (claims : List Claim) (b : PlainBoard) (n : ℕ) (moves : List Ply) (lists : ListsLawful b moves) (place : ℕ) (first : Ply) (at : get_or moves place first ≡ first) (failed : All (FailsBy goal claims b n) (take place moves)) where
-    in_front : (l : Ply) (j : ℕ) → j < length moves → get_or moves j l ≡ l → IsPlyBefore b.game l first → FailsBy goal claims b n l
-    in_front l j lt is before = elim (split3 j place) as (λ _. FailsBy goal claims b n l) [
-      | inl front ↦ subst (FailsBy goal claims b n) (get_or-take place moves j l front ∙ is) (All-get_or (FailsBy goal claims b n) (take place moves) j l (omega (arith, front, lt, length-take place moves)) failed)
-      | inr (inl same) ↦
-          let one : l ≡ first = sym is ∙ ap (λ (k : ℕ). get_or moves k l) same ∙ get_or_default moves place l first (omega (arith, same, lt)) ∙ at in
-          absurd (one_way _ _ _ _ _ _ before (subst (λ (x : Ply). IsPlyBefore b.game first x) (sym one) (subst (λ (x : Ply). IsPlyBefore b.game x first) one before)))
-      | inr (inr behind) ↦
-          let there : get_or moves place l ≡ first = get_or_default moves place l first (omega (arith, behind, lt)) ∙ at in
-          absurd (one_way _ _ _ _ _ _ before (subst (λ (x : Ply). IsPlyBefore b.game x l) there (subst (λ (x : Ply). IsPlyBefore b.game (get_or moves place l) x) is (lists.ordered place j l behind lt))))
-    ]
-
+  -- the moves in front of the answer's are those before it
   lesser_sound : (b : PlainBoard) (n : ℕ) (first : Ply) (line : List Word) (old new : List Claim) → IsLesserLine goal b n first line old new → (l : Ply) → IsPlyBefore b.game l first → FailsBy goal new b n l
   lesser_sound b n first line old new (lesser, others, lists, show) l before q move =
       let list : List Ply = lesser ++ first ∷ others in
-      let front : take (length lesser) list ≡ lesser = take-append-le (length lesser) lesser (first ∷ others) (omega arith) ∙ take-length lesser in
-      let failed : All (FailsBy goal new b n) (take (length lesser) list) = subst (All (FailsBy goal new b n)) (sym front) (failures_sound b n lesser line old new show) in
-      let among : Contains list l = (lists.exact l).1 (q, move) in
-      in_front new b n list lists (length lesser) first (get_or-append_seam lesser first others first) failed l among.0 among.1 among.2 before q move
+      let (j, lt, is) = (lists.exact l).1 (q, move) in
+      let at : get_or list (length lesser) first ≡ first = get_or-append_seam lesser first others first in
+      let fails : FailsBy goal new b n l = elim (split3 j (length lesser)) as (λ _. FailsBy goal new b n l) [
+        | inl front ↦
+            subst (FailsBy goal new b n) (sym (get_or_append_left lesser (first ∷ others) l j front) ∙ is) (All-get_or (FailsBy goal new b n) lesser j l front (all_failed goal b n lesser line old new show).1)
+        | inr (inl same) ↦
+            let one : l ≡ first = sym is ∙ ap (λ (k : ℕ). get_or list k l) same ∙ get_or_default list (length lesser) l first (omega (arith, same, lt)) ∙ at in
+            absurd (one_way _ _ _ _ _ _ before (subst (λ (x : Ply). IsPlyBefore b.game first x) (sym one) (subst (λ (x : Ply). IsPlyBefore b.game x first) one before)))
+        | inr (inr behind) ↦
+            let there : get_or list (length lesser) l ≡ first = get_or_default list (length lesser) l first (omega (arith, behind, lt)) ∙ at in
+            absurd (one_way _ _ _ _ _ _ before (subst (λ (x : Ply). IsPlyBefore b.game x l) there (subst (λ (x : Ply). IsPlyBefore b.game (get_or list (length lesser) l) x) is (lists.ordered (length lesser) j l behind lt))))
+      ] in
+      fails q move
 
   -- ---- lines
 
   -- what each line shows of its claim is so over the claims at the end
-  lines_sound : (IsLine : Claim → List Word → List Claim → List Claim → Type 0) (Good : List Claim → Claim → Type 0) → ((c : Claim) (line : List Word) (old new : List Claim) → IsLine c line old new → Extends old new × Good new c) → ((old new : List Claim) → Extends old new → (c : Claim) → Good old c → Good new c)
+  lines_sound : (IsLine : Claim → List Word → List Claim → List Claim → Type 0) (Good : List Claim → Claim → Type 0) → ((c : Claim) (line : List Word) (old new : List Claim) → IsLine c line old new → Grows old new × Good new c) → ((old new : List Claim) → Extends old new → (c : Claim) → Good old c → Good new c)
       → (place : ℕ) (lines : List (List Word)) (old new : List Claim) → AreLinesFrom IsLine place lines old new → All (Good old) (take place old) → Extends old new × All (Good new) (take (place + length lines) new)
   lines_sound IsLine Good sound still place [] old new are front =
       let same : place ≡ place + 0 = omega arith in
       (extends_same old new are, subst (λ (l : List Claim). All (Good l) (take (place + 0) l)) (sym are) (subst (λ (k : ℕ). All (Good old) (take k old)) same front))
   lines_sound IsLine Good sound still place (line ∷ lines) old new (c, next, at, first, rest) front =
       let here = sound c line old next first in
-      let more = claim_more (Good old) (Good next) old next place here.0 (slice_get_within old place c at) (still old next here.0) front (λ d there. subst (Good next) (same_Some c d (sym at ∙ there)) here.1) in
+      let more = claim_more (Good old) (Good next) old next place c here.0.0 at (still old next here.0.0) front here.1 in
       let later = lines_sound IsLine Good sound still (place + 1) lines next new rest more in
       let same : place + 1 + length lines ≡ place + length (line ∷ lines) = omega arith in
-      (extends_twice old next new here.0 later.0, subst (λ (k : ℕ). All (Good new) (take k new)) same later.1)
+      (extends_twice old next new here.0.0 later.0, subst (λ (k : ℕ). All (Good new) (take k new)) same later.1)
 
   no_lines_sound : (lines : List (List Word)) (old held : List Claim) → AreLinesFrom (IsNoLine goal) 0 lines old held → length held ≤ length lines → Extends old held × AllHold goal held
   no_lines_sound lines old held are whole =
-      let so = lines_sound (IsNoLine goal) (HoldsOver goal) (λ c line xs ys is. ((no_grows goal c line xs ys is).0, no_sound c line xs ys is)) (λ xs ys grown. still_holds xs ys grown goal) 0 lines old held are (All-nil (HoldsOver goal old)) in
+      let so = lines_sound (IsNoLine goal) (HoldsOver goal) (no_line goal) (λ xs ys grown. still_holds xs ys grown goal) 0 lines old held are (All-nil (HoldsOver goal old)) in
       (so.0, each_claim (HoldsOver goal held) held (0 + length lines) (omega (arith, whole)) so.1)
 
   yes_lines_sound : (b : PlainBoard) (n : ℕ) (first : Ply) (lines : List (List Word)) (won : List Claim) → YesLinesMake goal b n first lines won → length won ≤ length lines → AllWon goal won × WinsBy goal won b n first
   yes_lines_sound b n first [] won make whole = absurd make
   yes_lines_sound b n first (line ∷ lines) won (next, begins, rest) whole =
       let c : Claim = record { position = b; plies = n } in
-      let wins = yes_sound c first line (with_claim [] b n) next begins in
-      let grown = (yes_grows goal c first line (with_claim [] b n) next begins).0 in
-      let front : All (IsWon goal next) (take 1 next) = subst (λ (l : List Claim). All (IsWon goal next) (take 1 l)) (sym grown.1) (All-cons (IsWon goal next) c [] (first, wins) (All-nil (IsWon goal next))) in
-      let so = lines_sound (IsSomeYesLine goal) (IsWon goal) (λ d l xs ys is. ((yes_grows goal d is.0 l xs ys is.1).0, (is.0, yes_sound d is.0 l xs ys is.1))) (λ xs ys more. still_won xs ys more goal) 1 lines next won rest front in
+      let (grown, wins) = yes_line goal c first line (with_claim [] b n) next begins in
+      let front : All (IsWon goal next) (take 1 next) = subst (λ (l : List Claim). All (IsWon goal next) (take 1 l)) (sym grown.0.1) (All-cons (IsWon goal next) c [] (first, wins) (All-nil (IsWon goal next))) in
+      let so = lines_sound (IsSomeYesLine goal) (IsWon goal) (λ d l xs ys is. let won = yes_line goal d is.0 l xs ys is.1 in (won.0, (is.0, won.1))) (λ xs ys more. still_won xs ys more goal) 1 lines next won rest front in
       (each_claim (IsWon goal won) won (1 + length lines) (omega (arith, whole)) so.1, still_wins next won so.0 goal b n first wins)
 
   -- ---- answers
@@ -155,7 +78,7 @@ module _ (goal : Goal) where
   no_part b n first [] held odd make fewer = absurd make
   no_part b n first (line ∷ lines) held odd (next, begins, rest) fewer =
       let so = no_lines_sound lines next held rest (omega (arith, fewer)) in
-      let grown = (lesser_grows goal b n first line (shorter_claim b n) next begins).0 in
+      let grown = (all_failed goal b n begins.0 line (shorter_claim b n) next begins.3).0.0 in
       (so.1, no_shorter b n held odd (extends_twice (shorter_claim b n) next held grown so.0), λ l before. still_fails next held so.0 goal b n l (lesser_sound b n first line (shorter_claim b n) next begins l before))
 
   proved : (b : PlainBoard) (told : Answer) (lines : List (List Word)) → IsInRange told → ProveAnswer goal b told lines → Certifies goal b told

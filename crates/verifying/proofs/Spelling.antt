@@ -53,12 +53,9 @@ one_start (suc k) (suc f) c d x y other also e =
     let rest = one_start k f c d x y other also (same_tail 90 90 _ _ e) in
     (ap suc rest.0, rest.1, rest.2)
 
-some_bytes : (k c : ℕ) (x : List ℕ) → replicate k 90 ++ c ∷ x ≡ [] → ⊥
-some_bytes zero c x e = cc
-some_bytes (suc k) c x e = cc
-
 only_fifties : (k f c : ℕ) (x : List ℕ) → c ≢ 90 → replicate k 90 ++ c ∷ x ≡ replicate f 90 → ⊥
-only_fifties k zero c x other e = some_bytes k c x e
+only_fifties zero zero c x other e = cc
+only_fifties (suc k) zero c x other e = cc
 only_fifties zero (suc f) c x other e = other (same_head c 90 x _ e)
 only_fifties (suc k) (suc f) c x other e = only_fifties k f c x other (same_tail 90 90 _ _ e)
 
@@ -70,27 +67,26 @@ line_spelled w words =
 
 pub one_line : (words others : List Word) → words_line words ≡ words_line others → words ≡ others
 one_line [] [] e = refl
-one_line [] (w ∷ others) e = absurd (some_bytes (fifties w) (last_byte w) (words_line others) (sym (line_spelled w others) ∙ sym e))
-one_line (v ∷ words) [] e = absurd (some_bytes (fifties v) (last_byte v) (words_line words) (sym (line_spelled v words) ∙ e))
+one_line [] (w ∷ others) e = absurd (only_fifties (fifties w) 0 (last_byte w) (words_line others) (no_fifty w) (sym (line_spelled w others) ∙ sym e))
+one_line (v ∷ words) [] e = absurd (only_fifties (fifties v) 0 (last_byte v) (words_line words) (no_fifty v) (sym (line_spelled v words) ∙ e))
 one_line (v ∷ words) (w ∷ others) e =
     let same = one_start (fifties v) (fifties w) (last_byte v) (last_byte w) (words_line words) (words_line others) (no_fifty v) (no_fifty w) (sym (line_spelled v words) ∙ (e ∙ line_spelled w others)) in
     ap (λ (x : Word). x ∷ words) (one_word v w same.0 same.1) ∙ ap (λ (l : List Word). w ∷ l) (one_line words others same.2)
 
+more_spelled : (w : Word) (words : List Word) (rest : List ℕ) → words_line (w ∷ words) ++ rest ≡ replicate (fifties w) 90 ++ last_byte w ∷ (words_line words ++ rest)
+more_spelled w words rest = ap (λ (x : List ℕ). x ++ rest) (line_spelled w words) ∙ append_assoc (replicate (fifties w) 90) (last_byte w ∷ words_line words) rest
+
 -- words of which the first ones were read
 after_read : (read others : List Word) (rest : List ℕ) → words_line others ≡ words_line read ++ rest → (more : List Word) × (words_line more ≡ rest)
 after_read [] others rest e = (others, e)
-after_read (v ∷ read) [] rest e = absurd (some_bytes (fifties v) (last_byte v) (words_line read ++ rest) (sym (whole v read rest) ∙ sym e))
-  where
-    whole : (v : Word) (read : List Word) (rest : List ℕ) → words_line (v ∷ read) ++ rest ≡ replicate (fifties v) 90 ++ last_byte v ∷ (words_line read ++ rest)
-    whole v read rest = ap (λ (x : List ℕ). x ++ rest) (line_spelled v read) ∙ append_assoc (replicate (fifties v) 90) (last_byte v ∷ words_line read) rest
+after_read (v ∷ read) [] rest e = absurd (only_fifties (fifties v) 0 (last_byte v) (words_line read ++ rest) (no_fifty v) (sym (more_spelled v read rest) ∙ sym e))
 after_read (v ∷ read) (w ∷ others) rest e =
-    let whole : words_line (v ∷ read) ++ rest ≡ replicate (fifties v) 90 ++ last_byte v ∷ (words_line read ++ rest) = ap (λ (x : List ℕ). x ++ rest) (line_spelled v read) ∙ append_assoc (replicate (fifties v) 90) (last_byte v ∷ words_line read) rest in
-    let same = one_start (fifties w) (fifties v) (last_byte w) (last_byte v) (words_line others) (words_line read ++ rest) (no_fifty w) (no_fifty v) (sym (line_spelled w others) ∙ (e ∙ whole)) in
+    let same = one_start (fifties w) (fifties v) (last_byte w) (last_byte v) (words_line others) (words_line read ++ rest) (no_fifty w) (no_fifty v) (sym (line_spelled w others) ∙ (e ∙ more_spelled v read rest)) in
     after_read read others rest same.2
 
 -- a byte that ends no word
 no_word_there : (f byte : ℕ) (rest : List ℕ) → byte ≢ 90 → ((w : Word) → word_text w ≢ replicate f 90 ++ byte ∷ []) → (more : List Word) → words_line more ≡ replicate f 90 ++ byte ∷ rest → ⊥
-no_word_there f byte rest other none [] e = some_bytes f byte rest (sym e)
+no_word_there f byte rest other none [] e = only_fifties f 0 byte rest other (sym e)
 no_word_there f byte rest other none (w ∷ more) e =
     let same = one_start (fifties w) f (last_byte w) byte (words_line more) rest (no_fifty w) other (sym (line_spelled w more) ∙ e) in
     none w (spelled w ∙ (ap (λ k. replicate k 90 ++ last_byte w ∷ []) same.0 ∙ ap (λ x. replicate f 90 ++ x ∷ []) same.1))

@@ -1,5 +1,5 @@
 //! The first line of a certificate, which is its answer.
-ghost use Rattle.std.specs.Prelude.{◌≡◌, ◌≢◌, ◌↔◌, ◌<◌, ◌≤◌, ◌++◌, ◌∷◌, ℕ, List, IfSome, IsTrue, MatchOption};
+ghost use Rattle.std.specs.Prelude.{◌≡◌, ◌≢◌, ◌<◌, ◌≤◌, ◌++◌, ◌∷◌, ℕ, List, IfSome, MatchOption};
 ghost use Rattle.std.specs.Fmt.{decimal};
 ghost use Rattle.rules.specs.MoveText.{move_text};
 ghost use Rattle.rules.specs.Moves.{IsPly};
@@ -23,24 +23,16 @@ fn behind_number(text: &[u8], number: u8) -> Option<&[u8]>
     text.strip_prefix(&[b'0' + number / 10, b'0' + number % 10])
 }
 
-/// Whether the digits write the number.
-fn is_number(digits: &[u8], number: u8) -> bool
-    requires { number ≤ 63 }
-    ensures { IsTrue result ↔ (decimal number ≡ digits.now) }
-{
-    match behind_number(digits, number) {
-        Some(rest) => rest.is_empty(),
-        None => false,
-    }
-}
-
 /// The number from 1 to 63 that the digits write.
 fn number_of(digits: &[u8]) -> Option<u8>
     ensures { MatchOption result ((n : ℕ) → 0 < n → n ≤ 63 → decimal n ≢ digits.now)
         (λ number. (0 < number) × (number ≤ 63) × (decimal number ≡ digits.now)) }
 {
     for number in 1..MOST_LIMIT + 1 {
-        if is_number(digits, number) {
+        let Some(rest) = behind_number(digits, number) else {
+            continue;
+        };
+        if rest.is_empty() {
             return Some(number);
         }
     }

@@ -1,5 +1,5 @@
 //! One line of claims, and what it shows.
-ghost use Rattle.std.specs.Prelude.{◌≡◌, ◌≢◌, ◌↔◌, ◌<◌, ◌≤◌, ℕ, [], IfOk, IsTrue, length, slice_index_or};
+ghost use Rattle.std.specs.Prelude.{◌≡◌, ◌≢◌, ◌<◌, ◌≤◌, ℕ, [], IfOk, length, slice_index_or};
 ghost use Rattle.verifying.specs.Reading.{AreApart, IsLineAt};
 ghost use Rattle.verifying.specs.Yielding.{YieldsOnly};
 ghost use Rattle.verifying.specs.Certificate.{IsLesserLine, IsNoLine, IsSomeYesLine, IsYesLine, shorter_claim, with_claim};
@@ -13,13 +13,6 @@ use certificates::Claim;
 use moves::{Board, Goal, Move, lawful_on};
 use std::alloc::{AllocError, Allocator};
 
-/// Whether the moves are one.
-fn is_same(one: Move, other: Move) -> bool
-    ensures { IsTrue result ↔ (one ≡ other) }
-{
-    one == other
-}
-
 /// The place of the move in the list, or the list's length where it isn't there.
 pub fn place_of(moves: &[Move], first: Move) -> usize
     ensures within { result ≤ length moves.now }
@@ -27,7 +20,7 @@ pub fn place_of(moves: &[Move], first: Move) -> usize
     ensures least { (k : ℕ) → k < result → slice_index_or moves.now k first ≢ first }
 {
     for at in 0..moves.len() {
-        if is_same(moves[at], first) {
+        if moves[at] == first {
             return at;
         }
     }
@@ -83,7 +76,7 @@ pub(crate) fn shows_win<A: Allocator + Copy>(
     claims.push(board, mate.plies)?;
     let claim = claims.claim(0);
     match winning_move(claims, goal, &claim, words)? {
-        Some(m) => Ok(is_same(m, mate.first)),
+        Some(m) => Ok(m == mate.first),
         None => Ok(false),
     }
 }

@@ -32,20 +32,6 @@ fn place_of(letter: u8) -> Option<u8>
     None
 }
 
-/// The sign that the byte is.
-fn sign_of(byte: u8) -> Option<Word>
-    ensures { MatchOption result
-        ((byte ≢ 46) × (byte ≢ 61) × (byte ≢ 45))
-        (λ word. word_text word ≡ byte ∷ []) }
-{
-    match byte {
-        b'.' => Some(Word::Seen),
-        b'=' => Some(Word::Claimed),
-        b'-' => Some(Word::Stalemated),
-        _ => None,
-    }
-}
-
 /// The word that ends with the byte, after so many Zs.
 fn word_of(fifties: usize, byte: u8) -> Option<Word>
     requires { fifties ≤ 8192 }
@@ -55,12 +41,13 @@ fn word_of(fifties: usize, byte: u8) -> Option<Word>
 {
     match place_of(byte) {
         Some(place) => Some(Word::Place(fifties * 50 + place as usize)),
-        None => {
-            if fifties > 0 {
-                return None;
-            }
-            sign_of(byte)
-        }
+        None if fifties > 0 => None,
+        None => match byte {
+            b'.' => Some(Word::Seen),
+            b'=' => Some(Word::Claimed),
+            b'-' => Some(Word::Stalemated),
+            _ => None,
+        },
     }
 }
 

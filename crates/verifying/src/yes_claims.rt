@@ -1,11 +1,10 @@
 //! Yes claims: that the attacker forces the goal within the claim's plies.
-ghost use Rattle.std.specs.Prelude.{◌↔◌, IfOk, IsTrue, List};
+ghost use Rattle.std.specs.Prelude.{IfOk, List};
 ghost use Rattle.rules.specs.Squares.{Ply};
 ghost use Rattle.certificates.specs.declared.claim.Claim.{Claim};
-ghost use Rattle.certificates.specs.Claims.{ClaimsSoFew};
 ghost use Rattle.verifying.specs.Reading.{AreApart};
 ghost use Rattle.verifying.specs.Yielding.{FindsOnly, YieldsOnly};
-ghost use Rattle.verifying.specs.Certificate.{IsYesLine, MakesClaim, MeetReplies, Meets, ShowWin};
+ghost use Rattle.verifying.specs.Certificate.{IsYesLine, MakesClaim, Meets, ShowWin};
 
 use crate::claims::Claims;
 use crate::leaf::{LEAF, is_forced_within, is_reached};
@@ -36,17 +35,6 @@ fn claim_anew<A: Allocator + Copy>(
     }
 }
 
-/// Whether a claim says that the goal is forced within the plies that are left.
-fn has_claim<A: Allocator + Copy>(claims: &Claims<A>, position: &Board, left: u8) -> bool
-    requires { AreApart claims.now }
-    ensures { IsTrue result ↔ ClaimsSoFew claims.now position.now left }
-{
-    match claims.find(position) {
-        Some(plies) => plies <= left,
-        None => false,
-    }
-}
-
 /// Whether the attacker, to move at the position, forces the goal within the plies that are left, as the word says.
 fn meets<A: Allocator + Copy>(
     claims: &mut Claims<A>,
@@ -60,37 +48,17 @@ fn meets<A: Allocator + Copy>(
 {
     match word {
         Word::Seen => Ok(is_forced_within(&position, goal, left.min(LEAF))),
-        Word::Claimed => Ok(has_claim(claims, &position, left)),
+        Word::Claimed => match claims.find(&position) {
+            Some(plies) => Ok(plies <= left),
+            None => Ok(false),
+        },
         Word::Place(place) => claim_anew(claims, &position, left, place),
         Word::Stalemated => Ok(false),
     }
 }
 
-/// Whether each reply of the defender is met within the plies that are left, as the words say, one each.
-fn all_met<A: Allocator + Copy>(
-    claims: &mut Claims<A>,
-    goal: Goal,
-    board: &Board,
-    left: u8,
-    words: &[Word],
-) -> Result<bool, AllocError>
-    requires { AreApart claims.old }
-    ensures { IfOk result (λ yes. YieldsOnly (MeetReplies goal board.now left words.now claims.old) yes claims.new) }
-{
-    let replies = lawful_on(board);
-    if words.len() != replies.len() {
-        return Ok(false);
-    }
-    for i in 0..replies.len() {
-        let reply = replies.as_slice()[i];
-        if !meets(claims, goal, after(board, reply), left, words[i])? {
-            return Ok(false);
-        }
-    }
-    Ok(true)
-}
-
-/// Whether the attacker's move, after which the defender is to move, wins within the plies, as the words say.
+/// Whether the attacker's move, after which the defender is to move, wins within the plies: each reply is met, as the words say,
+/// one each.
 fn wins_after<A: Allocator + Copy>(
     claims: &mut Claims<A>,
     goal: Goal,
@@ -107,7 +75,17 @@ fn wins_after<A: Allocator + Copy>(
     if plies < 3 {
         return Ok(false);
     }
-    all_met(claims, goal, board, plies - 2, words)
+    let replies = lawful_on(board);
+    if words.len() != replies.len() {
+        return Ok(false);
+    }
+    for i in 0..replies.len() {
+        let reply = replies.as_slice()[i];
+        if !meets(claims, goal, after(board, reply), plies - 2, words[i])? {
+            return Ok(false);
+        }
+    }
+    Ok(true)
 }
 
 /// The attacker's move, whose place is the first of the words, if it wins within the claim's plies, as the others say.

@@ -1,10 +1,6 @@
 use Rattle.std.proofs.Common.{◌≡◌, ◌≢◌, ◌++◌, ◌∷◌, ◌∙◌, ◌/◌, [], List, ℕ, ap, arith, sym}
 use Rattle.verifying.proofs.Common.{Decides-eqb, append_cancel_left, MatchOption-at_none, MatchOption-at_some, none-some, strip_prefix_is, decimal, move_text}
-use Rattle.verifying.proofs.OneAnswer.{same_cons}
 use Rattle.verifying.proofs.first_line.mate_in.Goals as goal
-
-pub returns-then-plies-eq0 : goal.returns-then-plies-eq0
-returns-then-plies-eq0 c = λ m odd named is. omega (arith, odd.1, c.if-plies-eq0.true)
 
 pub returns-in_err-name : goal.returns-in_err-name
 returns-in_err-name c = rw c.from_residual-in_err-name.ensures (λ m odd named is.
@@ -17,7 +13,8 @@ returns-in_err-first c = rw c.from_residual-in_err-first.ensures (λ m odd named
     let rest = c.in_ok-rest.rest.now in
     let spaced : rest ≡ 32 ∷ c.in_ok-name.name.now = MatchOption-at_some ((more : List ℕ) → rest ≢ 32 ∷ more) (λ x. rest ≡ 32 ∷ x.now) c.in_ok-name.name c.in_ok-name.was (strip_prefix_is Decides-eqb rest (32 ∷ []) c.strip_prefix.result c.strip_prefix.ensures.cases) in
     let mine = append_cancel_left (decimal c.args.plies) rest (32 ∷ move_text m) (sym c.in_ok-rest.ensures ∙ is) in
-    none-some m (c.in_err-first.ensures.read m named (sym (same_cons 32 32 c.in_ok-name.name.now (move_text m) (sym spaced ∙ mine)).1)))
+    let name : move_text m ≡ c.in_ok-name.name.now = cc (spaced, mine) in
+    none-some m (c.in_err-first.ensures.read m named name))
 
 pub returns : goal.returns
 returns c =

@@ -1,5 +1,5 @@
-use Rattle.std.proofs.Common.{◌≡◌, ◌∙◌, ℕ, List, [], Option, None, Some, ap, slice_get, subst, sym}
-use Rattle.verifying.proofs.Common.{same_Some, PlainBoard, Goal, Ply, Claim, Word, IsYesLine, with_claim, FindsOnly}
+use Rattle.std.proofs.Common.{◌≡◌, ◌∙◌, ℕ, List, [], Option, None, Some, ap, slice_get, subst, sym, arith}
+use Rattle.verifying.proofs.Common.{common_steps, same_Some, PlainBoard, Goal, Ply, Claim, Word, IsYesLine, with_claim, FindsOnly}
 use Rattle.verifying.proofs.Making.{not_found, this_found}
 use Rattle.verifying.proofs.steps.shows_win.Goals as goal
 
@@ -15,9 +15,9 @@ of_first goal b n words none start new read found made empty is at one h =
 
 pub returns-in-Some : goal.returns-in-Some
 returns-in-Some g c =
-    this_found (λ (m : Ply) (other : List Claim). IsYesLine c.args.goal (record { position = c.args.board.now; plies = c.args.mate.plies }) m c.args.words.now (with_claim [] c.args.board.now c.args.mate.plies) other) c.in-Some.m c.args.mate.first c.is_same.result c.winning_move.new.claims
+    this_found (λ (m : Ply) (other : List Claim). IsYesLine c.args.goal (record { position = c.args.board.now; plies = c.args.mate.plies }) m c.args.words.now (with_claim [] c.args.board.now c.args.mate.plies) other) c.in-Some.m c.args.mate.first c.eq.result c.winning_move.new.claims
     (of_first c.args.goal c.args.board.now c.args.mate.plies c.args.words.now c.clear.new.self c.push.new.self c.winning_move.new.claims c.claim-claim.result (Some c.in-Some.m) _ c.clear.ensures c.in_ok-push.ensures.ok c.claim-claim.ensures c.in-Some.is c.in_ok-m.ensures)
-    c.is_same.ensures
+    (grind (arith, common_steps, c.eq.ensures))
 
 pub returns-in-None : goal.returns-in-None
 returns-in-None g c =

@@ -1,6 +1,6 @@
 use Rattle.std.proofs.Common.{Bool, List, ◌∷◌, ◌++◌, [], ℕ, true, false, refl, sym, subst, arith}
-use Rattle.verifying.proofs.Common.{IfOk-from_err, left_of, ReadsText}
-use Rattle.verifying.proofs.Inputs.{any_told, ended_answered, ended_certified, ended_refused, ended_told, line_refused, more_gone, none_failed, none_gone, not_read, unread_refused}
+use Rattle.verifying.proofs.Common.{IfOk-from_err, left_of, ReadsText, any_input}
+use Rattle.verifying.proofs.Inputs.{ended_answered, ended_certified, ended_refused, ended_told, line_refused, more_gone, none_gone, unread_refused}
 use Rattle.verifying.proofs.whole.verify_input.Goals as goal
 
 pub loop-init : goal.loop-init
@@ -9,12 +9,6 @@ loop-init g c = record {
   failures = refl;
   read = ([], none_gone c.new-unread.result (g.S.Source.remaining c.args.reader.now) c.new-unread.ensures.none.0 c.new-unread.ensures.none.1, c.new-checker.ensures);
 }
-
-pub ended-requires : goal.ended-requires
-ended-requires g c = let read = c.loop.invariant.read in (c.args.goal, c.args.board.now, read.0, read.2)
-
-pub take-requires : goal.take-requires
-take-requires g c = let read = c.loop.invariant.read in (c.args.goal, c.args.board.now, read.0, read.2)
 
 pub loop-preserved : goal.loop-preserved
 loop-preserved g c =
@@ -73,19 +67,5 @@ pub returns-in_err-next_line_within-clause-text : goal.returns-in_err-next_line_
 returns-in_err-next_line_within-clause-text g c =
     ended_told c.args.goal c.args.board.now (g.S.Source.remaining c.args.reader.now) c.from_residual.result (IfOk-from_err c.from_residual.result _ c.from_residual.ensures.0) (returns-in_err-next_line_within-clause-refused g c)
 
--- ---- lines without end
-
 pub returns-clause-text : goal.returns-clause-text
-returns-clause-text g c = any_told c.args.goal (g.S.Source.remaining c.args.reader.now)
-
-pub returns-clause-refused : goal.returns-clause-refused
-returns-clause-refused g c = λ memory device. absurd (memory refl)
-
--- ---- how many reads failed
-
-pub returns-then-not-branch-clause-counts : goal.returns-then-not-branch-clause-counts
-returns-then-not-branch-clause-counts g c = omega (arith, c.in_ok-next_line_within.ensures.counts, c.loop.invariant.failures, none_failed c.ended.result c.ended.ensures.unread)
-
-pub returns-in_err-take-clause-counts : goal.returns-in_err-take-clause-counts
-returns-in_err-take-clause-counts g c =
-    omega (arith, c.in_ok-next_line_within.ensures.counts, c.loop.invariant.failures, not_read c.in_err-take.field-0.0 c.from_residual-in_err-take.result c.in_err-take.ensures.unread c.from_residual-in_err-take.ensures)
+returns-clause-text g c = any_input (g.S.Source.remaining c.args.reader.now) _ (λ input. tt)

@@ -1,12 +1,7 @@
 use Rattle.std.proofs.Common.{◌∙◌, ap, sym}
 use Rattle.verifying.proofs.Common.{IfOk-weaker, words_line}
-use Rattle.verifying.proofs.Refused.{answer_found, no_answer_found, no_words_found, words_found}
+use Rattle.verifying.proofs.Refused.{answer_found, no_words_found, words_found}
 use Rattle.verifying.proofs.checker.Checker.part_behind.Goals as goal
-
-pub returns-in_default-answer_of-clause-reads : goal.returns-in_default-answer_of-clause-reads
-returns-in_default-answer_of-clause-reads g c =
-    let it = c.args.self.now in
-    no_answer_found it.goal it.board c.args.line.now it.part it.claims it.claims c.in-First.is c.in_default-answer_of.ensures.text
 
 pub returns-in-First-clause-reads : goal.returns-in-First-clause-reads
 returns-in-First-clause-reads g c =

@@ -1,6 +1,6 @@
 use Rattle.std.proofs.Common.{ℕ, ◌+◌, ◌∷◌, refl, ap, arith}
-use Rattle.verifying.proofs.Common.{TooLong, answer_of}
-use Rattle.verifying.proofs.Refused.{line_long, line_taken, line_wrong, no_read}
+use Rattle.verifying.proofs.Common.{TooLong}
+use Rattle.verifying.proofs.Refused.{line_long, line_taken, line_wrong}
 use Rattle.verifying.proofs.checker.Checker.take.Goals as goal
 
 pub returns-then-line-gt-MOST_LINE-clause-refuses : goal.returns-then-line-gt-MOST_LINE-clause-refuses
@@ -9,9 +9,6 @@ returns-then-line-gt-MOST_LINE-clause-refuses g c = λ memory none rest. line_lo
 pub returns-in_default-clause-refuses : goal.returns-in_default-clause-refuses
 returns-in_default-clause-refuses g c = λ memory none rest.
     line_wrong c.args.self.now c.args.line.now rest c.part_behind.new.self.claims c.fault-fault.result c.fault-fault.ensures (rw c.in_default.is at c.in_ok-part.ensures.reads) none
-
-pub returns-in_default-clause-unread : goal.returns-in_default-clause-unread
-returns-in_default-clause-unread g c = no_read (answer_of c.args.self.now.part) c.args.self.now.number c.fault-fault.result c.fault-fault.ensures
 
 pub returns-clause-takes : goal.returns-clause-takes
 returns-clause-takes g c =
