@@ -1,5 +1,5 @@
 //! Reading the words of a command line.
-ghost use Rattle.std.specs.Prelude.{◌≡◌, ◌≢◌, ◌↔◌, ◌*◌, ◌-◌, All, Any, IfErr, IfOk, IsTrue, MatchBool, MatchOption, None, Some, map, min};
+ghost use Rattle.std.specs.Prelude.{◌≡◌, ◌≢◌, ◌↔◌, ◌*◌, ◌-◌, All, Any, IfErr, IfOk, IsTrue, MatchBool, MatchOption, None, Some, codes, map, min};
 ghost use Rattle.clap.specs.declared.error.kind.ErrorKind.TheVariants.{OutOfMemory};
 ghost use Rattle.clap.specs.Words.{FailsBy, fault_of, first_of, found_of, kind_of, rows_of, subcommand_of, subcommand_rows_of};
 ghost use Rattle.command_line.specs.declared.reading.LineFault.TheVariants.{NoMemory, Words};
@@ -161,24 +161,36 @@ fn named_move<'a>(values: &ArgMatches<'a>, id: &str) -> Option<NamedMove<'a>>
     })
 }
 
+/// A command that searches, and is no batch.
+fn search_of(name: &str, goal: Goal, limits: Limits, values: &ArgMatches<'_>) -> Option<Action>
+    requires goal { HasGoal (rows_of (found_of values.now)) goal }
+    requires limits { HasLimits (rows_of (found_of values.now)) limits }
+    requires name { (name.now ≢ codes "moves") × (name.now ≢ codes "show") × (name.now ≢ codes "check") }
+    ensures { Reads (MeansAction name.now (rows_of (found_of values.now))) result }
+{
+    match name {
+        "solve" => Some(Action::Solve(goal, limits)),
+        "keys" => Some(Action::Keys(goal, limits)),
+        "tree" => match text_of(values, "first") {
+            None => Some(Action::Tree(goal, limits)),
+            _ => None,
+        },
+        _ => None,
+    }
+}
+
 fn action_of(name: &str, values: &ArgMatches<'_>) -> Option<Action>
     ensures { Reads (MeansAction name.now (rows_of (found_of values.now))) result }
 {
     match name {
-        "solve" => Some(Action::Solve(goal_of(values)?, limits(values)?)),
-        "keys" => Some(Action::Keys(goal_of(values)?, limits(values)?)),
-        "tree" => match text_of(values, "first") {
-            None => Some(Action::Tree(goal_of(values)?, limits(values)?)),
-            _ => None,
-        },
-        "check" => Some(Action::Check(goal_of(values)?)),
         "moves" => Some(Action::Moves),
         "show" => Some(Action::Show(Drawing {
             svg: is_given(values, "svg"),
             unicode: is_given(values, "unicode"),
             black: is_given(values, "black"),
         })),
-        _ => None,
+        "check" => Some(Action::Check(goal_of(values)?)),
+        _ => search_of(name, goal_of(values)?, limits(values)?, values),
     }
 }
 
