@@ -1,3 +1,0 @@
-mod OneMore
-mod Found
-mod Names

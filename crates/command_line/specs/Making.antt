@@ -1,15 +1,16 @@
--- What the program's commands are made of, and what is read of their names.
-use Rattle.std.specs.Prelude.{◌≡◌, ◌≢◌, Option, MatchOption, Bool, codes, false, map, true}
+-- What the program's commands are made of, and when what was read of one is meant.
+use Rattle.std.specs.Prelude.{◌≡◌, List, MatchOption, Option, Some, codes, false, map}
 use Rattle.clap.specs.Walk.{texts}
-use Rattle.clap.specs.Words.{App, Rule, Text, app_of, new_app, rule_of}
+use Rattle.clap.specs.Words.{App, Row, Rule, Text, app_of, first_of, new_app, rule_of}
 use Rattle.clap.specs.declared.builder.arg.Arg.{Arg}
 use Rattle.clap.specs.declared.builder.command.Command.{Command}
 use Rattle.clap.specs.declared.builder.command.Command.TheViews.{out-Command as fields_of}
-use Rattle.command_line.specs.Program.{flag_rule, number_rule, search_rules, text_rule, with_rules, word_rule}
+use Rattle.command_line.specs.Program.{flag_rule, number_rule, text_rule, with_rules, word_rule}
 use Rattle.command_line.specs.declared.help.Argument.{Argument}
 use Rattle.command_line.specs.declared.help.Form.{Form}
 use Rattle.command_line.specs.declared.help.Form.TheVariants.{Word, Flag, Value, Number}
 use Rattle.command_line.specs.declared.help.Verb.{Verb}
+use Rattle.command_line.specs.declared.line.NamedMove.{NamedMove}
 
 -- the argument has this rule, and holds for its command alone
 pub record IsLocalArg (rule : Rule) (arg : Arg) : Type 0 where
@@ -32,27 +33,14 @@ form_rule name (Number value given) = number_rule name (texts given.now)
 abbrev pub rule_in : Argument → Rule
 rule_in argument = form_rule argument.name.now argument.form
 
--- with the options of a search, where it searches
-abbrev pub prepared_app : Bool → App → App
-prepared_app true app = with_rules app search_rules
-prepared_app false app = app
-
 -- a command of the table
 abbrev pub verb_app : Verb → App
-verb_app verb = with_rules (prepared_app verb.searches (new_app verb.name.now)) (map rule_in verb.own.now)
+verb_app verb = with_rules (new_app verb.name.now) (map rule_in verb.arguments.now)
 
 -- what was read is meant, or nothing is
 abbrev pub Reads : {X : Type 0} → (X → Type 0) → Option X → Type 0
-Reads Means read = MatchOption read ((x : _) → Means x → ⊥) Means
+Reads Means read = MatchOption read ((x : _) → Means x → ⊥) (λ x. Means x)
 
--- a name that isn't one of the commands without a goal
-pub record TakesGoal (name : Text) : Type 0 where
-  pub moves : name ≢ codes "moves"
-  pub show : name ≢ codes "show"
-  pub after : name ≢ codes "after"
-
--- nor one without limits, but perhaps `batch`
-pub record TakesLimits (name : Text) : Type 0 where
-  pub aims : TakesGoal name
-  pub check : name ≢ codes "check"
-  pub verify : name ≢ codes "verify"
+-- what was found for the position, and for the move that the argument of that name has
+abbrev pub HasMove : Text → List Row → NamedMove → Type 0
+HasMove id rows move = (first_of (codes "FEN") rows ≡ Some move.fen.now) × (first_of id rows ≡ Some move.name.now)

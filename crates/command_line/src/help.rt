@@ -27,10 +27,7 @@ pub struct Verb {
     pub about: &'static str,
     pub example: &'static str,
     pub more: &'static str,
-    /// Whether it takes what a search takes.
-    pub searches: bool,
-    /// The arguments behind those.
-    pub own: &'static [Argument],
+    pub arguments: &'static [Argument],
 }
 
 pub const PROGRAM: &str = "Finds forced mates in two small chess games, and proves them";
@@ -90,8 +87,7 @@ More examples:
   minimate solve --mate 2 'k5/6/2K3/6/6/1R4 w'
   minimate solve --limit 1 --goal stale 'k5/6/2K3/6/6/1R4 w'
   minimate solve --limit 9 --slots 1048573 '2qK1/3B1/1k1NQ/3b1/r1Q2 w'",
-    searches: true,
-    own: &[FEN],
+    arguments: &[LIMIT, MATE, WORKERS, SLOTS, GOAL, PROGRESS, FEN],
 };
 
 pub const KEYS: Verb = Verb {
@@ -103,8 +99,7 @@ Each first move that forces mate within the limit has a line of its own, with
 the fewest plies that it takes, as `c4c5 3`, in the order of `minimate moves`;
 where there is none, `none within 3`. So a problem has one key where one line
 alone has the least number.",
-    searches: true,
-    own: &[FEN],
+    arguments: &[LIMIT, MATE, WORKERS, SLOTS, GOAL, PROGRESS, FEN],
 };
 
 pub const TREE: Verb = Verb {
@@ -120,8 +115,7 @@ plies. `minimate check` checks it.
 
 More examples:
   minimate tree --limit 3 --first f1f2 'k5/6/1K4/6/6/5R w'",
-    searches: true,
-    own: &[FEN, FIRST],
+    arguments: &[LIMIT, MATE, WORKERS, SLOTS, GOAL, PROGRESS, FEN, FIRST],
 };
 
 pub const SOLUTION: Verb = Verb {
@@ -140,8 +134,10 @@ More examples:
   minimate solution --mate 2 --figurines 'k5/6/2K3/6/6/1R4 w'
   minimate solution --mate 2 --svg 'k5/6/2K3/6/6/1R4 w' > problem.svg
   minimate solution --mate 2 --first b1b2 'k5/6/2K3/6/6/1R4 w'",
-    searches: true,
-    own: &[FEN, SET, TRIES, FIGURINES, SHORT, DATA, CAPTIONED, TOLD],
+    arguments: &[
+        LIMIT, MATE, WORKERS, SLOTS, GOAL, PROGRESS, FEN, SET, TRIES, FIGURINES, SHORT, DATA,
+        CAPTIONED, TOLD,
+    ],
 };
 
 pub const CHECK: Verb = Verb {
@@ -155,8 +151,7 @@ braces each lawful reply in order, a colon and the tree that meets it. The
 output is `yes 3`, the plies within which the tree forces the goal, or `no`.
 What is no tree is refused with the offset at which it goes wrong, and so is a
 tree in which more than 32 moves of the attacker are nested.",
-    searches: false,
-    own: &[GOAL, FEN],
+    arguments: &[GOAL, FEN],
 };
 
 pub const VERIFY: Verb = Verb {
@@ -171,8 +166,7 @@ the output is that answer. What they don't prove is refused: `Answer` where the
 first line is no answer, and `Claim at line 3` where a line isn't there, is no
 claim's or says what isn't so. No search is made but of three plies, and no
 table. A line has at most 8192 bytes.",
-    searches: false,
-    own: &[GOAL, FEN],
+    arguments: &[GOAL, FEN],
 };
 
 pub const CERTIFY: Verb = Verb {
@@ -183,8 +177,7 @@ pub const CERTIFY: Verb = Verb {
 The first line is the answer of `solve`. The lines of claims after it prove it:
 that the mate is forced, that none is shorter and no lesser first move as good,
 or that there is none. `minimate verify` and tools/verify.py check it.",
-    searches: true,
-    own: &[FEN],
+    arguments: &[LIMIT, MATE, WORKERS, SLOTS, GOAL, PROGRESS, FEN],
 };
 
 pub const MOVES: Verb = Verb {
@@ -196,8 +189,7 @@ Each move has a line of its own: the square it leaves, the square it comes to,
 and for a promotion q, r, b or n, as `c5c6q`. They are ordered by the first
 square, the second, and the promotion in that order; squares go by ranks, a1, b1
 and so on.",
-    searches: false,
-    own: &[FEN],
+    arguments: &[FEN],
 };
 
 pub const SHOW: Verb = Verb {
@@ -207,8 +199,7 @@ pub const SHOW: Verb = Verb {
     more: "\
 The board is drawn with its ranks and files, a letter for each unit, a point for
 each empty square, and the side to move.",
-    searches: false,
-    own: &[SVG, UNICODE, BLACK, FEN],
+    arguments: &[SVG, UNICODE, BLACK, FEN],
 };
 
 pub const AFTER: Verb = Verb {
@@ -219,8 +210,7 @@ pub const AFTER: Verb = Verb {
 The output is the position after the move, in the notation of FEN. The move is
 named as `minimate moves` names it; what is no lawful move's name is refused as
 `Move`.",
-    searches: false,
-    own: &[FEN, MOVE],
+    arguments: &[FEN, MOVE],
 };
 
 pub const BATCH: Verb = Verb {
@@ -237,12 +227,10 @@ Behind its position a line may have its own limit, in moves: a line
 `k5/6/2K3/6/6/1R4 w ; dm 2` is searched within three plies, whatever the limit,
 and behind its answer stands `ok` where that is a mate in two moves and no
 fewer, and else `differs`.",
-    searches: true,
-    own: &[ECHO, KEY_LISTS, OBJECTS, LINES, SKIP],
+    arguments: &[
+        LIMIT, MATE, WORKERS, SLOTS, GOAL, PROGRESS, ECHO, KEY_LISTS, OBJECTS, LINES, SKIP,
+    ],
 };
-
-/// What a search takes, but for the position.
-pub const SEARCH: &[Argument] = &[LIMIT, MATE, WORKERS, SLOTS, GOAL, PROGRESS];
 
 const FEN: Argument = Argument {
     name: "FEN",

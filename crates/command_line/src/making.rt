@@ -1,8 +1,8 @@
 //! The program's commands, made of their tables.
-ghost use Rattle.std.specs.Prelude.{IfOk, map};
+ghost use Rattle.std.specs.Prelude.{IfOk};
 ghost use Rattle.clap.specs.Words.{App, with_subcommand};
-ghost use Rattle.command_line.specs.Making.{IsLocal, IsLocalArg, prepared_app, rule_in, verb_app};
-ghost use Rattle.command_line.specs.Program.{program, with_rules};
+ghost use Rattle.command_line.specs.Making.{IsLocal, IsLocalArg, rule_in, verb_app};
+ghost use Rattle.command_line.specs.Program.{program};
 
 use crate::help::{self, Argument, Form, Verb};
 use clap::{Arg, ArgAction, Command, value_parser};
@@ -31,17 +31,15 @@ fn made<'a>(alloc: Global, argument: &Argument) -> Arg<'a>
     }
 }
 
-/// Adds arguments in turn.
-fn with_arguments<'a>(
-    alloc: Global,
-    command: Command<'a>,
-    arguments: &[Argument],
-) -> Result<Command<'a>, AllocError>
-    ensures { (app : App) → IsLocal app command.entry
-        → IfOk result (IsLocal (with_rules app (map rule_in arguments.now))) }
+/// A command of the table.
+pub fn command_of<'a>(alloc: Global, verb: &Verb) -> Result<Command<'a>, AllocError>
+    ensures { IfOk result (IsLocal (verb_app verb.now)) }
 {
-    let mut grown = command;
-    for argument in arguments {
+    let mut grown = Command::new(alloc, verb.name)
+        .about(verb.about)
+        .before_help(verb.example)
+        .after_long_help(verb.more);
+    for argument in verb.arguments {
         // by `else` and not by `?`, whose calls are dear to prove at a type as large as this
         let Ok(more) = grown.arg(made(alloc, argument)) else {
             return Err(AllocError);
@@ -51,49 +49,20 @@ fn with_arguments<'a>(
     Ok(grown)
 }
 
-/// Adds what a search takes, but for the position, where it searches.
-fn prepared<'a>(
+/// Adds a command of the table, if the other could be made.
+fn with_command<'a>(
     alloc: Global,
-    command: Command<'a>,
-    searches: bool,
-) -> Result<Command<'a>, AllocError>
-    ensures { (app : App) → IsLocal app command.entry → IfOk result (IsLocal (prepared_app searches app)) }
-{
-    if searches {
-        with_arguments(alloc, command, help::SEARCH)
-    } else {
-        Ok(command)
-    }
-}
-
-/// A command of the table.
-pub fn command_of<'a>(alloc: Global, verb: &Verb) -> Result<Command<'a>, AllocError>
-    ensures { IfOk result (IsLocal (verb_app verb.now)) }
-{
-    let bare = Command::new(alloc, verb.name)
-        .about(verb.about)
-        .before_help(verb.example)
-        .after_long_help(verb.more);
-    let Ok(ready) = prepared(alloc, bare, verb.searches) else {
-        return Err(AllocError);
-    };
-    with_arguments(alloc, ready, verb.own)
-}
-
-/// Adds a command to another, if both could be made.
-fn added<'a>(
     command: Result<Command<'a>, AllocError>,
-    other: Result<Command<'a>, AllocError>,
+    verb: &Verb,
 ) -> Result<Command<'a>, AllocError>
-    ensures { (app sub : App) → IfOk command.entry (IsLocal app) → IfOk other.entry (IsLocal sub)
-        → IfOk result (IsLocal (with_subcommand app sub.top)) }
+    ensures { (app : App) → IfOk command.entry (IsLocal app)
+        → IfOk result (IsLocal (with_subcommand app (verb_app verb.now).top)) }
 {
-    // dropped by a call, which is one step, and not field by field
     let Ok(command) = command else {
-        mem::drop(other);
         return Err(AllocError);
     };
-    let Ok(other) = other else {
+    let Ok(other) = command_of(alloc, verb) else {
+        // dropped by a call, which is one step, and not field by field
         mem::drop(command);
         return Err(AllocError);
     };
@@ -110,15 +79,15 @@ pub fn command<'a>(alloc: Global) -> Result<Command<'a>, AllocError>
         .after_long_help(help::PROGRAM_MORE)
         .version("0.1.0")
         .subcommand_required(true);
-    let solving = added(Ok(bare), command_of(alloc, &help::SOLVE));
-    let finding = added(solving, command_of(alloc, &help::KEYS));
-    let searching = added(finding, command_of(alloc, &help::TREE));
-    let options = added(searching, command_of(alloc, &help::SOLUTION));
-    let checking = added(options, command_of(alloc, &help::CHECK));
-    let verifying = added(checking, command_of(alloc, &help::VERIFY));
-    let certifying = added(verifying, command_of(alloc, &help::CERTIFY));
-    let moving = added(certifying, command_of(alloc, &help::MOVES));
-    let showing = added(moving, command_of(alloc, &help::SHOW));
-    let playing = added(showing, command_of(alloc, &help::AFTER));
-    added(playing, command_of(alloc, &help::BATCH))
+    let solving = with_command(alloc, Ok(bare), &help::SOLVE);
+    let finding = with_command(alloc, solving, &help::KEYS);
+    let searching = with_command(alloc, finding, &help::TREE);
+    let telling = with_command(alloc, searching, &help::SOLUTION);
+    let checking = with_command(alloc, telling, &help::CHECK);
+    let verifying = with_command(alloc, checking, &help::VERIFY);
+    let certifying = with_command(alloc, verifying, &help::CERTIFY);
+    let moving = with_command(alloc, certifying, &help::MOVES);
+    let showing = with_command(alloc, moving, &help::SHOW);
+    let playing = with_command(alloc, showing, &help::AFTER);
+    with_command(alloc, playing, &help::BATCH)
 }

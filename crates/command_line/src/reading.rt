@@ -1,12 +1,12 @@
 //! Reading the words of a command line.
-ghost use Rattle.std.specs.Prelude.{◌≡◌, ◌≢◌, ◌↔◌, ◌*◌, ◌-◌, All, Any, IfErr, IfOk, IsTrue, MatchBool, MatchOption, None, OnErr, Some, codes, map, min};
+ghost use Rattle.std.specs.Prelude.{◌≡◌, ◌≢◌, ◌↔◌, ◌*◌, ◌-◌, All, Any, IfErr, IfOk, IsTrue, MatchBool, MatchOption, None, Some, codes, map, min};
 ghost use Rattle.clap.specs.declared.error.kind.ErrorKind.TheVariants.{OutOfMemory};
 ghost use Rattle.clap.specs.Words.{FailsBy, fault_of, first_of, found_of, kind_of, rows_of, subcommand_of, subcommand_rows_of};
 ghost use Rattle.command_line.specs.declared.reading.LineFault.TheVariants.{NoMemory, Words};
 ghost use Rattle.command_line.specs.declared.line.Order.{Order as TheOrder};
-ghost use Rattle.command_line.specs.Making.{TakesGoal, Reads, TakesLimits};
+ghost use Rattle.command_line.specs.Making.{HasMove, Reads};
 ghost use Rattle.command_line.specs.Program.{program};
-ghost use Rattle.command_line.specs.Words.{HasDrawing, HasGoal, HasLimit, HasLimits, HasBatchOptions, HasNumberIfGiven, HasOrder, HasSubject, HasSolutionOptions, IsGiven, MeansFound, MeansOrder, MeansNoOrder, progress_word};
+ghost use Rattle.command_line.specs.Words.{HasBatchOptions, HasGoal, HasLimit, HasLimits, HasLine, HasNumberIfGiven, HasOrder, HasSolutionOptions, HasSubject, IsGiven, MeansAction, MeansFound, MeansNoOrder, MeansOrder, progress_word};
 
 use crate::line::{
     Action, BatchOptions, Drawing, Limits, Line, NamedMove, Order, SolutionOptions, Subject,
@@ -60,8 +60,7 @@ fn word_of<'a>(values: &ArgMatches<'a>, id: &str) -> Option<&'a [u8]>
     ensures { MatchOption result (first_of id.now (rows_of (found_of values.now)) ≡ None)
         (λ word. first_of id.now (rows_of (found_of values.now)) ≡ Some word.now) }
 {
-    let text = text_of(values, id)?;
-    Some(text.as_bytes())
+    Some(text_of(values, id)?.as_bytes())
 }
 
 fn number_of(values: &ArgMatches<'_>, id: &str) -> Option<u32>
@@ -74,21 +73,14 @@ fn number_of(values: &ArgMatches<'_>, id: &str) -> Option<u32>
 fn is_given(values: &ArgMatches<'_>, id: &str) -> bool
     ensures { IsTrue result ↔ IsGiven id.now (rows_of (found_of values.now)) }
 {
-    match text_of(values, id) {
-        None => false,
-        Some(word) => match word {
-            "true" => true,
-            _ => false,
-        },
-    }
+    matches!(text_of(values, id), Some("true"))
 }
 
 /// The plies of a mate in so many moves, or the greatest number where they are more.
 fn plies_of(moves: u32) -> u32
     ensures { result ≡ min (2 * moves - 1) 4294967295 }
 {
-    let plies = (2 * u64::from(moves)).saturating_sub(1);
-    u32::try_from(plies).unwrap_or(u32::MAX)
+    moves.saturating_sub(1).saturating_add(moves)
 }
 
 /// The most plies, by `--limit` or by `--mate`. Where both are given, or neither, there is none.
@@ -124,16 +116,6 @@ fn goal_of(values: &ArgMatches<'_>) -> Option<Goal>
     }
 }
 
-fn drawing_of(values: &ArgMatches<'_>) -> Drawing
-    ensures { HasDrawing (rows_of (found_of values.now)) result }
-{
-    Drawing {
-        svg: is_given(values, "svg"),
-        unicode: is_given(values, "unicode"),
-        black: is_given(values, "black"),
-    }
-}
-
 fn batch_options(values: &ArgMatches<'_>) -> BatchOptions
     ensures { HasBatchOptions (rows_of (found_of values.now)) result }
 {
@@ -160,83 +142,66 @@ fn solution_options<'a>(values: &ArgMatches<'a>) -> SolutionOptions<'a>
     }
 }
 
-/// The order of a command that searches at a position.
-fn search_order<'a>(
-    name: &str,
-    subject: Subject<'a>,
-    limits: Limits,
-    values: &ArgMatches<'a>,
-) -> Option<Order<'a>>
-    requires subject { HasSubject (rows_of (found_of values.now)) subject }
-    requires limits { HasLimits (rows_of (found_of values.now)) limits }
-    requires name { TakesLimits name.now }
-    requires batch { name.now ≢ codes "batch" }
-    ensures { Reads (MeansFound name.now (rows_of (found_of values.now))) result }
+fn subject_of<'a>(values: &ArgMatches<'a>) -> Option<Subject<'a>>
+    ensures { Reads (HasSubject (rows_of (found_of values.now))) result }
 {
-    let Subject { fen, goal } = subject;
+    Some(Subject {
+        fen: word_of(values, "FEN")?,
+        goal: goal_of(values)?,
+    })
+}
+
+/// The position, and the move of that name of an argument.
+fn named_move<'a>(values: &ArgMatches<'a>, id: &str) -> Option<NamedMove<'a>>
+    ensures { Reads (HasMove id.now (rows_of (found_of values.now))) result }
+{
+    Some(NamedMove {
+        fen: word_of(values, "FEN")?,
+        name: word_of(values, id)?,
+    })
+}
+
+/// A command that searches, and is no batch.
+fn search_of(name: &str, goal: Goal, limits: Limits, values: &ArgMatches<'_>) -> Option<Action>
+    requires goal { HasGoal (rows_of (found_of values.now)) goal }
+    requires limits { HasLimits (rows_of (found_of values.now)) limits }
+    requires name { (name.now ≢ codes "moves") × (name.now ≢ codes "show") × (name.now ≢ codes "check") }
+    ensures { Reads (MeansAction name.now (rows_of (found_of values.now))) result }
+{
     match name {
-        "solve" => Some(Order::One(Line {
-            fen,
-            action: Action::Solve(goal, limits),
-        })),
-        "keys" => Some(Order::One(Line {
-            fen,
-            action: Action::Keys(goal, limits),
-        })),
-        "tree" => match word_of(values, "first") {
-            None => Some(Order::One(Line {
-                fen,
-                action: Action::Tree(goal, limits),
-            })),
-            Some(name) => Some(Order::TreeAfter(NamedMove { fen, name }, goal, limits)),
+        "solve" => Some(Action::Solve(goal, limits)),
+        "keys" => Some(Action::Keys(goal, limits)),
+        "tree" => match text_of(values, "first") {
+            None => Some(Action::Tree(goal, limits)),
+            _ => None,
         },
-        "certify" => Some(Order::Certify(subject, limits)),
-        "solution" => Some(Order::Solution(subject, limits, solution_options(values))),
         _ => None,
     }
 }
 
-/// The order of a command at a position, with a goal.
-fn aimed_order<'a>(name: &str, subject: Subject<'a>, values: &ArgMatches<'a>) -> Option<Order<'a>>
-    requires subject { HasSubject (rows_of (found_of values.now)) subject }
-    requires name { TakesGoal name.now }
-    requires batch { name.now ≢ codes "batch" }
-    ensures { Reads (MeansFound name.now (rows_of (found_of values.now))) result }
+fn action_of(name: &str, values: &ArgMatches<'_>) -> Option<Action>
+    ensures { Reads (MeansAction name.now (rows_of (found_of values.now))) result }
 {
     match name {
-        "check" => Some(Order::One(Line {
-            fen: subject.fen,
-            action: Action::Check(subject.goal),
+        "moves" => Some(Action::Moves),
+        "show" => Some(Action::Show(Drawing {
+            svg: is_given(values, "svg"),
+            unicode: is_given(values, "unicode"),
+            black: is_given(values, "black"),
         })),
-        "verify" => Some(Order::Verify(subject)),
-        _ => search_order(name, subject, limits(values)?, values),
+        "check" => Some(Action::Check(goal_of(values)?)),
+        _ => search_of(name, goal_of(values)?, limits(values)?, values),
     }
 }
 
-/// The order of a command at a position.
-fn placed_order<'a>(name: &str, fen: &'a [u8], values: &ArgMatches<'a>) -> Option<Order<'a>>
-    requires place { first_of (codes "FEN") (rows_of (found_of values.now)) ≡ Some fen.now }
-    requires batch { name.now ≢ codes "batch" }
-    ensures { Reads (MeansFound name.now (rows_of (found_of values.now))) result }
+/// The command of that name, at a position.
+fn line_of<'a>(name: &str, values: &ArgMatches<'a>) -> Option<Line<'a>>
+    ensures { Reads (HasLine name.now (rows_of (found_of values.now))) result }
 {
-    match name {
-        "moves" => Some(Order::One(Line {
-            fen,
-            action: Action::Moves,
-        })),
-        "show" => Some(Order::One(Line {
-            fen,
-            action: Action::Show(drawing_of(values)),
-        })),
-        "after" => Some(Order::After(NamedMove {
-            fen,
-            name: word_of(values, "MOVE")?,
-        })),
-        _ => {
-            let goal = goal_of(values)?;
-            aimed_order(name, Subject { fen, goal }, values)
-        }
-    }
+    Some(Line {
+        fen: word_of(values, "FEN")?,
+        action: action_of(name, values)?,
+    })
 }
 
 fn order_at<'a>(name: &str, values: &ArgMatches<'a>) -> Option<Order<'a>>
@@ -244,15 +209,26 @@ fn order_at<'a>(name: &str, values: &ArgMatches<'a>) -> Option<Order<'a>>
 {
     match name {
         "batch" => Some(Order::Batch(goal_of(values)?, limits(values)?, batch_options(values))),
-        _ => placed_order(name, word_of(values, "FEN")?, values),
+        "verify" => Some(Order::Verify(subject_of(values)?)),
+        "certify" => Some(Order::Certify(subject_of(values)?, limits(values)?)),
+        "after" => Some(Order::After(named_move(values, "MOVE")?)),
+        "solution" => {
+            let (subject, limits) = (subject_of(values)?, limits(values)?);
+            Some(Order::Solution(subject, limits, solution_options(values)))
+        }
+        "tree" => match named_move(values, "first") {
+            None => Some(Order::One(line_of(name, values)?)),
+            Some(played) => Some(Order::TreeAfter(played, goal_of(values)?, limits(values)?)),
+        },
+        _ => Some(Order::One(line_of(name, values)?)),
     }
 }
 
 /// The order that was found. That there is none is the words' fault, and no want of memory.
 fn found_order<'a>(matches: &ArgMatches<'a>) -> Result<Order<'a>, LineFault>
     ensures order { IfOk result (HasOrder (subcommand_rows_of matches.now)) }
-    ensures none { OnErr result ((order : TheOrder) → HasOrder (subcommand_rows_of matches.now) order → ⊥) }
-    ensures words { IfErr result (λ fault. fault ≡ Words) }
+    ensures fault { IfErr result (λ fault. (fault ≡ Words)
+        × ((order : TheOrder) → HasOrder (subcommand_rows_of matches.now) order → ⊥)) }
 {
     match matches.subcommand() {
         Some((name, values)) => order_at(name, values).ok_or(LineFault::Words),

@@ -1,8 +1,5 @@
 use Rattle.command_line.proofs.reading.limits.Goals as goal
 
-pub returns-in_err-limit_of : goal.returns-in_err-limit_of
-returns-in_err-limit_of c = rw c.from_residual.ensures (λ values has. c.in_err-limit_of.ensures values.limit has.limit)
-
 pub returns-in_err-number_of : goal.returns-in_err-number_of
 returns-in_err-number_of c = rw c.from_residual-in_err-number_of.ensures (λ values has. c.in_err-number_of.ensures values.workers has.workers)
 
