@@ -26,8 +26,8 @@ use std::thread::Threads;
 /// So many positions a thread searches for a line, before it leaves that to all threads, where another has no line.
 const PATIENCE: u32 = 4096;
 
-/// So many at most where a sign of life is asked for, which a line that several threads search has.
-const UNSHOWN: u32 = 65_536;
+/// So many at most: replies that are made wait for others that are made ahead.
+const MOST_PATIENCE: u32 = 65_536;
 
 /// What a line says, and what is written for it.
 #[derive(Drop)]
@@ -60,16 +60,14 @@ struct Lines<'a, 'b> {
     slots: &'b Slots<MateLore>,
     taken: Arc<AtomicU64>,
     busy: u64,
-    most: u32,
 }
 
-/// Stops the search of a line that is long, where another thread has no line, or where it is too long for its sign of life.
+/// Stops the search of a line that is long: where another thread has no line, or others wait.
 #[derive(Drop)]
 struct Patience {
     taken: Arc<AtomicU64>,
     busy: u64,
     positions: u32,
-    most: u32,
 }
 
 impl Stop for Patience {
@@ -82,7 +80,7 @@ impl Stop for Patience {
         if self.positions < PATIENCE {
             return false;
         }
-        self.most < self.positions || self.busy < self.taken.load(Ordering::SeqCst)
+        MOST_PATIENCE < self.positions || self.busy < self.taken.load(Ordering::SeqCst)
     }
 
     ghost stays_at_once = { λ _. tt };
@@ -111,7 +109,6 @@ impl Lines<'_, '_> {
             taken: Arc::try_clone(&self.taken)?,
             busy: self.busy,
             positions: 0,
-            most: self.most,
         };
         let mut scout = Scout {
             stop,
@@ -216,7 +213,6 @@ fn replies_ahead<'a, R: Threads + Wait + Sync + AllocGlobal>(
     batch: &'a Batch,
     table: &mut Table,
     read: Vec<&'a [u8]>,
-    most: u32,
 ) -> Result<Vec<Vec<Ahead>>, AllocError>
     requires { IsSearched batch.now }
     ensures { IfOk result (λ ahead. AreAhead batch.now ahead.items) }
@@ -233,7 +229,6 @@ fn replies_ahead<'a, R: Threads + Wait + Sync + AllocGlobal>(
         slots: &table.slots,
         taken,
         busy: busy as u64,
-        most,
     };
     let lines = &lines;
     thread::for_each_mut(
@@ -305,8 +300,7 @@ pub(crate) fn look_ahead<R: Threads + Wait + Sync + AllocGlobal>(
         return;
     };
     lookahead.looked_at = (number - 1).saturating_add(lines.len() as u64);
-    let most = if context.shows { UNSHOWN } else { u32::MAX };
-    if let Ok(rows) = replies_ahead(context.rt, batch, &mut lookahead.table, lines, most) {
+    if let Ok(rows) = replies_ahead(context.rt, batch, &mut lookahead.table, lines) {
         lookahead.rows = rows;
     }
 }
