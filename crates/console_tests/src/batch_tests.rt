@@ -75,7 +75,8 @@ fn repeated<R: Abort + AllocGlobal>(rt: &R, text: &str, count: usize) -> String 
 // The lines that one read brings are answered several at once. More stand here than that, with remarks, refusals and a game that is over among them.
 #[test]
 fn answers_many_lines_as_each_alone(rt: HostRuntime) {
-    let lines = "k5/6/2K3/6/6/1R4 w\n# two\n\nk5/6/1K4/6/6/5R w ; dm 1\r\nk5 w\n5r/6/6/1k4/6/K5 b\nk5/1Q4/2K3/6/6/6 b\n";
+    let lines =
+        "k5/6/2K3/6/6/1R4 w\n# two\n\nk5/6/1K4/6/6/5R w ; dm 1\r\nk5 w\n5r/6/6/1k4/6/K5 b\nk5/1Q4/2K3/6/6/6 b\n";
     let told = "mate 3 c4c5\n# two\n\nmate 1 f1f6 ok\nrefused: Shape\nmate 1 f6f1\nnone within 3\n";
     let keys = "none within 1\n# two\n\nf1f6 1 ok\nrefused: Shape\nf6f1 1\nnone within 1\n";
     let input = repeated(&rt, lines, 60);
@@ -85,7 +86,13 @@ fn answers_many_lines_as_each_alone(rt: HostRuntime) {
         let words = ["minimate", "batch", "--limit", "3", "--workers", workers];
         expect_batch(&rt, &words, input.as_str(), output.as_str());
         let words = [
-            "minimate", "batch", "--keys", "--limit", "1", "--workers", workers,
+            "minimate",
+            "batch",
+            "--keys",
+            "--limit",
+            "1",
+            "--workers",
+            workers,
         ];
         expect_batch(&rt, &words, input.as_str(), listed.as_str());
     }
