@@ -322,7 +322,7 @@ class Proofs:
     def run_apart(self, has_said):
         """Proves each crate that others stand on by a run of its own, once those below it are proved. A crate that is alone in its run gets several
         processors of the toolchain, and the longest chain of crates is what all is waited for: so its next one is begun first, and others are put back
-        behind it. What proves a crate again keeps nothing, and has all proved by one run."""
+        behind it. One run has the rest where a crate is proved again, since nothing is kept then, and where one is kept, since most are."""
         chains = proof_shares.chains(self.crates, self.names, proof_shares.read_shares())
         with contextlib.ExitStack() as runs:
             running = {}
@@ -340,7 +340,7 @@ class Proofs:
                     process, file = running.pop(name)
                     file.seek(0)
                     lines = file.read().splitlines()
-                    if any(f"rt: {it} proved" in lines for it in self.done):
+                    if any(f"rt: {it} proved" in lines for it in self.done) or any(it.startswith(f"rt: {name} is kept: ") for it in lines):
                         return
                     for line in lines:
                         has_said(line)
