@@ -10,7 +10,7 @@ use Rattle.wintree.specs.Plan.{Plan, ends, splits, Replies, last, more, depth, d
 use Rattle.wintree.specs.Text.{text, TreeText}
 use Rattle.wintree.specs.Wins.{Wins, EachWins, height, highest}
 use Rattle.wintree.proofs.Forced.{forced_for_mover}
-use Rattle.trees.specs.Best.{IsBestMove, IsBest}
+use Rattle.searcher.specs.Best.{IsBestMove, IsBest}
 use Rattle.trees.proofs.Forcing.{fewest_most}
 use Rattle.trees.proofs.Fewest.{best_plan}
 use Rattle.answer_laws.specs.Plans.{opening_move}

@@ -9,7 +9,7 @@ use Rattle.problems.specs.Answer.{IsFewest, IsAnswer}
 use Rattle.wintree.specs.Plan.{Plan, ends, splits, depth}
 use Rattle.wintree.specs.Text.{text, TreeText}
 use Rattle.wintree.specs.Wins.{Wins, height}
-use Rattle.trees.specs.Best.{IsBest}
+use Rattle.searcher.specs.Best.{IsBest}
 
 -- what a plan wins is forced, within as many plies as the plan is high
 abbrev pub WinsForce : Type 0

@@ -3,7 +3,8 @@ ghost use Rattle.std.specs.Prelude.{◌≡◌, [], IfErr, IfOk, None, Ok, Err, v
 ghost use Rattle.slots.specs.Promise.{IsSeatOf};
 ghost use Rattle.command_line.specs.declared.line.Action.TheVariants.{Solve, Keys, Moves, Tree as TreeAction, Check};
 ghost use Rattle.endings.specs.Outcome.{Gives};
-ghost use Rattle.replies.specs.Outcome.{FindsWithin, IsBestWithin};
+ghost use Rattle.searcher.specs.Best.{IsBestWithin};
+ghost use Rattle.replies.specs.Outcome.{FindsWithin};
 ghost use Rattle.problems.specs.Problems.{IsProblemOf};
 ghost use Rattle.replies.specs.Output.{IsOutput, ShowsAnswer, ShowsCheck, ShowsKeys, ShowsMoves, ShowsPlanFound};
 

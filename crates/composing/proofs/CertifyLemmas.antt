@@ -15,7 +15,7 @@ use Rattle.problems.specs.declared.answer.Answer.TheVariants.{Mate, NoneWithin}
 use Rattle.problems.specs.Answer.{IsAnswer, IsFewest}
 use Rattle.problems.proofs.Winning.{nothing_at_once}
 use Rattle.certificates.specs.Answers.{IsOdd}
-use Rattle.rounds.proofs.Limits.{limit_within}
+use Rattle.searcher.proofs.Limits.{limit_within}
 use Rattle.command_line.specs.declared.line.Limits.{Limits}
 use Rattle.command_line.specs.declared.line.Subject.{Subject}
 use Rattle.devices.specs.Device.{AppendsBeginning}

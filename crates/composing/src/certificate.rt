@@ -13,6 +13,8 @@ use moves::{Board, Goal, read_sound};
 use problems::Question;
 use refusals::Refusal;
 use replies::{Context, Tally, searched_at};
+use searcher::Crew;
+use std::alloc::Global;
 use std::sync::Wait;
 use std::thread::Threads;
 use std::time::Clock;
@@ -56,12 +58,13 @@ impl From<Fault> for Cut {
 }
 
 /// The answer at a position, with what makes its certificate.
-fn begin_at<R: Threads + Wait + Eprint + Clock + Sync + AllocGlobal>(
-    context: &Context<'_, R>,
+fn begin_at<R: Threads + Wait + Eprint + Clock + Sync + AllocGlobal, C: Crew<Global>>(
+    context: &Context<'_, R, C>,
     position: &Position,
     goal: Goal,
     limits: Limits,
 ) -> Result<Begun, Refusal>
+    requires { C.ready context.now.crew }
     ensures { BeginsAt goal position.now limits result }
 {
     let alloc = context.rt.alloc();
@@ -83,11 +86,12 @@ fn begin_at<R: Threads + Wait + Eprint + Clock + Sync + AllocGlobal>(
 }
 
 /// The answer at the position of a text, with what makes its certificate.
-pub fn begin<R: Threads + Wait + Eprint + Clock + Sync + AllocGlobal>(
-    context: &Context<'_, R>,
+pub fn begin<R: Threads + Wait + Eprint + Clock + Sync + AllocGlobal, C: Crew<Global>>(
+    context: &Context<'_, R, C>,
     subject: &Subject<'_>,
     limits: Limits,
 ) -> Result<Begun, Refusal>
+    requires { C.ready context.now.crew }
     ensures { BeginsCertificate subject.now limits result }
 {
     let position = read_sound(subject.fen)?;

@@ -13,7 +13,7 @@ use decision::{Memory, Never, Scout};
 use problems::{Answer, Root};
 use refusals::Refusal;
 use replies::{Context, named_job, none_line, searched_at};
-use searcher::{Halt, Searcher, Table};
+use searcher::{Crew, Halt, Searcher, Table};
 use solution_text::first_move_solution;
 use std::alloc::{AllocError, Global};
 use std::sync::Wait;
@@ -51,14 +51,15 @@ fn told(
 }
 
 /// What is told of the root's move of this number, within the limits: its limit counts for nothing here.
-fn told_within<R: Threads + Wait + Eprint + Clock + Sync + AllocGlobal>(
-    context: &Context<'_, R>,
+fn told_within<R: Threads + Wait + Eprint + Clock + Sync + AllocGlobal, C: Crew<Global>>(
+    context: &Context<'_, R, C>,
     root: Root,
     job: u16,
     limits: Limits,
     symbols: Symbols,
 ) -> Result<Vec<u8>, Refusal>
-    requires { IsJobOf root job }
+    requires crew { C.ready context.now.crew }
+    requires job { IsJobOf root job }
     ensures { Gives vec_items (ShowsFirstOf symbols root job limits) result }
 {
     let alloc = context.rt.alloc();
@@ -74,14 +75,15 @@ fn told_within<R: Threads + Wait + Eprint + Clock + Sync + AllocGlobal>(
 }
 
 /// The play behind the root's move of this name, within the limits.
-pub(crate) fn first_at<R: Threads + Wait + Eprint + Clock + Sync + AllocGlobal>(
-    context: &Context<'_, R>,
+pub(crate) fn first_at<R: Threads + Wait + Eprint + Clock + Sync + AllocGlobal, C: Crew<Global>>(
+    context: &Context<'_, R, C>,
     root: Root,
     name: &[u8],
     limits: Limits,
     symbols: Symbols,
 ) -> Result<Vec<u8>, Refusal>
-    requires { IsRoot root }
+    requires crew { C.ready context.now.crew }
+    requires root { IsRoot root }
     ensures { Gives vec_items (ShowsFirstNamed symbols root.goal root.board limits name.now) result }
 {
     match named_job(&root, name) {

@@ -16,10 +16,10 @@ use board::{Position, fen_text};
 use command_line::{Limits, SolutionOptions, Subject};
 use decision::{Memory, Never, Scout};
 use moves::{Board, Goal, read_sound};
-use problems::{Answer, MOST_LIMIT, Problem, Root};
+use problems::{Answer, Key, MOST_LIMIT, Problem, Root};
 use refusals::Refusal;
-use replies::{Context, keys, none_line, search_of, searched_at};
-use searcher::{Decider, Halt, Searcher, Table};
+use replies::{Context, beside, none_line, search_of, searched_at};
+use searcher::{Crew, Decider, Halt, Searcher, Table};
 use solution_text::{SolutionStyle, none_data, solution_data, solution_text};
 use solutions::{Extras, solution_of};
 use std::alloc::{AllocError, Global};
@@ -203,27 +203,37 @@ fn is_sooner(plies: u8, limit: u8) -> bool
 }
 
 /// All threads seek the keys that take so many plies: what they find stands in the table, and no answer rests on it.
-fn seek_keys<R: Threads + Wait + Eprint + Clock + Sync + AllocGlobal>(
-    context: &Context<'_, R>,
+fn seek_keys<R: Threads + Wait + Eprint + Clock + Sync + AllocGlobal, C: Crew<Global>>(
+    context: &Context<'_, R, C>,
     table: &mut Table,
     position: &Position,
     goal: Goal,
     limits: Limits,
-) {
+)
+    requires { C.ready context.now.crew }
+{
     if let Some(problem) = Problem::of(position, goal, search_of(limits).limit) {
         let watch = context.watch_of(position, true, limits);
-        let _ = keys(context.rt, table, &problem, watch.as_ref());
+        let (crew, problem, watch) = (&context.crew, &problem, watch.as_ref());
+        let _ = beside(
+            context.rt,
+            watch,
+            move || -> Result<Vec<Key>, AllocError>
+                requires { C.ready crew.now }
+            { crew.keys(table, problem, watch) },
+        );
     }
 }
 
 /// The solution of a position, or that nothing is forced within the limit.
-fn solution_at<R: Threads + Wait + Eprint + Clock + Sync + AllocGlobal>(
-    context: &Context<'_, R>,
+fn solution_at<R: Threads + Wait + Eprint + Clock + Sync + AllocGlobal, C: Crew<Global>>(
+    context: &Context<'_, R, C>,
     position: &Position,
     goal: Goal,
     limits: Limits,
     options: SolutionOptions<'_>,
 ) -> Result<Composed, Refusal>
+    requires { C.ready context.now.crew }
     ensures { Composes (ShowsSolution goal position.now options.entry limits)
         (IsAskedOf goal position.now options.entry limits) result }
 {
@@ -248,12 +258,13 @@ fn solution_at<R: Threads + Wait + Eprint + Clock + Sync + AllocGlobal>(
 }
 
 /// The solution of the position of a text, or the play behind the first move that is named.
-pub fn solution_reply<R: Threads + Wait + Eprint + Clock + Sync + AllocGlobal>(
-    context: &Context<'_, R>,
+pub fn solution_reply<R: Threads + Wait + Eprint + Clock + Sync + AllocGlobal, C: Crew<Global>>(
+    context: &Context<'_, R, C>,
     subject: &Subject<'_>,
     limits: Limits,
     options: SolutionOptions<'_>,
 ) -> Result<Composed, Refusal>
+    requires { C.ready context.now.crew }
     ensures { ComposesReply subject.now options.entry limits result }
 {
     let position = read_sound(subject.fen)?;

@@ -26,21 +26,30 @@ use endings::{
 };
 use refusals::Refusal;
 use replies::{Context, Tally, context_of, tell_if_over};
+use searcher::Crew;
+use std::alloc::Global;
 use std::convert::AsStr;
 use std::io::Write;
 use std::sync::Wait;
 use std::thread::Threads;
 use std::time::Clock;
+use workers::Workers;
 
 /// Answers a position as `solve` does, with the answer's certificate. `errors` is told why it was refused.
-fn run_certify<R: Threads + Wait + Eprint + Clock + Sync + AllocGlobal, K: Sink, E: Write>(
-    context: &Context<'_, R>,
+fn run_certify<
+    R: Threads + Wait + Eprint + Clock + Sync + AllocGlobal,
+    C: Crew<Global>,
+    K: Sink,
+    E: Write,
+>(
+    context: &Context<'_, R, C>,
     subject: &Subject<'_>,
     limits: Limits,
     writer: &mut K,
     errors: &mut E,
 ) -> u8
-    requires { K.failures writer.old < u64.MAX }
+    requires crew { C.ready context.now.crew }
+    requires writes { K.failures writer.old < u64.MAX }
     ensures runs { WritesCertificate subject.now limits (ending_of K.contents K.failures writer.old writer.new result) }
     ensures silent { MayTell result ⊎ IsOver subject.now.fen.now ⊎ (errors.new ≡ errors.old) }
 {
@@ -57,8 +66,8 @@ fn run_certify<R: Threads + Wait + Eprint + Clock + Sync + AllocGlobal, K: Sink,
 }
 
 /// The lines of claims, with a tally of them where it is to be shown.
-fn write_all_claims<R: Clock + Eprint, K: Sink>(
-    context: &Context<'_, R>,
+fn write_all_claims<R: Clock + Eprint, C, K: Sink>(
+    context: &Context<'_, R, C>,
     certificate: &mut Checked,
     writer: &mut K,
 ) -> Option<Cut>
@@ -75,8 +84,8 @@ fn write_all_claims<R: Clock + Eprint, K: Sink>(
 }
 
 /// Writes the answer's line and the lines of claims, and behind them why the next isn't taken, if it isn't.
-fn write_begun<R: Clock + Eprint + AllocGlobal, K: Sink, E: Write>(
-    context: &Context<'_, R>,
+fn write_begun<R: Clock + Eprint + AllocGlobal, C, K: Sink, E: Write>(
+    context: &Context<'_, R, C>,
     subject: &Subject<'_>,
     begun: Begun,
     writer: &mut K,
@@ -107,8 +116,8 @@ fn write_begun<R: Clock + Eprint + AllocGlobal, K: Sink, E: Write>(
 }
 
 /// Writes the whole solution, and behind it that memory is wanting, if it is.
-fn write_solved<R: AllocGlobal, K: Sink, E: Write>(
-    context: &Context<'_, R>,
+fn write_solved<R: AllocGlobal, C, K: Sink, E: Write>(
+    context: &Context<'_, R, C>,
     subject: &Subject<'_>,
     solved: Solved,
     writer: &mut K,
@@ -131,14 +140,20 @@ fn write_solved<R: AllocGlobal, K: Sink, E: Write>(
 }
 
 /// Answers the solution of a position. `errors` is told why it was refused.
-fn run_solution<R: Threads + Wait + Eprint + Clock + Sync + AllocGlobal, K: Sink, E: Write>(
-    context: &Context<'_, R>,
+fn run_solution<
+    R: Threads + Wait + Eprint + Clock + Sync + AllocGlobal,
+    C: Crew<Global>,
+    K: Sink,
+    E: Write,
+>(
+    context: &Context<'_, R, C>,
     subject: &Subject<'_>,
     asked: (Limits, SolutionOptions<'_>),
     writer: &mut K,
     errors: &mut E,
 ) -> u8
-    requires { K.failures writer.old < u64.MAX }
+    requires crew { C.ready context.now.crew }
+    requires writes { K.failures writer.old < u64.MAX }
     ensures runs { WritesSolution subject.now asked.entry.1 asked.entry.0
         (ending_of K.contents K.failures writer.old writer.new result) }
     ensures silent { MayTell result ⊎ IsOver subject.now.fen.now ⊎ (errors.new ≡ errors.old) }
@@ -183,10 +198,11 @@ pub fn run<R: Threads + Wait + Eprint + Clock + Sync + AllocGlobal, W: AsStr, K:
 {
     match read_order(rt.alloc(), words) {
         Ok(Order::Certify(subject, limits)) => {
-            run_certify(&context_of(rt, words), &subject, limits, writer, errors)
+            let context = context_of(rt, Workers { rt }, words);
+            run_certify(&context, &subject, limits, writer, errors)
         }
         Ok(Order::Solution(subject, limits, options)) => {
-            let context = context_of(rt, words);
+            let context = context_of(rt, Workers { rt }, words);
             run_solution(&context, &subject, (limits, options), writer, errors)
         }
         Ok(

@@ -10,7 +10,7 @@ use Rattle.endings.specs.Words.{DoesNothing}
 use Rattle.replies.specs.Output.{MayRead, fault_of}
 use Rattle.replies.specs.First.{MissesAt}
 use Rattle.replies.specs.Searching.{IsOver}
-use Rattle.console.specs.Batch.{RunsBatch}
+use Rattle.batches.specs.Batch.{RunsBatch}
 use Rattle.console.specs.Playing.{RunsAfter, RunsFirst}
 use Rattle.console.specs.Run.{RunsLine}
 

@@ -1,8 +1,6 @@
 //! The program over any words and streams: what it reads and writes, and with what status it ends.
 #![tactic(auto)]
 
-mod ahead;
-mod batch;
 mod over;
 mod running;
 mod watching;

@@ -1,25 +1,23 @@
 //! A run of the program over any reader and writer.
-ghost use Rattle.std.specs.Prelude.{◌≡◌, ◌⊎◌, ◌+◌, ◌<◌, None, map, vec_items};
-ghost use Rattle.refusals.specs.declared.refusal.Refusal.TheVariants.{NoMemory};
+ghost use Rattle.std.specs.Prelude.{◌≡◌, ◌⊎◌, ◌+◌, ◌<◌, map, vec_items};
 ghost use Rattle.replies.specs.Outcome.{GivesReply};
-ghost use Rattle.replies.specs.Output.{fault_of, MayRead};
+ghost use Rattle.replies.specs.Output.{MayRead};
 ghost use Rattle.endings.specs.Outcome.{reads_failed};
-ghost use Rattle.endings.specs.Run.{ending_of, run_of, EndsReply, Finishes, MayTell, Refuses};
+ghost use Rattle.endings.specs.Run.{ending_of, run_of, EndsReply, MayTell, Refuses};
 ghost use Rattle.endings.specs.Words.{MeansSome, MeansSomeIn, RunsProgram, RunsWords};
-ghost use Rattle.console.specs.Batch.{RefusesBatch, RunsBatch, wanting_text};
 ghost use Rattle.console.specs.Order.{MayReadOf, RunsOrder, TellsMore, TellsMoreOf};
 ghost use Rattle.console.specs.Playing.{WritesAfter};
 ghost use Rattle.console.specs.Run.{RunsLine};
 
-use crate::batch::{BatchStop, answer_batch, left_out, open_batch, refusal_line};
 use crate::over::{asking_of, tell_if_line_is_over};
 use crate::watching::watch_of;
 use answer_texts::Batch;
+use batches::{left_out, run_batch};
 use command_line::{BatchOptions, Line, LineFault, NamedMove, Order, asks_progress, read_order};
 use devices::{Sink, Source};
 use endings::{
-    ANSWERED, REFUSED_WORDS, ReplyFault, end_wordless, explain_if_refused, fail_to_read,
-    fail_to_write, finish, give_up_for_memory, refuse_and_tell, refuse_move, search_refused,
+    ANSWERED, REFUSED_WORDS, ReplyFault, end_wordless, explain_if_refused, fail_to_read, finish,
+    give_up_for_memory, refuse_and_tell, refuse_move,
 };
 use refusals::{Refusal, Refused};
 use replies::{Context, Tally, after_reply, context_of, first_reply, reply_to};
@@ -29,6 +27,7 @@ use std::sync::Wait;
 use std::sync::atomic::AtomicU64;
 use std::thread::Threads;
 use std::time::Clock;
+use workers::Workers;
 
 /// Answers a line: writes its output, and gives its status. No line but a `check` at a sound
 /// position asks the reader for anything. Nobody is told how far a search is, or why a line was refused.
@@ -44,7 +43,7 @@ pub fn run_line<R: Threads + Wait + Eprint + Clock + Sync + AllocGlobal, S: Sour
     ensures runs { RunsLine line.now (run_of S.remaining S.failures reader.old reader.new
         (ending_of K.contents K.failures writer.old writer.new result)) }
 {
-    let context = Context::quiet(rt);
+    let context = Context::quiet(rt, Workers { rt });
     run_line_on(&context, line, reader, writer, &mut sink())
 }
 
@@ -55,7 +54,13 @@ fn run_line_on<
     S: Source,
     K: Sink,
     E: Write,
->(context: &Context<'_, R>, line: &Line<'_>, reader: &mut S, writer: &mut K, errors: &mut E) -> u8
+>(
+    context: &Context<'_, R, Workers<'_, R>>,
+    line: &Line<'_>,
+    reader: &mut S,
+    writer: &mut K,
+    errors: &mut E,
+) -> u8
     requires reads { S.failures reader.old < u64.MAX }
     requires writes { K.failures writer.old < u64.MAX }
     ensures unread { MayRead line.now ⊎ (reader.new ≡ reader.old) }
@@ -64,7 +69,7 @@ fn run_line_on<
     ensures silent { MayTell result ⊎ TellsMoreOf line.now ⊎ (errors.new ≡ errors.old) }
 {
     let watch = watch_of(context, line);
-    match reply_to(context.rt, watch.as_ref(), line, reader, errors) {
+    match reply_to(context, watch.as_ref(), line, reader, errors) {
         Ok(text) => {
             tell_if_line_is_over(errors, line);
             finish(writer, errors, text.as_slice(), ANSWERED)
@@ -79,68 +84,6 @@ fn run_line_on<
             refuse_and_tell(context.rt, writer, errors, &refused)
         }
         Err(ReplyFault::ReadFailed) => fail_to_read(errors),
-    }
-}
-
-const WANTING: &[u8] =
-    b"{\"position\":null,\"refused\":\"NoMemory\",\"sentence\":\"memory is wanting\"}\n";
-
-/// Ends a batch for want of memory, without taking memory.
-fn give_up<K: Sink, E: Write>(json: bool, writer: &mut K, errors: &mut E) -> u8
-    requires { K.failures writer.old < u64.MAX }
-    ensures { Finishes (ending_of K.contents K.failures writer.old writer.new result) (wanting_text json) 3 }
-{
-    if json {
-        finish(writer, errors, WANTING, Refusal::NoMemory.status())
-    } else {
-        give_up_for_memory(writer, errors)
-    }
-}
-
-/// Writes why a whole batch is refused, and tells it with a sentence.
-fn refuse_batch<R: AllocGlobal, K: Sink, E: Write>(
-    rt: &R,
-    json: bool,
-    writer: &mut K,
-    errors: &mut E,
-    refusal: Refusal,
-) -> u8
-    requires { K.failures writer.old < u64.MAX }
-    ensures refuses { RefusesBatch json (ending_of K.contents K.failures writer.old writer.new result) refusal }
-    ensures memory { refusal ≡ NoMemory
-        → Finishes (ending_of K.contents K.failures writer.old writer.new result) (wanting_text json) 3 }
-{
-    if refusal.status() == 3 {
-        return give_up(json, writer, errors);
-    }
-    let refused = search_refused(b"", refusal);
-    match refusal_line(rt.alloc(), json, errors, None, &refused) {
-        Ok(text) => finish(writer, errors, text.as_slice(), refusal.status()),
-        Err(_) => give_up(json, writer, errors),
-    }
-}
-
-/// Answers the lines of a batch, or refuses its limits.
-pub fn run_batch<
-    R: Threads + Wait + Eprint + Clock + Sync + AllocGlobal,
-    S: Source,
-    K: Sink,
-    E: Write,
->(context: &Context<'_, R>, batch: Batch, reader: &mut S, writer: &mut K, errors: &mut E) -> u8
-    requires reads { S.failures reader.old < u64.MAX }
-    requires writes { K.failures writer.old < u64.MAX }
-    ensures unread { (fault_of batch.limits ≡ None) ⊎ (reader.new ≡ reader.old) }
-    ensures runs { RunsBatch batch (run_of S.remaining S.failures reader.old reader.new
-        (ending_of K.contents K.failures writer.old writer.new result)) }
-{
-    match open_batch(context.rt.alloc(), batch) {
-        Ok(mut opened) => match answer_batch(context, &mut opened, reader, writer, errors) {
-            None => ANSWERED,
-            Some(BatchStop::NoMemory) => give_up(batch.options.json, writer, errors),
-            Some(BatchStop::ReadFailed) => fail_to_read(errors),
-            Some(BatchStop::WriteFailed) => fail_to_write(errors),
-        },
-        Err(refusal) => refuse_batch(context.rt, batch.options.json, writer, errors, refusal),
     }
 }
 
@@ -182,9 +125,10 @@ fn batch_context<'a, R: Clock, W: AsStr>(
     rt: &'a R,
     words: &[W],
     options: BatchOptions,
-) -> Context<'a, R> {
+) -> Context<'a, R, Workers<'a, R>> {
     Context {
         rt,
+        crew: Workers { rt },
         shows: asks_progress(words),
         line: AtomicU64::new(0),
         tally: Tally::new(rt, options.lines, left_out(options)),
@@ -208,7 +152,8 @@ pub fn run<
 {
     match read_order(rt.alloc(), words) {
         Ok(Order::One(line)) => {
-            run_line_on(&context_of(rt, words), &line, reader, writer, errors)
+            let context = context_of(rt, Workers { rt }, words);
+            run_line_on(&context, &line, reader, writer, errors)
         }
         Ok(Order::Batch(goal, limits, options)) => {
             let batch = Batch {
@@ -221,7 +166,7 @@ pub fn run<
         }
         Ok(Order::After(played)) => run_after(rt, &played, writer, errors),
         Ok(Order::TreeAfter(played, goal, limits)) => {
-            let reply = first_reply(rt, &played, goal, limits, errors);
+            let reply = first_reply(&Workers { rt }, &played, goal, limits, errors);
             write_played(rt, &played, writer, errors, reply)
         }
         // those are answered by programs of their own

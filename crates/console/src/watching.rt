@@ -15,8 +15,8 @@ fn course_of(action: Action) -> Option<(Course, u32)> {
 }
 
 /// A watch over the line's search, if it is to be shown.
-pub(crate) fn watch_of<R: Clock + AllocGlobal>(
-    context: &Context<'_, R>,
+pub(crate) fn watch_of<R: Clock + AllocGlobal, C>(
+    context: &Context<'_, R, C>,
     line: &Line<'_>,
 ) -> Option<Watch> {
     let (course, slots) = course_of(line.action)?;

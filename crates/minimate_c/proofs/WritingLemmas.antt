@@ -5,7 +5,7 @@ use Rattle.rules.specs.declared.goal.Goal.{Goal}
 use Rattle.problems.specs.Answer.{ForcesNothing, IsFewest}
 use Rattle.problems.specs.declared.key.Key.{Key}
 use Rattle.problems.specs.Keys.{ListsKeys}
-use Rattle.trees.specs.Best.{IsBest}
+use Rattle.searcher.specs.Best.{IsBest}
 use Rattle.wintree.specs.Plan.{Plan}
 use Rattle.wintree.specs.Text.{text as plan_text}
 use Rattle.refusals.specs.Reply.{line_of}

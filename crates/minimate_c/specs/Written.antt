@@ -8,7 +8,7 @@ use Rattle.problems.specs.Answer.{IsFewest, ForcesNothing}
 use Rattle.problems.specs.declared.key.Key.{Key}
 use Rattle.problems.specs.Keys.{ListsKeys}
 use Rattle.problems.specs.Roots.{IsLimit}
-use Rattle.trees.specs.Best.{IsBest}
+use Rattle.searcher.specs.Best.{IsBest}
 use Rattle.wintree.specs.Plan.{Plan}
 use Rattle.wintree.specs.Text.{text as plan_text}
 use Rattle.refusals.specs.Reply.{line_of}

@@ -11,14 +11,14 @@ use Rattle.problems.specs.declared.answer.Answer.TheVariants.{Mate, NoneWithin}
 use Rattle.problems.specs.Answer.{IsFewest, IsAnswer}
 use Rattle.wintree.specs.Plan.{Plan}
 use Rattle.wintree.specs.Text.{text as plan_text}
-use Rattle.trees.specs.Best.{IsBest}
+use Rattle.searcher.specs.Best.{IsBest}
 use Rattle.trees.proofs.Fewest.{best_plan}
 use Rattle.command_line.specs.declared.line.Line.{Line}
 use Rattle.command_line.specs.declared.line.Limits.{Limits}
 use Rattle.command_line.specs.declared.line.Action.TheVariants.{Solve, Tree, Check}
 use Rattle.devices.specs.Input.{without_line_feed}
 use Rattle.answer_texts.specs.Answers.{answer_text, checked_text}
-use Rattle.rounds.proofs.Limits.{limit_within}
+use Rattle.searcher.proofs.Limits.{limit_within}
 use Rattle.replies.specs.Output.{fault_of, ShowsAnswer, ShowsBest, ShowsPlanFound, ShowsTree, ShowsCheck, ShowsCommand, IsOutput}
 use Rattle.endings.specs.Outcome.{IsSoundText}
 use Rattle.refusals.specs.Reply.{Reply, answered, line_of}

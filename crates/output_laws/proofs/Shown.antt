@@ -8,7 +8,7 @@ use Rattle.rules.specs.Reading.{IsSoundFault}
 use Rattle.problems.specs.declared.answer.Answer.{Answer}
 use Rattle.problems.specs.Answer.{IsAnswer}
 use Rattle.problems.specs.declared.key.Key.{Key}
-use Rattle.rounds.specs.declared.fault.SolveFault.{SolveFault}
+use Rattle.searcher.specs.declared.fault.SolveFault.{SolveFault}
 use Rattle.problems.specs.Keys.{ListsKeys}
 use Rattle.wintree.specs.Plan.{Plan}
 use Rattle.wintree.specs.Text.{text as plan_text}

@@ -5,7 +5,7 @@ use Rattle.rules.specs.Squares.{Ply}
 use Rattle.rules.specs.Moves.{IsMove, IsLawful}
 use Rattle.rules.specs.declared.goal.Goal.{Goal}
 use Rattle.wintree.specs.Plan.{Plan}
-use Rattle.trees.specs.First.{IsOpened, IsOpenedJob}
+use Rattle.searcher.specs.First.{IsOpened, IsOpenedJob}
 use Rattle.replies.specs.First.{IsFirstReply, IsUnmet, MissesAt, MissesJob, MissesWithin, NamesJob, ShowsFirst, ShowsJob, ShowsTreeFound}
 use Rattle.std.specs.declared.alloc.Global.{Global}
 use Rattle.std.proofs.lemmas.Option.{get_or_from_slice_get}

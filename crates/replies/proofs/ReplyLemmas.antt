@@ -9,7 +9,7 @@ use Rattle.endings.specs.Outcome.{Gives, GivesIfRead, reply_fault_of, IsSoundTex
 use Rattle.replies.specs.Outcome.{GivesReply}
 use Rattle.replies.specs.Output.{IsOutput, IsRefusedWithin, ShowsCommand, ShowsWithin, fault_of, input_of, refusal_of_solve}
 use Rattle.rules.specs.declared.goal.Goal.{Goal}
-use Rattle.rounds.specs.declared.fault.SolveFault.{SolveFault}
+use Rattle.searcher.specs.declared.fault.SolveFault.{SolveFault}
 use Rattle.command_line.specs.declared.line.Limits.{Limits}
 use Rattle.command_line.specs.declared.line.Action.TheVariants.{Solve, Keys, Moves, Show, Tree, Check}
 use Rattle.refusals.specs.Reply.{Reply, answered, refused}

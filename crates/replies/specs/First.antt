@@ -9,7 +9,7 @@ use Rattle.problems.specs.Answer.{ForcesNothing}
 use Rattle.problems.specs.declared.root.Root.{Root}
 use Rattle.wintree.specs.Plan.{Plan}
 use Rattle.wintree.specs.Text.{text as plan_text}
-use Rattle.trees.specs.First.{IsOpened, TakesNone}
+use Rattle.searcher.specs.First.{IsOpened, TakesNone}
 use Rattle.command_line.specs.declared.line.Limits.{Limits}
 use Rattle.command_line.specs.declared.line.NamedMove.{NamedMove}
 use Rattle.refusals.specs.Reply.{Reply, answered, refused, line_of}

@@ -1,10 +1,5 @@
 -- How the work on a reply may end.
-use Rattle.std.specs.Prelude.{◌≡◌, ◌≤◌, ℕ, List, Option, None, Some, Result, Ok, Err}
-use Rattle.board.specs.Board.{PlainBoard}
-use Rattle.rules.specs.declared.goal.Goal.{Goal}
-use Rattle.problems.specs.Answer.{IsFewest, ForcesNothing}
-use Rattle.trees.specs.Best.{IsBest}
-use Rattle.wintree.specs.Plan.{Plan}
+use Rattle.std.specs.Prelude.{◌≡◌, ℕ, List, Option, None, Result, Ok, Err}
 use Rattle.devices.specs.Input.{OfInput}
 use Rattle.refusals.specs.declared.refusal.Refusal.{Refusal}
 use Rattle.replies.specs.Output.{fault_of, input_of, IsOutput, IsRefusedWithin}
@@ -18,11 +13,6 @@ use Rattle.endings.specs.Outcome.{GivesIfRead}
 abbrev pub FindsWithin : {X : Type 0} → Limits → (X → Type 0) → Result X Refusal → Type 0
 FindsWithin limits Is (Ok found) = (fault_of limits ≡ None) × Is found
 FindsWithin limits Is (Err refusal) = IsRefusedWithin limits refusal
-
--- the best plan, where the goal is forced in some number of plies up to the limit; or none, where it is in none
-abbrev pub IsBestWithin : Goal → PlainBoard → ℕ → Option Plan → Type 0
-IsBestWithin goal b limit (Some plan) = IsBest goal b plan × ((plies : ℕ) × (plies ≤ limit) × IsFewest goal b plies)
-IsBestWithin goal b limit None = ForcesNothing goal b limit
 
 -- a reply to the line with the input that it reads
 abbrev pub GivesReply : {B : Type 0} → (B → List ℕ) → Line → Option (List ℕ) → Result B ReplyFault → Type 0

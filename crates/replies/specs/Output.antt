@@ -7,12 +7,12 @@ use Rattle.rules.specs.Order.{ListsLawful}
 use Rattle.rules.specs.Squares.{Ply}
 use Rattle.problems.specs.declared.answer.Answer.{Answer}
 use Rattle.problems.specs.Answer.{IsAnswer, IsFewest, ForcesNothing}
-use Rattle.rounds.specs.declared.fault.SolveFault.{SolveFault}
-use Rattle.rounds.specs.declared.fault.SolveFault.TheVariants as solve
+use Rattle.searcher.specs.declared.fault.SolveFault.{SolveFault}
+use Rattle.searcher.specs.declared.fault.SolveFault.TheVariants as solve
 use Rattle.problems.specs.declared.key.Key.{Key}
 use Rattle.problems.specs.Keys.{ListsKeys}
-use Rattle.rounds.specs.Limits.{limits_fault}
-use Rattle.trees.specs.Best.{IsBest}
+use Rattle.searcher.specs.Limits.{limits_fault}
+use Rattle.searcher.specs.Best.{IsBest}
 use Rattle.wintree.specs.declared.fault.TreeFault.{TreeFault}
 use Rattle.wintree.specs.declared.fault.TreeFault.TheVariants as tree
 use Rattle.wintree.specs.Offset.{IsFaultOf}

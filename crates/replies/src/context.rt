@@ -9,15 +9,18 @@ use crate::replying::search_of;
 use crate::tally::Tally;
 use board::Position;
 use command_line::{Limits, asks_progress};
-use progress::{Course, Setting, Watch};
+use progress::{Course, Setting, Watch, shown};
 use std::convert::AsStr;
+use std::sync::Wait;
 use std::sync::atomic::{AtomicU64, Ordering};
+use std::thread::Threads;
 use std::time::{Clock, Instant};
 
-/// What a run is given, and whether it shows how far a search is.
+/// What a run is given, who searches for it, and whether it shows how far a search is.
 #[derive(Drop)]
-pub struct Context<'a, R> {
+pub struct Context<'a, R, C> {
     pub rt: &'a R,
+    pub crew: C,
     pub shows: bool,
     /// The number of a batch's line, and 0 where there is no batch.
     pub line: AtomicU64,
@@ -25,25 +28,27 @@ pub struct Context<'a, R> {
 }
 
 /// The context of what these words ask for, which shows how far a search is where they say so.
-pub fn context_of<'a, R, W: AsStr>(rt: &'a R, words: &[W]) -> Context<'a, R>
+pub fn context_of<'a, R, C, W: AsStr>(rt: &'a R, crew: C, words: &[W]) -> Context<'a, R, C>
     ensures { MatchBool result.shows (Any (λ word. W.text word ≡ progress_word) words.now)
         (All (λ word. W.text word ≢ progress_word) words.now) }
 {
     Context {
         rt,
+        crew,
         shows: asks_progress(words),
         line: AtomicU64::new(0),
         tally: Tally::quiet(),
     }
 }
 
-impl<'a, R> Context<'a, R> {
+impl<'a, R, C> Context<'a, R, C> {
     /// A context in which nobody is told how far a search is.
-    pub fn quiet(rt: &'a R) -> Context<'a, R>
+    pub fn quiet(rt: &'a R, crew: C) -> Context<'a, R, C>
         ensures { result.shows ≡ false }
     {
         Context {
             rt,
+            crew,
             shows: false,
             line: AtomicU64::new(0),
             tally: Tally::quiet(),
@@ -56,7 +61,7 @@ impl<'a, R> Context<'a, R> {
     }
 }
 
-impl<R: Clock + AllocGlobal> Context<'_, R> {
+impl<R: Clock + AllocGlobal, C> Context<'_, R, C> {
     /// A watch over a search at a position that begins now, if it is to be shown.
     pub fn watch(&self, position: &Position, course: Course, slots: u32) -> Option<Watch>
         ensures quiet { self.now.shows ≡ false → result ≡ None }
@@ -85,6 +90,21 @@ impl<R: Clock + AllocGlobal> Context<'_, R> {
             Course::Rounds
         };
         self.watch(position, course, limits.slots)
+    }
+}
+
+/// What the work gives, with a thread beside it that shows how far it is, where there is a watch.
+pub fn beside<R: Threads + Wait + Eprint + Clock + Sync, T, F: FnOnce() -> T>(
+    rt: &R,
+    watch: Option<&Watch>,
+    work: F,
+) -> T
+    requires { F.pre work }
+    ensures { F.post work result }
+{
+    match watch {
+        Some(watch) => shown(rt, watch, work),
+        None => work(),
     }
 }
 

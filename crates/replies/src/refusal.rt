@@ -3,7 +3,7 @@ ghost use Rattle.std.specs.Prelude.{◌≡◌};
 ghost use Rattle.replies.specs.Output.{refusal_of_solve};
 
 use refusals::Refusal;
-use rounds::SolveFault;
+use searcher::SolveFault;
 
 /// The refusal of each fault of a solve.
 pub(crate) fn refusal_of(fault: SolveFault) -> Refusal

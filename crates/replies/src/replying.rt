@@ -1,29 +1,35 @@
 //! The reply to a line: the text of its answer, or why there is none.
-ghost use Rattle.std.specs.Prelude.{◌≡◌, ◌⊎◌, ◌+◌, ◌<◌, ◌≤◌, [], IfOk, min, vec_items};
+ghost use Rattle.std.specs.Prelude.{◌≡◌, ◌⊎◌, ◌+◌, ◌<◌, ◌≤◌, IfOk, min, vec_items};
 ghost use Rattle.board.specs.Board.{PlainBoard};
 ghost use Rattle.rules.specs.declared.goal.Goal.{Goal};
 ghost use Rattle.wintree.specs.Plan.{depth};
 ghost use Rattle.wintree.specs.Text.{text as tree_words};
 ghost use Rattle.devices.specs.Input.{OfInput};
-ghost use Rattle.replies.specs.Outcome.{GivesReply, IsBestWithin};
+ghost use Rattle.problems.specs.Answer.{IsAnswer};
+ghost use Rattle.problems.specs.Keys.{ListsKeys};
+ghost use Rattle.searcher.specs.Best.{IsBestWithin};
+ghost use Rattle.replies.specs.Drawings.{drawn as board_drawing};
+ghost use Rattle.replies.specs.Outcome.{GivesReply};
 ghost use Rattle.endings.specs.Outcome.{Gives, GivesIfRead, reads_failed};
 ghost use Rattle.answer_texts.specs.Answers.{none_text};
-ghost use Rattle.replies.specs.Output.{ShowsBest, ShowsCheck, ShowsCommand, ShowsTree, MayRead};
+ghost use Rattle.replies.specs.Output.{MayRead, ShowsAnswer, ShowsBest, ShowsCheck, ShowsKeys, ShowsMoves, ShowsPlanFound, ShowsTree};
 ghost use Rattle.refusals.specs.Reply.{answered, line_of};
 
+use crate::context::{Context, beside};
 use crate::drawn::drawn;
 use crate::searching::opened;
-use crate::solving::{keys, solve, tree};
 use answer_texts::{answer_text, checked_text, keys_text, moves_text, none_text};
 use board::Position;
-use command_line::{Action, Limits, Line};
+use command_line::{Action, Drawing, Limits, Line};
 use devices::{Source, read_all, without_line_feed};
 use endings::ReplyFault;
 use moves::{Goal, lawful, read_sound};
+use problems::{Answer, Key};
 use progress::Watch;
 use refusals::{Refusal, advise_flaw};
-use std::alloc::{Allocator, Global};
-use std::io::{Write, sink};
+use searcher::Crew;
+use std::alloc::{AllocError, Allocator, Global};
+use std::io::Write;
 use std::sync::Wait;
 use std::thread::Threads;
 use std::time::Clock;
@@ -138,59 +144,134 @@ fn check_text<S: Source, E: Write>(
     Ok(verdict_text(alloc, position, goal, text, errors)?)
 }
 
-/// What a command shows at a position, where nothing is read: a tree that would be checked is empty then.
-fn shown<R: Threads + Wait + Eprint + Clock + Sync + AllocGlobal>(
-    rt: &R,
+/// What `solve` shows at a position.
+fn answer_shown<R: Threads + Wait + Eprint + Clock + Sync + AllocGlobal, C: Crew<Global>>(
+    context: &Context<'_, R, C>,
     watch: Option<&Watch>,
     position: &Position,
-    action: Action,
+    goal: Goal,
+    limits: Limits,
 ) -> Result<Vec<u8>, Refusal>
-    ensures { Gives vec_items (ShowsCommand position.now action []) result }
+    requires { C.ready context.now.crew }
+    ensures { Gives vec_items (ShowsAnswer goal position.now limits) result }
 {
-    let alloc = rt.alloc();
-    match action {
-        Action::Solve(goal, limits) => {
-            let (problem, mut table) = opened(alloc, position, goal, limits)?;
-            let answer = solve(rt, &mut table, &problem, watch)?;
-            Ok(answer_text(alloc, goal, answer)?.into_bytes())
-        }
-        Action::Keys(goal, limits) => {
-            let (problem, mut table) = opened(alloc, position, goal, limits)?;
-            let found = keys(rt, &mut table, &problem, watch)?;
-            Ok(keys_text(alloc, limits.limit, found.as_slice())?.into_bytes())
-        }
-        Action::Tree(goal, limits) => {
-            let (problem, mut table) = opened(alloc, position, goal, limits)?;
-            let best = tree(rt, &mut table, &problem, watch)?;
-            plan_text(alloc, limits.limit, best)
-        }
-        Action::Moves => {
-            let moves = lawful(position);
-            Ok(moves_text(alloc, moves.as_slice())?.into_bytes())
-        }
-        Action::Show(drawing) => Ok(drawn(alloc, position, drawing)?.into_bytes()),
-        Action::Check(goal) => verdict_text(alloc, position, goal, b"", &mut sink()),
-    }
+    let alloc = context.rt.alloc();
+    let (problem, mut table) = opened(alloc, position, goal, limits)?;
+    let answer = {
+        let (crew, table, problem) = (&context.crew, &mut table, &problem);
+        beside(
+            context.rt,
+            watch,
+            move || -> Result<Answer, AllocError>
+                requires { C.ready crew.now }
+                ensures { IfOk result
+                    (IsAnswer problem.entry.now.goal problem.entry.now.position problem.entry.now.limit) }
+            { crew.solve(table, problem, watch) },
+        )?
+    };
+    Ok(answer_text(alloc, goal, answer)?.into_bytes())
+}
+
+/// What `keys` shows at a position.
+fn keys_shown<R: Threads + Wait + Eprint + Clock + Sync + AllocGlobal, C: Crew<Global>>(
+    context: &Context<'_, R, C>,
+    watch: Option<&Watch>,
+    position: &Position,
+    goal: Goal,
+    limits: Limits,
+) -> Result<Vec<u8>, Refusal>
+    requires { C.ready context.now.crew }
+    ensures { Gives vec_items (ShowsKeys goal position.now limits) result }
+{
+    let alloc = context.rt.alloc();
+    let (problem, mut table) = opened(alloc, position, goal, limits)?;
+    let keys = {
+        let (crew, table, problem) = (&context.crew, &mut table, &problem);
+        beside(
+            context.rt,
+            watch,
+            move || -> Result<Vec<Key>, AllocError>
+                requires { C.ready crew.now }
+                ensures { IfOk result (λ keys. ListsKeys
+                    problem.entry.now.goal problem.entry.now.position problem.entry.now.limit keys.items) }
+            { crew.keys(table, problem, watch) },
+        )?
+    };
+    Ok(keys_text(alloc, limits.limit, keys.as_slice())?.into_bytes())
+}
+
+/// What `tree` shows at a position.
+fn tree_shown<R: Threads + Wait + Eprint + Clock + Sync + AllocGlobal, C: Crew<Global>>(
+    context: &Context<'_, R, C>,
+    watch: Option<&Watch>,
+    position: &Position,
+    goal: Goal,
+    limits: Limits,
+) -> Result<Vec<u8>, Refusal>
+    requires { C.ready context.now.crew }
+    ensures { Gives vec_items (ShowsPlanFound goal position.now limits) result }
+{
+    let alloc = context.rt.alloc();
+    let (problem, mut table) = opened(alloc, position, goal, limits)?;
+    let tree = {
+        let (crew, table, problem) = (&context.crew, &mut table, &problem);
+        beside(
+            context.rt,
+            watch,
+            move || -> Result<Option<Tree>, AllocError>
+                requires { C.ready crew.now }
+                ensures { IfOk result
+                    (IsBestWithin problem.entry.now.goal problem.entry.now.position problem.entry.now.limit) }
+            { crew.tree(table, problem, watch) },
+        )?
+    };
+    plan_text(alloc, limits.limit, tree)
+}
+
+/// What `moves` shows at a position.
+fn moves_shown(alloc: Global, position: &Position) -> Result<Vec<u8>, Refusal>
+    ensures { Gives vec_items (ShowsMoves position.now) result }
+{
+    let moves = lawful(position);
+    Ok(moves_text(alloc, moves.as_slice())?.into_bytes())
+}
+
+/// What `show` shows of a position.
+fn drawing_shown(alloc: Global, position: &Position, drawing: Drawing) -> Result<Vec<u8>, Refusal>
+    ensures { Gives vec_items (λ reply. reply ≡ answered (board_drawing drawing position.now)) result }
+{
+    Ok(drawn(alloc, position, drawing)?.into_bytes())
 }
 
 /// The text that answers a line. Only `check` asks the reader for anything, and only where the position is sound; then `errors` is told why
 /// a tree doesn't win.
-pub fn reply_to<R: Threads + Wait + Eprint + Clock + Sync + AllocGlobal, S: Source, E: Write>(
-    rt: &R,
+pub fn reply_to<
+    R: Threads + Wait + Eprint + Clock + Sync + AllocGlobal,
+    C: Crew<Global>,
+    S: Source,
+    E: Write,
+>(
+    context: &Context<'_, R, C>,
     watch: Option<&Watch>,
     line: &Line<'_>,
     reader: &mut S,
     errors: &mut E,
 ) -> Result<Vec<u8>, ReplyFault>
-    requires { S.failures reader.old < u64.MAX }
+    requires crew { C.ready context.now.crew }
+    requires reads { S.failures reader.old < u64.MAX }
     ensures given { GivesReply vec_items line.now (S.remaining reader.old) result }
     ensures asked { MayRead line.now ⊎ (reader.new ≡ reader.old) }
     ensures counts { S.failures reader.new ≡ S.failures reader.old + reads_failed result }
     ensures silent { MayRead line.now ⊎ (errors.new ≡ errors.old) }
 {
     let position = read_sound(line.fen)?;
+    let alloc = context.rt.alloc();
     match line.action {
-        Action::Check(goal) => check_text(rt.alloc(), &position, goal, reader, errors),
-        action => Ok(shown(rt, watch, &position, action)?),
+        Action::Check(goal) => check_text(alloc, &position, goal, reader, errors),
+        Action::Solve(goal, limits) => Ok(answer_shown(context, watch, &position, goal, limits)?),
+        Action::Keys(goal, limits) => Ok(keys_shown(context, watch, &position, goal, limits)?),
+        Action::Tree(goal, limits) => Ok(tree_shown(context, watch, &position, goal, limits)?),
+        Action::Moves => Ok(moves_shown(alloc, &position)?),
+        Action::Show(drawing) => Ok(drawing_shown(alloc, &position, drawing)?),
     }
 }

@@ -1,20 +1,20 @@
 //! A table and a problem within limits; and the answer at one position, with a sign of life beside its search.
+ghost use Rattle.std.specs.Prelude.{IfOk};
+ghost use Rattle.problems.specs.Answer.{IsAnswer};
 ghost use Rattle.problems.specs.Problems.{IsProblemOf};
 ghost use Rattle.replies.specs.Outcome.{FindsWithin};
 ghost use Rattle.replies.specs.Searching.{IsTableOf, SolvesOver};
 
-use crate::context::Context;
+use crate::context::{Context, beside};
 use crate::refusal::refusal_of;
 use crate::replying::{Search, search_of};
-use crate::solving::solve;
 use board::Position;
 use command_line::Limits;
 use moves::Goal;
 use problems::{Answer, Problem, is_limit};
 use refusals::Refusal;
-use rounds::make_table;
-use searcher::Table;
-use std::alloc::{Allocator, Global};
+use searcher::{Crew, Table, make_table};
+use std::alloc::{AllocError, Allocator, Global};
 use std::sync::Wait;
 use std::thread::Threads;
 use std::time::Clock;
@@ -68,16 +68,28 @@ pub struct Searched {
 }
 
 /// The answer at a position, with a sign of life where one is asked for.
-pub fn searched_at<R: Threads + Wait + Eprint + Clock + Sync + AllocGlobal>(
-    context: &Context<'_, R>,
+pub fn searched_at<R: Threads + Wait + Eprint + Clock + Sync + AllocGlobal, C: Crew<Global>>(
+    context: &Context<'_, R, C>,
     position: &Position,
     goal: Goal,
     limits: Limits,
 ) -> Result<Searched, Refusal>
+    requires { C.ready context.now.crew }
     ensures { SolvesOver goal position.now limits result }
 {
     let (problem, mut table) = opened(context.rt.alloc(), position, goal, limits)?;
     let watch = context.watch_of(position, false, limits);
-    let answer = solve(context.rt, &mut table, &problem, watch.as_ref())?;
+    let answer = {
+        let (crew, table, problem, watch) = (&context.crew, &mut table, &problem, watch.as_ref());
+        beside(
+            context.rt,
+            watch,
+            move || -> Result<Answer, AllocError>
+                requires { C.ready crew.now }
+                ensures { IfOk result
+                    (IsAnswer problem.entry.now.goal problem.entry.now.position problem.entry.now.limit) }
+            { crew.solve(table, problem, watch) },
+        )?
+    };
     Ok(Searched { answer, table })
 }

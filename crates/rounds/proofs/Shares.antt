@@ -15,7 +15,7 @@ use Rattle.problems.specs.Jobs.{RootJobWins}
 use Rattle.jobs.specs.Deals.{Deals}
 use Rattle.searcher.specs.Tables.{AreSeats}
 use Rattle.rounds.specs.Shares.{IsRound, WinsHere, AreDealt, seats_back}
-use Rattle.rounds.proofs.Lists.{Each-snoc}
+use Rattle.searcher.proofs.Lists.{Each-snoc}
 
 -- a job that wins in the round is one that the round's word may tell of
 pub may_lower : {J T : Type 0} (b : Round J T) (n job : ℕ) → IsRound n b → job < n → WinsHere b job

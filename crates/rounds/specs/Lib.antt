@@ -1,5 +1,4 @@
 -- to be believed
-pub mod Limits
 pub mod Going
 -- inside
 pub mod Seats

@@ -1,7 +1,6 @@
 //! The root moves of a solve as jobs, which workers steal from one another, round by round.
 #![tactic(auto)]
 
-mod fault;
 mod gated;
 mod help;
 mod keys;
@@ -12,8 +11,8 @@ mod solving;
 mod task;
 mod telling;
 
-pub use fault::SolveFault;
 pub use gated::kept_seats_go_on;
 pub use keys::keys_over;
-pub use solving::{MOST_WORKERS, make_table, solve, solve_over};
+pub use searcher::{MOST_WORKERS, SolveFault, make_table};
+pub use solving::{solve, solve_over};
 pub use task::Task;

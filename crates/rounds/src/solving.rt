@@ -1,60 +1,22 @@
 //! A solve: rounds of more and more plies, each by all workers, over one table.
-ghost use Rattle.std.specs.Prelude.{◌≡◌, ◌+◌, IfOk, IfErr, None, Some, length};
-ghost use Rattle.slots.specs.Promise.{slots_of, AllNew};
+ghost use Rattle.std.specs.Prelude.{◌≡◌, IfOk, IfErr, None, length};
 ghost use Rattle.problems.specs.Answer.{IsAnswer};
 ghost use Rattle.searcher.specs.Tables.{AreSeats, AreCallers};
-ghost use Rattle.rounds.specs.Limits.{limits_fault, table_fault, IsRefusal, IsRefusedBy};
+ghost use Rattle.searcher.specs.Limits.{limits_fault, IsRefusal};
 ghost use Rattle.rounds.specs.Going.{SeatsGoOn};
 
-use crate::fault::SolveFault;
 use crate::round::round;
 use crate::shared::Solve;
 use crate::task::Task;
 use board::Position;
 use moves::Goal;
 use problems::{Answer, Problem, Root};
-use searcher::{Ended, Gate, Table};
-use slots::{MOST_SLOTS, Seat, Slots};
-use std::alloc::{AllocError, Allocator, Global};
+use searcher::{Ended, Gate, SolveFault, Table, make_table};
+use slots::Seat;
+use std::alloc::{AllocError, Global};
 use std::marker::Brand;
 use std::sync::Wait;
 use std::thread::Threads;
-
-/// The most workers of a solve, the caller's own thread not counted.
-pub const MOST_WORKERS: u8 = 16;
-
-/// The first of these numbers that is outside what a table takes, if one is.
-fn test_table(workers: u8, slots: usize) -> Result<(), SolveFault>
-    ensures accepted { IfOk result (λ _. table_fault workers slots ≡ None) }
-    ensures refused { IfErr result (λ fault. table_fault workers slots ≡ Some fault) }
-{
-    if workers < 1 || MOST_WORKERS < workers {
-        return Err(SolveFault::Workers);
-    }
-    if slots < 1 || MOST_SLOTS < slots {
-        return Err(SolveFault::Slots);
-    }
-    Ok(())
-}
-
-/// A table of so many slots, with a seat for each worker and one for the caller's own thread.
-pub fn make_table<A: Allocator + Copy>(
-    alloc: A,
-    workers: u8,
-    slots: usize,
-) -> Result<Table<A>, SolveFault>
-    ensures accepted { IfOk result (λ _. table_fault workers slots ≡ None) }
-    ensures slots { IfOk result (λ table. slots_of table.slots ≡ slots) }
-    ensures seats { IfOk result (λ table. length table.seats.items ≡ workers + 1) }
-    ensures new { IfOk result (λ table. AllNew table.slots table.seats.items) }
-    ensures refused { IfErr result (IsRefusedBy (table_fault workers slots)) }
-{
-    test_table(workers, slots)?;
-    match Slots::make_in(alloc, slots, usize::from(workers) + 1) {
-        Ok((slots, seats)) => Ok(Table { slots, seats }),
-        Err(_) => Err(SolveFault::NoMemory),
-    }
-}
 
 /// The fewest plies in which the side to move forces the goal, with the least first move, or that there are
 /// none up to the limit: searched by a thread for each seat of the task's table. The first seat is that of the caller's

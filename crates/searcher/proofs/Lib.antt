@@ -1,2 +1,4 @@
 pub mod Taking
 pub mod Halts
+pub mod Limits
+pub mod Lists

@@ -2,3 +2,6 @@
 pub mod Searching
 pub mod Gates
 pub mod Tables
+pub mod Limits
+pub mod Best
+pub mod First

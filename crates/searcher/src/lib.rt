@@ -2,7 +2,9 @@
 #![tactic(auto)]
 
 mod alone;
+mod crew;
 mod decider;
+mod fault;
 mod gate;
 mod halt;
 mod keys;
@@ -11,11 +13,13 @@ mod solving;
 mod table;
 
 pub use alone::{keys_alone, solve_alone, solve_board_alone};
+pub use crew::Crew;
 pub use decider::Decider;
+pub use fault::SolveFault;
 pub use gate::{Gate, NoGate, no_gate_keeps_on};
 pub use halt::Halt;
 pub use keys::{keys_of, plies_of};
 pub use progress::Ended;
 pub use searcher::Searcher;
 pub use solving::{least_win, solve_by};
-pub use table::Table;
+pub use table::{MOST_WORKERS, Table, make_table};

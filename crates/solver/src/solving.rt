@@ -3,7 +3,7 @@ ghost use Rattle.std.specs.Prelude.{◌≡◌, ◌≤◌, IfErr, IfOk, MatchOpti
 ghost use Rattle.problems.specs.Answer.{IsAnswer, IsFewest};
 ghost use Rattle.searcher.specs.declared.halt.Halt.TheVariants.{Stopped};
 ghost use Rattle.problems.specs.Keys.{ListsKeys};
-ghost use Rattle.trees.specs.Best.{IsBest};
+ghost use Rattle.searcher.specs.Best.{IsBest};
 ghost use Rattle.solver.specs.Stopping.{IsStopped, Hears};
 
 use crate::solver::Solver;

@@ -10,7 +10,7 @@ use Rattle.problems.specs.Answer.{IsFewest}
 use Rattle.wintree.specs.Plan.{Plan, ends, splits, Replies, last, more}
 use Rattle.wintree.specs.Wins.{Wins, EachWins, height, highest}
 use Rattle.wintree.proofs.Forced.{forced_for_mover}
-use Rattle.trees.specs.Best.{IsBest, EachBest}
+use Rattle.searcher.specs.Best.{IsBest, EachBest}
 use Rattle.trees.proofs.Forcing.{some_ply, best_forces, two_plies}
 
 pub first_reply : (goal : Goal) (q : PlainBoard) (replies : Replies) → EachBest goal q replies → (r : Ply) × IsLawful q r

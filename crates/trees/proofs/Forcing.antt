@@ -15,7 +15,7 @@ use Rattle.problems.specs.Answer.{IsFewest, Wins}
 use Rattle.problems.proofs.Winning.{same_mover}
 use Rattle.wintree.specs.Wins.{EndsAt}
 use Rattle.wintree.specs.declared.tree.End.TheVariants as ending
-use Rattle.trees.specs.Best.{IsBestMove}
+use Rattle.searcher.specs.Best.{IsBestMove}
 use Rattle.board.proofs.RankText.{on_true as on_own, on_false as on_other}
 
 -- the goal isn't reached where a move is lawful

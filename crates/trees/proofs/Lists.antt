@@ -12,8 +12,8 @@ use Rattle.rules.specs.declared.goal.Goal.{Goal}
 use Rattle.wintree.specs.Plan.{Plan, ends, splits, depth, deepest_in, replies_of, plan_of}
 use Rattle.wintree.specs.Wins.{EndsAt, moves_of}
 use Rattle.wintree.proofs.Lists.{depth-plan_of}
-use Rattle.trees.specs.Best.{IsBestMove, IsBest, EachBest, IsBestAfter}
-use Rattle.trees.specs.First.{IsBestOf}
+use Rattle.searcher.specs.Best.{IsBestMove, IsBest, EachBest, IsBestAfter}
+use Rattle.searcher.specs.First.{IsBestOf}
 
 -- the replies, without their plans
 abbrev pub replies_in : List (Ply × Plan) → List Ply

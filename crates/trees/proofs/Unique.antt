@@ -13,7 +13,7 @@ use Rattle.wintree.specs.declared.tree.End.TheVariants as ending
 use Rattle.wintree.specs.Plan.{Plan, ends, splits, Replies, last, more}
 use Rattle.wintree.specs.Wins.{EndsAt, moves_of}
 use Rattle.wintree.proofs.Listings.{lower_once, one_list}
-use Rattle.trees.specs.Best.{IsBestMove, IsBest, EachBest}
+use Rattle.searcher.specs.Best.{IsBestMove, IsBest, EachBest}
 use Rattle.trees.proofs.Forcing.{fewest_most}
 use Rattle.trees.proofs.Fewest.{first_reply}
 

@@ -3,7 +3,7 @@ ghost use Rattle.std.specs.Prelude.{◌<◌, ◌≤◌, MatchOption};
 ghost use Rattle.rules.specs.Forces.{Forces};
 ghost use Rattle.problems.specs.Answer.{IsFewest};
 ghost use Rattle.problems.specs.Roots.{IsLimit};
-ghost use Rattle.trees.specs.Best.{IsBestMove};
+ghost use Rattle.searcher.specs.Best.{IsBestMove};
 
 use moves::{Board, Goal, Move};
 use problems::Root;

@@ -10,8 +10,8 @@ ghost use Rattle.decision.specs.Calls.{Continues};
 ghost use Rattle.wintree.specs.Plan.{depth};
 ghost use Rattle.wintree.specs.Wins.{Wins, EndsAt, height};
 ghost use Rattle.searcher.specs.declared.halt.Halt.TheVariants.{Stopped};
-ghost use Rattle.trees.specs.Best.{IsBest, IsBestAfter};
-ghost use Rattle.trees.specs.First.{IsBestOf};
+ghost use Rattle.searcher.specs.Best.{IsBest, IsBestAfter};
+ghost use Rattle.searcher.specs.First.{IsBestOf};
 
 use crate::best::best_move;
 use board::Position;

@@ -1,13 +1,18 @@
 //! The tree of a first move that is given.
 ghost use Rattle.std.specs.Prelude.{◌≡◌, ◌≤◌, IfErr, IfOk};
+ghost use Rattle.slots.specs.Promise.{IsSeatOf};
+ghost use Rattle.decision.specs.Calls.{Continues};
 ghost use Rattle.searcher.specs.declared.halt.Halt.TheVariants.{Stopped};
 ghost use Rattle.problems.specs.Roots.{IsJobOf};
-ghost use Rattle.trees.specs.First.{IsOpenedJob};
+ghost use Rattle.searcher.specs.First.{IsOpenedJob};
 
 use crate::building::{Builder, tree_behind};
+use decision::{Memory, Never, Scout};
+use entry::MateLore;
 use problems::Root;
-use searcher::{Decider, Halt, plies_of};
-use std::alloc::Allocator;
+use searcher::{Decider, Halt, Searcher, plies_of};
+use slots::{Seat, Slots};
+use std::alloc::{AllocError, Allocator};
 use wintree::Tree;
 
 /// The tree of the root's move of this number, in the fewest plies that it takes, or `None` where these are beyond the limit: behind each
@@ -35,4 +40,33 @@ pub fn tree_of_first<D: Decider, B: Allocator + Copy>(
         goal: root.goal,
     };
     Ok(Some(tree_behind(&builder, decider, &root.board, first, plies)?))
+}
+
+/// `tree_of_first`, by the caller's own thread over a table, where nothing stops it. The table and the seat serve the next call.
+pub fn tree_of_alone<A: Allocator, B: Allocator + Copy>(
+    alloc: B,
+    slots: &Slots<MateLore, A>,
+    seat: &mut Seat,
+    root: &Root,
+    job: u16,
+) -> Result<Option<Tree<B>>, AllocError>
+    requires seat { IsSeatOf slots.now seat.old }
+    requires job { IsJobOf root.now job }
+    ensures continues { Continues slots.now seat.old seat.new }
+    ensures found { IfOk result (IsOpenedJob root.now job) }
+{
+    let mut scout = Scout {
+        stop: Never,
+        memory: Memory::new(),
+    };
+    let mut searcher = Searcher {
+        slots,
+        seat,
+        scout: &mut scout,
+    };
+    match tree_of_first(alloc, &mut searcher, root, job) {
+        Ok(tree) => Ok(tree),
+        Err(Halt::NoMemory) => Err(AllocError),
+        Err(Halt::Stopped) => unreachable!(),
+    }
 }

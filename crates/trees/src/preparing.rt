@@ -7,7 +7,7 @@ ghost use Rattle.slots.specs.Promise.{IsSeatOf};
 ghost use Rattle.problems.specs.Answer.{IsFewest};
 ghost use Rattle.decision.specs.Calls.{Continues, SeatsContinue};
 ghost use Rattle.wintree.specs.Wins.{Wins, height};
-ghost use Rattle.trees.specs.Best.{IsBest};
+ghost use Rattle.searcher.specs.Best.{IsBest};
 
 use crate::best::best_move;
 use crate::building::build_tree;

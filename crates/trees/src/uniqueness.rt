@@ -3,7 +3,7 @@ ghost use Rattle.std.specs.Prelude.{◌≡◌};
 ghost use Rattle.board.specs.Board.{PlainBoard};
 ghost use Rattle.rules.specs.declared.goal.Goal.{Goal};
 ghost use Rattle.wintree.specs.Plan.{Plan};
-ghost use Rattle.trees.specs.Best.{IsBest};
+ghost use Rattle.searcher.specs.Best.{IsBest};
 
 /// A position has one best tree at most.
 pub fn one_best_tree()

@@ -5,7 +5,7 @@ use Rattle.rules.specs.declared.goal.Goal.{Goal}
 use Rattle.problems.specs.Answer.{IsAnswer, IsFewest}
 use Rattle.replies.specs.Output.{fault_of}
 use Rattle.composing.specs.Solution.{is_sooner}
-use Rattle.rounds.proofs.Limits.{limit_within}
+use Rattle.searcher.proofs.Limits.{limit_within}
 use Rattle.composing.proofs.SolutionLemmas.{composed_shown}
 use Rattle.composing.proofs.problem.solution_at.Goals as goal
 

@@ -1,13 +1,13 @@
 use Rattle.std.proofs.Common.{inl, inr, refl, arith}
 use Rattle.std.proofs.Math.Nat.{min-eq_left}
 use Rattle.std.proofs.lemmas.Grind.{common_steps}
-use Rattle.rounds.proofs.Limits.{limit_within}
+use Rattle.searcher.proofs.Limits.{limit_within}
 use Rattle.replies.proofs.FirstLemmas.{named_missed, named_shown}
 use Rattle.replies.proofs.first.first_shown.Goals as goal
 
 -- a limit that isn't refused is the root's
 pub opened_text-requires-clause-limit : goal.opened_text-requires-clause-limit
-opened_text-requires-clause-limit g c = λ κs within none.
+opened_text-requires-clause-limit g c = λ none.
     let limits = c.args.limits in
     let most = limit_within limits.limit limits.workers limits.slots none in
     let byte = min-eq_left {n = limits.limit} {m = 255} (omega (arith, most.1)) in

@@ -7,4 +7,4 @@ after-next-requires g c =
     let items = c.args.root.now.moves.items in
     let m = c.index-deref-from.result in
     let is = move_at items c.deref.result.now c.from.result c.args.job m c.deref.ensures.0 c.from.ensures c.index-deref-from.is in
-    job_lawful c.args.root.now c.args.job m c.requires (got_at items c.args.job m c.requires.1 is)
+    job_lawful c.args.root.now c.args.job m c.requires.job (got_at items c.args.job m c.requires.job.1 is)

@@ -1,7 +1,7 @@
 use Rattle.std.proofs.Common.{arith}
 use Rattle.std.proofs.lemmas.Grind.{common_steps}
 use Rattle.slots.specs.Promise.{IsSeatOf}
-use Rattle.rounds.proofs.Lists.{All-snoc, All-popped}
+use Rattle.searcher.proofs.Lists.{All-snoc, All-popped}
 use Rattle.rounds.proofs.Going.{seats_last, seats_more}
 use Rattle.rounds.proofs.keys.keys_over.Goals as goal
 

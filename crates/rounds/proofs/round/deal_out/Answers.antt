@@ -4,7 +4,7 @@ use Rattle.slots.specs.Promise.{IsSeatOf}
 use Rattle.jobs.specs.Promise.{IsJobSeatOf}
 use Rattle.rounds.specs.declared.share.Verdict.TheVariants.{Open}
 use Rattle.rounds.specs.Shares.{IsShare, WinsHere}
-use Rattle.rounds.proofs.Lists.{All-snoc, All-popped}
+use Rattle.searcher.proofs.Lists.{All-snoc, All-popped}
 use Rattle.rounds.proofs.Rows.{fresh_right, fresh_knows}
 use Rattle.rounds.proofs.Shares.{dealt_more, seat_taken}
 use Rattle.rounds.proofs.round.deal_out.Goals as goal

@@ -1,6 +1,6 @@
 use Rattle.std.proofs.Common.{arith}
 use Rattle.rounds.specs.Shares.{IsShare, WinsHere}
-use Rattle.rounds.proofs.Lists.{All-item}
+use Rattle.searcher.proofs.Lists.{All-item}
 use Rattle.rounds.proofs.Rows.{row_says}
 use Rattle.rounds.proofs.round.found.Goals as goal
 

@@ -2,7 +2,7 @@ use Rattle.std.proofs.Common.{arith, refl, ◌-◌}
 use Rattle.std.proofs.lemmas.List.Elements.{All-set, All-weaker}
 use Rattle.slots.specs.Promise.{IsSeatOf}
 use Rattle.rounds.specs.Shares.{IsShare}
-use Rattle.rounds.proofs.Lists.{All-item}
+use Rattle.searcher.proofs.Lists.{All-item}
 use Rattle.rounds.proofs.Going.{each_none, each_one}
 use Rattle.rounds.proofs.round.wins.Goals as goal
 

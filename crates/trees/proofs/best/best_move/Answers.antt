@@ -4,7 +4,7 @@ use Rattle.rules.specs.declared.goal.Goal.{Goal}
 use Rattle.problems.specs.Roots.{EndsRound}
 use Rattle.problems.proofs.Jobs.{none_moves, least_move, move_at}
 use Rattle.problems.proofs.Winning.{none_forced}
-use Rattle.trees.specs.Best.{IsBestMove}
+use Rattle.searcher.specs.Best.{IsBestMove}
 use Rattle.trees.proofs.best.best_move.Goals as goal
 
 pub returns-in_err-job-clause-goes : goal.returns-in_err-job-clause-goes

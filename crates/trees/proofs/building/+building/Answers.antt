@@ -4,7 +4,7 @@ use Rattle.std.proofs.lemmas.Result.{IfOk-weaker}
 use Rattle.rules.specs.Order.{ListsLawful}
 use Rattle.wintree.specs.Plan.{depth}
 use Rattle.rules.proofs.Forcing.{same_side-self}
-use Rattle.trees.specs.First.{IsBestOf}
+use Rattle.searcher.specs.First.{IsBestOf}
 use Rattle.trees.proofs.Forcing.{some_ply, best_wins, won_reached, won_plies, won_forces}
 use Rattle.trees.proofs.Lists.{replies_in, AreBest, AreShallow, node_of, best_of, node_depth, node_room, some_listed, replies_more, best_more, shallow_more}
 use Rattle.searcher.proofs.Halts.{err_halts}

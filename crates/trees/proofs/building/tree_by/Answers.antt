@@ -1,7 +1,7 @@
 use Rattle.std.proofs.lemmas.Result.{IfOk-weaker}
 use Rattle.std.proofs.Common.{subst}
 use Rattle.board.specs.Board.{PlainBoard}
-use Rattle.trees.specs.Best.{IsBest}
+use Rattle.searcher.specs.Best.{IsBest}
 use Rattle.trees.proofs.Fewest.{best_plan}
 use Rattle.trees.proofs.building.tree_by.Goals as goal
 

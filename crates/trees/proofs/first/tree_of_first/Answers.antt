@@ -3,7 +3,7 @@ use Rattle.rules.specs.Squares.{Ply}
 use Rattle.decision.proofs.Options.{none_at, some_at}
 use Rattle.problems.proofs.Jobs.{got_at, move_at, same_some}
 use Rattle.searcher.proofs.Taking.{takes_move, takes_job}
-use Rattle.trees.specs.First.{IsBestOf}
+use Rattle.searcher.specs.First.{IsBestOf}
 use Rattle.trees.proofs.first.tree_of_first.Goals as goal
 
 pub returns-in_default-found-clause-found : goal.returns-in_default-found-clause-found

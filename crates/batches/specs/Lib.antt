@@ -1,0 +1,4 @@
+-- to be believed
+pub mod Batch
+-- inside
+pub mod BatchRun

@@ -1,3 +1,0 @@
--- to be believed
-pub mod Best
-pub mod First
