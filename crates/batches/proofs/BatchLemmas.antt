@@ -1,8 +1,8 @@
 -- A batch, line by line.
-use Rattle.std.proofs.Common.{◌≡◌, ◌≢◌, ◌∙◌, ◌+◌, ◌-◌, ◌<◌, ◌⊎◌, ℕ, Bool, true, false, List, [], ◌∷◌, ◌++◌, Option, None, Some, Result, Ok, Err, IfSome, IsErr, IsErrAnd, Vec, vec_items, length, take, drop, ap, inl, inr, refl, sym, subst, append_assoc, append-nil, drop-drop, length-append, ne_eqb, not, arith, All, MatchBool, ◌≤◌}
+use Rattle.std.proofs.Common.{◌≡◌, ◌≢◌, ◌∙◌, ◌+◌, ◌-◌, ◌<◌, ℕ, Bool, true, false, List, [], ◌∷◌, ◌++◌, Option, None, Some, Result, Ok, Err, IfSome, IsErr, IsErrAnd, Vec, vec_items, length, take, drop, ap, inl, inr, refl, sym, subst, append_assoc, append-nil, drop-drop, length-append, ne_eqb, not, arith, All, MatchBool, ◌≤◌}
 use Rattle.std.proofs.lemmas.Bool.{le-ltb}
 use Rattle.std.proofs.lemmas.List.{drop_all, flat_map_more}
-use Rattle.std.proofs.lemmas.List.Elements.{AllZip-push, All-head, All-nil, All-push, All-tail}
+use Rattle.std.proofs.lemmas.List.Elements.{All-head, All-nil, All-push, All-tail}
 use Rattle.std.proofs.lemmas.Option.{IfSome_then}
 use Rattle.std.proofs.KnownBytes.{Appends-nil, Appends-trans, Consumes-nil, Consumes-trans}
 use Rattle.std.specs.Io.KnownBytes.{Appends, Consumes}
@@ -15,8 +15,8 @@ use Rattle.devices.specs.Device.{AppendsBeginning}
 use Rattle.devices.specs.Input.{OfInput, failed_reads, without_line_feed}
 use Rattle.devices.specs.declared.transfer.InputFault.{InputFault}
 use Rattle.devices.specs.declared.transfer.InputFault.TheVariants as input
-use Rattle.replies.specs.Output.{fault_of, IsRefusedWithin}
-use Rattle.replies.proofs.ReplyLemmas.{refused_by}
+use Rattle.context.specs.Limits.{fault_of, IsRefusedWithin}
+use Rattle.context.proofs.Refused.{refused_by}
 use Rattle.refusals.specs.declared.refusal.Refusal.{Refusal}
 use Rattle.refusals.specs.declared.refusal.Refusal.TheVariants as refusal
 use Rattle.answer_texts.specs.Said.{is_remark, said_in}
@@ -24,7 +24,7 @@ use Rattle.answer_texts.specs.Asking.{IsAskedIn, IsFoundAt}
 use Rattle.answer_texts.specs.declared.asked.Found.{Found}
 use Rattle.problems.specs.declared.problem.Problem.{Problem}
 use Rattle.batches.specs.Batch.{AnswersLines, EndsBatch, HasReplyText, IsAskedReply, IsLineReply, IsUnnumberedReply, RefusesBatch, RunsBatch, answered_lines, joined, left_out, lines_of, next_number, numbered, onto, wanting_text, with_number, with_position}
-use Rattle.batches.specs.BatchRun.{AsksProblem, Fails, GivesAsked, GivesNext, IsFirstOf, IsAskedRefusal, PassesOver, RepliesToNext, Step, TakesAnswered, TakesLines, TakesStep, stop_of}
+use Rattle.batches.specs.BatchRun.{AsksProblem, Fails, GivesAsked, GivesNext, IsFirstOf, IsAskedRefusal, PassesOver, Step, TakesAnswered, TakesLines, TakesStep, stop_of}
 use Rattle.devices.specs.Lines.{HasNoFeed, IsFed, IsLastOf, IsReadAs, TakesLine, left_of}
 use Rattle.endings.specs.Run.{Ending, Finishes, Run}
 use Rattle.batches.specs.declared.batch.BatchStop.{BatchStop}

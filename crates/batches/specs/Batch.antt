@@ -7,7 +7,7 @@ use Rattle.board.specs.declared.fault.FenFault.{FenFault}
 use Rattle.rules.specs.Reading.{IsSoundFault}
 use Rattle.devices.specs.Input.{OfInput, without_line_feed}
 use Rattle.endings.specs.Outcome.{IsSoundText}
-use Rattle.replies.specs.Output.{fault_of, refusal_of_solve}
+use Rattle.context.specs.Limits.{fault_of, refusal_of_solve}
 use Rattle.refusals.specs.Reply.{line_of}
 use Rattle.refusals.specs.Refusal.{refusal_of_fen, refusal_status}
 use Rattle.refusals.specs.declared.refusal.Refusal.{Refusal}

@@ -15,8 +15,8 @@ use Rattle.board.specs.Board.{PlainBoard}
 use Rattle.board.specs.declared.fault.FenFault.{FenFault}
 use Rattle.rules.specs.Reading.{IsSoundFault}
 use Rattle.endings.specs.Outcome.{IsSoundText}
-use Rattle.replies.specs.Output.{fault_of, refusal_of_solve}
-use Rattle.replies.specs.Outcome.{FindsWithin}
+use Rattle.context.specs.Limits.{fault_of, refusal_of_solve}
+use Rattle.context.specs.Limits.{FindsWithin}
 use Rattle.refusals.specs.Refusal.{refusal_of_fen}
 use Rattle.refusals.specs.declared.refusal.Refusal.{Refusal}
 use Rattle.refusals.specs.declared.refusal.Refusal.TheVariants as refusal

@@ -10,11 +10,11 @@ ghost use Rattle.batches.specs.BatchRun.{AreAhead, GivesNext, IsAhead, IsLane, I
 
 use crate::batch::{echoed, problem_of};
 use answer_texts::{Batch, Found, asked_in, found_text, is_remark, said_in};
+use context::Context;
 use decision::{Memory, Scout, Stop};
 use devices::{Next, Unread};
 use entry::MateLore;
 use problems::{Problem, Root};
-use replies::Context;
 use searcher::{Searcher, Table, keys_of, solve_by};
 use slots::{Seat, Slots};
 use std::alloc::{AllocError, Global};

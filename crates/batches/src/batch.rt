@@ -15,12 +15,13 @@ use answer_texts::{
     Asked, Batch, Found, asked_in, found_text, is_remark, limit_of, refused_object, said_in,
 };
 use command_line::{BatchOptions, Limits};
+use context::{Context, beside, search_of, table_within};
 use devices::{Failed, InputFault, Next, Sink, Source, Taken, Unread, write_all};
+use endings::tell_if_over;
 use moves::read_sound;
 use problems::Problem;
 use progress::Watch;
 use refusals::{Asking, Refusal, Refused, advise, refused_text, write_sentence};
-use replies::{Context, beside, search_of, table_within, tell_if_over};
 use searcher::{Crew, Table};
 use std::alloc::{AllocError, Global};
 use std::io::Write;

@@ -1,16 +1,16 @@
 //! A run of a batch over any reader and writer.
 ghost use Rattle.std.specs.Prelude.{◌≡◌, ◌⊎◌, ◌<◌, None};
 ghost use Rattle.refusals.specs.declared.refusal.Refusal.TheVariants.{NoMemory};
-ghost use Rattle.replies.specs.Output.{fault_of};
+ghost use Rattle.context.specs.Limits.{fault_of};
 ghost use Rattle.endings.specs.Run.{ending_of, run_of, Finishes};
 ghost use Rattle.batches.specs.Batch.{RefusesBatch, RunsBatch, wanting_text};
 
 use crate::batch::{BatchStop, answer_batch, open_batch, refusal_line};
 use answer_texts::Batch;
+use context::Context;
 use devices::{Sink, Source};
 use endings::{ANSWERED, fail_to_read, fail_to_write, finish, give_up_for_memory, search_refused};
 use refusals::Refusal;
-use replies::Context;
 use searcher::Crew;
 use std::alloc::Global;
 use std::io::Write;

@@ -1,22 +1,23 @@
 //! The replies that one thread gives, from the text of a position: those of the program, for whoever can start no thread.
-ghost use Rattle.std.specs.Prelude.{◌≡◌, [], IfErr, IfOk, None, Ok, Err, vec_items};
+ghost use Rattle.std.specs.Prelude.{[], None, Ok, Err, vec_items};
 ghost use Rattle.slots.specs.Promise.{IsSeatOf};
 ghost use Rattle.command_line.specs.declared.line.Action.TheVariants.{Solve, Keys, Moves, Tree as TreeAction, Check};
 ghost use Rattle.endings.specs.Outcome.{Gives};
 ghost use Rattle.searcher.specs.Best.{IsBestWithin};
-ghost use Rattle.replies.specs.Outcome.{FindsWithin};
+ghost use Rattle.context.specs.Limits.{FindsWithin};
 ghost use Rattle.problems.specs.Problems.{IsProblemOf};
 ghost use Rattle.replies.specs.Output.{IsOutput, ShowsAnswer, ShowsCheck, ShowsKeys, ShowsMoves, ShowsPlanFound};
 
 use answer_texts::{answer_text, keys_text, moves_text};
 use board::Position;
 use command_line::Limits;
+use context::opened;
 use devices::without_line_feed;
 use entry::MateLore;
 use moves::{Goal, lawful, read_sound};
 use problems::{Answer, Problem};
 use refusals::Refusal;
-use replies::{MOST_INPUT, opened, plan_text, verdict_text};
+use replies::{MOST_INPUT, plan_text, verdict_text};
 use searcher::{keys_alone, solve_alone};
 use slots::{Seat, Slots};
 use std::alloc::Allocator;

@@ -34,10 +34,10 @@ use Rattle.refusals.specs.declared.refusal.Refusal.{Refusal}
 use Rattle.refusals.specs.declared.refusal.Refusal.TheVariants as refusal
 use Rattle.answer_texts.specs.Answers.{answer_text}
 use Rattle.endings.specs.Outcome.{IsSoundText}
-use Rattle.replies.specs.Output.{fault_of}
+use Rattle.context.specs.Limits.{fault_of}
 use Rattle.verdicts.specs.Verdict.{IsRefusedFor}
 use Rattle.verdicts.proofs.VerdictLemmas.{answer_line}
-use Rattle.replies.specs.Searching.{ShowsPosition}
+use Rattle.replies.specs.Outcome.{ShowsPosition}
 use Rattle.composing.specs.Certifying.{WritesCertificate, WritesClaims}
 use Rattle.composing.specs.Claims.{AddsAll, AddsClaims, BeginsAt, BeginsCertificate, HasAnswerLine, CutsClaims, StopsClaims, EndsWriting, Writing, WritesLines, cut_of}
 use Rattle.endings.specs.Run.{Ending, Finishes, Refuses, no_memory}

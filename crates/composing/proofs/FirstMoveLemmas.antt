@@ -14,7 +14,7 @@ use Rattle.refusals.specs.declared.refusal.Refusal.{Refusal}
 use Rattle.endings.specs.Outcome.{Gives}
 use Rattle.answer_texts.specs.Answers.{none_text}
 use Rattle.replies.specs.First.{NamesJob}
-use Rattle.replies.specs.Output.{fault_of}
+use Rattle.context.specs.Limits.{fault_of}
 use Rattle.replies.proofs.FirstLemmas.{job_lawful}
 use Rattle.replies.proofs.ReplyLemmas.{gives_weaker}
 use Rattle.composing.specs.Solution.{ShowsFirstNamed, ShowsFirstOf}

@@ -17,7 +17,7 @@ use Rattle.refusals.specs.declared.refusal.Refusal.{Refusal}
 use Rattle.refusals.specs.declared.refusal.Refusal.TheVariants as refusal
 use Rattle.endings.specs.Outcome.{Gives, IsSoundText}
 use Rattle.endings.specs.Run.{Ending, Finishes}
-use Rattle.replies.specs.Output.{fault_of}
+use Rattle.context.specs.Limits.{fault_of}
 use Rattle.algebraic.specs.declared.naming.Notation.{Notation}
 use Rattle.solutions.specs.declared.solution.Solution.{Solution}
 use Rattle.solutions.specs.Solutions.{IsSolution}

@@ -21,7 +21,7 @@ use Rattle.refusals.specs.declared.refusal.Refusal.{Refusal}
 use Rattle.refusals.specs.declared.refusal.Refusal.TheVariants as refusal
 use Rattle.endings.specs.Outcome.{IsSoundText}
 use Rattle.endings.specs.Run.{Ending, Finishes, no_memory}
-use Rattle.replies.specs.Output.{fault_of}
+use Rattle.context.specs.Limits.{fault_of}
 use Rattle.composing.specs.Claims.{Writing}
 use Rattle.composing.specs.Solution.{IsPublished, IsSolutionReply, extras_of, form_of, is_sooner, symbols_of}
 use Rattle.composing.specs.declared.problem.Composed.{Composed}

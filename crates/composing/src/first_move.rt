@@ -9,10 +9,11 @@ ghost use Rattle.composing.specs.Solution.{ShowsFirstNamed, ShowsFirstOf};
 
 use algebraic::Symbols;
 use command_line::Limits;
+use context::{Context, searched_at};
 use decision::{Memory, Never, Scout};
 use problems::{Answer, Root};
 use refusals::Refusal;
-use replies::{Context, named_job, none_line, searched_at};
+use replies::{named_job, none_line};
 use searcher::{Crew, Halt, Searcher, Table};
 use solution_text::first_move_solution;
 use std::alloc::{AllocError, Global};

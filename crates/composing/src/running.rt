@@ -5,7 +5,7 @@ ghost use Rattle.problems.specs.declared.answer.Answer.{Answer};
 ghost use Rattle.verifying.specs.Checking.{HasTaken};
 ghost use Rattle.endings.specs.Run.{ending_of, readerless, MayTell};
 ghost use Rattle.endings.specs.Words.{MeansSome, RunsWords};
-ghost use Rattle.replies.specs.Searching.{IsOver};
+ghost use Rattle.endings.specs.Outcome.{IsOver};
 ghost use Rattle.composing.specs.Certifying.{WritesCertificate, WritesClaims};
 ghost use Rattle.composing.specs.Claims.{EndsClaims, HasAnswerLine, writing_of};
 ghost use Rattle.composing.specs.Order.{ComposesOrder, ComposesOver};
@@ -19,13 +19,13 @@ use crate::problem::{Composed, solution_reply};
 use crate::whole_form::{CutOff, Solved, write_solution};
 use certifying::Checked;
 use command_line::{Limits, LineFault, NamedMove, Order, SolutionOptions, Subject, read_order};
+use context::{Context, Tally, context_of};
 use devices::{Sink, write_all};
 use endings::{
     ANSWERED, REFUSED_WORDS, fail_to_write, finish, give_up_for_memory, proof_refused,
-    refuse_and_tell, refuse_move, search_refused,
+    refuse_and_tell, refuse_move, search_refused, tell_if_over,
 };
 use refusals::Refusal;
-use replies::{Context, Tally, context_of, tell_if_over};
 use searcher::Crew;
 use std::alloc::Global;
 use std::convert::AsStr;

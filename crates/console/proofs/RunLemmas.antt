@@ -1,5 +1,5 @@
 -- A run, from how its text was written.
-use Rattle.std.proofs.Common.{◌≡◌, ◌≢◌, ◌⊎◌, [], inl, inr, refl, arith, subst, ◌∙◌}
+use Rattle.std.proofs.Common.{◌≡◌, ◌≢◌, ◌⊎◌, inl, inr, refl, arith, subst, ◌∙◌}
 use Rattle.devices.specs.Input.{OfInput}
 use Rattle.replies.specs.Output.{input_of, IsOutput}
 use Rattle.refusals.specs.Reply.{Reply, refused}

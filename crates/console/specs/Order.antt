@@ -7,9 +7,10 @@ use Rattle.command_line.specs.declared.line.Action.{Action}
 use Rattle.command_line.specs.declared.line.Action.TheVariants.{Solve, Keys, Moves, Tree}
 use Rattle.endings.specs.Run.{Run}
 use Rattle.endings.specs.Words.{DoesNothing}
-use Rattle.replies.specs.Output.{MayRead, fault_of}
+use Rattle.replies.specs.Output.{MayRead}
+use Rattle.context.specs.Limits.{fault_of}
 use Rattle.replies.specs.First.{MissesAt}
-use Rattle.replies.specs.Searching.{IsOver}
+use Rattle.endings.specs.Outcome.{IsOver}
 use Rattle.batches.specs.Batch.{RunsBatch}
 use Rattle.console.specs.Playing.{RunsAfter, RunsFirst}
 use Rattle.console.specs.Run.{RunsLine}

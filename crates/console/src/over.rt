@@ -3,8 +3,8 @@ ghost use Rattle.std.specs.Prelude.{◌≡◌, ◌⊎◌, ◌↔◌, IsTrue};
 ghost use Rattle.console.specs.Order.{AsksOfMoves, AsksWhereOver};
 
 use command_line::{Action, Line};
+use endings::tell_if_over;
 use refusals::Asking;
-use replies::tell_if_over;
 use std::io::Write;
 
 fn asks_of_moves(action: Action) -> bool

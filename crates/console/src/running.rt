@@ -1,9 +1,7 @@
 //! A run of the program over any reader and writer.
-ghost use Rattle.std.specs.Prelude.{◌≡◌, ◌⊎◌, ◌+◌, ◌<◌, map, vec_items};
-ghost use Rattle.replies.specs.Outcome.{GivesReply};
+ghost use Rattle.std.specs.Prelude.{◌≡◌, ◌⊎◌, ◌+◌, ◌<◌, map};
 ghost use Rattle.replies.specs.Output.{MayRead};
-ghost use Rattle.endings.specs.Outcome.{reads_failed};
-ghost use Rattle.endings.specs.Run.{ending_of, run_of, EndsReply, MayTell, Refuses};
+ghost use Rattle.endings.specs.Run.{ending_of, run_of, EndsReply, MayTell};
 ghost use Rattle.endings.specs.Words.{MeansSome, MeansSomeIn, RunsProgram, RunsWords};
 ghost use Rattle.console.specs.Order.{MayReadOf, RunsOrder, TellsMore, TellsMoreOf};
 ghost use Rattle.console.specs.Playing.{WritesAfter};
@@ -14,13 +12,14 @@ use crate::watching::watch_of;
 use answer_texts::Batch;
 use batches::{left_out, run_batch};
 use command_line::{BatchOptions, Line, LineFault, NamedMove, Order, asks_progress, read_order};
+use context::{Context, Tally, context_of};
 use devices::{Sink, Source};
 use endings::{
     ANSWERED, REFUSED_WORDS, ReplyFault, end_wordless, explain_if_refused, fail_to_read, finish,
     give_up_for_memory, refuse_and_tell, refuse_move,
 };
 use refusals::{Refusal, Refused};
-use replies::{Context, Tally, after_reply, context_of, first_reply, reply_to};
+use replies::{after_reply, first_reply, reply_to};
 use std::convert::AsStr;
 use std::io::{self, Write, sink};
 use std::sync::Wait;

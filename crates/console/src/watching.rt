@@ -1,8 +1,8 @@
 //! The watch over the search of a line.
 use command_line::{Action, Line};
+use context::{Context, last_round};
 use moves::read_sound;
 use progress::{Course, Watch};
-use replies::{Context, last_round};
 use std::time::Clock;
 
 /// How the action searches, if it does, and the slots of its table.

@@ -10,13 +10,19 @@ use Rattle.devices.specs.declared.transfer.InputFault.TheVariants as input
 use Rattle.endings.specs.declared.reply_fault.ReplyFault.{ReplyFault}
 use Rattle.endings.specs.declared.reply_fault.ReplyFault.TheVariants.{Refused, ReadFailed}
 use Rattle.board.specs.Fen.{IsFenText}
+use Rattle.rules.specs.Moves.{IsLawful}
 use Rattle.rules.specs.Reach.{IsSound}
 use Rattle.rules.specs.Reading.{IsSoundFault}
+use Rattle.rules.specs.Squares.{Ply}
 use Rattle.refusals.specs.Refusal.{refusal_of_fen}
 
 -- the text is that of this position, and the side that isn't to move is out of check
 abbrev pub IsSoundText : List ℕ → PlainBoard → Type 0
 IsSoundText text b = IsPosition b × IsFenText text b × IsSound b
+
+-- at the position of this text the side to move has no lawful move: it is mated already, or stalemated
+abbrev pub IsOver : List ℕ → Type 0
+IsOver fen = (b : PlainBoard) × IsSoundText fen b × ((m : Ply) → IsLawful b m → ⊥)
 
 -- what is shown at the sound position of a text, or the refusal of the text's fault
 abbrev pub IsReplyAt : List ℕ → (PlainBoard → Reply → Type 0) → Reply → Type 0

@@ -3,6 +3,7 @@
 
 mod beginning;
 mod ending;
+mod over;
 mod reply_fault;
 mod telling;
 mod words;
@@ -12,6 +13,7 @@ pub use ending::{
     ANSWERED, REFUSED_WORDS, fail_to_read, fail_to_write, finish, give_up_for_memory,
     has_no_answer, refuse,
 };
+pub use over::tell_if_over;
 pub use reply_fault::ReplyFault;
 pub use telling::{proof_refused, refuse_and_tell, refuse_move, search_refused};
 pub use words::{end_wordless, explain_if_refused};

@@ -1,8 +1,7 @@
-//! The jobs of one round of a search, as threads share them, without locks: the least job known to win, the deques from which jobs are stolen,
-//! and the job that each thread is at. Nothing of chess is known here.
+//! The jobs of one round of a search, as threads share them, without locks: the least job known to win, and the deques from which jobs are
+//! stolen. Nothing of chess is known here.
 #![tactic(auto)]
 
-mod at_hand;
 mod deques;
 mod fault;
 mod job_board;
@@ -11,7 +10,6 @@ mod steps;
 mod views;
 mod wins;
 
-pub use at_hand::{AtHand, all_at_hand};
 pub use deques::{Count, Jobs, Owner, Thief, deal, next_job};
 pub use fault::MakeFault;
 pub use job_board::{JobSeat, Least, MOST_CALLERS, MOST_JOBS};

@@ -10,7 +10,8 @@ use Rattle.command_line.specs.declared.line.Limits.{Limits}
 use Rattle.command_line.specs.declared.line.Action.{Action}
 use Rattle.command_line.specs.declared.line.Action.TheVariants.{Solve, Keys, Tree, Check}
 use Rattle.answer_texts.specs.Answers.{answer_text, checked_text}
-use Rattle.replies.specs.Output.{fault_of, IsOutput}
+use Rattle.context.specs.Limits.{fault_of}
+use Rattle.replies.specs.Output.{IsOutput}
 use Rattle.endings.specs.Outcome.{IsSoundText}
 use Rattle.refusals.specs.Reply.{Reply, answered}
 

@@ -1,5 +1,5 @@
 -- The tree of a first move.
-use Rattle.std.proofs.Common.{◌≡◌, ◌∙◌, ℕ, ◌<◌, List, length, Contains, None, Some, Result, Vec, inl, inr, refl, slice_get, sym, subst, vec_items}
+use Rattle.std.proofs.Common.{◌≡◌, ◌∙◌, ℕ, List, None, Some, Result, Vec, inl, inr, refl, slice_get, sym, subst, vec_items}
 use Rattle.board.specs.Board.{PlainBoard}
 use Rattle.rules.specs.Squares.{Ply}
 use Rattle.rules.specs.Moves.{IsMove, IsLawful}
@@ -23,7 +23,7 @@ use Rattle.refusals.specs.Reply.{Reply, answered, line_of}
 use Rattle.refusals.specs.declared.refusal.Refusal.{Refusal}
 use Rattle.endings.specs.Outcome.{Gives, IsSoundText}
 use Rattle.answer_texts.specs.Answers.{none_text}
-use Rattle.replies.specs.Output.{fault_of}
+use Rattle.context.specs.Limits.{fault_of}
 use Rattle.replies.proofs.ReplyLemmas.{gives_weaker}
 
 -- ---- a reply

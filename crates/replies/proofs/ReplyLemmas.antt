@@ -1,5 +1,5 @@
 -- A reply, from what its parts give.
-use Rattle.std.proofs.Common.{◌≡◌, ◌≤◌, ◌⊎◌, ℕ, nat_lt, MatchBool, List, [], Option, None, Some, MatchOption, Result, Ok, Err, IsErr, IsErrAnd, length, inl, inr, refl, sym, ap, subst}
+use Rattle.std.proofs.Common.{◌≡◌, ◌≤◌, ◌⊎◌, ℕ, nat_lt, MatchBool, List, [], Option, None, Some, Result, Ok, Err, IsErr, IsErrAnd, length, inl, inr, refl, sym, ap, subst}
 use Rattle.std.proofs.lemmas.Bool.{le-ltb, lt-ltb}
 use Rattle.board.specs.Board.{PlainBoard}
 use Rattle.board.specs.declared.fault.FenFault.{FenFault}
@@ -7,9 +7,10 @@ use Rattle.rules.specs.Reading.{IsSoundFault}
 use Rattle.devices.specs.Input.{IsInput, IsTooLong, OfInput}
 use Rattle.endings.specs.Outcome.{Gives, GivesIfRead, reply_fault_of, IsSoundText}
 use Rattle.replies.specs.Outcome.{GivesReply}
-use Rattle.replies.specs.Output.{IsOutput, IsRefusedWithin, ShowsCommand, ShowsWithin, fault_of, input_of, refusal_of_solve}
+use Rattle.replies.specs.Output.{IsOutput, ShowsCommand, ShowsWithin, input_of}
+use Rattle.context.proofs.Refused.{refused_by}
+use Rattle.context.specs.Limits.{IsRefusedWithin, fault_of}
 use Rattle.rules.specs.declared.goal.Goal.{Goal}
-use Rattle.searcher.specs.declared.fault.SolveFault.{SolveFault}
 use Rattle.command_line.specs.declared.line.Limits.{Limits}
 use Rattle.command_line.specs.declared.line.Action.TheVariants.{Solve, Keys, Moves, Show, Tree, Check}
 use Rattle.refusals.specs.Reply.{Reply, answered, refused}
@@ -100,16 +101,6 @@ input_unread bytes most ShowsCommand known (Err (Refused refusal)) input.ReadFai
 input_unread bytes most ShowsCommand known (Err ReadFailed) fault long err = of_any known _ (λ read. tt)
 
 -- ---- limits
-
--- why nothing is found within the limits: want of memory where all are taken, or the refusal of the first that isn't
-pub refused_by : (limits : Limits) (why : Refusal) → IsRefusedWithin limits why
-    → ((fault_of limits ≡ None) × (why ≡ NoMemory)) ⊎ ((fault : SolveFault) × (fault_of limits ≡ Some fault) × (why ≡ refusal_of_solve fault))
-refused_by limits why is = by (fault_of limits) refl is
-  where
-    by : (o : Option SolveFault) → fault_of limits ≡ o → MatchOption o (why ≡ NoMemory) (λ fault. why ≡ refusal_of_solve fault)
-        → ((fault_of limits ≡ None) × (why ≡ NoMemory)) ⊎ ((fault : SolveFault) × (fault_of limits ≡ Some fault) × (why ≡ refusal_of_solve fault))
-    by None at is = inl (at, is)
-    by (Some fault) at is = inr (fault, at, is)
 
 -- it is shown in place of what would be found
 pub refused_within : (limits : Limits) (Shows : Reply → Type 0) (why : Refusal) → IsRefusedWithin limits why

@@ -4,4 +4,3 @@ pub mod Output
 pub mod Playing
 pub mod First
 pub mod Outcome
-pub mod Searching

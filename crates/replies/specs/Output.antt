@@ -7,11 +7,8 @@ use Rattle.rules.specs.Order.{ListsLawful}
 use Rattle.rules.specs.Squares.{Ply}
 use Rattle.problems.specs.declared.answer.Answer.{Answer}
 use Rattle.problems.specs.Answer.{IsAnswer, IsFewest, ForcesNothing}
-use Rattle.searcher.specs.declared.fault.SolveFault.{SolveFault}
-use Rattle.searcher.specs.declared.fault.SolveFault.TheVariants as solve
 use Rattle.problems.specs.declared.key.Key.{Key}
 use Rattle.problems.specs.Keys.{ListsKeys}
-use Rattle.searcher.specs.Limits.{limits_fault}
 use Rattle.searcher.specs.Best.{IsBest}
 use Rattle.wintree.specs.declared.fault.TreeFault.{TreeFault}
 use Rattle.wintree.specs.declared.fault.TreeFault.TheVariants as tree
@@ -28,26 +25,11 @@ use Rattle.command_line.specs.declared.line.Line.{Line}
 use Rattle.command_line.specs.declared.line.Limits.{Limits}
 use Rattle.command_line.specs.declared.line.Action.{Action}
 use Rattle.command_line.specs.declared.line.Action.TheVariants.{Solve, Keys, Moves, Show, Tree, Check}
-use Rattle.refusals.specs.declared.refusal.Refusal.{Refusal}
-use Rattle.refusals.specs.declared.refusal.Refusal.TheVariants.{TooLong, Limit, Workers, Slots, NoMemory}
+use Rattle.refusals.specs.declared.refusal.Refusal.TheVariants.{TooLong}
 use Rattle.endings.specs.Outcome.{IsSoundText, IsReplyAt}
+use Rattle.context.specs.Limits.{fault_of, refusal_of_solve}
 
 -- ---- the reply to each command, at a position
-
--- the refusal of each fault of a solve
-abbrev pub refusal_of_solve : SolveFault → Refusal
-refusal_of_solve solve.Limit = Limit
-refusal_of_solve solve.Workers = Workers
-refusal_of_solve solve.Slots = Slots
-refusal_of_solve solve.NoMemory = NoMemory
-
--- the first of these values that is refused, if one is
-abbrev pub fault_of : Limits → Option SolveFault
-fault_of limits = limits_fault limits.limit limits.workers limits.slots
-
--- the refusal of the first of these values that isn't taken; where all are, want of memory
-abbrev pub IsRefusedWithin : Limits → Refusal → Type 0
-IsRefusedWithin limits refusal = MatchOption (fault_of limits) (refusal ≡ NoMemory) (λ fault. refusal ≡ refusal_of_solve fault)
 
 -- what is shown where all these values are taken, or the refusal of the first that isn't
 abbrev pub ShowsWithin : Limits → (Reply → Type 0) → Reply → Type 0

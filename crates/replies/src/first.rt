@@ -3,13 +3,13 @@ ghost use Rattle.std.specs.Prelude.{◌≡◌, ◌⊎◌, IfSome, MatchOption, N
 ghost use Rattle.problems.specs.Roots.{IsRoot, IsJobOf};
 ghost use Rattle.replies.specs.First.{IsFirstReply, IsUnmet, MissesAt, MissesJob, MissesWithin, NamesJob, ShowsFirst, ShowsJob};
 ghost use Rattle.endings.specs.Outcome.{Gives};
-ghost use Rattle.replies.specs.Output.{fault_of};
+ghost use Rattle.context.specs.Limits.{fault_of};
 ghost use Rattle.replies.specs.Playing.{NamesNone};
 
-use crate::replying::{none_line, search_of, tree_line};
-use crate::searching::table_within;
+use crate::replying::{none_line, tree_line};
 use board::Position;
 use command_line::{Limits, NamedMove};
+use context::{search_of, table_within};
 use moves::{Board, Goal, Move, after, lawful_on, read_move, read_sound};
 use problems::{Answer, MOST_LIMIT, Problem, Root};
 use refusals::{Refusal, advise_refuted};

@@ -1,5 +1,5 @@
 //! The reply to a line: the text of its answer, or why there is none.
-ghost use Rattle.std.specs.Prelude.{◌≡◌, ◌⊎◌, ◌+◌, ◌<◌, ◌≤◌, IfOk, min, vec_items};
+ghost use Rattle.std.specs.Prelude.{◌≡◌, ◌⊎◌, ◌+◌, ◌<◌, ◌≤◌, IfOk, vec_items};
 ghost use Rattle.board.specs.Board.{PlainBoard};
 ghost use Rattle.rules.specs.declared.goal.Goal.{Goal};
 ghost use Rattle.wintree.specs.Plan.{depth};
@@ -15,12 +15,11 @@ ghost use Rattle.answer_texts.specs.Answers.{none_text};
 ghost use Rattle.replies.specs.Output.{MayRead, ShowsAnswer, ShowsBest, ShowsCheck, ShowsKeys, ShowsMoves, ShowsPlanFound, ShowsTree};
 ghost use Rattle.refusals.specs.Reply.{answered, line_of};
 
-use crate::context::{Context, beside};
 use crate::drawn::drawn;
-use crate::searching::opened;
 use answer_texts::{answer_text, checked_text, keys_text, moves_text, none_text};
 use board::Position;
 use command_line::{Action, Drawing, Limits, Line};
+use context::{Context, beside, opened};
 use devices::{Source, read_all, without_line_feed};
 use endings::ReplyFault;
 use moves::{Goal, lawful, read_sound};
@@ -37,34 +36,6 @@ use wintree::{NoMemory, Tree, check, find_flaw, read_tree, tree_text};
 
 /// The most bytes of a tree, with the line feed at its end.
 pub const MOST_INPUT: usize = 1_048_576;
-
-/// With what `solve` searches.
-#[derive(Clone, Copy)]
-pub struct Search {
-    pub limit: u8,
-    pub workers: u8,
-    pub slots: usize,
-}
-
-/// The number as a byte. One that is too great is outside what is searched with, and stays so as 255.
-fn byte_of(number: u32) -> u8
-    ensures { result ≡ min number 255 }
-{
-    u8::try_from(number).unwrap_or(u8::MAX)
-}
-
-/// The values of the line, in the types that `solve` takes.
-pub fn search_of(limits: Limits) -> Search
-    ensures limit { result.limit ≡ min limits.limit 255 }
-    ensures workers { result.workers ≡ min limits.workers 255 }
-    ensures slots { result.slots ≡ limits.slots }
-{
-    Search {
-        limit: byte_of(limits.limit),
-        workers: byte_of(limits.workers),
-        slots: limits.slots as usize,
-    }
-}
 
 /// A best tree that was found within the limit, whoever searched, on one line; or that there is none.
 pub fn plan_text<A: Allocator, B: Allocator>(

@@ -10,7 +10,7 @@ mod beginnings;
 #[cfg(test)]
 mod ends;
 #[cfg(test)]
-mod helping;
+mod joining;
 #[cfg(test)]
 mod kept_entries;
 #[cfg(test)]

@@ -1,5 +1,5 @@
 -- What a share's finds say of the round.
-use Rattle.std.proofs.Common.{◌≡◌, ℕ, ◌+◌, ◌-◌, ◌<◌, List, [], ◌∷◌, ◌++◌, length, map, reverse, All, sym, ap, subst, ◌∙◌, arith, append_assoc}
+use Rattle.std.proofs.Common.{◌≡◌, ℕ, ◌+◌, ◌-◌, ◌<◌, ◌≤◌, List, [], ◌∷◌, ◌++◌, length, map, reverse, All, sym, ap, subst, ◌∙◌, arith, append_assoc}
 use Rattle.std.proofs.lemmas.List.{length-append, reverse-append, map-append, length-reverse, length-map}
 use Rattle.std.proofs.lemmas.List.Elements.{All-nil, All-same, All-push, All-head, All-tail}
 use Rattle.std.proofs.lemmas.Grind.{reverse_onto}
@@ -8,22 +8,37 @@ use Rattle.atomic_table.specs.declared.shared.Seat.{Seat}
 use Rattle.slots.specs.declared.views.View.{View}
 use Rattle.slots.specs.Promise.{IsSeatOf}
 use Rattle.crossbeam_deque.specs.Handles.{worker_view}
+use Rattle.decision.specs.declared.scout.Scout.{Scout}
+use Rattle.jobs.specs.Promise.{least_known}
+use Rattle.rounds.specs.declared.shared.JobStop.{JobStop}
 use Rattle.rounds.specs.declared.shared.Round.{Round}
 use Rattle.rounds.specs.declared.shared.RootJobs.{RootJobs}
 use Rattle.rounds.specs.declared.share.Share.{Share}
 use Rattle.problems.specs.Jobs.{RootJobWins}
 use Rattle.jobs.specs.Deals.{Deals}
 use Rattle.searcher.specs.Tables.{AreSeats}
-use Rattle.rounds.specs.Shares.{IsRound, WinsHere, AreDealt, seats_back}
+use Rattle.rounds.specs.Shares.{IsRound, IsShare, WinsHere, AreDealt, seats_back}
 use Rattle.searcher.proofs.Lists.{Each-snoc}
 
 -- a job that wins in the round is one that the round's word may tell of
-pub may_lower : {J T : Type 0} (b : Round J T) (n job : ℕ) → IsRound n b → job < n → WinsHere b job
+pub may_lower : {T : Type 0} (b : Round T) (n job : ℕ) → IsRound n b → job < n → WinsHere b job
     → (job < b.least.now.jobs) × RootJobWins b.least.now.wins.goal b.least.now.wins.position b.least.now.wins.plies job
 may_lower b n job is below win = (
   omega (arith, is.jobs, below),
   subst (λ (w : RootJobs). RootJobWins w.goal w.position w.plies job) (sym is.wins) (b.search.now.root.moves.items, is.root, win),
 )
+
+-- a share after a search: what led it and its seat have gone on
+pub later : {J T : Type 0} (n : ℕ) (b : Round T) (s : Share J) (scout : Scout JobStop) (seat : Seat ℕ View) → IsShare n b s → scout.stop.least.now ≡ s.scout.stop.least.now
+    → least_known scout.stop.seat ≤ least_known s.scout.stop.seat → IsSeatOf b.search.now.slots.now seat → IsShare n b (record { local = s.local; scout = scout; row = s.row; seat = seat })
+later n b s scout seat is same falls seated = record {
+  round = is.round;
+  stop = same ∙ is.stop;
+  row = is.row;
+  right = is.right;
+  knows = λ job wins. omega (arith, falls, is.knows job wins);
+  seat = seated;
+}
 
 -- one thread more is dealt its part
 pub dealt_more : {J : Type 0} (n threads step count part : ℕ) (xs ys : List (Share J)) (s : Share J) (put : List ℕ) → ys ≡ xs ++ s ∷ [] → step ≡ threads → count ≡ n

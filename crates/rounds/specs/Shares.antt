@@ -14,16 +14,17 @@ use Rattle.problems.specs.Roots.{IsRoot, IsLimit, WinsIn}
 use Rattle.rounds.specs.RootSets.{root_jobs}
 use Rattle.rounds.specs.Verdicts.{AreRight}
 
--- the jobs are the lawful moves, so many, the round is one that is searched, and the word is that of its jobs
-pub record IsRound {J T : Type 0} (n : ℕ) (b : Round J T) : Type 0 where
+-- the jobs are the lawful moves, so many, the round is one that is searched, and the words are those of its jobs
+pub record IsRound {T : Type 0} (n : ℕ) (b : Round T) : Type 0 where
   pub root : IsRoot b.search.now.root
   pub count : length b.search.now.root.moves.items ≡ n
   pub plies : IsLimit b.plies
   pub wins : b.least.now.wins ≡ root_jobs b.search.now.root b.plies
   pub jobs : b.least.now.jobs ≡ n
+  pub words : length b.decided.now.items ≡ n
 
 -- the job wins in the round
-abbrev pub WinsHere : {J T : Type 0} → Round J T → ℕ → Type 0
+abbrev pub WinsHere : {T : Type 0} → Round T → ℕ → Type 0
 WinsHere b job = WinsIn b.search.now.root b.plies job
 
 -- each job that the row finds to win is known: the number isn't above it
@@ -32,7 +33,7 @@ KnowsWins row known = (job : ℕ) → slice_index_or row job Open ≡ Wins → k
 
 -- A thread's share of a round of so many jobs: the round's word stops its searches, it has a right verdict for each job, its seat of the word knows of
 -- each win that it found, and it has a seat of the table
-pub record IsShare {J T : Type 0} (n : ℕ) (b : Round J T) (s : Share J) : Type 0 where
+pub record IsShare {J T : Type 0} (n : ℕ) (b : Round T) (s : Share J) : Type 0 where
   pub round : IsRound n b
   pub stop : s.scout.stop.least.now ≡ b.least.now
   pub row : length s.row.items ≡ n

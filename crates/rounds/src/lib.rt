@@ -2,7 +2,6 @@
 #![tactic(auto)]
 
 mod gated;
-mod help;
 mod keys;
 mod round;
 mod share;

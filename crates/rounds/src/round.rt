@@ -7,15 +7,16 @@ ghost use Rattle.rounds.specs.Seats.{AreJobSeats};
 ghost use Rattle.rounds.specs.Shares.{IsRound, WinsHere, IsShare, AreDealt, seats_back};
 ghost use Rattle.rounds.specs.Going.{SeatGoesOn, EachGoesOn, SeatsGoOn};
 
-use crate::share::{Share, Verdict};
+use crate::share::{Share, Verdict, memory_of};
 use crate::shared::{JobStop, RootJobs, Round, Solve};
 use crate::telling::decide_job;
-use decision::{Memory, Scout};
-use jobs::{Count, JobSeat, Least, MakeFault, Thief, all_at_hand, deal};
+use decision::Scout;
+use jobs::{Count, JobSeat, Least, MakeFault, Thief, deal};
 use searcher::Gate;
 use slots::Seat;
 use std::alloc::{AllocError, Global};
 use std::sync::Wait;
+use std::sync::atomic::AtomicBool;
 use std::thread;
 use std::thread::Threads;
 
@@ -23,13 +24,12 @@ use std::thread::Threads;
 /// its share has all its memory.
 fn deal_out<'a, J: Count, T: Gate>(
     alloc: Global,
-    round: &Round<'a, J, T>,
+    round: &Round<'a, T>,
     mut job_seats: Vec<JobSeat<RootJobs>>,
     seats: &mut Vec<Seat>,
     shares: &mut Vec<Share<'a, J>>,
 ) -> Result<Vec<Thief<J>>, AllocError>
     requires round { IsRound J.jobs round.now }
-    requires outs { length round.now.outs.now.items ≡ length seats.old.items }
     requires job_seats { AreJobSeats round.now.least.now (length seats.old.items) job_seats.items }
     requires seats { AreCallers round.now.search.now.slots.now seats.old.items }
     requires none { shares.old.items ≡ [] }
@@ -54,18 +54,18 @@ fn deal_out<'a, J: Count, T: Gate>(
         let seat = seats.take_last();
         let stop = JobStop {
             least: round.least,
+            decided: round.decided,
             seat: job_seat,
             jobs: count,
             job: 0,
+            joins: false,
         };
         let scout = Scout {
             stop,
-            memory: Memory::new(),
+            memory: memory_of(part),
         };
-        let out = &round.outs[usize::from(part)];
         shares.push_reserved(Share {
             local,
-            out,
             scout,
             row,
             seat,
@@ -73,6 +73,17 @@ fn deal_out<'a, J: Count, T: Gate>(
     }
     thieves.as_mut_slice().reverse();
     Ok(thieves)
+}
+
+/// No job is decided.
+fn none_decided(alloc: Global, jobs: u16) -> Result<Vec<AtomicBool>, AllocError>
+    ensures { IfOk result (λ decided. length decided.items ≡ jobs) }
+{
+    let mut decided = Vec::with_capacity(alloc, usize::from(jobs))?;
+    for _ in 0..jobs {
+        decided.push(AtomicBool::new(false))?;
+    }
+    Ok(decided)
 }
 
 /// The seats go back to where they came from, each to its place.
@@ -86,11 +97,7 @@ fn give_back<J: Count>(mut shares: Vec<Share<'_, J>>, seats: &mut Vec<Seat>)
 }
 
 /// What some share says of a job.
-fn found<J: Count, T: Gate>(
-    round: &Round<'_, J, T>,
-    shares: &Vec<Share<'_, J>>,
-    job: u16,
-) -> Verdict
+fn found<J: Count, T: Gate>(round: &Round<'_, T>, shares: &Vec<Share<'_, J>>, job: u16) -> Verdict
     requires shares { All (IsShare J.jobs round.now) shares.now.items }
     requires job { job < J.jobs }
     ensures { IsVerdictRight (WinsHere round.now job) result }
@@ -106,11 +113,7 @@ fn found<J: Count, T: Gate>(
 }
 
 /// Whether a job wins. The caller decides it, by the last share's seat, where no share has.
-fn wins<J: Count, T: Gate>(
-    round: &Round<'_, J, T>,
-    shares: &mut Vec<Share<'_, J>>,
-    job: u16,
-) -> bool
+fn wins<J: Count, T: Gate>(round: &Round<'_, T>, shares: &mut Vec<Share<'_, J>>, job: u16) -> bool
     requires some { 0 < length shares.old.items }
     requires shares { All (IsShare J.jobs round.now) shares.old.items }
     requires job { job < J.jobs }
@@ -130,7 +133,7 @@ fn wins<J: Count, T: Gate>(
 }
 
 /// Decides, by number, each job that no share decided, up to the least that wins.
-fn settle<J: Count, T: Gate>(round: &Round<'_, J, T>, shares: &mut Vec<Share<'_, J>>) -> Option<u16>
+fn settle<J: Count, T: Gate>(round: &Round<'_, T>, shares: &mut Vec<Share<'_, J>>) -> Option<u16>
     requires round { IsRound J.jobs round.now }
     requires some { 0 < length shares.old.items }
     requires shares { All (IsShare J.jobs round.now) shares.old.items }
@@ -151,12 +154,11 @@ fn settle<J: Count, T: Gate>(round: &Round<'_, J, T>, shares: &mut Vec<Share<'_,
 fn work_all<J: Count + Send + Sync, T: Gate, R: Threads + Wait + Sync>(
     rt: &R,
     alloc: Global,
-    round: &Round<'_, J, T>,
+    round: &Round<'_, T>,
     job_seats: Vec<JobSeat<RootJobs>>,
     seats: &mut Vec<Seat>,
 ) -> Result<Option<u16>, AllocError>
     requires round { IsRound J.jobs round.now }
-    requires outs { length round.now.outs.now.items ≡ length seats.old.items }
     requires job_seats { AreJobSeats round.now.least.now (length seats.old.items) job_seats.items }
     requires seats { AreCallers round.now.search.now.slots.now seats.old.items }
     ensures end { IfOk result (EndsRound round.now.search.now.root round.now.plies) }
@@ -213,12 +215,12 @@ pub(crate) fn round<J: Count + Send + Sync, T: Gate, R: Threads + Wait + Sync>(
         Err(MakeFault::NoMemory) => return Err(AllocError),
         Err(MakeFault::Size) => unreachable!(),
     };
-    let outs = all_at_hand(alloc, seats.len())?;
+    let decided = none_decided(alloc, root.jobs())?;
     let round = Round {
         search,
         plies,
         least: &least,
-        outs: &outs,
+        decided: &decided,
     };
     work_all::<J, T, R>(rt, alloc, &round, job_seats, seats)
 }

@@ -1,15 +1,17 @@
 //! What is solved, how its jobs are decided, what all threads of a round read, and what stops the search of a job.
-ghost use Rattle.std.specs.Prelude.{◌≡◌};
+ghost use Rattle.std.specs.Prelude.{◌≡◌, IsTrue, length};
 ghost use Rattle.jobs.specs.Promise.{IsJobSeatOf};
 
 use board::Position;
 use decision::Stop;
 use entry::MateLore;
-use jobs::{AtHand, Count, JobSeat, Least, Wins};
+use jobs::{JobSeat, Least, Wins};
 use moves::Goal;
 use problems::Root;
 use searcher::Gate;
 use slots::Slots;
+use std::sync::atomic::AtomicBool;
+use std::sync::atomic::Ordering::SeqCst;
 
 /// The jobs that win in a round: those whose moves win within so many plies.
 #[derive(Drop)]
@@ -35,45 +37,68 @@ pub(crate) struct Solve<'a, T: Gate> {
 
 /// What all threads of a round read.
 #[derive(Drop)]
-pub(crate) struct Round<'a, J: Count, T: Gate> {
+pub(crate) struct Round<'a, T: Gate> {
     pub search: &'a Solve<'a, T>,
     pub plies: u8,
     /// The least job known to win.
     pub least: &'a Least<RootJobs>,
-    /// The job that each thread is at.
-    pub outs: &'a Vec<AtHand<J>>,
+    /// Whether some thread has decided the job, for each job. No answer rests on it.
+    pub decided: &'a Vec<AtomicBool>,
 }
 
-/// Stops the search of a job once one below it wins: the round's word, a thread's seat of it, and the job
-/// that the thread is at.
+/// Stops the search of a job once one below it wins, or, of a thread that has joined, once the job is decided: the round's words, a thread's
+/// seat of the least job known to win, and the job that the thread is at.
 #[derive(Drop)]
 pub(crate) struct JobStop<'a> {
     pub least: &'a Least<RootJobs>,
+    pub decided: &'a Vec<AtomicBool>,
     pub seat: JobSeat<RootJobs>,
     pub jobs: u16,
     pub job: u16,
+    /// The thread joins in jobs that others have begun.
+    pub joins: bool,
     ghost belongs: { IsJobSeatOf least.now seat },
     ghost of_board: { jobs ≡ least.now.jobs },
+    ghost each: { length decided.now.items ≡ jobs },
+}
+
+impl JobStop<'_> {
+    /// Tells the other threads that the job is decided.
+    pub(crate) fn tell(&self) {
+        if self.job < self.jobs {
+            self.decided[usize::from(self.job)].store(true, SeqCst);
+        }
+    }
+
+    /// Whether a thread that has joined is told that the job is decided.
+    fn is_told(&self) -> bool
+        ensures { IsTrue result → IsTrue self.now.joins }
+    {
+        self.joins && self.job < self.jobs && self.decided[usize::from(self.job)].load(SeqCst)
+    }
 }
 
 impl Stop for JobStop<'_> {
-    ghost use Rattle.std.specs.Prelude.{◌<◌, ◌≤◌};
+    ghost use Rattle.std.specs.Prelude.{◌<◌, ◌≤◌, false};
     ghost use Rattle.std.proofs.Common.{◌∙◌, refl, rules};
     ghost use Rattle.jobs.specs.Promise.{least_known};
 
-    ghost told = { λ s. least_known s.seat < s.job };
+    ghost told = { λ s. s.joins ≡ false → least_known s.seat < s.job };
 
     ghost stays = { λ a b. (b.least.now ≡ a.least.now) × (b.job ≡ a.job)
-        × (least_known b.seat ≤ least_known a.seat) };
+        × (least_known b.seat ≤ least_known a.seat) × (b.joins ≡ a.joins) };
 
     fn is_set(&mut self) -> bool {
         if self.jobs <= self.job {
             return false;
         }
+        if self.is_told() {
+            return true;
+        }
         self.least.is_below(&mut self.seat, self.job)
     }
 
-    ghost stays_at_once = { λ _. (refl, refl, Prim.search rules) };
+    ghost stays_at_once = { λ _. (refl, refl, Prim.search rules, refl) };
 
-    ghost stays_on = { λ _ _ _ p q. (q.0 ∙ p.0, q.1 ∙ p.1, Prim.search rules) };
+    ghost stays_on = { λ _ _ _ p q. (q.0 ∙ p.0, q.1 ∙ p.1, Prim.search rules, q.3 ∙ p.3) };
 }

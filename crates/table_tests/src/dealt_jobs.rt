@@ -1,7 +1,7 @@
-//! Jobs that are dealt to two threads and stolen, and the job that a thread is at.
+//! Jobs that are dealt to two threads and stolen.
 ghost use Rattle.std.specs.Prelude.{ℕ};
 
-use jobs::{Count, all_at_hand, deal, next_job};
+use jobs::{Count, deal, next_job};
 use std::test::*;
 
 // A round of four jobs.
@@ -22,23 +22,5 @@ fn a_thread_takes_its_own_jobs_and_then_steals(rt: HostRuntime) -> Result<(), Fa
         assert!(rt; next_job(&rt, &mut own, &thieves) == Some(job));
     }
     assert!(rt; next_job(&rt, &mut own, &thieves) == None);
-    Ok(())
-}
-
-#[test]
-fn the_job_at_hand_is_told_until_it_is_left(rt: HostRuntime) -> Result<(), Fail> {
-    let all = all_at_hand::<Four>(rt.alloc(), 2)?;
-    assert_eq!(rt; all.len(), 2);
-    assert!(rt; all[0].job() == None);
-    all[0].enter(3);
-    assert!(rt; all[0].job() == Some(3));
-    assert!(rt; all[1].job() == None);
-    assert_eq!(rt; all[0].take(), 0);
-    assert_eq!(rt; all[0].take(), 1);
-    all[0].enter(2);
-    assert!(rt; all[0].job() == Some(2));
-    assert_eq!(rt; all[0].take(), 0);
-    all[0].leave();
-    assert!(rt; all[0].job() == None);
     Ok(())
 }

@@ -1,6 +1,6 @@
 use Rattle.std.proofs.Common.{◌≡◌, rules, inl, refl, Some}
 use Rattle.endings.specs.Outcome.{IsSoundText}
-use Rattle.replies.specs.Output.{fault_of}
+use Rattle.context.specs.Limits.{fault_of}
 use Rattle.searcher.specs.declared.fault.SolveFault.TheVariants.{Limit}
 use Rattle.batches.specs.BatchRun.{asked_limits}
 use Rattle.batches.proofs.batch.problem_of.Goals as goal

@@ -1,7 +1,7 @@
 use Rattle.std.proofs.Common.{◌≡◌, None, subst, vec_items}
 use Rattle.board.specs.Board.{PlainBoard}
 use Rattle.problems.specs.Answer.{IsAnswer, IsFewest, ForcesNothing}
-use Rattle.replies.specs.Output.{fault_of}
+use Rattle.context.specs.Limits.{fault_of}
 use Rattle.composing.proofs.FirstMoveLemmas.{nothing_shown, play_shown}
 use Rattle.composing.proofs.first_move.told_within.Goals as goal
 

@@ -3,7 +3,7 @@ use Rattle.std.proofs.Math.Nat.{min-eq_left}
 use Rattle.board.specs.Board.{PlainBoard}
 use Rattle.rules.specs.declared.goal.Goal.{Goal}
 use Rattle.problems.specs.Answer.{IsAnswer, IsFewest}
-use Rattle.replies.specs.Output.{fault_of}
+use Rattle.context.specs.Limits.{fault_of}
 use Rattle.composing.specs.Solution.{is_sooner}
 use Rattle.searcher.proofs.Limits.{limit_within}
 use Rattle.composing.proofs.SolutionLemmas.{composed_shown}

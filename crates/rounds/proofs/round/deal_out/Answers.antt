@@ -13,6 +13,7 @@ pub invariant_of-stop : goal.invariant_of-stop
 invariant_of-stop g c = record {
   belongs = (All-popped (IsJobSeatOf c.args.round.now.least.now) _ _ _ c.take_last-job_seat.ensures.items c.loop-dealt.invariant.job_seats.1).1;
   of_board = c.jobs-count.ensures.value ∙ c.requires.round.count ∙ sym c.requires.round.jobs;
+  each = c.requires.round.words ∙ sym (c.jobs-count.ensures.value ∙ c.requires.round.count);
 }
 
 pub loop-dealt-preserved : goal.loop-dealt-preserved

@@ -23,6 +23,6 @@ returns-in-Open-clause-shares g c =
 
 pub returns-in-Open-clause-go_on : goal.returns-in-Open-clause-go_on
 returns-in-Open-clause-go_on g c = let t = c.args.round.now.search.now.slots.now in let own = c.index_mut-own.result.now in
-    each_one g.T.Gate.keeps t c.args.shares.now.items (c.len-last.result - 1) own (record { local = own.local; out = own.out; scout = own.scout; row = own.row; seat = c.decide_job.new.seat })
+    each_one g.T.Gate.keeps t c.args.shares.now.items (c.len-last.result - 1) own (record { local = own.local; scout = own.scout; row = own.row; seat = c.decide_job.new.seat })
     (omega arith) c.index_mut-own.ensures.value
     (All-weaker (IsShare g.J.Count.jobs c.args.round.now) (λ s. IsSeatOf t s.seat) (λ s h. h.seat) c.args.shares.now.items c.requires.shares) c.decide_job.ensures.goes_on

@@ -19,4 +19,4 @@ loop-init g c = record {
 pub returns-clause-goes_on : goal.returns-clause-goes_on
 returns-clause-goes_on g c =
     let taken : SeatGoesOn g.T.Gate.keeps c.args.round.now.search.now.slots.now c.args.self.now.seat c.match-next.self.seat = search rules in
-    onward taken (searched c.help_all.ensures)
+    onward taken (searched c.join_all.ensures.continues)
