@@ -16,7 +16,8 @@ SHOWN = 300
 # has the same list.
 FIRST = "minimate"
 PROGRAMS = {
-    FIRST: ["solve", "tree", "keys", "check", "moves", "show", "after", "batch"],
+    FIRST: ["solve", "tree", "keys", "check", "moves", "show", "after"],
+    "batch": ["batch"],
     "verify": ["verify"],
     "compose": ["solution", "certify"],
 }

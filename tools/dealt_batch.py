@@ -52,7 +52,7 @@ class Batch(dealt.Dealt):
     def answer_here(self, lines, answers, limit, places):
         """The program here answers these lines: those that aren't searched may hold any bytes."""
         text = b"".join(lines[place] + b"\n" for place in places)
-        told = lines_of(checking.run([self.program, *self.call("batch", limit)], text, timeout=None).output)
+        told = lines_of(checking.run(checking.started(self.program, *self.call("batch", limit)), text, timeout=None).output)
         if len(told) != len(places):
             raise dealing.Fault(f"{self.program} batch answered {len(told)} of {len(places)} lines")
         for place, answer in zip(places, told):

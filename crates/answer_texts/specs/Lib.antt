@@ -1,5 +1,2 @@
 -- to be believed
 pub mod Answers
-pub mod Said
-pub mod Asking
-pub mod Forms

@@ -8,9 +8,9 @@ use Rattle.std.proofs.KnownBytes.{Appends-nil, Appends-trans, Consumes-nil, Cons
 use Rattle.std.specs.Io.KnownBytes.{Appends, Consumes}
 use Rattle.std.specs.List.{AllZip}
 use Rattle.std.specs.declared.alloc.Global.{Global}
-use Rattle.answer_texts.specs.Forms.{IsFoundText, IsRefusalText}
-use Rattle.answer_texts.specs.declared.asked.Asked.{Asked}
-use Rattle.answer_texts.specs.declared.asked.Batch.{Batch}
+use Rattle.batch_texts.specs.Forms.{IsFoundText, IsRefusalText}
+use Rattle.batch_texts.specs.declared.asked.Asked.{Asked}
+use Rattle.batch_texts.specs.declared.asked.Batch.{Batch}
 use Rattle.devices.specs.Device.{AppendsBeginning}
 use Rattle.devices.specs.Input.{OfInput, failed_reads, without_line_feed}
 use Rattle.devices.specs.declared.transfer.InputFault.{InputFault}
@@ -19,9 +19,9 @@ use Rattle.context.specs.Limits.{fault_of, IsRefusedWithin}
 use Rattle.context.proofs.Refused.{refused_by}
 use Rattle.refusals.specs.declared.refusal.Refusal.{Refusal}
 use Rattle.refusals.specs.declared.refusal.Refusal.TheVariants as refusal
-use Rattle.answer_texts.specs.Said.{is_remark, said_in}
-use Rattle.answer_texts.specs.Asking.{IsAskedIn, IsFoundAt}
-use Rattle.answer_texts.specs.declared.asked.Found.{Found}
+use Rattle.batch_texts.specs.Said.{is_remark, said_in}
+use Rattle.batch_texts.specs.Asking.{IsAskedIn, IsFoundAt}
+use Rattle.batch_texts.specs.declared.asked.Found.{Found}
 use Rattle.problems.specs.declared.problem.Problem.{Problem}
 use Rattle.batches.specs.Batch.{AnswersLines, EndsBatch, HasReplyText, IsAskedReply, IsLineReply, IsUnnumberedReply, RefusesBatch, RunsBatch, answered_lines, joined, left_out, lines_of, next_number, numbered, onto, wanting_text, with_number, with_position}
 use Rattle.batches.specs.BatchRun.{AsksProblem, Fails, GivesAsked, GivesNext, IsFirstOf, IsAskedRefusal, PassesOver, Step, TakesAnswered, TakesLines, TakesStep, stop_of}

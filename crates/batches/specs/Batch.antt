@@ -6,18 +6,18 @@ use Rattle.board.specs.Board.{PlainBoard}
 use Rattle.board.specs.declared.fault.FenFault.{FenFault}
 use Rattle.rules.specs.Reading.{IsSoundFault}
 use Rattle.devices.specs.Input.{OfInput, without_line_feed}
-use Rattle.endings.specs.Outcome.{IsSoundText}
+use Rattle.refusals.specs.Outcome.{IsSoundText}
 use Rattle.context.specs.Limits.{fault_of, refusal_of_solve}
 use Rattle.refusals.specs.Reply.{line_of}
 use Rattle.refusals.specs.Refusal.{refusal_of_fen, refusal_status}
 use Rattle.refusals.specs.declared.refusal.Refusal.{Refusal}
 use Rattle.refusals.specs.declared.refusal.Refusal.TheVariants.{NoMemory, TooLong}
-use Rattle.answer_texts.specs.Said.{is_remark, said_in}
-use Rattle.answer_texts.specs.Asking.{IsAskedIn, IsFoundAt, limit_of, with_plies}
-use Rattle.answer_texts.specs.Forms.{IsFoundText, IsRefusalText, refused_object}
-use Rattle.answer_texts.specs.declared.asked.Asked.{Asked}
-use Rattle.answer_texts.specs.declared.asked.Batch.{Batch}
-use Rattle.answer_texts.specs.declared.asked.Found.{Found}
+use Rattle.batch_texts.specs.Said.{is_remark, said_in}
+use Rattle.batch_texts.specs.Asking.{IsAskedIn, IsFoundAt, limit_of, with_plies}
+use Rattle.batch_texts.specs.Forms.{IsFoundText, IsRefusalText, refused_object}
+use Rattle.batch_texts.specs.declared.asked.Asked.{Asked}
+use Rattle.batch_texts.specs.declared.asked.Batch.{Batch}
+use Rattle.batch_texts.specs.declared.asked.Found.{Found}
 use Rattle.endings.specs.Run.{Ending, Run, Finishes, no_memory, EndsUnread}
 
 -- ---- lines

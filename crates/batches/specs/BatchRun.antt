@@ -14,7 +14,7 @@ use Rattle.devices.specs.Input.{OfInput}
 use Rattle.board.specs.Board.{PlainBoard}
 use Rattle.board.specs.declared.fault.FenFault.{FenFault}
 use Rattle.rules.specs.Reading.{IsSoundFault}
-use Rattle.endings.specs.Outcome.{IsSoundText}
+use Rattle.refusals.specs.Outcome.{IsSoundText}
 use Rattle.context.specs.Limits.{fault_of, refusal_of_solve}
 use Rattle.context.specs.Limits.{FindsWithin}
 use Rattle.refusals.specs.Refusal.{refusal_of_fen}
@@ -22,11 +22,11 @@ use Rattle.refusals.specs.declared.refusal.Refusal.{Refusal}
 use Rattle.refusals.specs.declared.refusal.Refusal.TheVariants as refusal
 use Rattle.devices.specs.declared.transfer.InputFault.{InputFault}
 use Rattle.devices.specs.declared.transfer.InputFault.TheVariants as input
-use Rattle.answer_texts.specs.Asking.{limit_of, with_plies}
+use Rattle.batch_texts.specs.Asking.{limit_of, with_plies}
 use Rattle.batches.specs.Batch.{AnswersLines, IsAskedReply, HasReplyText, IsLineReply, IsUnnumberedReply, answered_lines, joined, lines_of, next_number, numbered}
 use Rattle.devices.specs.Lines.{IsFed, IsLastOf, IsReadAs, IsUnread, left_of}
-use Rattle.answer_texts.specs.declared.asked.Asked.{Asked}
-use Rattle.answer_texts.specs.declared.asked.Batch.{Batch}
+use Rattle.batch_texts.specs.declared.asked.Asked.{Asked}
+use Rattle.batch_texts.specs.declared.asked.Batch.{Batch}
 use Rattle.batches.specs.declared.ahead.Ahead.{Ahead}
 use Rattle.batches.specs.declared.ahead.Lane.{Lane}
 use Rattle.batches.specs.declared.batch.BatchRun.{BatchRun}

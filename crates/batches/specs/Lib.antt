@@ -1,4 +1,5 @@
 -- to be believed
 pub mod Batch
+pub mod Order
 -- inside
 pub mod BatchRun

@@ -4,12 +4,12 @@ ghost use Rattle.std.specs.Prelude.{◌≡◌, ◌+◌, ◌<◌, ◌≤◌, [], 
 ghost use Rattle.atomic_table.specs.Seated.{TableId};
 ghost use Rattle.slots.specs.Promise.{IsSeatOf};
 ghost use Rattle.devices.specs.Lines.{IsUnread};
-ghost use Rattle.answer_texts.specs.Asking.{IsFoundAt};
-ghost use Rattle.answer_texts.specs.declared.asked.Batch.{Batch as TheBatch};
+ghost use Rattle.batch_texts.specs.Asking.{IsFoundAt};
+ghost use Rattle.batch_texts.specs.declared.asked.Batch.{Batch as TheBatch};
 ghost use Rattle.batches.specs.BatchRun.{AreAhead, GivesNext, IsAhead, IsLane, IsSearched};
 
 use crate::batch::{echoed, problem_of};
-use answer_texts::{Batch, Found, asked_in, found_text, is_remark, said_in};
+use batch_texts::{Batch, Found, asked_in, found_text, is_remark, said_in};
 use context::Context;
 use decision::{Memory, Scout, Stop};
 use devices::{Next, Unread};

@@ -3,15 +3,15 @@ ghost use Rattle.std.specs.Prelude.{◌≡◌, ◌+◌, ◌++◌, ◌<◌, IfOk,
 ghost use Rattle.std.specs.Fmt.{decimal};
 ghost use Rattle.devices.specs.Input.{failed_reads};
 ghost use Rattle.devices.specs.Lines.{IsUnread, left_of};
-ghost use Rattle.answer_texts.specs.Asking.{IsFoundAt};
-ghost use Rattle.answer_texts.specs.Said.{said_in};
+ghost use Rattle.batch_texts.specs.Asking.{IsFoundAt};
+ghost use Rattle.batch_texts.specs.Said.{said_in};
 ghost use Rattle.batches.specs.Batch.{HasReplyText, IsAskedReply, IsReplyText, left_out, next_number, remark_text, with_number, with_position};
-ghost use Rattle.answer_texts.specs.Forms.{IsRefusalText};
+ghost use Rattle.batch_texts.specs.Forms.{IsRefusalText};
 ghost use Rattle.batches.specs.BatchRun.{AreAhead, AsksProblem, GivesAsked, GivesNext, IsBatchRun, IsSearched, OpensBatchRun, PassesOver, TakesAnswered, TakesLines, TakesStep, step_of, stop_of};
 ghost use Rattle.batches.specs.declared.batch.BatchStop.TheVariants.{NoMemory, WriteFailed};
 
 use crate::ahead::{Lookahead, look_ahead, take_ahead};
-use answer_texts::{
+use batch_texts::{
     Asked, Batch, Found, asked_in, found_text, is_remark, limit_of, refused_object, said_in,
 };
 use command_line::{BatchOptions, Limits};

@@ -6,7 +6,7 @@ ghost use Rattle.endings.specs.Run.{ending_of, run_of, Finishes};
 ghost use Rattle.batches.specs.Batch.{RefusesBatch, RunsBatch, wanting_text};
 
 use crate::batch::{BatchStop, answer_batch, open_batch, refusal_line};
-use answer_texts::Batch;
+use batch_texts::Batch;
 use context::Context;
 use devices::{Sink, Source};
 use endings::{ANSWERED, fail_to_read, fail_to_write, finish, give_up_for_memory, search_refused};

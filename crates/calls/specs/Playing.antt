@@ -3,7 +3,7 @@ use Rattle.std.specs.Prelude.{◌≡◌, ◌⊎◌, ◌++◌, List, ℕ, []}
 use Rattle.board.specs.declared.fault.FenFault.{FenFault}
 use Rattle.board.specs.Board.{PlainBoard}
 use Rattle.rules.specs.Reading.{IsSoundFault}
-use Rattle.endings.specs.Outcome.{IsSoundText}
+use Rattle.refusals.specs.Outcome.{IsSoundText}
 use Rattle.refusals.specs.Reply.{Reply, refused}
 use Rattle.refusals.specs.Refusal.{refusal_of_fen}
 

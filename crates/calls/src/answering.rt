@@ -1,6 +1,6 @@
 //! The reply to a call, as it is put into the room.
 ghost use Rattle.std.specs.Prelude.{vec_items};
-ghost use Rattle.endings.specs.Outcome.{Gives};
+ghost use Rattle.refusals.specs.Outcome.{Gives};
 ghost use Rattle.refusals.specs.Reply.{refused};
 ghost use Rattle.refusals.specs.declared.refusal.Refusal.TheVariants.{NoMemory};
 ghost use Rattle.calls.specs.Calls.{Answers, IsReply};

@@ -2,7 +2,7 @@
 ghost use Rattle.std.specs.Prelude.{[], None, Ok, Err, vec_items};
 ghost use Rattle.slots.specs.Promise.{IsSeatOf};
 ghost use Rattle.command_line.specs.declared.line.Action.TheVariants.{Solve, Keys, Moves, Tree as TreeAction, Check};
-ghost use Rattle.endings.specs.Outcome.{Gives};
+ghost use Rattle.refusals.specs.Outcome.{Gives};
 ghost use Rattle.searcher.specs.Best.{IsBestWithin};
 ghost use Rattle.context.specs.Limits.{FindsWithin};
 ghost use Rattle.problems.specs.Problems.{IsProblemOf};

@@ -1,6 +1,6 @@
 //! What is told of a position beside the program's lines, for whoever draws a board.
 ghost use Rattle.std.specs.Prelude.{◌≡◌, ◌++◌, IfErr, IfOk, List, ℕ, vec_items};
-ghost use Rattle.endings.specs.Outcome.{Gives};
+ghost use Rattle.refusals.specs.Outcome.{Gives};
 ghost use Rattle.refusals.specs.Reply.{refused};
 ghost use Rattle.refusals.specs.declared.refusal.Refusal.TheVariants.{NoMemory as no_memory};
 ghost use Rattle.calls.specs.Playing.{IsFaultReply};

@@ -1,13 +1,12 @@
 //! What a certificate proves, by the checker that trusts no solver.
 ghost use Rattle.std.specs.Prelude.{vec_items};
-ghost use Rattle.endings.specs.Outcome.{Gives};
+ghost use Rattle.refusals.specs.Outcome.{Gives};
 ghost use Rattle.verdicts.specs.Verdict.{IsVerdict};
 
 use crate::text::Text;
 use command_line::Subject;
-use endings::ReplyFault;
 use moves::Goal;
-use refusals::Refusal;
+use refusals::{Refusal, ReplyFault};
 use std::alloc::Allocator;
 use verdicts::verified;
 

@@ -11,7 +11,7 @@ use Rattle.solution_text.specs.WholeText.{IsFirstSolution}
 use Rattle.command_line.specs.declared.line.Limits.{Limits}
 use Rattle.refusals.specs.Reply.{answered}
 use Rattle.refusals.specs.declared.refusal.Refusal.{Refusal}
-use Rattle.endings.specs.Outcome.{Gives}
+use Rattle.refusals.specs.Outcome.{Gives}
 use Rattle.answer_texts.specs.Answers.{none_text}
 use Rattle.replies.specs.First.{NamesJob}
 use Rattle.context.specs.Limits.{fault_of}

@@ -15,7 +15,7 @@ use Rattle.command_line.specs.declared.line.SolutionOptions.{SolutionOptions}
 use Rattle.refusals.specs.Reply.{Reply, answered, refused}
 use Rattle.refusals.specs.declared.refusal.Refusal.{Refusal}
 use Rattle.refusals.specs.declared.refusal.Refusal.TheVariants as refusal
-use Rattle.endings.specs.Outcome.{Gives, IsSoundText}
+use Rattle.refusals.specs.Outcome.{Gives, IsSoundText}
 use Rattle.endings.specs.Run.{Ending, Finishes}
 use Rattle.context.specs.Limits.{fault_of}
 use Rattle.algebraic.specs.declared.naming.Notation.{Notation}

@@ -10,7 +10,7 @@ use Rattle.certifying.specs.Lines.{claim_lines}
 use Rattle.refusals.specs.Reply.{refused}
 use Rattle.refusals.specs.declared.refusal.Refusal.{Refusal}
 use Rattle.answer_texts.specs.Answers.{answer_text}
-use Rattle.endings.specs.Outcome.{IsSoundText}
+use Rattle.refusals.specs.Outcome.{IsSoundText}
 use Rattle.context.specs.Limits.{fault_of}
 use Rattle.verdicts.specs.Verdict.{IsRefusedFor}
 use Rattle.verifying.specs.declared.words.Word.{Word}

@@ -21,7 +21,7 @@ use Rattle.refusals.specs.Reply.{refused}
 use Rattle.refusals.specs.declared.refusal.Refusal.{Refusal}
 use Rattle.refusals.specs.declared.refusal.Refusal.TheVariants as refusal
 use Rattle.answer_texts.specs.Answers.{answer_text}
-use Rattle.endings.specs.Outcome.{IsSoundText}
+use Rattle.refusals.specs.Outcome.{IsSoundText}
 use Rattle.replies.specs.Output.{ShowsAnswer}
 use Rattle.context.specs.Limits.{fault_of}
 use Rattle.verdicts.specs.Verdict.{IsRefusedFor}

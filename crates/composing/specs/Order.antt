@@ -3,7 +3,7 @@ use Rattle.command_line.specs.declared.line.Order.{Order}
 use Rattle.command_line.specs.declared.line.Order.TheVariants.{Certify, Solution}
 use Rattle.endings.specs.Run.{Run}
 use Rattle.endings.specs.Words.{DoesNothing}
-use Rattle.endings.specs.Outcome.{IsOver}
+use Rattle.refusals.specs.Outcome.{IsOver}
 use Rattle.composing.specs.Certifying.{RunsCertify}
 use Rattle.composing.specs.Solution.{RunsSolution}
 

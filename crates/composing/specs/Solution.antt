@@ -32,7 +32,7 @@ use Rattle.diagrams.specs.Pictures.{captioned_picture}
 use Rattle.refusals.specs.Reply.{Reply, answered, refused}
 use Rattle.refusals.specs.declared.refusal.Refusal.TheVariants.{Move}
 use Rattle.answer_texts.specs.Answers.{none_text}
-use Rattle.endings.specs.Outcome.{IsReplyAt, IsSoundText}
+use Rattle.refusals.specs.Outcome.{IsReplyAt, IsSoundText}
 use Rattle.replies.specs.Output.{ShowsWithin}
 use Rattle.context.specs.Limits.{fault_of}
 use Rattle.replies.specs.Playing.{NamesNone}

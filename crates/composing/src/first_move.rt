@@ -3,7 +3,7 @@ ghost use Rattle.std.specs.Prelude.{◌≡◌, IfOk, Some, slice_get, vec_items}
 ghost use Rattle.rules.specs.Squares.{Ply};
 ghost use Rattle.problems.specs.Answer.{IsFewest};
 ghost use Rattle.problems.specs.Roots.{IsRoot, IsJobOf};
-ghost use Rattle.endings.specs.Outcome.{Gives};
+ghost use Rattle.refusals.specs.Outcome.{Gives};
 ghost use Rattle.solution_text.specs.WholeText.{IsFirstSolution};
 ghost use Rattle.composing.specs.Solution.{ShowsFirstNamed, ShowsFirstOf};
 

@@ -1,7 +1,7 @@
 //! The solution of a problem: the answer by all threads, and then what follows it, by one seat over the same table.
 ghost use Rattle.std.specs.Prelude.{◌≡◌, ◌≢◌, IfErr, IfOk, string_bytes, vec_items};
 ghost use Rattle.problems.specs.Answer.{IsFewest};
-ghost use Rattle.endings.specs.Outcome.{Gives};
+ghost use Rattle.refusals.specs.Outcome.{Gives};
 ghost use Rattle.problems.specs.Roots.{IsRoot};
 ghost use Rattle.searcher.specs.declared.halt.Halt.TheVariants.{Stopped};
 ghost use Rattle.composing.specs.Solution.{IsPublished, ShowsNoSolution, ShowsSolution, extras_of, form_of, is_sooner, notation_of};

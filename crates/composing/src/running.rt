@@ -5,7 +5,7 @@ ghost use Rattle.problems.specs.declared.answer.Answer.{Answer};
 ghost use Rattle.verifying.specs.Checking.{HasTaken};
 ghost use Rattle.endings.specs.Run.{ending_of, readerless, MayTell};
 ghost use Rattle.endings.specs.Words.{MeansSome, RunsWords};
-ghost use Rattle.endings.specs.Outcome.{IsOver};
+ghost use Rattle.refusals.specs.Outcome.{IsOver};
 ghost use Rattle.composing.specs.Certifying.{WritesCertificate, WritesClaims};
 ghost use Rattle.composing.specs.Claims.{EndsClaims, HasAnswerLine, writing_of};
 ghost use Rattle.composing.specs.Order.{ComposesOrder, ComposesOver};

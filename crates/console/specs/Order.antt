@@ -1,5 +1,5 @@
--- The orders that the program answers: all but those of the programs that verify and compose.
-use Rattle.std.specs.Prelude.{◌≡◌, ◌⊎◌, ⊤, None}
+-- The orders that the program answers: all but those of the programs of batches, that verify and compose.
+use Rattle.std.specs.Prelude.{◌⊎◌, ⊤}
 use Rattle.command_line.specs.declared.line.Order.{Order}
 use Rattle.command_line.specs.declared.line.Order.TheVariants.{One, Batch, Verify, Certify, After, TreeAfter, Solution}
 use Rattle.command_line.specs.declared.line.Line.{Line}
@@ -8,27 +8,24 @@ use Rattle.command_line.specs.declared.line.Action.TheVariants.{Solve, Keys, Mov
 use Rattle.endings.specs.Run.{Run}
 use Rattle.endings.specs.Words.{DoesNothing}
 use Rattle.replies.specs.Output.{MayRead}
-use Rattle.context.specs.Limits.{fault_of}
 use Rattle.replies.specs.First.{MissesAt}
-use Rattle.endings.specs.Outcome.{IsOver}
-use Rattle.batches.specs.Batch.{RunsBatch}
+use Rattle.refusals.specs.Outcome.{IsOver}
 use Rattle.console.specs.Playing.{RunsAfter, RunsFirst}
 use Rattle.console.specs.Run.{RunsLine}
 
 -- the run is one of the order
 abbrev pub RunsOrder : Order → Run → Type 0
 RunsOrder (One line) run = RunsLine line run
-RunsOrder (Batch goal limits options) run = RunsBatch (record { goal = goal; limits = limits; options = options }) run
 RunsOrder (After played) run = RunsAfter played run
 RunsOrder (TreeAfter played goal limits) run = RunsFirst played goal limits run
+RunsOrder (Batch goal limits options) run = DoesNothing run
 RunsOrder (Verify subject) run = DoesNothing run
 RunsOrder (Certify subject limits) run = DoesNothing run
 RunsOrder (Solution subject limits options) run = DoesNothing run
 
--- the order reads the input: a batch does, but where its limits are refused, and a check where its position is sound
+-- the order reads the input: a check does, where its position is sound
 abbrev pub MayReadOf : Order → Type 0
 MayReadOf (One line) = MayRead line
-MayReadOf (Batch goal limits options) = fault_of limits ≡ None
 MayReadOf _ = ⊥
 
 -- the action asks what the side to move can play: each search does, and the list of its moves
@@ -47,10 +44,8 @@ AsksWhereOver line = AsksOfMoves line.action × IsOver line.fen.now
 abbrev pub TellsMoreOf : Line → Type 0
 TellsMoreOf line = AsksWhereOver line ⊎ MayRead line
 
--- standard error may be told more than why a run has no answer: by such a line, by a batch, of each of its lines that is refused or over, and by the
--- tree of a first move that misses, what refutes it
+-- standard error may be told more than why a run has no answer: by such a line, and by the tree of a first move that misses, what refutes it
 abbrev pub TellsMore : Order → Type 0
 TellsMore (One line) = TellsMoreOf line
-TellsMore (Batch goal limits options) = ⊤
 TellsMore (TreeAfter played goal limits) = MissesAt played goal limits
 TellsMore _ = ⊥

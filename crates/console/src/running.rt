@@ -9,21 +9,18 @@ ghost use Rattle.console.specs.Run.{RunsLine};
 
 use crate::over::{asking_of, tell_if_line_is_over};
 use crate::watching::watch_of;
-use answer_texts::Batch;
-use batches::{left_out, run_batch};
-use command_line::{BatchOptions, Line, LineFault, NamedMove, Order, asks_progress, read_order};
-use context::{Context, Tally, context_of};
+use command_line::{Line, LineFault, NamedMove, Order, read_order};
+use context::{Context, context_of};
 use devices::{Sink, Source};
 use endings::{
-    ANSWERED, REFUSED_WORDS, ReplyFault, end_wordless, explain_if_refused, fail_to_read, finish,
+    ANSWERED, REFUSED_WORDS, end_wordless, explain_if_refused, fail_to_read, finish,
     give_up_for_memory, refuse_and_tell, refuse_move,
 };
-use refusals::{Refusal, Refused};
+use refusals::{Refusal, Refused, ReplyFault};
 use replies::{after_reply, first_reply, reply_to};
 use std::convert::AsStr;
 use std::io::{self, Write, sink};
 use std::sync::Wait;
-use std::sync::atomic::AtomicU64;
 use std::thread::Threads;
 use std::time::Clock;
 use workers::Workers;
@@ -119,21 +116,6 @@ fn run_after<R: AllocGlobal, K: Sink, E: Write>(
     write_played(rt, played, writer, errors, reply)
 }
 
-/// The context of a batch with these options, and whether the words ask for a sign of life.
-fn batch_context<'a, R: Clock, W: AsStr>(
-    rt: &'a R,
-    words: &[W],
-    options: BatchOptions,
-) -> Context<'a, R, Workers<'a, R>> {
-    Context {
-        rt,
-        crew: Workers { rt },
-        shows: asks_progress(words),
-        line: AtomicU64::new(0),
-        tally: Tally::new(rt, options.lines, left_out(options)),
-    }
-}
-
 /// Answers what the words ask for, where no other program does. The first word is the program's name.
 pub fn run<
     R: Threads + Wait + Eprint + Clock + Sync + AllocGlobal,
@@ -154,31 +136,21 @@ pub fn run<
             let context = context_of(rt, Workers { rt }, words);
             run_line_on(&context, &line, reader, writer, errors)
         }
-        Ok(Order::Batch(goal, limits, options)) => {
-            let batch = Batch {
-                goal,
-                limits,
-                options,
-            };
-            let context = batch_context(rt, words, options);
-            run_batch(&context, batch, reader, writer, errors)
-        }
         Ok(Order::After(played)) => run_after(rt, &played, writer, errors),
         Ok(Order::TreeAfter(played, goal, limits)) => {
             let reply = first_reply(&Workers { rt }, &played, goal, limits, errors);
             write_played(rt, &played, writer, errors, reply)
         }
         // those are answered by programs of their own
-        Ok(Order::Verify(_) | Order::Certify(..) | Order::Solution(..)) => REFUSED_WORDS,
+        Ok(Order::Batch(..) | Order::Verify(_) | Order::Certify(..) | Order::Solution(..)) =>
+            REFUSED_WORDS,
         Err(LineFault::Words) => REFUSED_WORDS,
         Err(LineFault::NoMemory) => give_up_for_memory(writer, errors),
     }
 }
 
 /// The commands that it answers.
-const OWN: &[&str] = &[
-    "solve", "tree", "keys", "check", "moves", "show", "after", "batch",
-];
+const OWN: &[&str] = &["solve", "tree", "keys", "check", "moves", "show", "after"];
 
 /// Runs the words, or answers why there are none. What is to be said of words that are no line goes to
 /// `errors`, and why a line was refused; whether they take it changes nothing.

@@ -29,7 +29,18 @@ fn owned<R: Abort + AllocGlobal>(rt: &R, words: &str, last: &str) -> Vec<String>
     all
 }
 
-/// Runs the words over an input.
+/// Whether the words ask for a batch.
+fn asks_batch(words: &io::Result<Vec<String>>) -> bool {
+    let Ok(words) = words else {
+        return false;
+    };
+    match words.get(1) {
+        Some(word) => word.as_str() == "batch",
+        None => false,
+    }
+}
+
+/// Runs the words over an input, those of a batch by its own program.
 fn tell_of<R: Threads + Wait + Abort + AllocGlobal + Eprint + Clock + Sync>(
     rt: &R,
     words: io::Result<Vec<String>>,
@@ -38,7 +49,11 @@ fn tell_of<R: Threads + Wait + Abort + AllocGlobal + Eprint + Clock + Sync>(
     let mut reader = Counted::new(input);
     let mut writer = Counted::new(Vec::new(rt.alloc()));
     let mut errors = Vec::new(rt.alloc());
-    let status = run_program(rt, words, &mut reader, &mut writer, &mut errors);
+    let status = if asks_batch(&words) {
+        batches::run_program(rt, words, &mut reader, &mut writer, &mut errors)
+    } else {
+        run_program(rt, words, &mut reader, &mut writer, &mut errors)
+    };
     Told {
         status,
         output: writer.device,

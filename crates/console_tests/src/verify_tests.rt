@@ -136,21 +136,29 @@ fn does_nothing_for_another_programs_words(rt: HostRuntime) {
     let solve = ["minimate", "solve", "--limit", "1", ROOK];
     let solution = ["minimate", "solution", "--limit", "1", ROOK];
     let certify = ["minimate", "certify", "--limit", "1", ROOK];
-    for words in [verify.as_slice(), &solution, &certify] {
+    let batch = ["minimate", "batch", "--limit", "1"];
+    for words in [verify.as_slice(), &solution, &certify, &batch] {
         let mut reader = Counted::new(MATE);
         let mut writer = Counted::new(Vec::new(rt.alloc()));
         let mut errors = Vec::new(rt.alloc());
         let status = console::run(&rt, words, &mut reader, &mut writer, &mut errors);
         expect_nothing(&rt, status, writer.device.as_slice(), errors.as_slice());
     }
-    for words in [solve.as_slice(), &solution, &certify] {
+    for words in [solve.as_slice(), &verify, &solution, &certify] {
+        let mut reader = Counted::new(MATE);
+        let mut writer = Counted::new(Vec::new(rt.alloc()));
+        let mut errors = Vec::new(rt.alloc());
+        let status = batches::run(&rt, words, &mut reader, &mut writer, &mut errors);
+        expect_nothing(&rt, status, writer.device.as_slice(), errors.as_slice());
+    }
+    for words in [solve.as_slice(), &solution, &certify, &batch] {
         let mut reader = Counted::new(MATE);
         let mut writer = Counted::new(Vec::new(rt.alloc()));
         let mut errors = Vec::new(rt.alloc());
         let status = verdicts::run(&rt, words, &mut reader, &mut writer, &mut errors);
         expect_nothing(&rt, status, writer.device.as_slice(), errors.as_slice());
     }
-    for words in [solve.as_slice(), &verify] {
+    for words in [solve.as_slice(), &verify, &batch] {
         let mut writer = Counted::new(Vec::new(rt.alloc()));
         let mut errors = Vec::new(rt.alloc());
         let status = composing::run(&rt, words, &mut writer, &mut errors);

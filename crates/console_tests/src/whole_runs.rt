@@ -24,6 +24,7 @@ pub fn run<
         Some(word) if *word == "solution" || *word == "certify" => {
             composing::run(rt, words, writer, errors)
         }
+        Some(word) if *word == "batch" => batches::run(rt, words, reader, writer, errors),
         _ => console::run(rt, words, reader, writer, errors),
     }
 }

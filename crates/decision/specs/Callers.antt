@@ -18,6 +18,8 @@ use Rattle.problems.specs.Questions.{question, IsForced}
 use Rattle.decision.specs.declared.caller.Caller.{Caller}
 use Rattle.decision.specs.declared.lead.Lead.{Lead}
 use Rattle.decision.specs.declared.decision.Decision.{Decision}
+use Rattle.decision.specs.declared.searching.Pass.{Pass}
+use Rattle.decision.specs.declared.searching.Pass.TheVariants.{Answers, PutOff}
 use Rattle.decision.specs.Calls.{added, Continues, KnowsCalls}
 use Rattle.decision.specs.Questions.{entry_for, entry_words, key_for, first_slot, Tells, IsKnownOf}
 use Rattle.decision.specs.Decisions.{Asks, IsProbeOf, OffersBoth, IsAsked, AsksBelow, StoresAnswer}
@@ -48,6 +50,11 @@ pub record StaysLed {S A : Type 0} (stays : S → S → Type 0) (before after : 
 -- a caller and what leads its search, later: the search is led by the same scout, whose stop stays
 abbrev pub Searches : {S A : Type 0} → (S → S → Type 0) → Caller A → Caller A → Lead S → Lead S → Type 0
 Searches stays before after lead lead' = StaysLed stays before after lead.scout.ghost_name lead'.scout.ghost_name lead.scout.now.stop lead'.scout.now.stop
+
+-- what a pass over the moves tells of n plies: the answer, or where moves were put off, nothing
+abbrev pub PassTells : Question → ℕ → Pass → Type 0
+PassTells q n (Answers answer) = IsTrue answer ↔ IsForced q n
+PassTells q n PutOff = Unit {0}
 
 -- the caller has asked for the key from this slot on, and this reply counts
 pub record HasAsked {A : Type 0} (key : List ℕ) (slot n : ℕ) (reply : Probe) (before after : Caller A) : Type 0 where

@@ -22,6 +22,22 @@ pub trait Stop {
     /// A move of the root more was tried.
     fn step(&self) {}
 
+    /// Whether moves are put off whose positions other callers search. No answer rests on it: it changes the order alone.
+    fn puts_off(&self) -> bool {
+        false
+    }
+
+    /// Whether another caller searches the position of this key, as far as is known. This and the next two are called only where moves are put off.
+    fn is_busy(&self, _key: [u64; 3]) -> bool {
+        false
+    }
+
+    /// The search of the position of this key begins.
+    fn enter(&self, _key: [u64; 3]) {}
+
+    /// The search of the position of this key ends.
+    fn leave(&self, _key: [u64; 3]) {}
+
     // Nothing happened.
     ghost stays_at_once: { (a : Self) → stays a a };
 

@@ -1,16 +1,16 @@
 //! The search below the first level. The table is asked of each position but those of the last plies, in the far slots alone; positions
-//! that are images of one another are searched as one.
+//! that are images of one another are searched as one. Moves may be put off whose positions other callers search.
 ghost use Rattle.std.specs.Prelude.{◌≡◌, ◌<◌, ◌≤◌, ◌↔◌, IsTrue, IfSome, All, MatchOption, length};
 ghost use Rattle.arrayvec.specs.ArrayVec.{array_vec_len};
 ghost use Rattle.rules.specs.Moves.{IsLawful};
-ghost use Rattle.decision.specs.Callers.{GoesOn, Searches};
+ghost use Rattle.decision.specs.Callers.{GoesOn, Searches, PassTells};
 ghost use Rattle.problems.specs.Questions.{IsForced};
 ghost use Rattle.decision.specs.Questions.{IsKnownOf};
 ghost use Rattle.problems.specs.Tried.{ListsAll};
 
 use crate::asking::{decided, look_far};
 use crate::caller::Caller;
-use crate::image::image;
+use crate::image::{image, table_key};
 use crate::lead::Lead;
 use crate::leaf::{answer_now, leaf};
 use crate::scout::Stop;
@@ -29,6 +29,12 @@ const LOOKED_FROM: u8 = 6;
 
 /// From so many plies on an attacker's position is searched round by round.
 const ROUNDS_FROM: u8 = 11;
+
+/// From so many plies on moves are put off.
+const PUT_OFF_FROM: u8 = 5;
+
+/// From so many plies on other callers learn that a position is searched. A ply above it, moves are put off.
+const ENTERED_FROM: u8 = PUT_OFF_FROM - 1;
 
 /// The answer for n plies, where the table knows of a position below that ends the search: on the attacker's turn one that wins, on the
 /// defender's one that escapes.
@@ -73,6 +79,134 @@ fn copied<const CAP: usize>(moves: &[Move]) -> ArrayVec<Move, CAP>
 /// The answer for n plies by the positions after the moves, which are all: they are tried in turn, until one ends the search. The table is
 /// asked of each position below, turned about.
 #[cycle(searching)]
+fn try_listed<S: Stop, A: Allocator>(
+    caller: &mut Caller<'_, A>,
+    lead: &mut Lead<'_, S>,
+    q: &Question,
+    n: u8,
+    moves: &[Move],
+) -> Option<bool>
+    requires plies { (3 < n) × (n ≤ 63) }
+    requires lists { ListsAll q.now.position moves.now }
+    requires some { 0 < length moves.now }
+    ensures goes_on { Searches S.stays caller.old caller.new lead.old lead.new }
+    ensures answer { MatchOption result (S.told lead.new.scout.now.stop) (λ yes. IsTrue yes ↔ IsForced q.now n) }
+{
+    let own = q.is_own_turn();
+    for m in moves {
+        let yes = visit(caller, lead, &image(q.after(*m)), n - 1)?;
+        if yes == own {
+            lead.scout.memory.remember(*m, n, own);
+            return Some(own);
+        }
+    }
+    Some(!own)
+}
+
+/// What a pass over the moves found, which may put some off.
+#[derive(Clone, Copy)]
+enum Pass {
+    /// The answer: a move ended the search, or none was put off.
+    Answers(bool),
+    /// Nothing: some moves were put off, and the others don't end the search.
+    PutOff,
+}
+
+/// Whether the move at this place of the list, which leads to the position, is put off. The first never is.
+fn is_put_off<S: Stop>(stop: &S, place: usize, next: &Question) -> bool {
+    0 < place && stop.is_busy(table_key(next))
+}
+
+/// A pass over the moves, which are all: those that aren't put off are tried in turn, until one ends the search.
+#[cycle(searching)]
+#[inline(never)]
+fn try_free<S: Stop, A: Allocator>(
+    caller: &mut Caller<'_, A>,
+    lead: &mut Lead<'_, S>,
+    q: &Question,
+    n: u8,
+    moves: &[Move],
+) -> Option<Pass>
+    requires plies { (3 < n) × (n ≤ 63) }
+    requires lists { ListsAll q.now.position moves.now }
+    requires some { 0 < length moves.now }
+    ensures goes_on { Searches S.stays caller.old caller.new lead.old lead.new }
+    ensures found { MatchOption result (S.told lead.new.scout.now.stop) (PassTells q.now n) }
+{
+    let own = q.is_own_turn();
+    let mut some_put_off = false;
+    for (place, m) in moves.iter().enumerate() {
+        let next = image(q.after(*m));
+        if is_put_off(&lead.scout.stop, place, &next) {
+            some_put_off = true;
+            continue;
+        }
+        if visit(caller, lead, &next, n - 1)? == own {
+            lead.scout.memory.remember(*m, n, own);
+            return Some(Pass::Answers(own));
+        }
+    }
+    if some_put_off {
+        return Some(Pass::PutOff);
+    }
+    Some(Pass::Answers(!own))
+}
+
+/// The answer by a pass that may put moves off, and where it did and no move ended the search, by all of them: the table knows those that
+/// were tried.
+#[cycle(searching)]
+fn try_free_first<S: Stop, A: Allocator>(
+    caller: &mut Caller<'_, A>,
+    lead: &mut Lead<'_, S>,
+    q: &Question,
+    n: u8,
+    moves: &[Move],
+) -> Option<bool>
+    requires plies { (3 < n) × (n ≤ 63) }
+    requires lists { ListsAll q.now.position moves.now }
+    requires some { 0 < length moves.now }
+    ensures goes_on { Searches S.stays caller.old caller.new lead.old lead.new }
+    ensures answer { MatchOption result (S.told lead.new.scout.now.stop) (λ yes. IsTrue yes ↔ IsForced q.now n) }
+{
+    if n < PUT_OFF_FROM {
+        return try_listed(caller, lead, q, n, moves);
+    }
+    match try_free(caller, lead, q, n, moves)? {
+        Pass::Answers(yes) => Some(yes),
+        Pass::PutOff => try_listed(caller, lead, q, n, moves),
+    }
+}
+
+/// The answer by the moves. Other callers learn that the search of the position begins, and that it ends.
+#[cycle(searching)]
+#[inline(never)]
+fn search_entered<S: Stop, A: Allocator>(
+    caller: &mut Caller<'_, A>,
+    lead: &mut Lead<'_, S>,
+    q: &Question,
+    n: u8,
+    moves: &[Move],
+) -> Option<bool>
+    requires plies { (3 < n) × (n ≤ 63) }
+    requires lists { ListsAll q.now.position moves.now }
+    requires some { 0 < length moves.now }
+    ensures goes_on { Searches S.stays caller.old caller.new lead.old lead.new }
+    ensures answer { MatchOption result (S.told lead.new.scout.now.stop) (λ yes. IsTrue yes ↔ IsForced q.now n) }
+{
+    let key = table_key(q);
+    lead.scout.stop.enter(key);
+    let found = try_free_first(caller, lead, q, n, moves);
+    lead.scout.stop.leave(key);
+    found
+}
+
+/// Whether other callers learn that a position is searched for n plies.
+fn is_entered<S: Stop>(stop: &S, n: u8) -> bool {
+    stop.puts_off() && ENTERED_FROM <= n
+}
+
+/// The answer for n plies by the positions after the moves, which are all.
+#[cycle(searching)]
 fn search_listed<S: Stop, A: Allocator>(
     caller: &mut Caller<'_, A>,
     lead: &mut Lead<'_, S>,
@@ -89,15 +223,10 @@ fn search_listed<S: Stop, A: Allocator>(
     if let Some(yes) = known_below(caller, q, n, moves) {
         return Some(yes);
     }
-    let own = q.is_own_turn();
-    for m in moves {
-        let yes = visit(caller, lead, &image(q.after(*m)), n - 1)?;
-        if yes == own {
-            lead.scout.memory.remember(*m, n, own);
-            return Some(own);
-        }
+    if is_entered(&lead.scout.stop, n) {
+        return search_entered(caller, lead, q, n, moves);
     }
-    Some(!own)
+    try_listed(caller, lead, q, n, moves)
 }
 
 /// The answer by the moves in the room for them, where they are many.

@@ -1,15 +1,12 @@
 -- A run's end, from how its text was written.
-use Rattle.std.proofs.Common.{◌≡◌, ℕ, List, Result, Ok, Err, Vec, inl, inr, subst, sym, vec_items, ◌∙◌, ◌+◌, ◌-◌, ◌⊎◌, ◌++◌, Option, IsErr, IsErrAnd, ap, append_assoc, arith}
+use Rattle.std.proofs.Common.{◌≡◌, ℕ, List, Result, Ok, Err, Vec, inl, inr, subst, sym, vec_items, ◌∙◌, ◌+◌, ◌-◌, ◌++◌, Option, ap, append_assoc, arith}
 use Rattle.std.specs.declared.alloc.Global.{Global}
 use Rattle.refusals.specs.Reply.{Reply, answered, refused}
 use Rattle.refusals.specs.declared.refusal.Refusal.{Refusal}
-use Rattle.endings.specs.Outcome.{Gives, GivesIfRead}
+use Rattle.refusals.specs.Outcome.{Gives}
 use Rattle.endings.specs.Run.{Ending, Finishes, EndsReply, WritesReply}
 use Rattle.std.proofs.KnownBytes.{Appends-trans}
 use Rattle.std.specs.Io.KnownBytes.{Appends}
-use Rattle.refusals.specs.declared.refusal.Refusal.TheVariants.{NoMemory}
-use Rattle.endings.specs.declared.reply_fault.ReplyFault.{ReplyFault}
-use Rattle.endings.specs.declared.reply_fault.ReplyFault.TheVariants.{Refused, ReadFailed}
 
 -- a text is written behind another
 pub finishes_after : (a b c : Option (List ℕ)) (old mid new status asked : ℕ) (text more : List ℕ) → Appends a b text → mid ≡ old + 0
@@ -19,14 +16,6 @@ finishes_after a b c old mid new status asked text more written same (inl (whole
     inl (Appends-trans a b c text more written whole, omega (arith, same, none), is)
 finishes_after a b c old mid new status asked text more written same (inr ((taken, rest, cut, grown), one, four)) =
     inr ((text ++ taken, rest, ap (λ l. text ++ l) cut ∙ sym (append_assoc text taken rest), Appends-trans a b c text taken written grown), omega (arith, same, one), four)
-
--- a refusal that is right, or is want of memory, is given
-pub refusal_gives : {B : Type 0} (bytes : B → List ℕ) (Is : Reply → Type 0) (r : Result B ReplyFault) (refusal : Refusal) → (refusal ≡ NoMemory) ⊎ Is (refused refusal)
-    → IsErr r × IsErrAnd r (λ fault. fault ≡ Refused refusal) → GivesIfRead bytes Is r
-refusal_gives bytes Is (Ok b) refusal right err = absurd err.1
-refusal_gives bytes Is (Err (Refused other)) refusal right err =
-    let same : refusal ≡ other = cc in subst (λ x. (x ≡ NoMemory) ⊎ Is (refused x)) same right
-refusal_gives bytes Is (Err ReadFailed) refusal right err = tt
 
 -- a reply was written
 pub reply_ran : (Is : Reply → Type 0) (ending : Ending) (r : Result (Vec ℕ Global) Refusal) → Gives vec_items Is r → EndsReply ending r → WritesReply Is ending

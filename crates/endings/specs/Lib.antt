@@ -1,4 +1,3 @@
 -- to be believed
 pub mod Run
-pub mod Outcome
 pub mod Words

@@ -4,7 +4,6 @@
 mod beginning;
 mod ending;
 mod over;
-mod reply_fault;
 mod telling;
 mod words;
 
@@ -14,6 +13,5 @@ pub use ending::{
     has_no_answer, refuse,
 };
 pub use over::tell_if_over;
-pub use reply_fault::ReplyFault;
 pub use telling::{proof_refused, refuse_and_tell, refuse_move, search_refused};
 pub use words::{end_wordless, explain_if_refused};

@@ -1,6 +1,6 @@
 //! What is told of a search for a side that is mated or stalemated already.
 ghost use Rattle.std.specs.Prelude.{◌≡◌, ◌⊎◌, IfSome};
-ghost use Rattle.endings.specs.Outcome.{IsOver};
+ghost use Rattle.refusals.specs.Outcome.{IsOver};
 
 use board::Position;
 use moves::{Board, has_lawful_move, read_sound};

@@ -21,7 +21,7 @@ use Rattle.answer_texts.specs.Answers.{answer_text, checked_text}
 use Rattle.searcher.proofs.Limits.{limit_within}
 use Rattle.context.specs.Limits.{fault_of}
 use Rattle.replies.specs.Output.{ShowsAnswer, ShowsBest, ShowsPlanFound, ShowsTree, ShowsCheck, ShowsCommand, IsOutput}
-use Rattle.endings.specs.Outcome.{IsSoundText}
+use Rattle.refusals.specs.Outcome.{IsSoundText}
 use Rattle.refusals.specs.Reply.{Reply, answered, line_of}
 use Rattle.text_laws.proofs.Faults.{no_sound_fault}
 use Rattle.answer_laws.proofs.OneAnswer.{one_fewest}

@@ -25,7 +25,7 @@ use Rattle.refusals.specs.Refusal.{refusal_of_fen, refusal_of_tree}
 use Rattle.answer_texts.specs.Answers.{answer_text, keys_text, moves_text, checked_text}
 use Rattle.context.specs.Limits.{refusal_of_solve, fault_of}
 use Rattle.replies.specs.Output.{ShowsBest, ShowsPlan, ShowsTree, ShowsCommand, IsOutput}
-use Rattle.endings.specs.Outcome.{IsSoundText}
+use Rattle.refusals.specs.Outcome.{IsSoundText}
 use Rattle.refusals.specs.Reply.{Reply, answered, refused, line_of}
 use Rattle.text_laws.proofs.Faults.{one_sound_fault, no_sound_fault, one_tree_fault, no_tree_fault}
 use Rattle.output_laws.specs.Outputs.{NamesAsMany, SearchesAlike}

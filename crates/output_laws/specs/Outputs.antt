@@ -12,7 +12,7 @@ use Rattle.command_line.specs.declared.line.Action.TheVariants.{Solve, Keys, Tre
 use Rattle.answer_texts.specs.Answers.{answer_text, checked_text}
 use Rattle.context.specs.Limits.{fault_of}
 use Rattle.replies.specs.Output.{IsOutput}
-use Rattle.endings.specs.Outcome.{IsSoundText}
+use Rattle.refusals.specs.Outcome.{IsSoundText}
 use Rattle.refusals.specs.Reply.{Reply, answered}
 
 -- a line has one output for an input

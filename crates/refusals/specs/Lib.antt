@@ -1,4 +1,5 @@
 -- to be believed
 pub mod Refusal
 pub mod Reply
+pub mod Outcome
 pub mod Sentences

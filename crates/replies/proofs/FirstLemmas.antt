@@ -21,7 +21,7 @@ use Rattle.command_line.specs.declared.line.Limits.{Limits}
 use Rattle.command_line.specs.declared.line.NamedMove.{NamedMove}
 use Rattle.refusals.specs.Reply.{Reply, answered, line_of}
 use Rattle.refusals.specs.declared.refusal.Refusal.{Refusal}
-use Rattle.endings.specs.Outcome.{Gives, IsSoundText}
+use Rattle.refusals.specs.Outcome.{Gives, IsSoundText}
 use Rattle.answer_texts.specs.Answers.{none_text}
 use Rattle.context.specs.Limits.{fault_of}
 use Rattle.replies.proofs.ReplyLemmas.{gives_weaker}

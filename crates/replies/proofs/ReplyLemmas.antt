@@ -5,7 +5,7 @@ use Rattle.board.specs.Board.{PlainBoard}
 use Rattle.board.specs.declared.fault.FenFault.{FenFault}
 use Rattle.rules.specs.Reading.{IsSoundFault}
 use Rattle.devices.specs.Input.{IsInput, IsTooLong, OfInput}
-use Rattle.endings.specs.Outcome.{Gives, GivesIfRead, reply_fault_of, IsSoundText}
+use Rattle.refusals.specs.Outcome.{Gives, GivesIfRead, reply_fault_of, IsSoundText}
 use Rattle.replies.specs.Outcome.{GivesReply}
 use Rattle.replies.specs.Output.{IsOutput, ShowsCommand, ShowsWithin, input_of}
 use Rattle.context.proofs.Refused.{refused_by}
@@ -21,10 +21,10 @@ use Rattle.refusals.specs.declared.refusal.Refusal.{Refusal}
 use Rattle.refusals.specs.declared.refusal.Refusal.TheVariants.{NoMemory, TooLong}
 use Rattle.devices.specs.declared.transfer.InputFault.{InputFault}
 use Rattle.devices.specs.declared.transfer.InputFault.TheVariants as input
-use Rattle.endings.specs.declared.reply_fault.ReplyFault.{ReplyFault}
-use Rattle.endings.specs.declared.reply_fault.ReplyFault.TheVariants.{Refused, ReadFailed}
+use Rattle.refusals.specs.declared.reply_fault.ReplyFault.{ReplyFault}
+use Rattle.refusals.specs.declared.reply_fault.ReplyFault.TheVariants.{Refused, ReadFailed}
 use Rattle.devices.proofs.InputLemmas.{of_any, of_input_then}
-use Rattle.endings.proofs.EndingLemmas.{refusal_gives}
+use Rattle.refusals.proofs.OutcomeLemmas.{refusal_gives}
 
 -- a text of a fault is refused, whatever the input
 pub fault_gives : {B : Type 0} (bytes : B → List ℕ) (line : Line) (known : Option (List ℕ)) (r : Result B ReplyFault) (fault : FenFault)

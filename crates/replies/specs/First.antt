@@ -15,7 +15,7 @@ use Rattle.command_line.specs.declared.line.NamedMove.{NamedMove}
 use Rattle.refusals.specs.Reply.{Reply, answered, refused, line_of}
 use Rattle.refusals.specs.declared.refusal.Refusal.TheVariants.{Move}
 use Rattle.answer_texts.specs.Answers.{none_text}
-use Rattle.endings.specs.Outcome.{IsReplyAt, IsSoundText}
+use Rattle.refusals.specs.Outcome.{IsReplyAt, IsSoundText}
 use Rattle.replies.specs.Output.{ShowsWithin}
 use Rattle.replies.specs.Playing.{NamesNone}
 

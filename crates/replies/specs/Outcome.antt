@@ -5,8 +5,8 @@ use Rattle.devices.specs.Input.{OfInput}
 use Rattle.command_line.specs.declared.line.Line.{Line}
 use Rattle.command_line.specs.declared.line.Limits.{Limits}
 use Rattle.refusals.specs.Reply.{Reply}
-use Rattle.endings.specs.declared.reply_fault.ReplyFault.{ReplyFault}
-use Rattle.endings.specs.Outcome.{GivesIfRead, IsReplyAt}
+use Rattle.refusals.specs.declared.reply_fault.ReplyFault.{ReplyFault}
+use Rattle.refusals.specs.Outcome.{GivesIfRead, IsReplyAt}
 use Rattle.replies.specs.Output.{input_of, IsOutput, ShowsAnswer}
 
 -- a reply to the line with the input that it reads

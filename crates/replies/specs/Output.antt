@@ -26,7 +26,7 @@ use Rattle.command_line.specs.declared.line.Limits.{Limits}
 use Rattle.command_line.specs.declared.line.Action.{Action}
 use Rattle.command_line.specs.declared.line.Action.TheVariants.{Solve, Keys, Moves, Show, Tree, Check}
 use Rattle.refusals.specs.declared.refusal.Refusal.TheVariants.{TooLong}
-use Rattle.endings.specs.Outcome.{IsSoundText, IsReplyAt}
+use Rattle.refusals.specs.Outcome.{IsSoundText, IsReplyAt}
 use Rattle.context.specs.Limits.{fault_of, refusal_of_solve}
 
 -- ---- the reply to each command, at a position

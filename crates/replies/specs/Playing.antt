@@ -5,7 +5,7 @@ use Rattle.board.specs.Fen.{IsFenText}
 use Rattle.rules.specs.MoveText.{move_text}
 use Rattle.rules.specs.Moves.{IsMove, IsLawful}
 use Rattle.rules.specs.Squares.{Ply}
-use Rattle.endings.specs.Outcome.{IsReplyAt}
+use Rattle.refusals.specs.Outcome.{IsReplyAt}
 use Rattle.refusals.specs.Reply.{Reply, answered, refused, line_of}
 use Rattle.refusals.specs.declared.refusal.Refusal.TheVariants.{Move}
 

@@ -2,7 +2,7 @@
 ghost use Rattle.std.specs.Prelude.{◌≡◌, ◌⊎◌, IfSome, MatchOption, None, min, vec_items};
 ghost use Rattle.problems.specs.Roots.{IsRoot, IsJobOf};
 ghost use Rattle.replies.specs.First.{IsFirstReply, IsUnmet, MissesAt, MissesJob, MissesWithin, NamesJob, ShowsFirst, ShowsJob};
-ghost use Rattle.endings.specs.Outcome.{Gives};
+ghost use Rattle.refusals.specs.Outcome.{Gives};
 ghost use Rattle.context.specs.Limits.{fault_of};
 ghost use Rattle.replies.specs.Playing.{NamesNone};
 

@@ -4,7 +4,7 @@ ghost use Rattle.board.specs.Fen.{IsFenText};
 ghost use Rattle.rules.specs.MoveText.{move_text};
 ghost use Rattle.rules.specs.Moves.{IsLawful};
 ghost use Rattle.refusals.specs.Reply.{line_of};
-ghost use Rattle.endings.specs.Outcome.{Gives};
+ghost use Rattle.refusals.specs.Outcome.{Gives};
 ghost use Rattle.replies.specs.Playing.{NamesNone, ShowsAfter, IsAfterReply};
 
 use board::{Position, fen_text};

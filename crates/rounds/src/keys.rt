@@ -19,7 +19,7 @@ use std::thread;
 use std::thread::Threads;
 
 /// Decides jobs until all were taken by some thread: what it finds stands in the table alone.
-fn help<D: Decider>(decider: &mut D, root: &Root, next: &AtomicU64)
+fn decide_jobs<D: Decider>(decider: &mut D, root: &Root, next: &AtomicU64)
     requires { IsRoot root.now }
     ensures { D.goes decider.old decider.new }
 {
@@ -62,7 +62,7 @@ fn prepare<T: Gate, R: Threads + Wait + Sync>(rt: &R, search: &Solve<'_, T>, sea
                 seat,
                 gate: search.gate,
             };
-            help(&mut gated, &search.root, &next)
+            decide_jobs(&mut gated, &search.root, &next)
         },
     );
 }

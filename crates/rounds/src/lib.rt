@@ -1,6 +1,7 @@
 //! The root moves of a solve as jobs, which workers steal from one another, round by round.
 #![tactic(auto)]
 
+mod busy;
 mod gated;
 mod keys;
 mod round;

@@ -9,12 +9,6 @@ use searcher::Gate;
 use slots::Seat;
 use std::sync::Wait;
 
-/// The fewest plies of a round in which threads join in jobs: below, a job is over before its moves are made.
-const JOINED_FROM: u8 = 5;
-
-/// The fewest slots over which threads join: in a smaller table they drive out what the others have found.
-const JOINED_OVER: usize = 512;
-
 /// What is known of a job in a round.
 #[derive(Clone, Copy)]
 pub(crate) enum Verdict {
@@ -123,7 +117,7 @@ impl<J: Count> Share<'_, J> {
         ensures share { IsShare J.jobs round.now self.new }
         ensures continues { Continues round.now.search.now.slots.now self.old.seat self.new.seat }
     {
-        if round.plies < JOINED_FROM || round.search.slots.len() < JOINED_OVER {
+        if !round.search.is_joined(round.plies) {
             return;
         }
         self.scout.stop.joins = true;

@@ -1,7 +1,8 @@
-//! What is solved, how its jobs are decided, what all threads of a round read, and what stops the search of a job.
+//! What is solved, how its jobs are decided, what all threads of a round read, and what stops and orders the search of a job.
 ghost use Rattle.std.specs.Prelude.{◌≡◌, IsTrue, length};
 ghost use Rattle.jobs.specs.Promise.{IsJobSeatOf};
 
+use crate::busy::Busy;
 use board::Position;
 use decision::Stop;
 use entry::MateLore;
@@ -35,6 +36,19 @@ pub(crate) struct Solve<'a, T: Gate> {
     pub gate: &'a T,
 }
 
+/// The fewest plies of a round in which threads join in jobs: below, a job is over before its moves are made.
+const JOINED_FROM: u8 = 5;
+
+/// The fewest slots over which threads join: in a smaller table they drive out what the others have found.
+const JOINED_OVER: usize = 512;
+
+impl<T: Gate> Solve<'_, T> {
+    /// Whether threads join in jobs of a round of so many plies.
+    pub(crate) fn is_joined(&self, plies: u8) -> bool {
+        JOINED_FROM <= plies && JOINED_OVER <= self.slots.len()
+    }
+}
+
 /// What all threads of a round read.
 #[derive(Drop)]
 pub(crate) struct Round<'a, T: Gate> {
@@ -44,6 +58,8 @@ pub(crate) struct Round<'a, T: Gate> {
     pub least: &'a Least<RootJobs>,
     /// Whether some thread has decided the job, for each job. No answer rests on it.
     pub decided: &'a Vec<AtomicBool>,
+    /// Which positions are searched.
+    pub busy: &'a Busy,
 }
 
 /// Stops the search of a job once one below it wins, or, of a thread that has joined, once the job is decided: the round's words, a thread's
@@ -52,6 +68,7 @@ pub(crate) struct Round<'a, T: Gate> {
 pub(crate) struct JobStop<'a> {
     pub least: &'a Least<RootJobs>,
     pub decided: &'a Vec<AtomicBool>,
+    pub busy: &'a Busy,
     pub seat: JobSeat<RootJobs>,
     pub jobs: u16,
     pub job: u16,
@@ -96,6 +113,22 @@ impl Stop for JobStop<'_> {
             return true;
         }
         self.least.is_below(&mut self.seat, self.job)
+    }
+
+    fn puts_off(&self) -> bool {
+        self.busy.is_kept()
+    }
+
+    fn is_busy(&self, key: [u64; 3]) -> bool {
+        self.busy.has(key)
+    }
+
+    fn enter(&self, key: [u64; 3]) {
+        self.busy.enter(key);
+    }
+
+    fn leave(&self, key: [u64; 3]) {
+        self.busy.leave(key);
     }
 
     ghost stays_at_once = { λ _. (refl, refl, Prim.search rules, refl) };

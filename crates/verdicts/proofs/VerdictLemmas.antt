@@ -19,14 +19,14 @@ use Rattle.verifying.proofs.Refused.{certificate_begins}
 use Rattle.refusals.specs.declared.refusal.Refusal.TheVariants as refusal
 use Rattle.command_line.specs.declared.line.Subject.{Subject}
 use Rattle.devices.specs.Input.{OfInput}
-use Rattle.endings.specs.Outcome.{GivesIfRead, IsSoundText}
+use Rattle.refusals.specs.Outcome.{GivesIfRead, IsSoundText}
 use Rattle.refusals.specs.Reply.{Reply, answered, refused}
 use Rattle.answer_texts.specs.Answers.{answer_text}
 use Rattle.refusals.specs.Refusal.{refusal_of_fen}
 use Rattle.verdicts.specs.Verdict.{ShowsProved, IsVerdict, GivesVerdict, reply_fault_of_certificate}
-use Rattle.endings.specs.declared.reply_fault.ReplyFault.{ReplyFault}
-use Rattle.endings.specs.declared.reply_fault.ReplyFault.TheVariants.{Refused, ReadFailed}
-use Rattle.endings.proofs.EndingLemmas.{refusal_gives}
+use Rattle.refusals.specs.declared.reply_fault.ReplyFault.{ReplyFault}
+use Rattle.refusals.specs.declared.reply_fault.ReplyFault.TheVariants.{Refused, ReadFailed}
+use Rattle.refusals.proofs.OutcomeLemmas.{refusal_gives}
 use Rattle.devices.proofs.InputLemmas.{of_any, of_input_then}
 use Rattle.refusals.specs.declared.refusal.Refusal.{Refusal}
 use Rattle.refusals.specs.declared.refusal.Refusal.TheVariants.{NoMemory}

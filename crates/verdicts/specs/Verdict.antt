@@ -13,11 +13,11 @@ use Rattle.command_line.specs.declared.line.Subject.{Subject}
 use Rattle.devices.specs.Input.{OfInput}
 use Rattle.refusals.specs.Reply.{Reply, answered, refused}
 use Rattle.answer_texts.specs.Answers.{answer_text}
-use Rattle.endings.specs.Outcome.{IsReplyAt, GivesIfRead}
+use Rattle.refusals.specs.Outcome.{IsReplyAt, GivesIfRead}
 use Rattle.refusals.specs.declared.refusal.Refusal.{Refusal}
 use Rattle.refusals.specs.declared.refusal.Refusal.TheVariants as refusal
-use Rattle.endings.specs.declared.reply_fault.ReplyFault.{ReplyFault}
-use Rattle.endings.specs.declared.reply_fault.ReplyFault.TheVariants.{Refused, ReadFailed}
+use Rattle.refusals.specs.declared.reply_fault.ReplyFault.{ReplyFault}
+use Rattle.refusals.specs.declared.reply_fault.ReplyFault.TheVariants.{Refused, ReadFailed}
 
 -- it is the answer up to each limit that fits, the text begins with it, and is a certificate of it
 abbrev pub IsProved : Goal → PlainBoard → List ℕ → Answer → Type 0

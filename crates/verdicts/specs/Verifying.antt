@@ -4,7 +4,7 @@ use Rattle.board.specs.Board.{PlainBoard}
 use Rattle.command_line.specs.declared.line.Subject.{Subject}
 use Rattle.devices.specs.Input.{OfInput}
 use Rattle.refusals.specs.Reply.{Reply}
-use Rattle.endings.specs.Outcome.{IsSoundText}
+use Rattle.refusals.specs.Outcome.{IsSoundText}
 use Rattle.verdicts.specs.Verdict.{IsVerdict}
 use Rattle.endings.specs.Run.{EndsUnread, Run, Finishes, GivesUp}
 

@@ -2,16 +2,15 @@
 ghost use Rattle.std.specs.Prelude.{◌≡◌, ◌⊎◌, ◌+◌, ◌<◌, vec_items};
 ghost use Rattle.board.specs.Board.{PlainBoard};
 ghost use Rattle.devices.specs.Input.{OfInput};
-ghost use Rattle.endings.specs.Outcome.{GivesIfRead, reads_failed, IsSoundText};
+ghost use Rattle.refusals.specs.Outcome.{GivesIfRead, reads_failed, IsSoundText};
 ghost use Rattle.verdicts.specs.Verdict.{ShowsProved, GivesVerdict, reply_fault_of_certificate};
 
 use answer_texts::answer_text;
 use board::Position;
 use command_line::Subject;
 use devices::Source;
-use endings::ReplyFault;
 use moves::{Board, Goal, read_sound};
-use refusals::Refusal;
+use refusals::{Refusal, ReplyFault};
 use std::alloc::Allocator;
 use verifying::{Fault, verify_input};
 

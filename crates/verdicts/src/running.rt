@@ -9,9 +9,10 @@ use crate::certified::verified;
 use command_line::{LineFault, Order, Subject, read_order};
 use devices::{Sink, Source};
 use endings::{
-    ANSWERED, Input, REFUSED_WORDS, ReplyFault, fail_to_read, finish, give_up_for_memory,
-    proof_refused, refuse_and_tell,
+    ANSWERED, Input, REFUSED_WORDS, fail_to_read, finish, give_up_for_memory, proof_refused,
+    refuse_and_tell,
 };
+use refusals::ReplyFault;
 use std::convert::AsStr;
 use std::io::Write;
 

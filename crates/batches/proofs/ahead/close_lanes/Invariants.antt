@@ -2,7 +2,7 @@
 use Rattle.std.proofs.Common.{◌≡◌, ◌+◌, ◌≤◌, All, length, vec_capacity}
 use Rattle.atomic_table.specs.Seated.{TableId}
 use Rattle.slots.specs.Promise.{IsSeatOf}
-use Rattle.answer_texts.specs.declared.asked.Batch.{Batch}
+use Rattle.batch_texts.specs.declared.asked.Batch.{Batch}
 use Rattle.batches.specs.BatchRun.{AreAhead, IsLane}
 use Rattle.batches.proofs.ahead.close_lanes.Given as goal
 

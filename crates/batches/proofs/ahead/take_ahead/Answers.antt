@@ -1,6 +1,6 @@
 use Rattle.std.proofs.Common.{◌∙◌, rules, arith, refl, All, ap}
 use Rattle.std.proofs.lemmas.List.Elements.{All-set}
-use Rattle.answer_texts.specs.Said.{said_in}
+use Rattle.batch_texts.specs.Said.{said_in}
 use Rattle.batches.specs.BatchRun.{IsAhead}
 use Rattle.batches.proofs.BatchLemmas.{ahead_next}
 use Rattle.searcher.proofs.Lists.{All-item}

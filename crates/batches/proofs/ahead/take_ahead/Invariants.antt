@@ -1,6 +1,6 @@
 -- what is left is right, as all was
 use Rattle.std.proofs.Common.{◌≡◌, length}
-use Rattle.answer_texts.specs.declared.asked.Batch.{Batch}
+use Rattle.batch_texts.specs.declared.asked.Batch.{Batch}
 use Rattle.batches.specs.BatchRun.{AreAhead}
 use Rattle.batches.proofs.ahead.take_ahead.Given as goal
 

@@ -1,5 +1,5 @@
 use Rattle.std.proofs.Common.{◌≡◌, rules, inl, refl, Some}
-use Rattle.endings.specs.Outcome.{IsSoundText}
+use Rattle.refusals.specs.Outcome.{IsSoundText}
 use Rattle.context.specs.Limits.{fault_of}
 use Rattle.searcher.specs.declared.fault.SolveFault.TheVariants.{Limit}
 use Rattle.batches.specs.BatchRun.{asked_limits}

@@ -1,6 +1,6 @@
 use Rattle.std.proofs.Common.{rules, refl, [], vec_items}
 use Rattle.command_line.specs.declared.line.Action.TheVariants.{Solve}
-use Rattle.endings.specs.Outcome.{IsSoundText}
+use Rattle.refusals.specs.Outcome.{IsSoundText}
 use Rattle.replies.proofs.ReplyLemmas.{gives_output}
 use Rattle.calls.proofs.one_thread.solve_reply.Goals as goal
 

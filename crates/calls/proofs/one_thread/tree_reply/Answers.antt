@@ -1,6 +1,6 @@
 use Rattle.std.proofs.Common.{rules, refl, [], vec_items}
 use Rattle.command_line.specs.declared.line.Action.TheVariants.{Tree}
-use Rattle.endings.specs.Outcome.{IsSoundText}
+use Rattle.refusals.specs.Outcome.{IsSoundText}
 use Rattle.replies.proofs.ReplyLemmas.{gives_output}
 use Rattle.calls.proofs.one_thread.tree_reply.Goals as goal
 

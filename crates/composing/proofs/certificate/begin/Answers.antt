@@ -1,5 +1,5 @@
 use Rattle.std.proofs.Common.{rules}
-use Rattle.endings.specs.Outcome.{IsSoundText}
+use Rattle.refusals.specs.Outcome.{IsSoundText}
 use Rattle.composing.proofs.CertifyLemmas.{begins_position}
 use Rattle.composing.proofs.certificate.begin.Goals as goal
 

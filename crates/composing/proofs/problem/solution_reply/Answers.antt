@@ -2,7 +2,7 @@ use Rattle.std.proofs.Common.{◌∙◌, inl, inr, rules, subst}
 use Rattle.board.specs.Board.{PlainBoard}
 use Rattle.rules.specs.declared.goal.Goal.{Goal}
 use Rattle.algebraic.specs.declared.symbols.Symbols.{Symbols}
-use Rattle.endings.specs.Outcome.{IsSoundText}
+use Rattle.refusals.specs.Outcome.{IsSoundText}
 use Rattle.refusals.specs.Reply.{answered, refused}
 use Rattle.composing.specs.Solution.{ShowsFirstNamed}
 use Rattle.composing.proofs.SolutionLemmas.{first_refused, first_reply, solution_at_text}

@@ -37,8 +37,8 @@ search_listed-known_below-requires-clause-lawful g t c = all_listed c.args.q.now
 pub search_listed-returns-in-Some-clause-goes_on : goal.search_listed-returns-in-Some-clause-goes_on
 search_listed-returns-in-Some-clause-goes_on g t c = led_still g.met.S.Stop.stays_at_once c.known_below.ensures.goes_on
 
-pub search_listed-loop-m-init : goal.search_listed-loop-m-init
-search_listed-loop-m-init g t c = record { goes_on = led_still g.met.S.Stop.stays_at_once c.known_below.ensures.goes_on; passed = λ k d lt. absurd (omega (arith, lt)) }
+pub try_listed-loop-m-init : goal.try_listed-loop-m-init
+try_listed-loop-m-init g t c = record { goes_on = led_by c.args.caller.now (g.met.S.Stop.stays_at_once _); passed = λ k d lt. absurd (omega (arith, lt)) }
 
 pub search_in_rounds-returns-in_err-yes-clause-goes_on : goal.search_in_rounds-returns-in_err-yes-clause-goes_on
 search_in_rounds-returns-in_err-yes-clause-goes_on g t c = led_more g.met.S.Stop.stays_on c.loop-yes.invariant.goes_on c.search.ensures.goes_on
@@ -62,23 +62,23 @@ search_in_rounds-loop-yes-preserved g t c = record {
   plies = omega arith;
 }
 
-pub search_listed-after-requires : goal.search_listed-after-requires
-search_listed-after-requires g t c = (c.requires.lists c.m-item.result).0 (c.loop-m.m-index, c.loop-m-test.true, sym c.m-item.is)
+pub try_listed-after-requires : goal.try_listed-after-requires
+try_listed-after-requires g t c = (c.requires.lists c.m-item.result).0 (c.loop-m.m-index, c.loop-m-test.true, sym c.m-item.is)
 
-pub search_listed-returns-in_err-yes-clause-goes_on : goal.search_listed-returns-in_err-yes-clause-goes_on
-search_listed-returns-in_err-yes-clause-goes_on g t c = led_more g.met.S.Stop.stays_on c.loop-m.invariant.goes_on c.visit.ensures.goes_on
+pub try_listed-returns-in_err-yes-clause-goes_on : goal.try_listed-returns-in_err-yes-clause-goes_on
+try_listed-returns-in_err-yes-clause-goes_on g t c = led_more g.met.S.Stop.stays_on c.loop-m.invariant.goes_on c.visit.ensures.goes_on
 
-pub search_listed-returns-then-yes-own-clause-goes_on : goal.search_listed-returns-then-yes-own-clause-goes_on
-search_listed-returns-then-yes-own-clause-goes_on g t c = led_more g.met.S.Stop.stays_on c.loop-m.invariant.goes_on c.visit.ensures.goes_on
+pub try_listed-returns-then-yes-own-clause-goes_on : goal.try_listed-returns-then-yes-own-clause-goes_on
+try_listed-returns-then-yes-own-clause-goes_on g t c = led_more g.met.S.Stop.stays_on c.loop-m.invariant.goes_on c.visit.ensures.goes_on
 
-pub search_listed-returns-then-yes-own-clause-answer : goal.search_listed-returns-then-yes-own-clause-answer
-search_listed-returns-then-yes-own-clause-answer g t c =
+pub try_listed-returns-then-yes-own-clause-answer : goal.try_listed-returns-then-yes-own-clause-answer
+try_listed-returns-then-yes-own-clause-answer g t c =
     let answer = answer_as c.after.result c.after.result c.image.result (c.args.n - 1) c.in_ok-yes.yes refl c.image.ensures c.in_ok-yes.ensures.answer in
     ends_it c.args.q.now c.args.n c.is_own_turn-own.result c.is_own_turn-own.ensures (let plies = c.requires.plies.0 in omega arith)
     (cut_after c.args.q.now (c.args.n - 1) c.is_own_turn-own.result c.m-item.result c.after.result c.after.ensures (ends_by c.is_own_turn-own.result c.in_ok-yes.yes _ answer (beq_same _ _ c.if-yes-own.true)))
 
-pub search_listed-loop-m-preserved : goal.search_listed-loop-m-preserved
-search_listed-loop-m-preserved g t c =
+pub try_listed-loop-m-preserved : goal.try_listed-loop-m-preserved
+try_listed-loop-m-preserved g t c =
     let answer = answer_as c.after.result c.after.result c.image.result (c.args.n - 1) c.in_ok-yes.yes refl c.image.ensures c.in_ok-yes.ensures.answer in
     record {
       goes_on = led_more g.met.S.Stop.stays_on c.loop-m.invariant.goes_on c.visit.ensures.goes_on;
@@ -86,8 +86,8 @@ search_listed-loop-m-preserved g t c =
           (goes_by c.is_own_turn-own.result c.in_ok-yes.yes _ answer (beq_apart _ _ c.if-yes-own.false));
     }
 
-pub search_listed-returns-clause-answer : goal.search_listed-returns-clause-answer
-search_listed-returns-clause-answer g t c =
+pub try_listed-returns-clause-answer : goal.try_listed-returns-clause-answer
+try_listed-returns-clause-answer g t c =
     none_ends c.args.q.now c.args.n c.is_own_turn-own.result c.is_own_turn-own.ensures (let plies = c.requires.plies.0 in omega arith) c.args.moves.now c.requires.lists c.requires.some c.loop-m.m-index c.loop-m-test.false c.loop-m.invariant.passed
 
 pub visit-returns-in-Some-clause-answer : goal.visit-returns-in-Some-clause-answer
@@ -101,3 +101,44 @@ visit-returns-clause-goes_on g t c = then_led c.look_far-known.ensures.goes_on c
 
 pub search_from-returns-clause-goes_on : goal.search_from-returns-clause-goes_on
 search_from-returns-clause-goes_on g t c = led_then c.search_in_rounds.ensures.goes_on c.keep_far.ensures
+
+pub search_listed-returns-then-is_entered-clause-goes_on : goal.search_listed-returns-then-is_entered-clause-goes_on
+search_listed-returns-then-is_entered-clause-goes_on g t c = then_led c.known_below.ensures.goes_on c.search_entered.ensures.goes_on
+
+pub search_listed-returns-clause-goes_on : goal.search_listed-returns-clause-goes_on
+search_listed-returns-clause-goes_on g t c = then_led c.known_below.ensures.goes_on c.try_listed.ensures.goes_on
+
+pub try_free_first-returns-in-PutOff-clause-goes_on : goal.try_free_first-returns-in-PutOff-clause-goes_on
+try_free_first-returns-in-PutOff-clause-goes_on g t c = led_more g.met.S.Stop.stays_on c.try_free.ensures.goes_on c.try_listed-in-PutOff.ensures.goes_on
+
+pub try_free-loop-place-init : goal.try_free-loop-place-init
+try_free-loop-place-init g t c = record { goes_on = led_by c.args.caller.now (g.met.S.Stop.stays_at_once _); passed = λ _ k d lt. absurd (omega (arith, lt)) }
+
+pub try_free-after-requires : goal.try_free-after-requires
+try_free-after-requires g t c = (c.requires.lists c.index-moves-place.result).0 (c.loop-place.place, c.loop-place-test.true, sym c.index-moves-place.is)
+
+pub try_free-returns-in_err-visit-clause-goes_on : goal.try_free-returns-in_err-visit-clause-goes_on
+try_free-returns-in_err-visit-clause-goes_on g t c = led_more g.met.S.Stop.stays_on c.loop-place.invariant.goes_on c.visit.ensures.goes_on
+
+pub try_free-returns-then-branch-own-clause-goes_on : goal.try_free-returns-then-branch-own-clause-goes_on
+try_free-returns-then-branch-own-clause-goes_on g t c = led_more g.met.S.Stop.stays_on c.loop-place.invariant.goes_on c.visit.ensures.goes_on
+
+pub try_free-returns-then-branch-own-clause-found : goal.try_free-returns-then-branch-own-clause-found
+try_free-returns-then-branch-own-clause-found g t c =
+    let answer = answer_as c.after.result c.after.result c.image-next.result (c.args.n - 1) c.in_ok-visit.field-0 refl c.image-next.ensures c.in_ok-visit.ensures.answer in
+    ends_it c.args.q.now c.args.n c.is_own_turn-own.result c.is_own_turn-own.ensures (let plies = c.requires.plies.0 in omega arith)
+    (cut_after c.args.q.now (c.args.n - 1) c.is_own_turn-own.result c.index-moves-place.result c.after.result c.after.ensures (ends_by c.is_own_turn-own.result c.in_ok-visit.field-0 _ answer (beq_same _ _ c.if-branch-own.true)))
+
+pub try_free-loop-place-preserved : goal.try_free-loop-place-preserved
+try_free-loop-place-preserved g t c =
+    let answer = answer_as c.after.result c.after.result c.image-next.result (c.args.n - 1) c.in_ok-visit.field-0 refl c.image-next.ensures c.in_ok-visit.ensures.answer in
+    record {
+      goes_on = led_more g.met.S.Stop.stays_on c.loop-place.invariant.goes_on c.visit.ensures.goes_on;
+      passed = λ none. passed_after c.args.q.now (c.args.n - 1) c.is_own_turn-own.result c.args.moves.now c.loop-place.place c.index-moves-place.result c.after.result c.loop-place-test.true c.index-moves-place.is c.after.ensures (c.loop-place.invariant.passed none)
+          (goes_by c.is_own_turn-own.result c.in_ok-visit.field-0 _ answer (beq_apart _ _ c.if-branch-own.false));
+    }
+
+pub try_free-returns-clause-found : goal.try_free-returns-clause-found
+try_free-returns-clause-found g t c =
+    none_ends c.args.q.now c.args.n c.is_own_turn-own.result c.is_own_turn-own.ensures (let plies = c.requires.plies.0 in omega arith) c.args.moves.now c.requires.lists c.requires.some c.loop-place.place c.loop-place-test.false
+    (c.loop-place.invariant.passed c.if-some_put_off.false)

@@ -1,5 +1,5 @@
 use Rattle.std.proofs.Common.{inl, inr, rules, ◌∙◌}
-use Rattle.endings.specs.Outcome.{IsSoundText}
+use Rattle.refusals.specs.Outcome.{IsSoundText}
 use Rattle.replies.proofs.FirstLemmas.{first_at_text, missed_at_text}
 use Rattle.replies.proofs.first.first_reply.Goals as goal
 

@@ -1,9 +1,9 @@
 use Rattle.std.proofs.Common.{refl, rules, Ok, vec_items, []}
-use Rattle.endings.specs.Outcome.{IsSoundText}
+use Rattle.refusals.specs.Outcome.{IsSoundText}
 use Rattle.replies.specs.Output.{ShowsCommand}
 use Rattle.command_line.specs.declared.line.Action.TheVariants.{Check, Keys, Moves, Show, Solve, Tree}
 use Rattle.replies.proofs.ReplyLemmas.{fault_gives, gives_reply, gives_unread}
-use Rattle.endings.proofs.EndingLemmas.{refusal_gives}
+use Rattle.refusals.proofs.OutcomeLemmas.{refusal_gives}
 use Rattle.replies.proofs.replying.reply_to.Goals as goal
 
 pub returns-in_err-position-clause-given : goal.returns-in_err-position-clause-given

@@ -1,5 +1,5 @@
 use Rattle.std.proofs.Common.{rules}
-use Rattle.endings.specs.Outcome.{IsSoundText}
+use Rattle.refusals.specs.Outcome.{IsSoundText}
 use Rattle.verdicts.proofs.VerdictLemmas.{verdict_at, verdict_fault}
 use Rattle.verdicts.proofs.certified.verified.Goals as goal
 

@@ -1,8 +1,0 @@
--- The keys so far are listed.
-use Rattle.std.proofs.Common.{◌≡◌, ◌++◌, codes, string_bytes, take}
-use Rattle.std.specs.List.{flat_map}
-use Rattle.answer_texts.specs.Forms.{key_item}
-use Rattle.answer_texts.proofs.forms.keys_listed.Given as goal
-
-abbrev pub invariant-loop-key : goal.invariant-loop-key
-invariant-loop-key l = string_bytes l.text ≡ string_bytes l.initial.text ++ flat_map (λ key. codes "," ++ key_item l.json key) (take l.key-index l.rest)

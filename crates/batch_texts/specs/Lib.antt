@@ -1,0 +1,4 @@
+-- to be believed
+pub mod Said
+pub mod Asking
+pub mod Forms
