@@ -16,10 +16,10 @@ SHOWN = 300
 # has the same list.
 FIRST = "minimate"
 PROGRAMS = {
-    FIRST: ["solve", "tree", "keys", "check", "moves", "show", "after"],
+    FIRST: ["solve", "tree", "keys", "check", "moves", "after"],
     "batch": ["batch"],
     "verify": ["verify"],
-    "compose": ["solution", "certify"],
+    "compose": ["solution", "certify", "show"],
 }
 # The variable by which the C library is told what it reads at a program's start, and its name for large pages.
 TUNABLES, LARGE_PAGES = "GLIBC_TUNABLES", "glibc.malloc.hugetlb"

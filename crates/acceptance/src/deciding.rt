@@ -1,6 +1,6 @@
 //! Decisions over small tables.
 use crate::tables::{Table, learnt, nothing_of, position};
-use decision::{Never, Stop};
+use decision::{Never, Stop, Underway};
 use moves::Goal;
 use slots::{Probe, Store};
 
@@ -88,6 +88,30 @@ impl Stop for AtOnce {
     ghost stays_on = { λ _ _ _ _ _. tt };
 }
 
+// Puts moves off to positions that are searched already.
+#[derive(Drop)]
+struct PutsOff {
+    underway: Underway,
+}
+
+impl Stop for PutsOff {
+    ghost told = { λ _. ⊥ };
+
+    ghost stays = { λ _ _. Unit {0} };
+
+    fn is_set(&mut self) -> bool {
+        false
+    }
+
+    fn underway(&self) -> Option<&Underway> {
+        Some(&self.underway)
+    }
+
+    ghost stays_at_once = { λ _. tt };
+
+    ghost stays_on = { λ _ _ _ _ _. tt };
+}
+
 // Mate is forced within five plies and no fewer, as another program has it.
 const IN_FIVE: &str = "4N1/6/6/1Q4/2P3/K2N1k w";
 
@@ -101,4 +125,15 @@ fn a_decision_is_stopped_or_right(rt: HostRuntime) {
     assert!(rt; table.decide_until(&position, Goal::Mate, 5, AtOnce) == Some(true));
     assert!(rt; !table.decide_on(&position, Goal::Mate, 4));
     assert!(rt; table.decide_on(&position, Goal::Mate, 5));
+}
+
+#[test]
+fn a_decision_that_puts_moves_off_is_right(rt: HostRuntime) {
+    let position = position(&rt, IN_FIVE);
+    for (plies, yes) in [(4, false), (5, true), (7, true)] {
+        let mut table = Table::make(&rt, rt.alloc(), 64);
+        let underway = Underway::new(rt.alloc()).expect(&rt, "memory");
+        let stop = PutsOff { underway };
+        assert!(rt; table.decide_until(&position, Goal::Mate, plies, stop) == Some(yes));
+    }
 }

@@ -2,8 +2,7 @@
 use arrayvec::ArrayVec;
 use board::{FenFault, Game, Position, Side, fen_text};
 use moves::{
-    Board, Move, Square, apply, forced_mate_laws, in_check, is_lawful, lawful, list_checks, ray,
-    read_sound, sound,
+    Board, Move, Square, apply, in_check, is_lawful, lawful, list_checks, ray, read_sound, sound,
 };
 use std::alloc::{AllocError, Global};
 use std::process::Abort;
@@ -119,7 +118,6 @@ fn finds_checks(rt: HostRuntime) {
 fn makes_moves(rt: HostRuntime) {
     let before = position(&rt, "k4/2P2/1K3/5/5 w");
     let moves = lawful(&before);
-    forced_mate_laws();
     assert_eq!(rt; moves.len(), 9);
     let promotes = moves.as_slice()[5];
     assert!(rt; is_lawful(&before, promotes));

@@ -6,8 +6,9 @@ use decision::{Memory, Never, Scout};
 use entry::MateLore;
 use moves::{Board, Goal, Move, Square};
 use problems::{Answer, Key, Problem, Root};
-use searcher::{Searcher, keys_alone, least_win, plies_of, solve_alone, solve_board_alone};
+use searcher::{Searcher, least_win, plies_of};
 use slots::Slots;
+use solver::{keys_alone, solve_alone, solve_board_alone};
 
 const ROOK_MATES_IN_THREE: &str = "k5/6/2K3/6/6/1R4 w";
 

@@ -15,7 +15,7 @@ use Rattle.trees.proofs.Forcing.{fewest_most}
 use Rattle.trees.proofs.Fewest.{best_plan}
 use Rattle.answer_laws.specs.Plans.{opening_move}
 use Rattle.answer_laws.proofs.OneAnswer.{one_fewest}
-use Rattle.trees.proofs.Unique.{one_least}
+use Rattle.answer_laws.proofs.Unique.{one_least}
 
 -- ---- heights
 

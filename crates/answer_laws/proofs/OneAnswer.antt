@@ -11,7 +11,7 @@ use Rattle.problems.specs.Keys.{ListsKeys}
 use Rattle.wintree.proofs.Listings.{lower_once}
 use Rattle.trees.proofs.Forcing.{fewest_most}
 use Rattle.answer_laws.proofs.Listings.{one_listing}
-use Rattle.trees.proofs.Unique.{one_least}
+use Rattle.answer_laws.proofs.Unique.{one_least}
 
 pub one_fewest : (goal : Goal) (b : PlainBoard) (n k : ℕ) → IsFewest goal b n → IsFewest goal b k → n ≡ k
 one_fewest goal b n k f g =

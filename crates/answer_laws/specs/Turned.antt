@@ -8,8 +8,8 @@ use Rattle.problems.specs.declared.answer.Answer.TheVariants.{Mate, NoneWithin}
 use Rattle.problems.specs.Answer.{IsFewest, ForcesNothing, IsAnswer}
 use Rattle.problems.specs.declared.key.Key.{Key}
 use Rattle.problems.specs.Keys.{ListsKeys}
-use Rattle.laws.specs.Turnings.{Turning, turned_move, IsTurned, files_mirror, sides_mirror}
-use Rattle.laws.specs.Laws.{WhereTurned, StaysTurned}
+use Rattle.laws.specs.Turnings.{Turning, turned_move, IsTurned}
+use Rattle.answer_laws.specs.TurnedPlay.{WhereTurned, StaysTurned, files_mirror, sides_mirror}
 
 -- how many plies an answer names, if it names any
 abbrev pub plies_told : Answer → Option ℕ

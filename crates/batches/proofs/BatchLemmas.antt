@@ -25,14 +25,14 @@ use Rattle.batch_texts.specs.declared.asked.Found.{Found}
 use Rattle.problems.specs.declared.problem.Problem.{Problem}
 use Rattle.batches.specs.Batch.{AnswersLines, EndsBatch, HasReplyText, IsAskedReply, IsLineReply, IsUnnumberedReply, RefusesBatch, RunsBatch, answered_lines, joined, left_out, lines_of, next_number, numbered, onto, wanting_text, with_number, with_position}
 use Rattle.batches.specs.BatchRun.{AsksProblem, Fails, GivesAsked, GivesNext, IsFirstOf, IsAskedRefusal, PassesOver, Step, TakesAnswered, TakesLines, TakesStep, stop_of}
-use Rattle.devices.specs.Lines.{HasNoFeed, IsFed, IsLastOf, IsReadAs, TakesLine, left_of}
+use Rattle.input_lines.specs.Lines.{HasNoFeed, IsFed, IsLastOf, IsReadAs, TakesLine, left_of}
 use Rattle.endings.specs.Run.{Ending, Finishes, Run}
 use Rattle.batches.specs.declared.batch.BatchStop.{BatchStop}
 use Rattle.batches.specs.declared.batch.BatchStop.TheVariants.{ReadFailed, WriteFailed, NoMemory}
-use Rattle.devices.specs.declared.lines.Taken.{Taken}
-use Rattle.devices.specs.declared.lines.Next.{Next}
-use Rattle.devices.specs.declared.lines.Next.TheVariants.{Line}
-use Rattle.devices.specs.declared.lines.Unread.{Unread}
+use Rattle.input_lines.specs.declared.lines.Taken.{Taken}
+use Rattle.input_lines.specs.declared.lines.Next.{Next}
+use Rattle.input_lines.specs.declared.lines.Next.TheVariants.{Line}
+use Rattle.input_lines.specs.declared.lines.Unread.{Unread}
 use Rattle.devices.proofs.InputLemmas.{of_any, of_input_then}
 
 -- ---- what a line says

@@ -24,7 +24,7 @@ use Rattle.devices.specs.declared.transfer.InputFault.{InputFault}
 use Rattle.devices.specs.declared.transfer.InputFault.TheVariants as input
 use Rattle.batch_texts.specs.Asking.{limit_of, with_plies}
 use Rattle.batches.specs.Batch.{AnswersLines, IsAskedReply, HasReplyText, IsLineReply, IsUnnumberedReply, answered_lines, joined, lines_of, next_number, numbered}
-use Rattle.devices.specs.Lines.{IsFed, IsLastOf, IsReadAs, IsUnread, left_of}
+use Rattle.input_lines.specs.Lines.{IsFed, IsLastOf, IsReadAs, IsUnread, left_of}
 use Rattle.batch_texts.specs.declared.asked.Asked.{Asked}
 use Rattle.batch_texts.specs.declared.asked.Batch.{Batch}
 use Rattle.batches.specs.declared.ahead.Ahead.{Ahead}
@@ -32,7 +32,7 @@ use Rattle.batches.specs.declared.ahead.Lane.{Lane}
 use Rattle.batches.specs.declared.batch.BatchRun.{BatchRun}
 use Rattle.batches.specs.declared.batch.BatchStop.{BatchStop}
 use Rattle.batches.specs.declared.batch.BatchStop.TheVariants.{ReadFailed, WriteFailed, NoMemory}
-use Rattle.devices.specs.declared.lines.Next.{Next}
+use Rattle.input_lines.specs.declared.lines.Next.{Next}
 
 -- ---- the batch under way
 

@@ -3,7 +3,7 @@
 ghost use Rattle.std.specs.Prelude.{◌≡◌, ◌+◌, ◌<◌, ◌≤◌, [], All, IfOk, IfSome, OnErr, length, vec_capacity};
 ghost use Rattle.atomic_table.specs.Seated.{TableId};
 ghost use Rattle.slots.specs.Promise.{IsSeatOf};
-ghost use Rattle.devices.specs.Lines.{IsUnread};
+ghost use Rattle.input_lines.specs.Lines.{IsUnread};
 ghost use Rattle.batch_texts.specs.Asking.{IsFoundAt};
 ghost use Rattle.batch_texts.specs.declared.asked.Batch.{Batch as TheBatch};
 ghost use Rattle.batches.specs.BatchRun.{AreAhead, GivesNext, IsAhead, IsLane, IsSearched};
@@ -12,8 +12,8 @@ use crate::batch::{echoed, problem_of};
 use batch_texts::{Batch, Found, asked_in, found_text, is_remark, said_in};
 use context::Context;
 use decision::{Memory, Scout, Stop};
-use devices::{Next, Unread};
 use entry::MateLore;
+use input_lines::{Next, Unread};
 use problems::{Problem, Root};
 use searcher::{Searcher, Table, keys_of, solve_by};
 use slots::{Seat, Slots};

@@ -2,7 +2,7 @@
 ghost use Rattle.std.specs.Prelude.{◌≡◌, ◌+◌, ◌++◌, ◌<◌, IfOk, codes, option_map};
 ghost use Rattle.std.specs.Fmt.{decimal};
 ghost use Rattle.devices.specs.Input.{failed_reads};
-ghost use Rattle.devices.specs.Lines.{IsUnread, left_of};
+ghost use Rattle.input_lines.specs.Lines.{IsUnread, left_of};
 ghost use Rattle.batch_texts.specs.Asking.{IsFoundAt};
 ghost use Rattle.batch_texts.specs.Said.{said_in};
 ghost use Rattle.batches.specs.Batch.{HasReplyText, IsAskedReply, IsReplyText, left_out, next_number, remark_text, with_number, with_position};
@@ -16,8 +16,10 @@ use batch_texts::{
 };
 use command_line::{BatchOptions, Limits};
 use context::{Context, beside, search_of, table_within};
-use devices::{Failed, InputFault, Next, Sink, Source, Taken, Unread, write_all};
+use devices::{Failed, InputFault, Sink, Source, write_all};
 use endings::tell_if_over;
+use input_lines::{Next, Taken, Unread};
+use line_tally::Tally;
 use moves::read_sound;
 use problems::Problem;
 use progress::Watch;
@@ -38,6 +40,8 @@ pub struct BatchRun {
     pub unread: Unread,
     /// The number of the line that was read last.
     pub number: u64,
+    /// What is told of how many lines are answered.
+    pub tally: Tally,
 }
 
 /// What ends a batch before the end of its input.
@@ -76,9 +80,10 @@ impl From<AllocError> for BatchStop {
 }
 
 /// A batch that is about to run, with a table for these limits, or the first of them that is refused.
-pub fn open_batch(alloc: Global, batch: Batch) -> Result<BatchRun, Refusal>
+pub fn open_batch<R: Clock + AllocGlobal>(rt: &R, batch: Batch) -> Result<BatchRun, Refusal>
     ensures { OpensBatchRun batch result }
 {
+    let alloc = rt.alloc();
     let table = table_within(alloc, batch.limits)?;
     let lookahead = Lookahead {
         table,
@@ -90,6 +95,7 @@ pub fn open_batch(alloc: Global, batch: Batch) -> Result<BatchRun, Refusal>
         lookahead,
         unread: Unread::new(),
         number: 0,
+        tally: Tally::new(rt, batch.options.lines, left_out(batch.options)),
     })
 }
 
@@ -410,13 +416,13 @@ fn answer_next<
         .next_line(context.rt, context.rt.alloc(), reader)?;
     look_ahead(context, &run.batch, &mut run.lookahead, &run.unread, &next);
     let Some(plain) = made_text(context, &run.batch, &mut run.lookahead, next, errors)? else {
-        context.tally.clear(errors);
+        run.tally.clear(errors);
         return Ok(false);
     };
     let json = run.batch.options.json;
     let text = with_number(context.rt.alloc(), json, run.number, plain)?;
     write_all(writer, text.as_slice())?;
-    context.tally.tell(context.rt, run.number, errors);
+    run.tally.tell(context.rt, run.number, errors);
     Ok(!is_last)
 }
 
@@ -452,7 +458,7 @@ fn answer_lines<
 }
 
 /// How many lines at the beginning of the input are left out.
-pub fn left_out(options: BatchOptions) -> u32
+fn left_out(options: BatchOptions) -> u32
     ensures { result ≡ left_out options.skip }
 {
     options.skip.unwrap_or(0)

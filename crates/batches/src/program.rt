@@ -4,38 +4,21 @@ ghost use Rattle.endings.specs.Run.{ending_of, run_of, MayTell};
 ghost use Rattle.endings.specs.Words.{MeansSome, MeansSomeIn, RunsProgram, RunsWords};
 ghost use Rattle.batches.specs.Order.{BatchesOrder, ReadsPositions, TellsOfLines};
 
-use crate::batch::left_out;
 use crate::running::run_batch;
 use batch_texts::Batch;
-use command_line::{BatchOptions, LineFault, Order, asks_progress, read_order};
-use context::{Context, Tally};
+use command_line::{LineFault, Order, read_order};
+use context::context_of;
 use devices::{Sink, Source};
 use endings::{REFUSED_WORDS, end_wordless, explain_if_refused, give_up_for_memory};
+use rounds::Workers;
 use std::convert::AsStr;
 use std::io::{self, Write};
 use std::sync::Wait;
-use std::sync::atomic::AtomicU64;
 use std::thread::Threads;
 use std::time::Clock;
-use workers::Workers;
 
 /// The commands that it answers.
 const OWN: &[&str] = &["batch"];
-
-/// The context of a batch with these options, and whether the words ask for a sign of life.
-fn batch_context<'a, R: Clock, W: AsStr>(
-    rt: &'a R,
-    words: &[W],
-    options: BatchOptions,
-) -> Context<'a, R, Workers<'a, R>> {
-    Context {
-        rt,
-        crew: Workers { rt },
-        shows: asks_progress(words),
-        line: AtomicU64::new(0),
-        tally: Tally::new(rt, options.lines, left_out(options)),
-    }
-}
 
 /// Answers the positions of the input, if the words ask for a `batch`. The first word is the program's name.
 pub fn run<
@@ -59,7 +42,7 @@ pub fn run<
                 limits,
                 options,
             };
-            let context = batch_context(rt, words, options);
+            let context = context_of(rt, Workers { rt }, words);
             run_batch(&context, batch, reader, writer, errors)
         }
         Ok(
@@ -68,7 +51,8 @@ pub fn run<
             | Order::Certify(..)
             | Order::After(_)
             | Order::TreeAfter(..)
-            | Order::Solution(..),
+            | Order::Solution(..)
+            | Order::Show(..),
         ) => REFUSED_WORDS,
         Err(LineFault::Words) => REFUSED_WORDS,
         Err(LineFault::NoMemory) => give_up_for_memory(writer, errors),

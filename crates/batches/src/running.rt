@@ -9,8 +9,8 @@ use crate::batch::{BatchStop, answer_batch, open_batch, refusal_line};
 use batch_texts::Batch;
 use context::Context;
 use devices::{Sink, Source};
-use endings::{ANSWERED, fail_to_read, fail_to_write, finish, give_up_for_memory, search_refused};
-use refusals::Refusal;
+use endings::{ANSWERED, fail_to_read, fail_to_write, finish, give_up_for_memory};
+use refusals::{Asking, Refusal, Refused};
 use searcher::Crew;
 use std::alloc::Global;
 use std::io::Write;
@@ -49,7 +49,11 @@ fn refuse_batch<R: AllocGlobal, K: Sink, E: Write>(
     if refusal.status() == 3 {
         return give_up(json, writer, errors);
     }
-    let refused = search_refused(b"", refusal);
+    let refused = Refused {
+        refusal,
+        fen: b"",
+        asking: Asking::Search,
+    };
     match refusal_line(rt.alloc(), json, errors, None, &refused) {
         Ok(text) => finish(writer, errors, text.as_slice(), refusal.status()),
         Err(_) => give_up(json, writer, errors),
@@ -71,7 +75,7 @@ pub fn run_batch<
     ensures runs { RunsBatch batch (run_of S.remaining S.failures reader.old reader.new
         (ending_of K.contents K.failures writer.old writer.new result)) }
 {
-    match open_batch(context.rt.alloc(), batch) {
+    match open_batch(context.rt, batch) {
         Ok(mut opened) => match answer_batch(context, &mut opened, reader, writer, errors) {
             None => ANSWERED,
             Some(BatchStop::NoMemory) => give_up(batch.options.json, writer, errors),

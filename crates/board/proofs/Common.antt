@@ -8,7 +8,7 @@ pub use Rattle.board.specs.Fen.IsTextFrom.{above, first}
 pub use Rattle.board.specs.FenFaults.{FenFaultHolds, HasAdjacentRuns, IsBoardByte, IsFenFault, IsShape, board_part, fen_fault_number, first_of, has_pawn, is_case_of, is_digit, last_of, row_width, rows, side_part}
 pub use Rattle.board.specs.FenFaults.IsBoardByte.{digit, letter, separator}
 pub use Rattle.board.specs.Games.{IsPlayed, most_units, squares_of, width_of}
-pub use Rattle.board.specs.Notation.{HasOneReading, IsLetter, IsFirstWord, IsUndoubled, IsRead, IsReading, IsShorthand, IsWord, IsWritten, StartsNoMode, StartsNot, atom_text, doubled_text, forward_text, mode_text, piece_text, term_text}
+pub use Rattle.board.specs.Notation.{IsLetter, IsFirstWord, IsUndoubled, IsRead, IsReading, IsShorthand, IsWord, IsWritten, StartsNoMode, StartsNot, atom_text, doubled_text, forward_text, mode_text, piece_text, term_text}
 pub use Rattle.board.specs.Notation.IsRead.{last, more}
 pub use Rattle.board.specs.Notation.IsShorthand.{bishop, king, queen, rook}
 pub use Rattle.board.specs.Notation.IsWord.{short, term}

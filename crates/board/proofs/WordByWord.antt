@@ -1,6 +1,6 @@
 -- Reading a string word by word, each word as long as can be: nothing else can be its accepted reading.
 use Rattle.std.proofs.Common.{◌≡◌, ◌≢◌, ℕ, ◌+◌, ◌<◌, refl, sym, ap, subst, ◌∙◌, arith, List, [], ◌∷◌, ◌++◌, length, append_assoc, length-append}
-use Rattle.board.proofs.Common.{false≢true, append-nil, get_or-append-add, get_or_append_left, Atom, Term, single, AreDistinct, atom_text, IsWord, IsRead, IsFirstWord, IsUndoubled, HasOneReading, term, last, more}
+use Rattle.board.proofs.Common.{false≢true, append-nil, get_or-append-add, get_or_append_left, Atom, Term, single, AreDistinct, atom_text, IsWord, IsRead, IsFirstWord, IsUndoubled, IsReading, term, last, more}
 use Rattle.board.proofs.TwoWords.{IsHalf, two_words, some_bytes}
 use Rattle.board.proofs.TwoWords.AreTwo.{same, first_half, second_half}
 
@@ -146,7 +146,7 @@ one text ts us (next {bytes = b} {rest = r} {terms = ps} {others = others} w e f
       | second_half k ↦ half_read us qs those k.half s r d' h k.terms k.rest n
     ]
 
-pub one_reading : HasOneReading
+pub one_reading : (text : List ℕ) (terms others : List Term) → IsReading text terms → IsReading text others → terms ≡ others
 one_reading text terms others r s = one text terms others (AreWords-read text terms r.read) (AreWords-read text others s.read) r.distinct s.distinct
 
 -- ---- what the loop needs of a word

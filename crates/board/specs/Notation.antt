@@ -79,10 +79,6 @@ pub record IsReading (bytes : List ℕ) (terms : List Term) : Type 0 where
   pub read : IsRead bytes terms
   pub distinct : AreDistinct terms
 
--- a string has at most one accepted reading
-abbrev pub HasOneReading : Type 0
-HasOneReading = (text : List ℕ) (terms others : List Term) → IsReading text terms → IsReading text others → terms ≡ others
-
 -- ---- how a text begins, for a reader that goes word by word
 
 -- the text doesn't begin with this byte

@@ -13,9 +13,9 @@ use Rattle.command_line.specs.declared.line.NamedMove.{NamedMove}
 use Rattle.command_line.specs.declared.line.BatchOptions.{BatchOptions}
 use Rattle.command_line.specs.declared.line.SolutionOptions.{SolutionOptions}
 use Rattle.command_line.specs.declared.line.Action.{Action}
-use Rattle.command_line.specs.declared.line.Action.TheVariants.{Solve, Keys, Tree, Check, Moves, Show}
+use Rattle.command_line.specs.declared.line.Action.TheVariants.{Solve, Keys, Tree, Check, Moves}
 use Rattle.command_line.specs.declared.line.Order.{Order}
-use Rattle.command_line.specs.declared.line.Order.TheVariants.{One, Batch, Verify, Certify, After, TreeAfter, Solution}
+use Rattle.command_line.specs.declared.line.Order.TheVariants.{One, Batch, Verify, Certify, After, TreeAfter, Solution, Show}
 
 -- the text is the number: decimal digits, perhaps after a plus, below 2^32
 abbrev pub IsNumber : Text → ℕ → Type 0
@@ -67,7 +67,6 @@ MeansAction name rows (Keys goal limits) = (name ≡ codes "keys") × HasGoal ro
 MeansAction name rows (Tree goal limits) = (name ≡ codes "tree") × HasGoal rows goal × HasLimits rows limits × (first_of (codes "first") rows ≡ None)
 MeansAction name rows (Check goal) = (name ≡ codes "check") × HasGoal rows goal
 MeansAction name rows Moves = name ≡ codes "moves"
-MeansAction name rows (Show drawing) = (name ≡ codes "show") × HasDrawing rows drawing
 
 -- the command at the position that was found for it
 abbrev pub HasLine : Text → List Row → Line → Type 0
@@ -117,6 +116,7 @@ MeansFound name rows (After played) = (name ≡ codes "after") × HasPlayed rows
 MeansFound name rows (TreeAfter played goal limits) = (name ≡ codes "tree") × HasFirst rows played × HasGoal rows goal × HasLimits rows limits
 MeansFound name rows (Solution subject limits options) =
     (name ≡ codes "solution") × HasSubject rows subject × HasLimits rows limits × HasSolutionOptions rows options
+MeansFound name rows (Show fen drawing) = (name ≡ codes "show") × (first_of (codes "FEN") rows ≡ Some fen.now) × HasDrawing rows drawing
 
 -- a command was found, and it is the order
 abbrev pub HasOrder : Option (Text × List Row) → Order → Type 0

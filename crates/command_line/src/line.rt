@@ -18,6 +18,8 @@ pub enum Order<'a> {
     TreeAfter(NamedMove<'a>, Goal, Limits),
     /// The keys of a problem and what follows them.
     Solution(Subject<'a>, Limits, SolutionOptions<'a>),
+    /// The board of a position's text, drawn.
+    Show(&'a [u8], Drawing),
 }
 
 /// What a solution tells beside its keys, and how it is written.
@@ -40,7 +42,7 @@ pub struct SolutionOptions<'a> {
 }
 
 /// How the replies of a batch are written, and what is known of its input.
-#[derive(Clone, Copy, PartialEq, Eq)]
+#[derive(Clone, Copy)]
 pub struct BatchOptions {
     /// Whether the position stands before each answer.
     pub echo: bool,
@@ -88,8 +90,6 @@ pub enum Action {
     Keys(Goal, Limits),
     /// Each lawful move.
     Moves,
-    /// The board, drawn.
-    Show(Drawing),
     /// The tree that shows the answer of a solve.
     Tree(Goal, Limits),
     /// In how many plies the tree of the input wins, if it wins.

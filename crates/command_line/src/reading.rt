@@ -6,7 +6,7 @@ ghost use Rattle.command_line.specs.declared.reading.LineFault.TheVariants.{NoMe
 ghost use Rattle.command_line.specs.declared.line.Order.{Order as TheOrder};
 ghost use Rattle.command_line.specs.Making.{HasMove, Reads};
 ghost use Rattle.command_line.specs.Program.{program};
-ghost use Rattle.command_line.specs.Words.{HasBatchOptions, HasGoal, HasLimit, HasLimits, HasLine, HasNumberIfGiven, HasOrder, HasSolutionOptions, HasSubject, IsGiven, MeansAction, MeansFound, MeansNoOrder, MeansOrder, progress_word};
+ghost use Rattle.command_line.specs.Words.{HasBatchOptions, HasDrawing, HasGoal, HasLimit, HasLimits, HasLine, HasNumberIfGiven, HasOrder, HasSolutionOptions, HasSubject, IsGiven, MeansAction, MeansFound, MeansNoOrder, MeansOrder, progress_word};
 
 use crate::line::{
     Action, BatchOptions, Drawing, Limits, Line, NamedMove, Order, SolutionOptions, Subject,
@@ -142,6 +142,16 @@ fn solution_options<'a>(values: &ArgMatches<'a>) -> SolutionOptions<'a>
     }
 }
 
+fn drawing_of(values: &ArgMatches<'_>) -> Drawing
+    ensures { HasDrawing (rows_of (found_of values.now)) result }
+{
+    Drawing {
+        svg: is_given(values, "svg"),
+        unicode: is_given(values, "unicode"),
+        black: is_given(values, "black"),
+    }
+}
+
 fn subject_of<'a>(values: &ArgMatches<'a>) -> Option<Subject<'a>>
     ensures { Reads (HasSubject (rows_of (found_of values.now))) result }
 {
@@ -165,7 +175,7 @@ fn named_move<'a>(values: &ArgMatches<'a>, id: &str) -> Option<NamedMove<'a>>
 fn search_of(name: &str, goal: Goal, limits: Limits, values: &ArgMatches<'_>) -> Option<Action>
     requires goal { HasGoal (rows_of (found_of values.now)) goal }
     requires limits { HasLimits (rows_of (found_of values.now)) limits }
-    requires name { (name.now ≢ codes "moves") × (name.now ≢ codes "show") × (name.now ≢ codes "check") }
+    requires name { (name.now ≢ codes "moves") × (name.now ≢ codes "check") }
     ensures { Reads (MeansAction name.now (rows_of (found_of values.now))) result }
 {
     match name {
@@ -184,11 +194,6 @@ fn action_of(name: &str, values: &ArgMatches<'_>) -> Option<Action>
 {
     match name {
         "moves" => Some(Action::Moves),
-        "show" => Some(Action::Show(Drawing {
-            svg: is_given(values, "svg"),
-            unicode: is_given(values, "unicode"),
-            black: is_given(values, "black"),
-        })),
         "check" => Some(Action::Check(goal_of(values)?)),
         _ => search_of(name, goal_of(values)?, limits(values)?, values),
     }
@@ -212,6 +217,7 @@ fn order_at<'a>(name: &str, values: &ArgMatches<'a>) -> Option<Order<'a>>
         "verify" => Some(Order::Verify(subject_of(values)?)),
         "certify" => Some(Order::Certify(subject_of(values)?, limits(values)?)),
         "after" => Some(Order::After(named_move(values, "MOVE")?)),
+        "show" => Some(Order::Show(word_of(values, "FEN")?, drawing_of(values))),
         "solution" => {
             let (subject, limits) = (subject_of(values)?, limits(values)?);
             Some(Order::Solution(subject, limits, solution_options(values)))
@@ -241,7 +247,12 @@ pub fn asks_progress<W: AsStr>(words: &[W]) -> bool
     ensures { MatchBool result (Any (λ word. W.text word ≡ progress_word) words.now)
         (All (λ word. W.text word ≢ progress_word) words.now) }
 {
-    words.iter().any(|word| word.as_str() == PROGRESS_WORD)
+    for word in words {
+        if word.as_str() == PROGRESS_WORD {
+            return true;
+        }
+    }
+    false
 }
 
 /// The order that the words mean. The first word is the program's name.

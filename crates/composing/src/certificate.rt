@@ -4,12 +4,14 @@ ghost use Rattle.verifying.specs.Checking.{HasTaken};
 ghost use Rattle.composing.specs.Claims.{BeginsAt, BeginsCertificate, EndsClaims, EndsWriting, cut_of, writing_of};
 ghost use Rattle.composing.specs.declared.certificate.Cut.TheVariants.{WriteFailed};
 
+use crate::searched::searched_at;
 use answer_texts::answer_text;
 use board::Position;
 use certifying::{Certificate, Checked};
 use command_line::{Limits, Subject};
-use context::{Context, Tally, searched_at};
+use context::Context;
 use devices::{Failed, Sink, write_all};
+use line_tally::Tally;
 use moves::{Board, Goal, read_sound};
 use problems::Question;
 use refusals::Refusal;

@@ -7,9 +7,10 @@ ghost use Rattle.refusals.specs.Outcome.{Gives};
 ghost use Rattle.solution_text.specs.WholeText.{IsFirstSolution};
 ghost use Rattle.composing.specs.Solution.{ShowsFirstNamed, ShowsFirstOf};
 
+use crate::searched::searched_at;
 use algebraic::Symbols;
 use command_line::Limits;
-use context::{Context, searched_at};
+use context::Context;
 use decision::{Memory, Never, Scout};
 use problems::{Answer, Root};
 use refusals::Refusal;

@@ -10,11 +10,12 @@ ghost use Rattle.composing.specs.declared.problem.Form.TheVariants.{Whole as who
 
 use crate::diagram::diagram_text;
 use crate::first_move::first_at;
+use crate::searched::searched_at;
 use crate::whole_form::{Solved, WholeForm};
 use algebraic::{Notation, Symbols};
 use board::{Position, fen_text};
 use command_line::{Limits, SolutionOptions, Subject};
-use context::{Context, beside, search_of, searched_at};
+use context::{Context, beside, search_of};
 use decision::{Memory, Never, Scout};
 use moves::{Board, Goal, read_sound};
 use problems::{Answer, Key, MOST_LIMIT, Problem, Root};

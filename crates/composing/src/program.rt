@@ -13,7 +13,7 @@ use std::thread::Threads;
 use std::time::Clock;
 
 /// The commands that it answers.
-const OWN: &[&str] = &["solution", "certify"];
+const OWN: &[&str] = &["solution", "certify", "show"];
 
 /// Runs the words, or answers why there are none. What is to be said of words that mean nothing here goes to `errors`, and why a
 /// position was refused; whether they take it changes nothing.

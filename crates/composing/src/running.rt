@@ -3,11 +3,12 @@ ghost use Rattle.std.specs.Prelude.{◌≡◌, ◌⊎◌, ◌<◌, map};
 ghost use Rattle.board.specs.Board.{PlainBoard};
 ghost use Rattle.problems.specs.declared.answer.Answer.{Answer};
 ghost use Rattle.verifying.specs.Checking.{HasTaken};
-ghost use Rattle.endings.specs.Run.{ending_of, readerless, MayTell};
+ghost use Rattle.endings.specs.Run.{ending_of, readerless, MayTell, WritesReply};
 ghost use Rattle.endings.specs.Words.{MeansSome, RunsWords};
 ghost use Rattle.refusals.specs.Outcome.{IsOver};
 ghost use Rattle.composing.specs.Certifying.{WritesCertificate, WritesClaims};
 ghost use Rattle.composing.specs.Claims.{EndsClaims, HasAnswerLine, writing_of};
+ghost use Rattle.composing.specs.Drawings.{IsDrawingReply};
 ghost use Rattle.composing.specs.Order.{ComposesOrder, ComposesOver};
 ghost use Rattle.problems.specs.Answer.{IsFewest};
 ghost use Rattle.problems.specs.Roots.{IsRoot};
@@ -15,17 +16,22 @@ ghost use Rattle.composing.specs.Parts.{WritesAsked};
 ghost use Rattle.composing.specs.Solution.{WritesSolution};
 
 use crate::certificate::{Begun, Cut, begin, write_claims};
+use crate::drawing::drawing_reply;
 use crate::problem::{Composed, solution_reply};
 use crate::whole_form::{CutOff, Solved, write_solution};
 use certifying::Checked;
-use command_line::{Limits, LineFault, NamedMove, Order, SolutionOptions, Subject, read_order};
-use context::{Context, Tally, context_of};
+use command_line::{
+    Drawing, Limits, LineFault, NamedMove, Order, SolutionOptions, Subject, read_order,
+};
+use context::{Context, context_of};
 use devices::{Sink, write_all};
 use endings::{
-    ANSWERED, REFUSED_WORDS, fail_to_write, finish, give_up_for_memory, proof_refused,
-    refuse_and_tell, refuse_move, search_refused, tell_if_over,
+    ANSWERED, REFUSED_WORDS, fail_to_write, finish, give_up_for_memory, refuse_and_tell,
+    refuse_move, tell_if_over,
 };
-use refusals::Refusal;
+use line_tally::Tally;
+use refusals::{Asking, Refusal, Refused};
+use rounds::Workers;
 use searcher::Crew;
 use std::alloc::Global;
 use std::convert::AsStr;
@@ -33,7 +39,18 @@ use std::io::Write;
 use std::sync::Wait;
 use std::thread::Threads;
 use std::time::Clock;
-use workers::Workers;
+use verdicts::proof_refused;
+
+/// What was refused to a search at the position of this text.
+fn search_refused(fen: &[u8], refusal: Refusal) -> Refused<'_>
+    ensures { result.refusal ≡ refusal }
+{
+    Refused {
+        refusal,
+        fen,
+        asking: Asking::Search,
+    }
+}
 
 /// Answers a position as `solve` does, with the answer's certificate. `errors` is told why it was refused.
 fn run_certify<
@@ -184,7 +201,34 @@ fn run_solution<
     }
 }
 
-/// Answers what the words ask for, if that is `solution` or `certify`. The first word is the program's name.
+/// Draws the board of a position's text. `errors` is told why it was refused.
+fn run_show<R: AllocGlobal, K: Sink, E: Write>(
+    rt: &R,
+    fen: &[u8],
+    drawing: Drawing,
+    writer: &mut K,
+    errors: &mut E,
+) -> u8
+    requires { K.failures writer.old < u64.MAX }
+    ensures runs { WritesReply (IsDrawingReply fen.now drawing)
+        (ending_of K.contents K.failures writer.old writer.new result) }
+    ensures silent { MayTell result ⊎ (errors.new ≡ errors.old) }
+{
+    match drawing_reply(rt.alloc(), fen, drawing) {
+        Ok(text) => finish(writer, errors, text.as_slice(), ANSWERED),
+        Err(refusal) => {
+            let asking = Asking::Plain;
+            let refused = Refused {
+                refusal,
+                fen,
+                asking,
+            };
+            refuse_and_tell(rt, writer, errors, &refused)
+        }
+    }
+}
+
+/// Answers what the words ask for, if that is `solution`, `certify` or `show`. The first word is the program's name.
 pub fn run<R: Threads + Wait + Eprint + Clock + Sync + AllocGlobal, W: AsStr, K: Sink, E: Write>(
     rt: &R,
     words: &[W],
@@ -205,6 +249,7 @@ pub fn run<R: Threads + Wait + Eprint + Clock + Sync + AllocGlobal, W: AsStr, K:
             let context = context_of(rt, Workers { rt }, words);
             run_solution(&context, &subject, (limits, options), writer, errors)
         }
+        Ok(Order::Show(fen, drawing)) => run_show(rt, fen, drawing, writer, errors),
         Ok(
             Order::One(_)
             | Order::Batch(..)

@@ -1,7 +1,7 @@
 -- The orders that the program answers: all but those of the programs of batches, that verify and compose.
 use Rattle.std.specs.Prelude.{◌⊎◌, ⊤}
 use Rattle.command_line.specs.declared.line.Order.{Order}
-use Rattle.command_line.specs.declared.line.Order.TheVariants.{One, Batch, Verify, Certify, After, TreeAfter, Solution}
+use Rattle.command_line.specs.declared.line.Order.TheVariants.{One, Batch, Verify, Certify, After, TreeAfter, Solution, Show}
 use Rattle.command_line.specs.declared.line.Line.{Line}
 use Rattle.command_line.specs.declared.line.Action.{Action}
 use Rattle.command_line.specs.declared.line.Action.TheVariants.{Solve, Keys, Moves, Tree}
@@ -22,6 +22,7 @@ RunsOrder (Batch goal limits options) run = DoesNothing run
 RunsOrder (Verify subject) run = DoesNothing run
 RunsOrder (Certify subject limits) run = DoesNothing run
 RunsOrder (Solution subject limits options) run = DoesNothing run
+RunsOrder (Show fen drawing) run = DoesNothing run
 
 -- the order reads the input: a check does, where its position is sound
 abbrev pub MayReadOf : Order → Type 0

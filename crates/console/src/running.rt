@@ -18,12 +18,13 @@ use endings::{
 };
 use refusals::{Refusal, Refused, ReplyFault};
 use replies::{after_reply, first_reply, reply_to};
+use rounds::Workers;
 use std::convert::AsStr;
 use std::io::{self, Write, sink};
 use std::sync::Wait;
+use std::sync::atomic::AtomicU64;
 use std::thread::Threads;
 use std::time::Clock;
-use workers::Workers;
 
 /// Answers a line: writes its output, and gives its status. No line but a `check` at a sound
 /// position asks the reader for anything. Nobody is told how far a search is, or why a line was refused.
@@ -39,7 +40,12 @@ pub fn run_line<R: Threads + Wait + Eprint + Clock + Sync + AllocGlobal, S: Sour
     ensures runs { RunsLine line.now (run_of S.remaining S.failures reader.old reader.new
         (ending_of K.contents K.failures writer.old writer.new result)) }
 {
-    let context = Context::quiet(rt, Workers { rt });
+    let context = Context {
+        rt,
+        crew: Workers { rt },
+        shows: false,
+        line: AtomicU64::new(0),
+    };
     run_line_on(&context, line, reader, writer, &mut sink())
 }
 
@@ -142,15 +148,20 @@ pub fn run<
             write_played(rt, &played, writer, errors, reply)
         }
         // those are answered by programs of their own
-        Ok(Order::Batch(..) | Order::Verify(_) | Order::Certify(..) | Order::Solution(..)) =>
-            REFUSED_WORDS,
+        Ok(
+            Order::Batch(..)
+            | Order::Verify(_)
+            | Order::Certify(..)
+            | Order::Solution(..)
+            | Order::Show(..),
+        ) => REFUSED_WORDS,
         Err(LineFault::Words) => REFUSED_WORDS,
         Err(LineFault::NoMemory) => give_up_for_memory(writer, errors),
     }
 }
 
 /// The commands that it answers.
-const OWN: &[&str] = &["solve", "tree", "keys", "check", "moves", "show", "after"];
+const OWN: &[&str] = &["solve", "tree", "keys", "check", "moves", "after"];
 
 /// Runs the words, or answers why there are none. What is to be said of words that are no line goes to
 /// `errors`, and why a line was refused; whether they take it changes nothing.

@@ -1,25 +1,20 @@
 //! The watch over the search of a line.
 use command_line::{Action, Line};
-use context::{Context, last_round};
+use context::Context;
 use moves::read_sound;
-use progress::{Course, Watch};
+use progress::Watch;
 use std::time::Clock;
 
-/// How the action searches, if it does, and the slots of its table.
-fn course_of(action: Action) -> Option<(Course, u32)> {
-    match action {
-        Action::Solve(_, limits) | Action::Tree(_, limits) => Some((Course::Rounds, limits.slots)),
-        Action::Keys(_, limits) => Some((Course::Keys(last_round(limits)), limits.slots)),
-        _ => None,
-    }
-}
-
-/// A watch over the line's search, if it is to be shown.
+/// A watch over the line's search, if it makes one that is to be shown.
 pub(crate) fn watch_of<R: Clock + AllocGlobal, C>(
     context: &Context<'_, R, C>,
     line: &Line<'_>,
 ) -> Option<Watch> {
-    let (course, slots) = course_of(line.action)?;
+    let (keys, limits) = match line.action {
+        Action::Solve(_, limits) | Action::Tree(_, limits) => (false, limits),
+        Action::Keys(_, limits) => (true, limits),
+        _ => return None,
+    };
     let position = read_sound(line.fen).ok()?;
-    context.watch(&position, course, slots)
+    context.watch_of(&position, keys, limits)
 }

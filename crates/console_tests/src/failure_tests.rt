@@ -3,11 +3,11 @@ ghost use Rattle.std.specs.Prelude.{◌≡◌, None, Some};
 
 use crate::whole_runs::{run, run_quietly, words_of};
 use devices::{Counted, Failed, Sink, Source};
-use endings::Input;
 use std::process::Abort;
 use std::sync::Wait;
 use std::thread::Threads;
 use std::time::Clock;
+use verdicts::Input;
 
 const START_MOVES: &str = "b1a3\nb1c3\ne1d3\ne1f3\na2a3\nb2b3\nc2c3\nd2d3\ne2e3\nf2f3\n";
 

@@ -122,8 +122,11 @@ fn expect_sentence<R: Threads + Wait + Abort + AllocGlobal + Eprint + Clock + Sy
     sentence: &str,
 ) {
     let errors = format!(in rt.alloc(); "error: {sentence}\n").expect(rt, "memory");
-    for command in ["minimate,moves", "minimate,show", "minimate,check"] {
-        let told = tell(rt, command, fen);
+    for told in [
+        tell(rt, "minimate,moves", fen),
+        tell_composer(rt, "minimate,show", fen),
+        tell(rt, "minimate,check", fen),
+    ] {
         assert_eq!(rt; told.status, 1);
         assert!(rt; told.output.as_slice().starts_with(b"refused: "));
         assert_eq!(rt; told.errors.as_slice(), errors.as_bytes());
@@ -135,7 +138,7 @@ fn expect_taken<R: Threads + Wait + Abort + AllocGlobal + Eprint + Clock + Sync>
     rt: &R,
     fen: &str,
 ) {
-    let told = tell(rt, "minimate,show", fen);
+    let told = tell_composer(rt, "minimate,show", fen);
     assert_eq!(rt; told.status, 0);
     assert!(rt; told.errors.is_empty());
 }
@@ -456,6 +459,19 @@ fn explains_that_there_are_no_words(rt: HostRuntime) {
     expect(&rt, &told, 3, "refused: NoMemory\n", "");
 }
 
+/// Runs the words between the commas, and a last one: a drawing by the composer's program, which has it.
+fn tell_by_its_program<R: Threads + Wait + Abort + AllocGlobal + Eprint + Clock + Sync>(
+    rt: &R,
+    words: &str,
+    last: &str,
+) -> Told {
+    if words.starts_with("minimate,show") {
+        tell_composer(rt, words, last)
+    } else {
+        tell(rt, words, last)
+    }
+}
+
 /// Expects that the words between the commas are told a sentence behind what the parser says, and that with the change that it names
 /// they are a line.
 fn expect_hint<R: Threads + Wait + Abort + AllocGlobal + Eprint + Clock + Sync>(
@@ -469,7 +485,7 @@ fn expect_hint<R: Threads + Wait + Abort + AllocGlobal + Eprint + Clock + Sync>(
     let wanted = format!(in rt.alloc(); "error: {sentence}\n").expect(rt, "memory");
     assert!(rt; told.as_slice().ends_with(wanted.as_bytes()));
     let (words, last) = changed.rsplit_once(',').expect(rt, "two words");
-    assert!(rt; tell(rt, words, last).status != 2);
+    assert!(rt; tell_by_its_program(rt, words, last).status != 2);
 }
 
 /// Expects what each line of a table says: words, their sentence, and the words with the change that the sentence names.
@@ -719,7 +735,7 @@ fn tells_of_a_side_without_moves(rt: HostRuntime) {
     );
     let drawing =
         " 6  k . . . . R\n 5  . . . . . .\n 4  . K . . . .\n 3  . . . . . .\n 2  . . . . . .\n 1  . . . . . .\n    a b c d e f      Black to move\n";
-    let drawn = tell(&rt, "minimate,show", "k4R/6/1K4/6/6/6 b");
+    let drawn = tell_composer(&rt, "minimate,show", "k4R/6/1K4/6/6/6 b");
     expect(&rt, &drawn, 0, drawing, "");
     let refused = tell(
         &rt,
@@ -741,6 +757,9 @@ fn names_another_programs_command(rt: HostRuntime) {
     let here = tell(&rt, "minimate,verify", FEN);
     let said = "error: verify is another program's: write minimate verify\n";
     expect(&rt, &here, 2, "", said);
+    let drawing = tell(&rt, "minimate,show", FEN);
+    let said = "error: show is another program's: write minimate show\n";
+    expect(&rt, &drawing, 2, "", said);
     let solution = tell(&rt, "minimate,solution,--limit,3", FEN);
     let said = "error: solution is another program's: write minimate solution\n";
     expect(&rt, &solution, 2, "", said);

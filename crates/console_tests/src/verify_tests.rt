@@ -1,11 +1,11 @@
 //! Certificates on the input, made by hand. Their letters are places among lawful moves.
 use crate::whole_runs::{expect_with, run};
 use devices::Counted;
-use endings::Keeping;
 use std::process::Abort;
 use std::sync::Wait;
 use std::thread::Threads;
 use std::time::Clock;
+use verdicts::Keeping;
 
 // White's king comes to c5, the move p; Black's has a5 alone, and the rook mates on a1. The moves before it are a to o; i, the rook's
 // to b5, stalemates, and each other has a first reply that escapes.

@@ -2,12 +2,12 @@
 ghost use Rattle.std.specs.Prelude.{◌<◌};
 
 use devices::{Counted, Sink, Source};
-use endings::Input;
 use std::io::Write;
 use std::process::Abort;
 use std::sync::Wait;
 use std::thread::Threads;
 use std::time::Clock;
+use verdicts::Input;
 
 /// Runs the words by the program that answers their command, as the launcher does.
 pub fn run<
@@ -21,7 +21,7 @@ pub fn run<
 {
     match words.get(1) {
         Some(word) if *word == "verify" => verdicts::run(rt, words, reader, writer, errors),
-        Some(word) if *word == "solution" || *word == "certify" => {
+        Some(word) if matches!(*word, "solution" | "certify" | "show") => {
             composing::run(rt, words, writer, errors)
         }
         Some(word) if *word == "batch" => batches::run(rt, words, reader, writer, errors),

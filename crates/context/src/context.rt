@@ -6,7 +6,6 @@ ghost use Rattle.progress.specs.declared.watch.Course.{Course as TheCourse};
 ghost use Rattle.context.specs.Searching.{WatchesAt};
 
 use crate::limits::search_of;
-use crate::tally::Tally;
 use board::Position;
 use command_line::{Limits, asks_progress};
 use progress::{Course, Setting, Watch, shown};
@@ -24,7 +23,6 @@ pub struct Context<'a, R, C> {
     pub shows: bool,
     /// The number of a batch's line, and 0 where there is no batch.
     pub line: AtomicU64,
-    pub tally: Tally,
 }
 
 /// The context of what these words ask for, which shows how far a search is where they say so.
@@ -37,24 +35,10 @@ pub fn context_of<'a, R, C, W: AsStr>(rt: &'a R, crew: C, words: &[W]) -> Contex
         crew,
         shows: asks_progress(words),
         line: AtomicU64::new(0),
-        tally: Tally::quiet(),
     }
 }
 
-impl<'a, R, C> Context<'a, R, C> {
-    /// A context in which nobody is told how far a search is.
-    pub fn quiet(rt: &'a R, crew: C) -> Context<'a, R, C>
-        ensures { result.shows ≡ false }
-    {
-        Context {
-            rt,
-            crew,
-            shows: false,
-            line: AtomicU64::new(0),
-            tally: Tally::quiet(),
-        }
-    }
-
+impl<R, C> Context<'_, R, C> {
     /// The number of a batch's line.
     pub fn number(&self) -> u64 {
         self.line.load(Ordering::SeqCst)
@@ -63,7 +47,7 @@ impl<'a, R, C> Context<'a, R, C> {
 
 impl<R: Clock + AllocGlobal, C> Context<'_, R, C> {
     /// A watch over a search at a position that begins now, if it is to be shown.
-    pub fn watch(&self, position: &Position, course: Course, slots: u32) -> Option<Watch>
+    fn watch(&self, position: &Position, course: Course, slots: u32) -> Option<Watch>
         ensures quiet { self.now.shows ≡ false → result ≡ None }
         ensures watches { IfSome result (WatchesAt position.now course slots) }
     {
@@ -109,7 +93,7 @@ pub fn beside<R: Threads + Wait + Eprint + Clock + Sync, T, F: FnOnce() -> T>(
 }
 
 /// The last round up to the limit.
-pub fn last_round(limits: Limits) -> u8
+fn last_round(limits: Limits) -> u8
     ensures { 0 < limits.limit → limits.limit < 256 → IsLastRound limits.limit result }
 {
     let limit = search_of(limits).limit;

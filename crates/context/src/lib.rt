@@ -4,9 +4,7 @@
 mod context;
 mod limits;
 mod searching;
-mod tally;
 
-pub use context::{Context, beside, context_of, last_round};
+pub use context::{Context, beside, context_of};
 pub use limits::{Search, search_of};
-pub use searching::{Searched, opened, searched_at, table_within};
-pub use tally::Tally;
+pub use searching::{opened, table_within};

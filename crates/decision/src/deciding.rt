@@ -247,28 +247,6 @@ pub fn is_forced_until<S: Stop, A: Allocator>(
     }
 }
 
-/// `is_forced_until`, where nothing stops it. Who asks often keeps a memory, and asks that one.
-pub fn is_forced<A: Allocator>(
-    slots: &Slots<MateLore, A>,
-    seat: &mut Seat,
-    q: &Question,
-    n: u8,
-) -> bool
-    requires seat { IsSeatOf slots.now seat.old }
-    requires plies { n ≤ 63 }
-    ensures continues { Continues slots.now seat.old seat.new }
-    ensures answer { IsTrue result ↔ IsForced q.now n }
-{
-    let mut scout = Scout {
-        stop: Never,
-        memory: Memory::new(),
-    };
-    let Some(yes) = is_forced_until(slots, seat, &mut scout, q, n) else {
-        unreachable!()
-    };
-    yes
-}
-
 /// Whether the attacker forces the goal from the position within n plies, whatever the table holds and whatever its other callers
 /// do. The table is asked first of this position, in its own two slots, and where it doesn't know the answer, of those below, as
 /// `decide_until` says. What it was asked of and didn't know is stored after its own subtree.

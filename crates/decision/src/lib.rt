@@ -15,10 +15,12 @@ mod scout;
 mod searching;
 mod storing;
 mod turning;
+mod underway;
 
-pub use deciding::{decide, decide_on, decide_until, is_forced, is_forced_until};
+pub use deciding::{decide, decide_on, decide_until, is_forced_until};
 pub use decision::Decision;
 pub use memory::Memory;
 pub use order::in_order;
 pub use scout::{Never, Scout, Stop};
 pub use turning::{Turning, turned};
+pub use underway::Underway;

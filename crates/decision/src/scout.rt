@@ -2,6 +2,7 @@
 ghost use Rattle.std.specs.Prelude.{IsTrue};
 
 use crate::memory::Memory;
+use crate::underway::Underway;
 
 /// What may stop a search, and is told how far it is. It is asked before the moves of a position are tried, down to the last plies.
 pub trait Stop {
@@ -22,21 +23,10 @@ pub trait Stop {
     /// A move of the root more was tried.
     fn step(&self) {}
 
-    /// Whether moves are put off whose positions other callers search. No answer rests on it: it changes the order alone.
-    fn puts_off(&self) -> bool {
-        false
+    /// Which positions callers search, where moves to these are put off. No answer rests on it: it changes the order alone.
+    fn underway(&self) -> Option<&Underway> {
+        None
     }
-
-    /// Whether another caller searches the position of this key, as far as is known. This and the next two are called only where moves are put off.
-    fn is_busy(&self, _key: [u64; 3]) -> bool {
-        false
-    }
-
-    /// The search of the position of this key begins.
-    fn enter(&self, _key: [u64; 3]) {}
-
-    /// The search of the position of this key ends.
-    fn leave(&self, _key: [u64; 3]) {}
 
     // Nothing happened.
     ghost stays_at_once: { (a : Self) → stays a a };
@@ -53,7 +43,7 @@ pub struct Scout<S> {
 }
 
 /// Nothing stops a search.
-#[derive(Clone, Copy, PartialEq, Eq, Debug)]
+#[derive(Clone, Copy)]
 pub struct Never;
 
 impl Stop for Never {

@@ -30,11 +30,8 @@ const LOOKED_FROM: u8 = 6;
 /// From so many plies on an attacker's position is searched round by round.
 const ROUNDS_FROM: u8 = 11;
 
-/// From so many plies on moves are put off.
-const PUT_OFF_FROM: u8 = 5;
-
-/// From so many plies on other callers learn that a position is searched. A ply above it, moves are put off.
-const ENTERED_FROM: u8 = PUT_OFF_FROM - 1;
+/// From so many plies on other callers learn that a position is searched, and moves to those that they search are put off.
+const ENTERED_FROM: u8 = 4;
 
 /// The answer for n plies, where the table knows of a position below that ends the search: on the attacker's turn one that wins, on the
 /// defender's one that escapes.
@@ -114,7 +111,10 @@ enum Pass {
 
 /// Whether the move at this place of the list, which leads to the position, is put off. The first never is.
 fn is_put_off<S: Stop>(stop: &S, place: usize, next: &Question) -> bool {
-    0 < place && stop.is_busy(table_key(next))
+    match stop.underway() {
+        Some(underway) => 0 < place && underway.has(table_key(next)),
+        None => false,
+    }
 }
 
 /// A pass over the moves, which are all: those that aren't put off are tried in turn, until one ends the search.
@@ -153,31 +153,7 @@ fn try_free<S: Stop, A: Allocator>(
 }
 
 /// The answer by a pass that may put moves off, and where it did and no move ended the search, by all of them: the table knows those that
-/// were tried.
-#[cycle(searching)]
-fn try_free_first<S: Stop, A: Allocator>(
-    caller: &mut Caller<'_, A>,
-    lead: &mut Lead<'_, S>,
-    q: &Question,
-    n: u8,
-    moves: &[Move],
-) -> Option<bool>
-    requires plies { (3 < n) × (n ≤ 63) }
-    requires lists { ListsAll q.now.position moves.now }
-    requires some { 0 < length moves.now }
-    ensures goes_on { Searches S.stays caller.old caller.new lead.old lead.new }
-    ensures answer { MatchOption result (S.told lead.new.scout.now.stop) (λ yes. IsTrue yes ↔ IsForced q.now n) }
-{
-    if n < PUT_OFF_FROM {
-        return try_listed(caller, lead, q, n, moves);
-    }
-    match try_free(caller, lead, q, n, moves)? {
-        Pass::Answers(yes) => Some(yes),
-        Pass::PutOff => try_listed(caller, lead, q, n, moves),
-    }
-}
-
-/// The answer by the moves. Other callers learn that the search of the position begins, and that it ends.
+/// were tried. Other callers learn that the pass begins, and that it ends.
 #[cycle(searching)]
 #[inline(never)]
 fn search_entered<S: Stop, A: Allocator>(
@@ -194,15 +170,17 @@ fn search_entered<S: Stop, A: Allocator>(
     ensures answer { MatchOption result (S.told lead.new.scout.now.stop) (λ yes. IsTrue yes ↔ IsForced q.now n) }
 {
     let key = table_key(q);
-    lead.scout.stop.enter(key);
-    let found = try_free_first(caller, lead, q, n, moves);
-    lead.scout.stop.leave(key);
-    found
-}
-
-/// Whether other callers learn that a position is searched for n plies.
-fn is_entered<S: Stop>(stop: &S, n: u8) -> bool {
-    stop.puts_off() && ENTERED_FROM <= n
+    if let Some(underway) = lead.scout.stop.underway() {
+        underway.enter(key);
+    }
+    let found = try_free(caller, lead, q, n, moves);
+    if let Some(underway) = lead.scout.stop.underway() {
+        underway.leave(key);
+    }
+    match found? {
+        Pass::Answers(yes) => Some(yes),
+        Pass::PutOff => try_listed(caller, lead, q, n, moves),
+    }
 }
 
 /// The answer for n plies by the positions after the moves, which are all.
@@ -223,10 +201,10 @@ fn search_listed<S: Stop, A: Allocator>(
     if let Some(yes) = known_below(caller, q, n, moves) {
         return Some(yes);
     }
-    if is_entered(&lead.scout.stop, n) {
-        return search_entered(caller, lead, q, n, moves);
+    if n < ENTERED_FROM || lead.scout.stop.underway().is_none() {
+        return try_listed(caller, lead, q, n, moves);
     }
-    try_listed(caller, lead, q, n, moves)
+    search_entered(caller, lead, q, n, moves)
 }
 
 /// The answer by the moves in the room for them, where they are many.

@@ -10,7 +10,7 @@ use board::{Game, Side, Unit};
 use moves::{Board, Square};
 
 /// A way to turn a board about: left and right are exchanged, then top and bottom, and then files and ranks.
-#[derive(Clone, Copy, PartialEq, Eq, Debug)]
+#[derive(Clone, Copy)]
 pub struct Turning {
     pub left_right: bool,
     pub top_bottom: bool,

@@ -1,4 +1,2 @@
 mod DeviceLemmas
-pub mod LineLemmas
-pub mod WithinLemmas
 pub mod InputLemmas

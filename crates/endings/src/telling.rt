@@ -3,7 +3,7 @@ ghost use Rattle.std.specs.Prelude.{◌≡◌, ◌⊎◌, ◌<◌};
 ghost use Rattle.endings.specs.Run.{ending_of, MayTell, Refuses};
 
 use crate::ending::{has_no_answer, refuse};
-use command_line::{NamedMove, Subject};
+use command_line::NamedMove;
 use devices::Sink;
 use refusals::{Asking, Refusal, Refused, advise, advise_move};
 use std::alloc::Global;
@@ -59,30 +59,4 @@ pub fn refuse_move<R: AllocGlobal, K: Sink, E: Write>(
         let _ = tell_move(errors, played, refusal);
     }
     status
-}
-
-/// What was refused to a search at the position of this text.
-pub fn search_refused(fen: &[u8], refusal: Refusal) -> Refused<'_>
-    ensures { result.refusal ≡ refusal }
-{
-    Refused {
-        refusal,
-        fen,
-        asking: Asking::Search,
-    }
-}
-
-/// What was refused to a certificate that begins so.
-pub fn proof_refused<'a>(
-    subject: &Subject<'a>,
-    beginning: &'a [u8],
-    refusal: Refusal,
-) -> Refused<'a>
-    ensures { result.refusal ≡ refusal }
-{
-    Refused {
-        refusal,
-        fen: subject.fen,
-        asking: Asking::Proof(subject.goal, beginning),
-    }
 }

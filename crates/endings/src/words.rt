@@ -42,7 +42,7 @@ fn say_no_order<E: Write>(
     matches: &ArgMatches<'_>,
 ) -> io::Result<()> {
     match matches.subcommand() {
-        Some((name, _)) if !own.iter().any(|command| *command == name) => write!(
+        Some((name, _)) if !own.contains(&name) => write!(
             errors,
             "error: {name} is another program's: write minimate {name}\n"
         ),

@@ -9,7 +9,7 @@ pub use Rattle.board.specs.declared.game.Side.{Side}
 pub use Rattle.board.specs.declared.game.Side.TheVariants.{Black, White}
 pub use Rattle.board.specs.declared.game.Unit.{Unit as Man}
 pub use Rattle.entry.specs.Bounds.{Bounds, IsBounds, bounds_of}
-pub use Rattle.entry.specs.Keys.{key_words, no_byte, slot_number}
+pub use Rattle.entry.specs.Keys.{key_words, no_byte}
 pub use Rattle.entry.specs.Laws.{SameQuestion}
 pub use Rattle.entry.specs.Marks.{marks_number}
 pub use Rattle.entry.specs.Packing.{Packing, code_of, entry_of, first_word, game_bit, goal_bit, man_code, rank_pair, second_word, side_bit, squares_word, third_word, upto_byte}

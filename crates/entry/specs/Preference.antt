@@ -1,5 +1,5 @@
 -- The preference as a test of any words: it reads the entry that they would stand for, and sees whether its packing gives them back.
-use Rattle.std.specs.Prelude.{◌≡◌, ℕ, zero, suc, ◌↔◌, IsTrue, ◌+◌, ◌-◌, ◌*◌, ◌/◌, ◌%◌, ◌^◌, Bool, true, false, ◌&&◌, if◌then◌else◌, ◌==◌, nat_lt, nat_le, List, [], ◌∷◌, ◌++◌, length, replicate, count_by, slice_index, Option, Some, None}
+use Rattle.std.specs.Prelude.{◌≡◌, ℕ, zero, suc, ◌+◌, ◌-◌, ◌*◌, ◌/◌, ◌%◌, ◌^◌, Bool, true, false, ◌&&◌, if◌then◌else◌, ◌==◌, nat_lt, nat_le, List, [], ◌∷◌, ◌++◌, length, replicate, count_by, slice_index, Option, Some, None}
 use Rattle.std.specs.Str.{bytes_eq}
 use Rattle.std.proofs.Common.{refl}
 use Rattle.board.specs.declared.game.Game.{Game}
@@ -18,7 +18,7 @@ use Rattle.entry.specs.Bounds.{Bounds, bounds_of}
 use Rattle.entry.specs.declared.entries.Entry.{Entry}
 use Rattle.entry.specs.Packing.{upto_byte, entry_of, first_word, second_word, third_word}
 use Rattle.entry.specs.Keys.{key_words}
-use Rattle.entry.specs.Prefers.{weight, ArePreferred}
+use Rattle.entry.specs.Prefers.{weight}
 
 -- ---- the entry that words would stand for
 
@@ -114,10 +114,6 @@ mate_prefers old new = is_packing old && (is_packing new
     && (if bytes_eq (key_words old) (key_words new)
     then says_all (entry_in old).interval (entry_in new).interval
     else nat_lt (weight (entry_in new).interval) (weight (entry_in old).interval)))
-
--- the test answers what is preferred
-abbrev pub TestIsPreference : Type 0
-TestIsPreference = (old new : List ℕ) → IsTrue (mate_prefers old new) ↔ ArePreferred old new
 
 -- three zero words never stay
 pub zeros_give_way : (new : List ℕ) → mate_prefers (0 ∷ 0 ∷ 0 ∷ []) new ≡ false

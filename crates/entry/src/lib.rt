@@ -13,7 +13,7 @@ mod worth;
 pub use entries::Entry;
 pub use interval::{Interval, meet};
 pub use keys::{key_of, slot_of};
-pub use laws::{interval_laws, key_laws, packing_laws, preference_laws};
+pub use laws::interval_laws;
 pub use lore::MateLore;
 pub use packing::{interval_of, pack, pack_board, unpack};
 pub use worth::prefers;

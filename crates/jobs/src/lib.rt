@@ -1,5 +1,5 @@
-//! The jobs of one round of a search, as threads share them, without locks: the least job known to win, and the deques from which jobs are
-//! stolen. Nothing of chess is known here.
+//! The jobs of one round of a search, as threads share them, without locks: the least job known to win, and the deques from which threads
+//! steal. Nothing of chess is known here.
 #![tactic(auto)]
 
 mod deques;

@@ -9,7 +9,7 @@ pub use Rattle.board.specs.declared.game.Side.{Side}
 pub use Rattle.board.specs.declared.game.Side.TheVariants.{Black, White}
 pub use Rattle.board.specs.declared.game.Unit.{Unit as Man}
 pub use Rattle.board.specs.declared.step.Step.{Step}
-pub use Rattle.laws.specs.Turnings.{HasNoPawn, IsTurned, KeepsAhead, MayTurn, Turning, exchanged, files_mirror, mirrored, place_over, sides_mirror, turned_move, turned_place, turned_side, turned_unit, turned_units}
+pub use Rattle.laws.specs.Turnings.{HasNoPawn, IsTurned, KeepsAhead, MayTurn, Turning, exchanged, mirrored, place_over, turned_move, turned_place, turned_side, turned_unit, turned_units}
 pub use Rattle.rules.proofs.Keeps.{to_on_board}
 pub use Rattle.rules.proofs.Listed.{number_within, same_number}
 pub use Rattle.rules.proofs.Rides.{same_place, size-ahead}

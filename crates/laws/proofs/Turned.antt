@@ -1,7 +1,6 @@
 -- A turned board turned back, and what stands on it.
 use Rattle.std.proofs.Common.{get_or-set_other, get_or-set_same, ◌≡◌, ℕ, ◌<◌, ◌≤◌, ◌⊎◌, inl, inr, refl, sym, ap, subst, ◌∙◌, arith, Bool, true, false, length, Option, Some, None}
 use Rattle.laws.proofs.Common.{set, length-set, Game, LosAlamos, Gardner, Pawn, Man, squares_of, PlainBoard, unit_on, Place, Ply, IsOnBoard, square_number, unit_at, placed, after, same_place, same_number, number_within, Turning, turned_place, turned_units, IsTurned, KeepsAhead, MayTurn}
-use Rattle.laws.specs.Laws.{WhereTurned, StaysTurned}
 use Rattle.laws.proofs.Squares.{back_over, back_of, turned_on_board, turned_back, turned_there, back_side}
 
 -- ---- back
@@ -46,10 +45,6 @@ MayTurn-back t b c turned (inl keeps) = inl (back_keeps t.left_right t.top_botto
 MayTurn-back t b c turned (inr none) = inr (λ s u on stands. none _ _
     (image_on_board (back_of t) c b (IsTurned-back t b c turned) s on)
     ((IsTurned-back t b c turned).units s on ∙ ap (turned_units (back_of t)) stands))
-
--- what goes over to each turned board is there no less
-pub both_ways : (P : PlainBoard → Type 0) → WhereTurned (λ t b c. P b → P c) → StaysTurned P
-both_ways P over t b c turned may = (over t b c turned may, over (back_of t) c b (IsTurned-back t b c turned) (MayTurn-back t b c turned may))
 
 -- where a pawn stands, the turning keeps what is ahead
 pub pawn_keeps : (t : Turning) (b : PlainBoard) → MayTurn t b → (s : Place) (u : Man) → IsOnBoard b.game s → unit_at b s ≡ Some u → u.kind ≡ Pawn → KeepsAhead t

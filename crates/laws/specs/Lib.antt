@@ -1,3 +1,2 @@
 -- to be believed
 pub mod Turnings
-pub mod Laws

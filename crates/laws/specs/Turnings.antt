@@ -72,11 +72,3 @@ HasNoPawn b = (s : Place) (u : Man) → IsOnBoard b.game s → unit_at b s ≡ S
 -- the board may be turned so: it has no pawn, or pawns go ahead as before
 abbrev pub MayTurn : Turning → PlainBoard → Type 0
 MayTurn t b = KeepsAhead t ⊎ HasNoPawn b
-
--- left and right are exchanged
-abbrev pub files_mirror : Turning
-files_mirror = record { left_right = true; top_bottom = false; diagonal = false; sides = false }
-
--- top and bottom are exchanged, and so are White and Black
-abbrev pub sides_mirror : Turning
-sides_mirror = record { left_right = false; top_bottom = true; diagonal = false; sides = true }

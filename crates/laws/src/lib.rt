@@ -1,6 +1,2 @@
-//! Laws of the rules, for a reader: boards that are turned about or mirrored, and play on them.
+//! Boards that are turned about or mirrored: what this means, and lemmas of the play on them. There is no code.
 #![tactic(auto)]
-
-mod turning;
-
-pub use turning::{mirror_laws, turned_board_laws, turned_play_laws};

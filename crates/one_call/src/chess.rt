@@ -1,14 +1,14 @@
 //! Calls of `board`, `moves` and `entry`, which take no memory. Each is made once or more.
 use arrayvec::{ArrayString, ArrayVec};
-use board::{Game, Kind, Position, Side, fen_text, notation_laws, parse_betza, pieces, read_fen};
+use board::{Game, Kind, Position, Side, fen_text, parse_betza, pieces, read_fen};
 use entry::{
-    Entry, Interval, MateLore, interval_laws, interval_of, key_laws, key_of, meet, pack,
-    pack_board, packing_laws, preference_laws, prefers, slot_of, unpack,
+    Entry, Interval, MateLore, interval_laws, interval_of, key_of, meet, pack, pack_board, prefers,
+    slot_of, unpack,
 };
 use moves::{
-    Board, Goal, Move, Square, after, apply, count_lawful, forced_mate_laws, gives_check,
-    has_lawful_move, in_check, is_lawful, is_lawful_on, lawful, lawful_on, list_lawful,
-    mates_at_once, mover_in_check, ray, reaches_at_once, read_sound, sound,
+    Board, Goal, Move, Square, after, apply, count_lawful, gives_check, has_lawful_move, in_check,
+    is_lawful, is_lawful_on, lawful, lawful_on, list_lawful, mates_at_once, mover_in_check, ray,
+    reaches_at_once, read_sound, sound,
 };
 use slots::Lore;
 use std::fmt::Write;
@@ -36,7 +36,6 @@ fn is_same(one: &Position, other: &Position) -> bool {
 
 /// The calls of `board`.
 fn of_board(root: &Position) -> bool {
-    notation_laws();
     let game = root.game();
     let Some(again) = Position::of(game, root.mover(), &root.units()) else {
         return false;
@@ -52,7 +51,6 @@ fn of_board(root: &Position) -> bool {
 
 /// The calls of `moves` on positions.
 fn of_positions(root: &Position) -> bool {
-    forced_mate_laws();
     let listed = lawful(root).len() == 16 && sound(root) && !in_check(root, Side::Black);
     let far = ray(Game::LosAlamos, 5, 0, 1).len() == 5;
     let mut text = ArrayString::<8>::new();
@@ -89,10 +87,7 @@ fn of_boards(root: &Position) -> bool {
 
 /// The calls of `entry`.
 fn of_entries(root: &Position) -> bool {
-    packing_laws();
-    key_laws();
     interval_laws();
-    preference_laws();
     let entry = Entry {
         position: *root,
         attacker: Side::White,

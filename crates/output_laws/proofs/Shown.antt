@@ -14,12 +14,12 @@ use Rattle.wintree.specs.Plan.{Plan}
 use Rattle.wintree.specs.Text.{text as plan_text}
 use Rattle.wintree.specs.Wins.{Wins, height}
 use Rattle.wintree.proofs.Listings.{one_list}
-use Rattle.wintree.proofs.OneText.{one_text}
-use Rattle.trees.proofs.Unique.{one_best}
+use Rattle.text_laws.proofs.OneText.{one_text}
+use Rattle.answer_laws.proofs.Unique.{one_best}
 use Rattle.command_line.specs.declared.line.Line.{Line}
 use Rattle.command_line.specs.declared.line.Limits.{Limits}
 use Rattle.command_line.specs.declared.line.Action.{Action}
-use Rattle.command_line.specs.declared.line.Action.TheVariants.{Solve, Keys, Moves, Show, Tree, Check}
+use Rattle.command_line.specs.declared.line.Action.TheVariants.{Solve, Keys, Moves, Tree, Check}
 use Rattle.devices.specs.Input.{without_line_feed}
 use Rattle.refusals.specs.Refusal.{refusal_of_fen, refusal_of_tree}
 use Rattle.answer_texts.specs.Answers.{answer_text, keys_text, moves_text, checked_text}
@@ -78,7 +78,6 @@ one_shown b (Solve goal limits) input = one_match (fault_of limits) _ (λ fault.
 one_shown b (Keys goal limits) input = one_match (fault_of limits) _ (λ fault. refused (refusal_of_solve fault))
     (λ x y p q. p.2 ∙ ap (λ ks. answered (keys_text limits.limit ks)) (one_list_of_keys goal b limits.limit p.0 q.0 p.1 q.1) ∙ sym q.2)
 one_shown b Moves input = λ x y p q. p.2 ∙ ap (λ ms. answered (moves_text ms)) (one_list b p.0 q.0 p.1 q.1) ∙ sym q.2
-one_shown b (Show drawing) input = λ x y p q. p ∙ sym q
 one_shown b (Tree goal limits) input = one_match (fault_of limits) (ShowsBest goal b limits.limit) (λ fault. refused (refusal_of_solve fault)) (one_best_shown goal b limits.limit)
 one_shown b (Check goal) input = one_bool _ _ (ShowsTree goal b (without_line_feed input)) (one_tree_shown goal b (without_line_feed input))
 
@@ -99,7 +98,6 @@ other_input : (b : PlainBoard) (action : Action) (input other : List ℕ) (reply
 other_input b (Solve goal limits) input other reply none shows = shows
 other_input b (Keys goal limits) input other reply none shows = shows
 other_input b Moves input other reply none shows = shows
-other_input b (Show drawing) input other reply none shows = shows
 other_input b (Tree goal limits) input other reply none shows = shows
 other_input b (Check goal) input other reply none shows = absurd (none goal refl)
 

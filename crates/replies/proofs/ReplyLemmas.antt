@@ -12,7 +12,7 @@ use Rattle.context.proofs.Refused.{refused_by}
 use Rattle.context.specs.Limits.{IsRefusedWithin, fault_of}
 use Rattle.rules.specs.declared.goal.Goal.{Goal}
 use Rattle.command_line.specs.declared.line.Limits.{Limits}
-use Rattle.command_line.specs.declared.line.Action.TheVariants.{Solve, Keys, Moves, Show, Tree, Check}
+use Rattle.command_line.specs.declared.line.Action.TheVariants.{Solve, Keys, Moves, Tree, Check}
 use Rattle.refusals.specs.Reply.{Reply, answered, refused}
 use Rattle.refusals.specs.Refusal.{refusal_of_fen}
 use Rattle.command_line.specs.declared.line.Line.{Line}
@@ -116,7 +116,6 @@ reads_none (Check goal) known none = absurd (none goal refl)
 reads_none (Solve goal limits) known none = refl
 reads_none (Keys goal limits) known none = refl
 reads_none (Tree goal limits) known none = refl
-reads_none (Show drawing) known none = refl
 reads_none Moves known none = refl
 
 -- ---- replies

@@ -1,5 +1,4 @@
 -- to be believed
-pub mod Drawings
 pub mod Output
 pub mod Playing
 pub mod First

@@ -17,14 +17,13 @@ use Rattle.wintree.specs.Plan.{Plan, depth}
 use Rattle.wintree.specs.Text.{TreeText, text as plan_text}
 use Rattle.wintree.specs.Wins.{Wins, height}
 use Rattle.answer_texts.specs.Answers.{answer_text, checked_text, keys_text, moves_text, none_text}
-use Rattle.replies.specs.Drawings.{drawn}
 use Rattle.devices.specs.Input.{without_line_feed}
 use Rattle.refusals.specs.Refusal.{refusal_of_tree}
 use Rattle.refusals.specs.Reply.{Reply, answered, refused, line_of}
 use Rattle.command_line.specs.declared.line.Line.{Line}
 use Rattle.command_line.specs.declared.line.Limits.{Limits}
 use Rattle.command_line.specs.declared.line.Action.{Action}
-use Rattle.command_line.specs.declared.line.Action.TheVariants.{Solve, Keys, Moves, Show, Tree, Check}
+use Rattle.command_line.specs.declared.line.Action.TheVariants.{Solve, Keys, Moves, Tree, Check}
 use Rattle.refusals.specs.declared.refusal.Refusal.TheVariants.{TooLong}
 use Rattle.refusals.specs.Outcome.{IsSoundText, IsReplyAt}
 use Rattle.context.specs.Limits.{fault_of, refusal_of_solve}
@@ -88,7 +87,6 @@ abbrev pub ShowsCommand : PlainBoard → Action → List ℕ → Reply → Type 
 ShowsCommand b (Solve goal limits) input reply = ShowsAnswer goal b limits reply
 ShowsCommand b (Keys goal limits) input reply = ShowsKeys goal b limits reply
 ShowsCommand b Moves input reply = ShowsMoves b reply
-ShowsCommand b (Show drawing) input reply = reply ≡ answered (drawn drawing b)
 ShowsCommand b (Tree goal limits) input reply = ShowsPlanFound goal b limits reply
 ShowsCommand b (Check goal) input reply = ShowsCheck goal b input reply
 

@@ -1,7 +1,6 @@
 //! The text that answers a line, or why there is none, over any reader and whoever searches.
 #![tactic(auto)]
 
-mod drawn;
 mod first;
 mod played;
 mod replying;

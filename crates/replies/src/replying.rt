@@ -8,17 +8,15 @@ ghost use Rattle.devices.specs.Input.{OfInput};
 ghost use Rattle.problems.specs.Answer.{IsAnswer};
 ghost use Rattle.problems.specs.Keys.{ListsKeys};
 ghost use Rattle.searcher.specs.Best.{IsBestWithin};
-ghost use Rattle.replies.specs.Drawings.{drawn as board_drawing};
 ghost use Rattle.replies.specs.Outcome.{GivesReply};
 ghost use Rattle.refusals.specs.Outcome.{Gives, GivesIfRead, reads_failed};
 ghost use Rattle.answer_texts.specs.Answers.{none_text};
 ghost use Rattle.replies.specs.Output.{MayRead, ShowsAnswer, ShowsBest, ShowsCheck, ShowsKeys, ShowsMoves, ShowsPlanFound, ShowsTree};
 ghost use Rattle.refusals.specs.Reply.{answered, line_of};
 
-use crate::drawn::drawn;
 use answer_texts::{answer_text, checked_text, keys_text, moves_text, none_text};
 use board::Position;
-use command_line::{Action, Drawing, Limits, Line};
+use command_line::{Action, Limits, Line};
 use context::{Context, beside, opened};
 use devices::{Source, read_all, without_line_feed};
 use moves::{Goal, lawful, read_sound};
@@ -206,13 +204,6 @@ fn moves_shown(alloc: Global, position: &Position) -> Result<Vec<u8>, Refusal>
     Ok(moves_text(alloc, moves.as_slice())?.into_bytes())
 }
 
-/// What `show` shows of a position.
-fn drawing_shown(alloc: Global, position: &Position, drawing: Drawing) -> Result<Vec<u8>, Refusal>
-    ensures { Gives vec_items (λ reply. reply ≡ answered (board_drawing drawing position.now)) result }
-{
-    Ok(drawn(alloc, position, drawing)?.into_bytes())
-}
-
 /// The text that answers a line. Only `check` asks the reader for anything, and only where the position is sound; then `errors` is told why
 /// a tree doesn't win.
 pub fn reply_to<
@@ -242,6 +233,5 @@ pub fn reply_to<
         Action::Keys(goal, limits) => Ok(keys_shown(context, watch, &position, goal, limits)?),
         Action::Tree(goal, limits) => Ok(tree_shown(context, watch, &position, goal, limits)?),
         Action::Moves => Ok(moves_shown(alloc, &position)?),
-        Action::Show(drawing) => Ok(drawing_shown(alloc, &position, drawing)?),
     }
 }

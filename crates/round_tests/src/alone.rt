@@ -6,7 +6,7 @@ use crate::lent_tables::{problem, table};
 use crate::solves::{expected, root};
 use moves::{Board, Goal, Move, Square};
 use problems::{Answer, Key};
-use searcher::{keys_alone, solve_board_alone};
+use solver::{keys_alone, solve_board_alone};
 use std::alloc::Global;
 use std::process::Abort;
 use std::test::*;

@@ -7,11 +7,10 @@ ghost use Rattle.rounds.specs.Seats.{AreJobSeats};
 ghost use Rattle.rounds.specs.Shares.{IsRound, WinsHere, IsShare, AreDealt, seats_back};
 ghost use Rattle.rounds.specs.Going.{SeatGoesOn, EachGoesOn, SeatsGoOn};
 
-use crate::busy::Busy;
 use crate::share::{Share, Verdict, memory_of};
 use crate::shared::{JobStop, RootJobs, Round, Solve};
 use crate::telling::decide_job;
-use decision::Scout;
+use decision::{Scout, Underway};
 use jobs::{Count, JobSeat, Least, MakeFault, Thief, deal};
 use searcher::Gate;
 use slots::Seat;
@@ -56,7 +55,7 @@ fn deal_out<'a, J: Count, T: Gate>(
         let stop = JobStop {
             least: round.least,
             decided: round.decided,
-            busy: round.busy,
+            underway: round.underway,
             seat: job_seat,
             jobs: count,
             job: 0,
@@ -88,12 +87,16 @@ fn none_decided(alloc: Global, jobs: u16) -> Result<Vec<AtomicBool>, AllocError>
     Ok(decided)
 }
 
-/// No position is searched. Two callers put nothing off, since it gains nothing, nor do more where none joins in another's jobs.
-fn none_busy(alloc: Global, callers: u8, is_joined: bool) -> Result<Busy, AllocError> {
+/// Which positions are searched, none yet. Two callers put nothing off, since it gains nothing, nor do more where none joins in another's jobs.
+fn none_underway(
+    alloc: Global,
+    callers: u8,
+    is_joined: bool,
+) -> Result<Option<Underway>, AllocError> {
     if callers < 3 || !is_joined {
-        return Ok(Busy::nowhere(alloc));
+        return Ok(None);
     }
-    Busy::new(alloc)
+    Ok(Some(Underway::new(alloc)?))
 }
 
 /// The seats go back to where they came from, each to its place.
@@ -226,13 +229,13 @@ pub(crate) fn round<J: Count + Send + Sync, T: Gate, R: Threads + Wait + Sync>(
         Err(MakeFault::Size) => unreachable!(),
     };
     let decided = none_decided(alloc, root.jobs())?;
-    let busy = none_busy(alloc, callers, search.is_joined(plies))?;
+    let underway = none_underway(alloc, callers, search.is_joined(plies))?;
     let round = Round {
         search,
         plies,
         least: &least,
         decided: &decided,
-        busy: &busy,
+        underway: &underway,
     };
     work_all::<J, T, R>(rt, alloc, &round, job_seats, seats)
 }

@@ -2,9 +2,8 @@
 ghost use Rattle.std.specs.Prelude.{◌≡◌, IsTrue, length};
 ghost use Rattle.jobs.specs.Promise.{IsJobSeatOf};
 
-use crate::busy::Busy;
 use board::Position;
-use decision::Stop;
+use decision::{Stop, Underway};
 use entry::MateLore;
 use jobs::{JobSeat, Least, Wins};
 use moves::Goal;
@@ -58,8 +57,8 @@ pub(crate) struct Round<'a, T: Gate> {
     pub least: &'a Least<RootJobs>,
     /// Whether some thread has decided the job, for each job. No answer rests on it.
     pub decided: &'a Vec<AtomicBool>,
-    /// Which positions are searched.
-    pub busy: &'a Busy,
+    /// Which positions are searched, where moves to these are put off.
+    pub underway: &'a Option<Underway>,
 }
 
 /// Stops the search of a job once one below it wins, or, of a thread that has joined, once the job is decided: the round's words, a thread's
@@ -68,7 +67,7 @@ pub(crate) struct Round<'a, T: Gate> {
 pub(crate) struct JobStop<'a> {
     pub least: &'a Least<RootJobs>,
     pub decided: &'a Vec<AtomicBool>,
-    pub busy: &'a Busy,
+    pub underway: &'a Option<Underway>,
     pub seat: JobSeat<RootJobs>,
     pub jobs: u16,
     pub job: u16,
@@ -115,20 +114,8 @@ impl Stop for JobStop<'_> {
         self.least.is_below(&mut self.seat, self.job)
     }
 
-    fn puts_off(&self) -> bool {
-        self.busy.is_kept()
-    }
-
-    fn is_busy(&self, key: [u64; 3]) -> bool {
-        self.busy.has(key)
-    }
-
-    fn enter(&self, key: [u64; 3]) {
-        self.busy.enter(key);
-    }
-
-    fn leave(&self, key: [u64; 3]) {
-        self.busy.leave(key);
+    fn underway(&self) -> Option<&Underway> {
+        self.underway.as_ref()
     }
 
     ghost stays_at_once = { λ _. (refl, refl, Prim.search rules, refl) };

@@ -5,7 +5,6 @@ pub mod Reach
 pub mod Moves
 pub mod Order
 pub mod Forces
-pub mod Laws
 pub mod Reading
 pub mod Rays
 -- inside

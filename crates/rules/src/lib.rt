@@ -2,7 +2,6 @@
 #![tactic(auto)]
 
 mod goal;
-mod laws;
 mod list;
 mod names;
 mod plies;
@@ -12,7 +11,6 @@ mod reading;
 mod squares;
 
 pub use goal::Goal;
-pub use laws::forced_mate_laws;
 pub use list::{PROMOTIONS, lawful};
 pub use names::read_move;
 pub use plies::{Move, apply, is_king, is_lawful, is_promoted_well, promotes};

@@ -29,7 +29,7 @@ pub trait Gate: Sync {
 }
 
 /// The gate that does nothing.
-#[derive(Clone, Copy, PartialEq, Eq, Debug)]
+#[derive(Clone, Copy)]
 pub struct NoGate;
 
 impl Gate for NoGate {

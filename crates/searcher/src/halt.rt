@@ -6,7 +6,7 @@ use std::alloc::AllocFailed;
 use wintree::NoMemory;
 
 /// Why a search ended without an answer.
-#[derive(Clone, Copy, PartialEq, Eq, Debug)]
+#[derive(Clone, Copy, Debug)]
 pub enum Halt {
     /// It was told to stop.
     Stopped,

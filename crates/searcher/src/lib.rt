@@ -1,7 +1,6 @@
 //! One thread's way through a root's moves: solves and keys, by whoever decides whether a move wins.
 #![tactic(auto)]
 
-mod alone;
 mod crew;
 mod decider;
 mod fault;
@@ -12,7 +11,6 @@ mod searcher;
 mod solving;
 mod table;
 
-pub use alone::{keys_alone, solve_alone, solve_board_alone};
 pub use crew::Crew;
 pub use decider::Decider;
 pub use fault::SolveFault;

@@ -1,4 +1,4 @@
-//! Slots of three words that any number of threads read and store into, without locks.
+//! Slots of three words that any number of threads read and store into, without locks. Nothing of chess is known here.
 #![tactic(auto)]
 
 mod calls;

@@ -1,3 +1,4 @@
 pub mod RowFacts
 pub mod PositionTexts
 pub mod Faults
+pub mod OneText

@@ -1,2 +1,3 @@
 -- to be believed
+pub mod Notation
 pub mod Texts

@@ -24,6 +24,17 @@ fn expect_none<R: Abort + AllocGlobal>(rt: &R, words: &[&str]) {
     }
 }
 
+/// Expects the words to mean this drawing of the position of `FEN`.
+fn expect_drawing<R: Abort + AllocGlobal>(rt: &R, words: &[&str], drawing: Drawing) {
+    match read_order(rt.alloc(), words) {
+        Ok(Order::Show(fen, asked)) => {
+            assert_eq!(rt; fen, FEN.as_bytes());
+            assert!(rt; asked == drawing);
+        }
+        _ => panic!(rt; "no drawing"),
+    }
+}
+
 #[test]
 fn shows_as_it_is_asked(rt: HostRuntime) {
     let plain = Drawing {
@@ -31,17 +42,17 @@ fn shows_as_it_is_asked(rt: HostRuntime) {
         unicode: false,
         black: false,
     };
-    expect_action(&rt, &["minimate", "show", FEN], Action::Show(plain));
+    expect_drawing(&rt, &["minimate", "show", FEN], plain);
     let turned = Drawing {
         unicode: true,
         black: true,
         ..plain
     };
     let words = ["minimate", "show", "--black", "--unicode", FEN];
-    expect_action(&rt, &words, Action::Show(turned));
+    expect_drawing(&rt, &words, turned);
     let picture = Drawing { svg: true, ..plain };
     let words = ["minimate", "show", "--svg", FEN];
-    expect_action(&rt, &words, Action::Show(picture));
+    expect_drawing(&rt, &words, picture);
 }
 
 #[test]

@@ -1,4 +1,3 @@
 pub mod Forcing
 pub mod Fewest
 pub mod Lists
-pub mod Unique

@@ -5,9 +5,7 @@ mod best;
 mod building;
 mod first;
 mod preparing;
-mod uniqueness;
 
 pub use building::{build_tree, tree_by};
 pub use first::{tree_of_alone, tree_of_first};
 pub use preparing::build_tree_over;
-pub use uniqueness::one_best_tree;

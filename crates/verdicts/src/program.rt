@@ -4,9 +4,10 @@ ghost use Rattle.endings.specs.Run.{ending_of, run_of, MayTell};
 ghost use Rattle.endings.specs.Words.{MeansSomeIn, RunsProgram};
 ghost use Rattle.verdicts.specs.Order.{ReadsCertificate, VerifiesOrder};
 
+use crate::beginning::Input;
 use crate::running::run;
 use devices::{Sink, Source};
-use endings::{Input, end_wordless, explain_if_refused};
+use endings::{end_wordless, explain_if_refused};
 use std::io::{self, Write};
 
 /// The commands that it answers.

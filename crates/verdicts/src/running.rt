@@ -5,16 +5,29 @@ ghost use Rattle.endings.specs.Words.{MeansSome, RunsWords};
 ghost use Rattle.verdicts.specs.Order.{ReadsCertificate, VerifiesOrder};
 ghost use Rattle.verdicts.specs.Verifying.{RunsVerify, MayReadAbout};
 
+use crate::beginning::Input;
 use crate::certified::verified;
 use command_line::{LineFault, Order, Subject, read_order};
 use devices::{Sink, Source};
-use endings::{
-    ANSWERED, Input, REFUSED_WORDS, fail_to_read, finish, give_up_for_memory, proof_refused,
-    refuse_and_tell,
-};
-use refusals::ReplyFault;
+use endings::{ANSWERED, REFUSED_WORDS, fail_to_read, finish, give_up_for_memory, refuse_and_tell};
+use refusals::{Asking, Refusal, Refused, ReplyFault};
 use std::convert::AsStr;
 use std::io::Write;
+
+/// What was refused to a certificate that begins so.
+pub fn proof_refused<'a>(
+    subject: &Subject<'a>,
+    beginning: &'a [u8],
+    refusal: Refusal,
+) -> Refused<'a>
+    ensures { result.refusal ≡ refusal }
+{
+    Refused {
+        refusal,
+        fen: subject.fen,
+        asking: Asking::Proof(subject.goal, beginning),
+    }
+}
 
 /// Answers what the certificate of the input proves. `errors` is told why it was refused.
 fn run_verify<R: AllocGlobal, S: Source + Input, K: Sink, E: Write>(
@@ -64,7 +77,8 @@ pub fn run<R: AllocGlobal, W: AsStr, S: Source + Input, K: Sink, E: Write>(
             | Order::Certify(..)
             | Order::After(_)
             | Order::TreeAfter(..)
-            | Order::Solution(..),
+            | Order::Solution(..)
+            | Order::Show(..),
         ) => REFUSED_WORDS,
         Err(LineFault::Words) => REFUSED_WORDS,
         Err(LineFault::NoMemory) => give_up_for_memory(writer, errors),

@@ -2,10 +2,9 @@
 #![tactic(auto)]
 
 use devices::Counted;
-use endings::Keeping;
 use std::process::ExitCode;
 use std::{env, io};
-use verdicts::run_program;
+use verdicts::{Keeping, run_program};
 
 /// The words of the command line, or why they cannot be had. Help names the command line that all programs share, and not this file.
 fn words(rt: &HostRuntime) -> io::Result<Vec<String>> {

@@ -13,8 +13,8 @@ pub use Rattle.certificates.specs.Claims.{AllHold, AllWon, ClaimsSoFew, ClaimsSo
 pub use Rattle.certificates.specs.declared.claim.Claim.{Claim}
 pub use Rattle.devices.proofs.InputLemmas.{of_any as any_input, of_input_then as then_so}
 pub use Rattle.devices.specs.Input.{OfInput}
-pub use Rattle.devices.specs.Lines.{HasNoFeed, left_of}
-pub use Rattle.devices.specs.Within.{BeginsLong, ReadsText}
+pub use Rattle.input_lines.specs.Lines.{HasNoFeed, left_of}
+pub use Rattle.input_lines.specs.Within.{BeginsLong, ReadsText}
 pub use Rattle.moves.proofs.Packing.{one_spelled, units_in-at, within_36}
 pub use Rattle.moves.specs.Words.{IsPacked, IsUnused, Spells, code_on, digit, flags_of, game_of, game_of_flags, man_of, mover_of_flags, unpacked}
 pub use Rattle.problems.proofs.Tried.{all_listed, ended_answer, gone_answer, lost, none_listed, not_empty, not_reached, now_answer, passed_next, some_listed}

@@ -4,7 +4,7 @@ use Rattle.std.specs.Prelude.{⊤}
 use Rattle.verifying.proofs.Common.{append-nil, Consumes, PlainBoard, Goal, Answer, IsAnswer, IsUpTo, OfInput, HasNoFeed, left_of, BeginsLong, ReadsText, Checker, Fault, NoMemory, ReadFailed, TellsOf, fault_of_input, IsCertificate, IsRefusedWith, HasTakenText, TakesMore, RefusesMore, IsProvedBy, then_so, any_input, AnswerFault, NumberedFault, TooLong}
 use Rattle.std.proofs.KnownBytes.{Consumes-trans}
 use Rattle.certificates.proofs.Certified.{certified}
-use Rattle.devices.specs.declared.lines.Unread.{Unread}
+use Rattle.input_lines.specs.declared.lines.Unread.{Unread}
 use Rattle.devices.specs.declared.transfer.InputFault.{InputFault}
 use Rattle.devices.specs.declared.transfer.InputFault.TheVariants as input
 use Rattle.verifying.proofs.Refused.{line_long, certificate_begins}

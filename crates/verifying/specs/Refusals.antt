@@ -3,7 +3,7 @@ use Rattle.std.specs.Prelude.{ℕ, ◌≡◌, ◌+◌, ◌<◌, ⊤, List, [], �
 use Rattle.std.specs.List.{flat_map}
 use Rattle.rules.specs.declared.goal.Goal.{Goal}
 use Rattle.problems.specs.declared.answer.Answer.{Answer}
-use Rattle.devices.specs.Lines.{HasNoFeed}
+use Rattle.input_lines.specs.Lines.{HasNoFeed}
 use Rattle.devices.specs.declared.transfer.InputFault.{InputFault}
 use Rattle.devices.specs.declared.transfer.InputFault.TheVariants as input
 use Rattle.verifying.specs.declared.fault.Fault.{Fault}

@@ -2,7 +2,7 @@
 ghost use Rattle.std.specs.Prelude.{◌≡◌, ◌+◌, ◌<◌, ◌≤◌, ◌++◌, ◌∷◌, ℕ, List, [], IfErr, IfOk, MatchOption, OnOk, length};
 ghost use Rattle.certificates.specs.declared.claim.Claim.{Claim};
 ghost use Rattle.problems.specs.declared.answer.Answer.{Answer as TheAnswer};
-ghost use Rattle.devices.specs.Lines.{HasNoFeed};
+ghost use Rattle.input_lines.specs.Lines.{HasNoFeed};
 ghost use Rattle.verifying.specs.declared.part.Part.{Part as ThePart};
 ghost use Rattle.verifying.specs.declared.fault.Fault.TheVariants.{NoMemory, ReadFailed};
 ghost use Rattle.verifying.specs.FirstLine.{first_line, IsInRange, HasNamedMove};

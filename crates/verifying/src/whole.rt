@@ -9,7 +9,8 @@ ghost use Rattle.verifying.specs.Certificate.{IsCertificate, IsRefusedWith};
 
 use crate::checker::{Checker, MOST_LINE};
 use crate::fault::Fault;
-use devices::{Counted, Source, Unread};
+use devices::{Counted, Source};
+use input_lines::Unread;
 use moves::{Board, Goal};
 use problems::Answer;
 use std::alloc::Allocator;

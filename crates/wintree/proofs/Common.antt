@@ -13,7 +13,7 @@ pub use Rattle.rules.specs.Squares.{Ply}
 pub use Rattle.rules.specs.declared.goal.Goal.{Goal}
 pub use Rattle.std.proofs.lemmas.Bool.{false≢true, ne_eqb, true≢false}
 pub use Rattle.std.proofs.lemmas.Bool.Decides.{eqb_tells}
-pub use Rattle.std.proofs.lemmas.List.{append-nil, append_cancel_right, drop_all, drop_more, length-map, length_push, take-append-drop, take-append-le, take_more}
+pub use Rattle.std.proofs.lemmas.List.{append-nil, drop_all, drop_more, length-map, length_push, take-append-le, take_more}
 pub use Rattle.std.proofs.lemmas.List.Elements.{All-push, recursion_from_All}
 pub use Rattle.std.proofs.lemmas.Option.{get_or_from_slice_get, same_Some, slice_get-get_or, slice_get_past, slice_get_within}
 pub use Rattle.std.proofs.lemmas.Result.{err_from_is_err_and}

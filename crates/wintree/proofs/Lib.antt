@@ -15,4 +15,3 @@ pub mod MoveReads
 pub mod Turns
 pub mod Reader
 pub mod Depths
-pub mod OneText

@@ -3,7 +3,6 @@
 
 mod fault;
 mod flaws;
-mod laws;
 mod read;
 mod tree;
 mod wins;
@@ -11,7 +10,6 @@ mod written;
 
 pub use fault::{NoMemory, TreeFault};
 pub use flaws::{Flaw, Wrong};
-pub use laws::{deep_is_before_the_fault, flaw_excludes_win, one_offset, one_tree};
 pub use read::read_tree;
 pub use tree::{End, Tree};
 pub use wins::{check, find_flaw};

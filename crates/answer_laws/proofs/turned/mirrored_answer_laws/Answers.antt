@@ -1,5 +1,6 @@
 use Rattle.std.proofs.Common.{inl, refl}
-use Rattle.laws.specs.Turnings.{MayTurn, files_mirror, sides_mirror}
+use Rattle.laws.specs.Turnings.{MayTurn}
+use Rattle.answer_laws.specs.TurnedPlay.{files_mirror, sides_mirror}
 use Rattle.answer_laws.proofs.TurnedKeys.{same_plies, keys_turned}
 use Rattle.answer_laws.proofs.turned.mirrored_answer_laws.Goals as goal
 

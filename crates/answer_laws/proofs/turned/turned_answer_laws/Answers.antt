@@ -1,5 +1,5 @@
 use Rattle.problems.specs.Answer.{IsFewest, ForcesNothing}
-use Rattle.laws.proofs.Turned.{both_ways}
+use Rattle.answer_laws.proofs.BothWays.{both_ways}
 use Rattle.answer_laws.proofs.TurnedKeys.{fewest_turned, nothing_turned, same_plies, keys_turned}
 use Rattle.answer_laws.proofs.turned.turned_answer_laws.Goals as goal
 

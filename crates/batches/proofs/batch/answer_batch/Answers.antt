@@ -1,7 +1,7 @@
 use Rattle.std.proofs.Common.{◌∙◌, arith}
 use Rattle.std.proofs.KnownBytes.{Appends-nil}
 use Rattle.batches.specs.BatchRun.{step_of}
-use Rattle.devices.specs.Lines.{left_of}
+use Rattle.input_lines.specs.Lines.{left_of}
 use Rattle.batches.proofs.BatchLemmas.{batch_behind, batch_of_none, batch_unread}
 use Rattle.batches.proofs.batch.answer_batch.Goals as goal
 

@@ -1,6 +1,6 @@
 use Rattle.std.proofs.Common.{◌∙◌, refl, arith}
 use Rattle.batches.specs.BatchRun.{step_of}
-use Rattle.devices.specs.Lines.{left_of}
+use Rattle.input_lines.specs.Lines.{left_of}
 use Rattle.batches.proofs.BatchLemmas.{kept_first, kept_more, lines_end, lines_stop}
 use Rattle.batches.proofs.batch.answer_lines.Goals as goal
 

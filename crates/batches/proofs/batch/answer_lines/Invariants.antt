@@ -1,7 +1,7 @@
 -- The replies so far are written, and nothing has failed.
 use Rattle.std.proofs.Common.{◌≡◌}
 use Rattle.batches.specs.BatchRun.{IsBatchRun}
-use Rattle.devices.specs.Lines.{left_of}
+use Rattle.input_lines.specs.Lines.{left_of}
 use Rattle.batches.proofs.BatchLemmas.{KeptSoFar}
 use Rattle.batches.proofs.batch.answer_lines.Given as goal
 

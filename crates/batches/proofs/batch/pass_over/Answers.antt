@@ -1,5 +1,5 @@
 use Rattle.std.proofs.Common.{ℕ, refl, arith, subst, true}
-use Rattle.devices.specs.Lines.{left_of}
+use Rattle.input_lines.specs.Lines.{left_of}
 use Rattle.batches.specs.BatchRun.{PassesOver}
 use Rattle.batches.proofs.BatchLemmas.{passed_all, passed_first, passed_more}
 use Rattle.batches.proofs.batch.pass_over.Goals as goal

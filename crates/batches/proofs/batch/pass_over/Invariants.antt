@@ -1,6 +1,6 @@
 -- So many lines are passed over, and no read has failed.
 use Rattle.std.proofs.Common.{◌≡◌, true}
-use Rattle.devices.specs.Lines.{IsUnread, left_of}
+use Rattle.input_lines.specs.Lines.{IsUnread, left_of}
 use Rattle.batches.specs.BatchRun.{PassesOver}
 use Rattle.batches.proofs.batch.pass_over.Given as goal
 

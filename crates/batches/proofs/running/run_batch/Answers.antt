@@ -1,7 +1,7 @@
 use Rattle.std.proofs.Common.{arith, inl, inr, refl}
 use Rattle.batches.proofs.BatchLemmas.{answers_with, batch_ran, batch_refused, fresh_left, gave_up}
 use Rattle.endings.proofs.EndingLemmas.{finishes_after}
-use Rattle.devices.specs.Lines.{left_of}
+use Rattle.input_lines.specs.Lines.{left_of}
 use Rattle.batches.proofs.running.run_batch.Goals as goal
 
 pub returns-in-None-clause-runs : goal.returns-in-None-clause-runs

@@ -102,14 +102,14 @@ visit-returns-clause-goes_on g t c = then_led c.look_far-known.ensures.goes_on c
 pub search_from-returns-clause-goes_on : goal.search_from-returns-clause-goes_on
 search_from-returns-clause-goes_on g t c = led_then c.search_in_rounds.ensures.goes_on c.keep_far.ensures
 
-pub search_listed-returns-then-is_entered-clause-goes_on : goal.search_listed-returns-then-is_entered-clause-goes_on
-search_listed-returns-then-is_entered-clause-goes_on g t c = then_led c.known_below.ensures.goes_on c.search_entered.ensures.goes_on
+pub search_listed-returns-then-n-lt-ENTERED_FROM-clause-goes_on : goal.search_listed-returns-then-n-lt-ENTERED_FROM-clause-goes_on
+search_listed-returns-then-n-lt-ENTERED_FROM-clause-goes_on g t c = then_led c.known_below.ensures.goes_on c.try_listed.ensures.goes_on
 
 pub search_listed-returns-clause-goes_on : goal.search_listed-returns-clause-goes_on
-search_listed-returns-clause-goes_on g t c = then_led c.known_below.ensures.goes_on c.try_listed.ensures.goes_on
+search_listed-returns-clause-goes_on g t c = then_led c.known_below.ensures.goes_on c.search_entered.ensures.goes_on
 
-pub try_free_first-returns-in-PutOff-clause-goes_on : goal.try_free_first-returns-in-PutOff-clause-goes_on
-try_free_first-returns-in-PutOff-clause-goes_on g t c = led_more g.met.S.Stop.stays_on c.try_free.ensures.goes_on c.try_listed-in-PutOff.ensures.goes_on
+pub search_entered-returns-in-PutOff-clause-goes_on : goal.search_entered-returns-in-PutOff-clause-goes_on
+search_entered-returns-in-PutOff-clause-goes_on g t c = led_more g.met.S.Stop.stays_on c.try_free-found.ensures.goes_on c.try_listed.ensures.goes_on
 
 pub try_free-loop-place-init : goal.try_free-loop-place-init
 try_free-loop-place-init g t c = record { goes_on = led_by c.args.caller.now (g.met.S.Stop.stays_at_once _); passed = λ _ k d lt. absurd (omega (arith, lt)) }

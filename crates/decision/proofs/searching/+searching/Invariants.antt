@@ -23,10 +23,7 @@ abbrev pub decreases-search_listed : goal.decreases-search_listed
 decreases-search_listed g l = 10 * l.n + 4
 
 abbrev pub decreases-search_entered : goal.decreases-search_entered
-decreases-search_entered g l = 10 * l.n + 3
-
-abbrev pub decreases-try_free_first : goal.decreases-try_free_first
-decreases-try_free_first g l = 10 * l.n + 2
+decreases-search_entered g l = 10 * l.n + 2
 
 abbrev pub decreases-try_free : goal.decreases-try_free
 decreases-try_free g l = 10 * l.n + 1

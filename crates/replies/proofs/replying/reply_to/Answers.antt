@@ -1,7 +1,7 @@
 use Rattle.std.proofs.Common.{refl, rules, Ok, vec_items, []}
 use Rattle.refusals.specs.Outcome.{IsSoundText}
 use Rattle.replies.specs.Output.{ShowsCommand}
-use Rattle.command_line.specs.declared.line.Action.TheVariants.{Check, Keys, Moves, Show, Solve, Tree}
+use Rattle.command_line.specs.declared.line.Action.TheVariants.{Check, Keys, Moves, Solve, Tree}
 use Rattle.replies.proofs.ReplyLemmas.{fault_gives, gives_reply, gives_unread}
 use Rattle.refusals.proofs.OutcomeLemmas.{refusal_gives}
 use Rattle.replies.proofs.replying.reply_to.Goals as goal
@@ -73,18 +73,3 @@ returns-in_ok-moves_shown-in-Moves-clause-given g c =
     let sound : IsSoundText c.args.line.now.fen.now c.in_ok-position.position = search rules in
     gives_unread vec_items c.args.line.now (g.S.Source.remaining c.args.reader.now) c.in_ok-position.position (Moves)
     (Ok c.in_ok-moves_shown-in-Moves.field-0) sound c.in-Moves.is refl c.in_ok-moves_shown-in-Moves.ensures
-
-pub returns-in_err-drawing_shown-in-Show-clause-given : goal.returns-in_err-drawing_shown-in-Show-clause-given
-returns-in_err-drawing_shown-in-Show-clause-given g c =
-    let sound : IsSoundText c.args.line.now.fen.now c.in_ok-position.position = search rules in
-    let action = Show c.in-Show.drawing in
-    gives_unread vec_items c.args.line.now (g.S.Source.remaining c.args.reader.now) c.in_ok-position.position action
-    c.from_residual-in_err-drawing_shown-in-Show.result sound c.in-Show.is refl
-    (refusal_gives vec_items (ShowsCommand c.in_ok-position.position action []) c.from_residual-in_err-drawing_shown-in-Show.result c.in_err-drawing_shown-in-Show.field-0.0
-    c.in_err-drawing_shown-in-Show.ensures c.from_residual-in_err-drawing_shown-in-Show.ensures)
-
-pub returns-in_ok-drawing_shown-in-Show-clause-given : goal.returns-in_ok-drawing_shown-in-Show-clause-given
-returns-in_ok-drawing_shown-in-Show-clause-given g c =
-    let sound : IsSoundText c.args.line.now.fen.now c.in_ok-position.position = search rules in
-    gives_unread vec_items c.args.line.now (g.S.Source.remaining c.args.reader.now) c.in_ok-position.position (Show c.in-Show.drawing)
-    (Ok c.in_ok-drawing_shown-in-Show.field-0) sound c.in-Show.is refl c.in_ok-drawing_shown-in-Show.ensures

@@ -7,5 +7,5 @@ returns-in-Err-NoMemory-clause-go_on g c = seats_none g.T.Gate.keeps c.args.sear
 pub returns-in_err-decided-clause-go_on : goal.returns-in_err-decided-clause-go_on
 returns-in_err-decided-clause-go_on g c = seats_none g.T.Gate.keeps c.args.search.now.slots.now c.args.seats.now.items c.requires.seats.2
 
-pub returns-in_err-busy-clause-go_on : goal.returns-in_err-busy-clause-go_on
-returns-in_err-busy-clause-go_on g c = seats_none g.T.Gate.keeps c.args.search.now.slots.now c.args.seats.now.items c.requires.seats.2
+pub returns-in_err-underway-clause-go_on : goal.returns-in_err-underway-clause-go_on
+returns-in_err-underway-clause-go_on g c = seats_none g.T.Gate.keeps c.args.search.now.slots.now c.args.seats.now.items c.requires.seats.2

@@ -1,6 +1,6 @@
 use Rattle.std.proofs.Common.{refl, sym, ◌∙◌}
 use Rattle.wintree.specs.Text.{text}
-use Rattle.wintree.proofs.OneText.{one_text}
+use Rattle.text_laws.proofs.OneText.{one_text}
 use Rattle.text_laws.proofs.Faults.{one_tree_fault, no_tree_fault}
 use Rattle.text_laws.proofs.texts.tree_text_laws.Goals as goal
 

@@ -1,6 +1,6 @@
 -- The checker has taken what is gone from the front of the input.
 use Rattle.std.proofs.Common.{◌≡◌}
-use Rattle.devices.specs.Lines.{IsUnread, left_of}
+use Rattle.input_lines.specs.Lines.{IsUnread, left_of}
 use Rattle.verifying.proofs.Inputs.{HasReadOf}
 use Rattle.verifying.proofs.whole.verify_input.Given as goal
 

@@ -1,5 +1,0 @@
-use Rattle.board.proofs.WordByWord.{one_reading}
-use Rattle.board.proofs.laws.notation_laws.Goals as goal
-
-pub returns : goal.returns
-returns c = record { one_reading = one_reading }

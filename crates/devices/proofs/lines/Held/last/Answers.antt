@@ -1,9 +1,0 @@
-use Rattle.std.proofs.Common.{rules}
-use Rattle.devices.proofs.LineLemmas.{last_long, last_line}
-use Rattle.devices.proofs.lines.Held.last.Goals as goal
-
-pub returns-then-self : goal.returns-then-self
-returns-then-self c = λ raw none holds. last_long raw c.args.self none c.if-self.true holds
-
-pub returns : goal.returns
-returns c = λ raw none holds. last_line raw c.args.self none c.if-self.false (search rules) holds

@@ -1,0 +1,3 @@
+-- to be believed
+pub mod Lines
+pub mod Within

@@ -1,0 +1,7 @@
+//! An input line by line.
+#![tactic(auto)]
+
+mod lines;
+mod within;
+
+pub use lines::{Held, Next, Taken, Unread};
