@@ -322,11 +322,12 @@ class Proofs:
     def run_apart(self, has_said):
         """Proves each crate that others stand on by a run of its own, once those below it are proved. A crate that is alone in its run gets several
         processors of the toolchain, and the longest chain of crates is what all is waited for: so its next one is begun first, and others are put back
-        behind it. One run has the rest where a crate is proved again, since nothing is kept then, and where one is kept, since most are."""
+        behind it. One run has the rest where a crate is proved again, since nothing is kept then, where one is kept, since most are, and where none of the
+        rest could be proved beside another."""
         chains = proof_shares.chains(self.crates, self.names, proof_shares.read_shares())
         with contextlib.ExitStack() as runs:
             running = {}
-            while True:
+            while running or not self.is_chain():
                 for name in self.next_apart(chains, running):
                     file = runs.enter_context(tempfile.TemporaryFile("w+", encoding="utf-8", errors="replace"))
                     process = runs.enter_context(started(self.kit, ["ci", name], self.folder, self.hold, file))
@@ -345,6 +346,11 @@ class Proofs:
                     for line in lines:
                         has_said(line)
                     judge(self.kit, ["ci", name], process.returncode, lines)
+
+    def is_chain(self):
+        """Whether each crate that isn't proved yet stands on the one before it. One run does these as fast, and looks once at what is kept."""
+        left = [it for it in self.names if it not in self.done]
+        return all(below in self.crates[name].below for below, name in zip(left, left[1:]))
 
     def next_apart(self, chains, running):
         """The crates that can be begun now, beside those that run: that on the longest chain first."""

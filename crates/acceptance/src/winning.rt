@@ -8,14 +8,13 @@ use entry::MateLore;
 use moves::Goal;
 use problems::{Answer, Problem};
 use rounds::{Task, make_table, solve_over};
-use searcher::{NoGate, Table};
+use searcher::{NoGate, Table, build_tree, build_tree_over};
 use slots::Slots;
 use std::alloc::Global;
 use std::process::Abort;
 use std::sync::Wait;
 use std::test::Fail;
 use std::thread::Threads;
-use trees::{build_tree, build_tree_over};
 use wintree::{NoMemory, Tree, check, tree_text};
 
 /// The text of a tree, and in how many plies it wins, if it does.

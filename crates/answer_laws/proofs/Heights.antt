@@ -11,8 +11,8 @@ use Rattle.wintree.specs.Text.{text, TreeText}
 use Rattle.wintree.specs.Wins.{Wins, EachWins, height, highest}
 use Rattle.wintree.proofs.Forced.{forced_for_mover}
 use Rattle.searcher.specs.Best.{IsBestMove, IsBest}
-use Rattle.trees.proofs.Forcing.{fewest_most}
-use Rattle.trees.proofs.Fewest.{best_plan}
+use Rattle.searcher.proofs.Forcing.{fewest_most}
+use Rattle.searcher.proofs.Fewest.{best_plan}
 use Rattle.answer_laws.specs.Plans.{opening_move}
 use Rattle.answer_laws.proofs.OneAnswer.{one_fewest}
 use Rattle.answer_laws.proofs.Unique.{one_least}

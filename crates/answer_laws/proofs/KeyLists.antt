@@ -14,7 +14,7 @@ use Rattle.problems.proofs.Winning.{forced_by}
 use Rattle.problems.specs.declared.key.Key.{Key}
 use Rattle.problems.specs.Keys.{Takes, ListsKeys}
 use Rattle.wintree.proofs.Listings.{among_first, among_more}
-use Rattle.trees.proofs.Forcing.{fewest_most, some_ply}
+use Rattle.searcher.proofs.Forcing.{fewest_most, some_ply}
 use Rattle.answer_laws.specs.Answers.{sooner, soonest, answer_by_soonest, IsNoBetter}
 use Rattle.answer_laws.proofs.Listings.{before_later, tail_ordered}
 use Rattle.board.proofs.RankText.{on_true as on_own}

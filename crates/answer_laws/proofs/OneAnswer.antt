@@ -9,7 +9,7 @@ use Rattle.problems.specs.Answer.{IsFewest, IsLeastWin, IsAnswer}
 use Rattle.problems.specs.declared.key.Key.{Key}
 use Rattle.problems.specs.Keys.{ListsKeys}
 use Rattle.wintree.proofs.Listings.{lower_once}
-use Rattle.trees.proofs.Forcing.{fewest_most}
+use Rattle.searcher.proofs.Forcing.{fewest_most}
 use Rattle.answer_laws.proofs.Listings.{one_listing}
 use Rattle.answer_laws.proofs.Unique.{one_least}
 

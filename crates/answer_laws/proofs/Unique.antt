@@ -14,8 +14,8 @@ use Rattle.wintree.specs.Plan.{Plan, ends, splits, Replies, last, more}
 use Rattle.wintree.specs.Wins.{EndsAt, moves_of}
 use Rattle.wintree.proofs.Listings.{lower_once, one_list}
 use Rattle.searcher.specs.Best.{IsBestMove, IsBest, EachBest}
-use Rattle.trees.proofs.Forcing.{fewest_most}
-use Rattle.trees.proofs.Fewest.{first_reply}
+use Rattle.searcher.proofs.Forcing.{fewest_most}
+use Rattle.searcher.proofs.Fewest.{first_reply}
 
 -- ---- one best move
 

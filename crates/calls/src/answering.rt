@@ -7,10 +7,11 @@ ghost use Rattle.calls.specs.Calls.{Answers, IsReply};
 ghost use Rattle.calls.specs.Room.{IsPut};
 
 use crate::asked::{Call, goal_of, limits_of};
-use crate::one_thread::{check_reply, keys_reply, moves_reply, solve_reply, tree_reply};
+use crate::one_thread::line_reply;
 use crate::playing::fault_reply;
 use crate::room::put;
 use crate::verdict::verify_reply;
+use command_line::Action;
 use refusals::{Refusal, refused_text};
 use replies::after_reply;
 use std::alloc::Allocator;
@@ -27,16 +28,25 @@ fn reply_text<A: Allocator + Copy>(
     ensures { Gives vec_items (IsReply fen.entry call.now) result }
 {
     match *call {
-        Call::Moves => moves_reply(alloc, fen),
+        Call::Moves => line_reply(alloc, fen, Action::Moves, b""),
         Call::Fault => fault_reply(alloc, fen),
         Call::After(name) => after_reply(alloc, fen, name),
-        Call::Check { stale, tree } => check_reply(alloc, fen, goal_of(stale), tree),
+        Call::Check { stale, tree } => line_reply(alloc, fen, Action::Check(goal_of(stale)), tree),
         Call::Verify { stale, certificate } => {
             verify_reply(alloc, fen, goal_of(stale), certificate)
         }
-        Call::Solve(terms) => solve_reply(alloc, fen, goal_of(terms.stale), limits_of(terms)),
-        Call::Keys(terms) => keys_reply(alloc, fen, goal_of(terms.stale), limits_of(terms)),
-        Call::Tree(terms) => tree_reply(alloc, fen, goal_of(terms.stale), limits_of(terms)),
+        Call::Solve(terms) => {
+            let action = Action::Solve(goal_of(terms.stale), limits_of(terms));
+            line_reply(alloc, fen, action, b"")
+        }
+        Call::Keys(terms) => {
+            let action = Action::Keys(goal_of(terms.stale), limits_of(terms));
+            line_reply(alloc, fen, action, b"")
+        }
+        Call::Tree(terms) => {
+            let action = Action::Tree(goal_of(terms.stale), limits_of(terms));
+            line_reply(alloc, fen, action, b"")
+        }
     }
 }
 

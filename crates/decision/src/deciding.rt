@@ -1,5 +1,5 @@
 //! Whether an attacker forces the goal within so many plies.
-ghost use Rattle.std.specs.Prelude.{◌≡◌, ◌<◌, ◌≤◌, ◌↔◌, IsTrue, IfSome, MatchOption};
+ghost use Rattle.std.specs.Prelude.{◌<◌, ◌≤◌, ◌↔◌, IsTrue, IfSome, MatchOption};
 ghost use Rattle.rules.specs.Squares.{Ply};
 ghost use Rattle.rules.specs.Moves.{IsLawful};
 ghost use Rattle.rules.specs.Forces.{Forces};

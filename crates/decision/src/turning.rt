@@ -1,7 +1,6 @@
 //! Boards that are turned about, on which the same is forced.
 ghost use Rattle.std.specs.Prelude.{◌≡◌, ◌<◌, ◌↔◌, IsTrue, Option, MatchOption};
 ghost use Rattle.board.specs.Board.{board_of};
-ghost use Rattle.board.specs.Games.{width_of};
 ghost use Rattle.rules.specs.Squares.{IsOnBoard};
 ghost use Rattle.laws.specs.Turnings.{mirrored, turned_place, IsTurned, MayTurn};
 ghost use Rattle.decision.specs.Turned.{turn_of, IsTurnedWell};

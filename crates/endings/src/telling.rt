@@ -6,7 +6,6 @@ use crate::ending::{has_no_answer, refuse};
 use command_line::NamedMove;
 use devices::Sink;
 use refusals::{Asking, Refusal, Refused, advise, advise_move};
-use std::alloc::Global;
 use std::io::{self, Write};
 
 /// Writes why there is no answer, and tells it with a sentence.

@@ -10,12 +10,11 @@ use entry::MateLore;
 use moves::Goal;
 use problems::Answer;
 use rounds::solve;
-use searcher::NoGate;
+use searcher::{NoGate, build_tree};
 use slots::{Seat, Slots};
 use std::alloc::Global;
 use std::sync::Wait;
 use std::thread::Threads;
-use trees::build_tree;
 use wintree::check;
 
 /// Builds the tree, or decides over the same table.

@@ -12,7 +12,7 @@ use Rattle.problems.specs.Answer.{IsFewest, IsAnswer}
 use Rattle.wintree.specs.Plan.{Plan}
 use Rattle.wintree.specs.Text.{text as plan_text}
 use Rattle.searcher.specs.Best.{IsBest}
-use Rattle.trees.proofs.Fewest.{best_plan}
+use Rattle.searcher.proofs.Fewest.{best_plan}
 use Rattle.command_line.specs.declared.line.Line.{Line}
 use Rattle.command_line.specs.declared.line.Limits.{Limits}
 use Rattle.command_line.specs.declared.line.Action.TheVariants.{Solve, Tree, Check}

@@ -2,7 +2,7 @@
 ghost use Rattle.std.specs.Prelude.{◌≡◌, IfOk, string_bytes};
 ghost use Rattle.progress.specs.Text.{advice_text, drawn_text, held_text, left_text, line_text, sign_text, work_text};
 
-use moves::Move;
+use rules::Move;
 use std::alloc::{AllocError, Global};
 
 /// What the first job does that isn't known to lose.

@@ -8,7 +8,7 @@ use crate::ended::Ended;
 use crate::place::{WINS, first_named};
 use crate::sign::{CLEARED, Sign, Work, drawn, left_behind};
 use board::Position;
-use moves::{Move, lawful};
+use rules::{Move, lawful};
 use std::alloc::{AllocError, Global};
 use std::sync::Wait;
 use std::sync::atomic::{AtomicU64, Ordering};

@@ -6,7 +6,7 @@ ghost use Rattle.refusals.specs.Outcome.{Gives};
 ghost use Rattle.context.specs.Limits.{fault_of};
 ghost use Rattle.replies.specs.Playing.{NamesNone};
 
-use crate::replying::{none_line, tree_line};
+use crate::shown::{none_line, tree_line};
 use board::Position;
 use command_line::{Limits, NamedMove};
 use context::{search_of, table_within};

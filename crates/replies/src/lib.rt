@@ -4,7 +4,9 @@
 mod first;
 mod played;
 mod replying;
+mod shown;
 
 pub use first::{first_reply, named_job};
 pub use played::after_reply;
-pub use replying::{MOST_INPUT, none_line, plan_text, reply_to, tree_line, verdict_text};
+pub use replying::reply_to;
+pub use shown::{none_line, shown_at, tree_line};

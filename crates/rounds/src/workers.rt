@@ -7,11 +7,10 @@ use crate::task::Task;
 use crate::watched::Watched;
 use problems::{Answer, Key, Problem, Root};
 use progress::Watch;
-use searcher::{Crew, Table};
+use searcher::{Crew, Table, build_tree_over, tree_of_alone};
 use std::alloc::{AllocError, Global};
 use std::sync::Wait;
 use std::thread::Threads;
-use trees::{build_tree_over, tree_of_alone};
 use wintree::Tree;
 
 /// The threads of a table, one for each seat, of a system that starts them.

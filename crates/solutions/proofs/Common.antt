@@ -20,4 +20,4 @@ pub use Rattle.std.proofs.lemmas.Bool.{false≢true}
 pub use Rattle.std.proofs.lemmas.Grind.{common_steps, elements}
 pub use Rattle.std.proofs.lemmas.List.{map-append, take_all}
 pub use Rattle.std.proofs.lemmas.List.Elements.{All-contains, All-get_or, All-nil, All-push, Contains-append_cases, Contains-append_left, Contains-push}
-pub use Rattle.trees.proofs.Forcing.{forced_within, not_reached, reached_now, some_ply}
+pub use Rattle.searcher.proofs.Forcing.{forced_within, not_reached, reached_now, some_ply}

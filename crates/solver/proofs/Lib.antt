@@ -1,1 +1,2 @@
 pub mod PlaceKeeps
+pub mod Seats

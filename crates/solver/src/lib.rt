@@ -3,6 +3,7 @@
 #![tactic(auto)]
 
 mod alone;
+mod crew;
 mod listening;
 mod making;
 mod place_word;
@@ -10,5 +11,6 @@ mod solver;
 mod solving;
 
 pub use alone::{keys_alone, solve_alone, solve_board_alone};
+pub use crew::Alone;
 pub use listening::{Listener, Place, StopSource};
 pub use solver::Solver;

@@ -10,9 +10,8 @@ use crate::solver::Solver;
 use board::Position;
 use moves::Goal;
 use problems::{Answer, Key, Problem, Root};
-use searcher::{Halt, Searcher, keys_of, solve_by};
+use searcher::{Halt, Searcher, keys_of, solve_by, tree_by};
 use std::alloc::Global;
-use trees::tree_by;
 use wintree::Tree;
 
 impl Solver {

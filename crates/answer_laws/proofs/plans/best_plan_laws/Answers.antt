@@ -1,4 +1,4 @@
-use Rattle.trees.proofs.Fewest.{best_plan}
+use Rattle.searcher.proofs.Fewest.{best_plan}
 use Rattle.answer_laws.proofs.Unique.{one_best}
 use Rattle.answer_laws.proofs.Heights.{best_begins, best_is_read}
 use Rattle.answer_laws.proofs.plans.best_plan_laws.Goals as goal

@@ -2,7 +2,7 @@ use Rattle.std.proofs.Common.{All, List, Option, ◌≡◌, ℕ, ◌-◌, ◌≤
 use Rattle.solution_text.proofs.Common.{append-nil, decimal, PlainBoard, Goal, Ply, IsLawful, ListsLawful, same_side-self, ForcesNothing, Notation, name_text, ListsContinuations, IsVirtualPlay, sequel, play, key_reaches, key_meets, mate_found, nothing_found, met_here, AreDualsText, IsPlayText, TellsSequel, TellsLong}
 use Rattle.problems.proofs.Jobs.{lawful_job}
 use Rattle.decision.proofs.Options.{none_at, some_at}
-use Rattle.trees.proofs.Forcing.{some_ply, forced_within}
+use Rattle.searcher.proofs.Forcing.{some_ply, forced_within}
 use Rattle.solution_text.specs.declared.posed.Posed.{Posed}
 use Rattle.solution_text.specs.WholeText.{IsChangedText}
 use Rattle.solution_text.proofs.BestLine.{continuations_lawful}

@@ -1,3 +1,0 @@
-pub mod Forcing
-pub mod Fewest
-pub mod Lists
