@@ -37,7 +37,7 @@ pub(crate) fn made<R: Abort>(rt: &R, alloc: Global) -> (Solver, StopSource) {
     ends
 }
 
-fn text_of<R: Abort>(rt: &R, alloc: Global, tree: &Tree) -> Vec<u8> {
+pub(crate) fn text_of<R: Abort>(rt: &R, alloc: Global, tree: &Tree) -> Vec<u8> {
     let Ok(text) = tree_text(alloc, tree) else {
         panic!(rt; "no text")
     };
