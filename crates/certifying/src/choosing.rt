@@ -48,7 +48,7 @@ impl Chooser {
         None
     }
 
-    /// The first move, in the order of the search, after which the goal is forced within n plies, or isn't, as it is wanted.
+    /// The first move, by `in_order`, after which the goal is forced within n plies, or isn't, as it is wanted.
     pub(crate) fn choose(&mut self, q: &Question, n: u8, is_wanted: bool) -> Option<Move>
         requires { n < 63 }
         ensures { IfSome result (IsLawful q.now.position) }

@@ -37,7 +37,7 @@ use Rattle.refusals.specs.Outcome.{IsSoundText}
 use Rattle.context.specs.Limits.{fault_of}
 use Rattle.verdicts.specs.Verdict.{IsRefusedFor}
 use Rattle.verdicts.proofs.VerdictLemmas.{answer_line}
-use Rattle.replies.specs.Outcome.{ShowsPosition}
+use Rattle.context.specs.Shown.{ShowsPosition}
 use Rattle.composing.specs.Certifying.{WritesCertificate, WritesClaims}
 use Rattle.composing.specs.Claims.{AddsAll, AddsClaims, BeginsAt, BeginsCertificate, HasAnswerLine, CutsClaims, StopsClaims, EndsWriting, Writing, WritesLines, cut_of}
 use Rattle.endings.specs.Run.{Ending, Finishes, Refuses, no_memory}

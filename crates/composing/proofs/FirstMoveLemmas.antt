@@ -13,10 +13,10 @@ use Rattle.refusals.specs.Reply.{answered}
 use Rattle.refusals.specs.declared.refusal.Refusal.{Refusal}
 use Rattle.refusals.specs.Outcome.{Gives}
 use Rattle.answer_texts.specs.Answers.{none_text}
-use Rattle.replies.specs.First.{NamesJob}
+use Rattle.context.specs.Naming.{NamesJob}
 use Rattle.context.specs.Limits.{fault_of}
-use Rattle.replies.proofs.FirstLemmas.{job_lawful}
-use Rattle.replies.proofs.ReplyLemmas.{gives_weaker}
+use Rattle.context.proofs.NamingLemmas.{job_lawful}
+use Rattle.context.proofs.ShownLemmas.{gives_weaker}
 use Rattle.composing.specs.Solution.{ShowsFirstNamed, ShowsFirstOf}
 
 module _ (symbols : Symbols) (r : Root) (job : ℕ) (limits : Limits) where

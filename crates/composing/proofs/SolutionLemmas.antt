@@ -35,7 +35,7 @@ use Rattle.composing.specs.Solution.{IsDiagram, IsInForm, IsPublished, IsSolutio
 use Rattle.composing.specs.declared.whole_form.WholeForm.{WholeForm}
 use Rattle.composing.specs.declared.whole_form.Solved.{Solved}
 use Rattle.composing.specs.Parts.{Composes, ComposesReply, IsAskedWhole, IsAskedOf, IsComposed, WritesAsked, style_asked}
-use Rattle.replies.proofs.ReplyLemmas.{gives_weaker}
+use Rattle.context.proofs.ShownLemmas.{gives_weaker}
 
 module _ (goal : Goal) (b : PlainBoard) (options : SolutionOptions) (sooner : Bool) where
   -- what is in the form that is asked for is published

@@ -15,7 +15,7 @@ use Rattle.context.specs.Limits.{fault_of}
 use Rattle.verdicts.specs.Verdict.{IsRefusedFor}
 use Rattle.verifying.specs.declared.words.Word.{Word}
 use Rattle.verifying.specs.Certificate.{IsCertificate}
-use Rattle.replies.specs.Outcome.{ShowsPosition}
+use Rattle.context.specs.Shown.{ShowsPosition}
 use Rattle.endings.specs.Run.{Ending, Run, Finishes, Refuses, no_memory}
 
 -- the text is written, and with status 0 it is a certificate of the answer; or want of memory is told behind it; or behind it stands why the checker doesn't take what comes next: no certificate goes on so

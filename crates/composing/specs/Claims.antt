@@ -22,10 +22,10 @@ use Rattle.refusals.specs.declared.refusal.Refusal.{Refusal}
 use Rattle.refusals.specs.declared.refusal.Refusal.TheVariants as refusal
 use Rattle.answer_texts.specs.Answers.{answer_text}
 use Rattle.refusals.specs.Outcome.{IsSoundText}
-use Rattle.replies.specs.Output.{ShowsAnswer}
+use Rattle.context.specs.Shown.{ShowsAnswer}
 use Rattle.context.specs.Limits.{fault_of}
 use Rattle.verdicts.specs.Verdict.{IsRefusedFor}
-use Rattle.replies.specs.Outcome.{ShowsPosition}
+use Rattle.context.specs.Shown.{ShowsPosition}
 use Rattle.composing.specs.declared.certificate.Begun.{Begun}
 use Rattle.composing.specs.declared.certificate.Cut.{Cut}
 use Rattle.composing.specs.declared.certificate.Cut.TheVariants.{WriteFailed, NoMemory, Refused}

@@ -33,9 +33,9 @@ use Rattle.refusals.specs.Reply.{Reply, answered, refused}
 use Rattle.refusals.specs.declared.refusal.Refusal.TheVariants.{Move}
 use Rattle.answer_texts.specs.Answers.{none_text}
 use Rattle.refusals.specs.Outcome.{IsReplyAt, IsSoundText}
-use Rattle.replies.specs.Output.{ShowsWithin}
+use Rattle.context.specs.Shown.{ShowsWithin}
 use Rattle.context.specs.Limits.{fault_of}
-use Rattle.replies.specs.Playing.{NamesNone}
+use Rattle.context.specs.Naming.{NamesNone}
 use Rattle.endings.specs.Run.{Ending, Finishes, Run, WritesReply, no_memory}
 
 -- what is asked for beside the keys, and whether in more moves than the goal takes

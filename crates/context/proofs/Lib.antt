@@ -1,1 +1,3 @@
+pub mod NamingLemmas
 pub mod Refused
+pub mod ShownLemmas

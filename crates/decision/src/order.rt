@@ -92,6 +92,29 @@ fn cost(memory: &Memory, q: &Question, n: u8, m: Move) -> u16
     }
 }
 
+/// Puts the moves with their costs into the list in place of what it held: a pawn becomes less than a queen last of all.
+fn cost_all(
+    memory: &Memory,
+    q: &Question,
+    n: u8,
+    moves: &[Move],
+    costed: &mut ArrayVec<Costed, 512>,
+)
+    requires lawful { All (IsLawful q.now.position) moves.now }
+    requires room { length moves.now ≤ 512 }
+    ensures { map (λ it. it.m) costed.new.items ≡ moves.now }
+{
+    costed.clear();
+    for m in moves {
+        let cost = if matches!(m.promotion, None | Some(Kind::Queen)) {
+            cost(memory, q, n, *m)
+        } else {
+            u16::MAX
+        };
+        costed.push(Costed { cost, m: *m });
+    }
+}
+
 /// The last of the moves from this one on that have its two squares: they differ in what a pawn becomes.
 fn last_alike(moves: &[Move], first: usize) -> usize
     requires { first < length moves.now }
@@ -109,24 +132,23 @@ fn last_alike(moves: &[Move], first: usize) -> usize
     last
 }
 
-/// Puts the moves with their costs into the list in place of what it held. Where moves have the same two squares, the cost is that of
-/// the last.
-fn cost_all(
+/// `cost_all`, but where moves have the same two squares, the cost of each is that of the last.
+fn cost_alike(
     memory: &Memory,
     q: &Question,
     n: u8,
     moves: &[Move],
-    costed: &mut ArrayVec<Costed, 512>,
+    list: &mut ArrayVec<Costed, 512>,
 )
     requires lawful { All (IsLawful q.now.position) moves.now }
     requires room { length moves.now ≤ 512 }
-    ensures { map (λ it. it.m) costed.new.items ≡ moves.now }
+    ensures { map (λ it. it.m) list.new.items ≡ moves.now }
 {
-    costed.clear();
+    list.clear();
     for i in 0..moves.len() {
         let m = moves[i];
         let cost = cost(memory, q, n, moves[last_alike(moves, i)]);
-        costed.push(Costed { cost, m });
+        list.push(Costed { cost, m });
     }
 }
 
@@ -160,10 +182,16 @@ pub(crate) fn order_into(
     put_moves(costed.as_slice(), moves);
 }
 
-/// Puts the lawful moves into the list in place of what it held, those of least cost first.
+/// Puts the lawful moves into the list in place of what it held, those of least cost first. Where moves have the same two squares, each
+/// has the cost of the last, so that certificates stay as they are.
 pub fn in_order(memory: &Memory, q: &Question, n: u8, moves: &mut ArrayVec<Move, 512>)
     ensures { ListsAll q.now.position moves.new.items }
 {
-    let mut costed = ArrayVec::new();
-    order_into(memory, q, n, &mut costed, moves);
+    let mut costed: ArrayVec<Costed, 512> = ArrayVec::new();
+    list_lawful(&q.position, moves);
+    cost_alike(memory, q, n, moves.as_slice(), &mut costed);
+    costed
+        .as_mut_slice()
+        .sort_unstable_by_key(|it: &Costed| it.cost);
+    put_moves(costed.as_slice(), moves);
 }

@@ -8,8 +8,9 @@ ghost use Rattle.minimate_c.specs.Putting.{FindsTold, PutsTold, TellsText, numbe
 use crate::asking::{FORCED, NO_MEMORY, NO_SOLVER, NONE_WITHIN, Query, STOPPED, asked_problem};
 use crate::handle::SolverHandle;
 use answer_texts::keys_text;
+use context::none_line;
 use problems::{Answer, Key, Problem};
-use replies::{none_line, tree_line};
+use replies::tree_line;
 use searcher::Halt;
 use solver::Solver;
 use std::alloc::Global;

@@ -20,7 +20,8 @@ use Rattle.devices.specs.Input.{without_line_feed}
 use Rattle.answer_texts.specs.Answers.{answer_text, checked_text}
 use Rattle.searcher.proofs.Limits.{limit_within}
 use Rattle.context.specs.Limits.{fault_of}
-use Rattle.replies.specs.Output.{ShowsAnswer, ShowsBest, ShowsPlanFound, ShowsTree, ShowsCheck, ShowsCommand, IsOutput}
+use Rattle.replies.specs.Output.{ShowsBest, ShowsPlanFound, ShowsTree, ShowsCheck, ShowsCommand, IsOutput}
+use Rattle.context.specs.Shown.{ShowsAnswer}
 use Rattle.refusals.specs.Outcome.{IsSoundText}
 use Rattle.refusals.specs.Reply.{Reply, answered, line_of}
 use Rattle.text_laws.proofs.Faults.{no_sound_fault}

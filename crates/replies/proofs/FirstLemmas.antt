@@ -1,14 +1,14 @@
 -- The tree of a first move.
-use Rattle.std.proofs.Common.{◌≡◌, ◌∙◌, ℕ, List, None, Some, Result, Vec, inl, inr, refl, slice_get, sym, subst, vec_items}
+use Rattle.std.proofs.Common.{◌≡◌, ◌∙◌, ℕ, List, None, Some, Result, Vec, inl, inr, refl, sym, subst, vec_items}
 use Rattle.board.specs.Board.{PlainBoard}
 use Rattle.rules.specs.Squares.{Ply}
-use Rattle.rules.specs.Moves.{IsMove, IsLawful}
+use Rattle.rules.specs.Moves.{IsMove}
 use Rattle.rules.specs.declared.goal.Goal.{Goal}
 use Rattle.wintree.specs.Plan.{Plan}
 use Rattle.searcher.specs.First.{IsOpened, IsOpenedJob}
-use Rattle.replies.specs.First.{IsFirstReply, IsUnmet, MissesAt, MissesJob, MissesWithin, NamesJob, ShowsFirst, ShowsJob, ShowsTreeFound}
+use Rattle.replies.specs.First.{IsFirstReply, IsUnmet, MissesAt, MissesJob, MissesWithin, ShowsFirst, ShowsJob, ShowsTreeFound}
+use Rattle.context.specs.Naming.{NamesJob}
 use Rattle.std.specs.declared.alloc.Global.{Global}
-use Rattle.std.proofs.lemmas.Option.{get_or_from_slice_get}
 use Rattle.wintree.specs.Text.{text as plan_text}
 use Rattle.problems.specs.Roots.{IsJobOf}
 use Rattle.problems.specs.Answer.{ForcesNothing, IsAnswer}
@@ -24,7 +24,8 @@ use Rattle.refusals.specs.declared.refusal.Refusal.{Refusal}
 use Rattle.refusals.specs.Outcome.{Gives, IsSoundText}
 use Rattle.answer_texts.specs.Answers.{none_text}
 use Rattle.context.specs.Limits.{fault_of}
-use Rattle.replies.proofs.ReplyLemmas.{gives_weaker}
+use Rattle.context.proofs.NamingLemmas.{job_lawful}
+use Rattle.context.proofs.ShownLemmas.{gives_weaker}
 
 -- ---- a reply
 
@@ -52,10 +53,6 @@ none_shown r job limits result none same is gives =
 -- what takes no number of plies up to the root's limit misses
 pub job_missed : (r : Root) (job limit : ℕ) → r.limit ≡ limit → IsOpenedJob r job None → MissesJob r job limit
 job_missed r job limit same is = λ m at. subst (λ n. IsOpened r.goal r.board m n None) same (is m at)
-
--- each move of a root is lawful
-pub job_lawful : (r : Root) (job : ℕ) (m : Ply) → IsJobOf r job → slice_get r.moves.items job ≡ Some m → IsLawful r.board m
-job_lawful r job m (lists, below) at = (lists.exact m).0 (job, below, get_or_from_slice_get r.moves.items job m m at)
 
 pub named_missed : (name : List ℕ) (limit : ℕ) (r : Root) (job : ℕ) → IsJobOf r job → NamesJob r.moves.items name job → MissesJob r job limit
     → MissesWithin r.goal r.board limit name

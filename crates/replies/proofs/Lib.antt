@@ -1,3 +1,2 @@
 pub mod ReplyLemmas
-mod PlayingLemmas
 pub mod FirstLemmas

@@ -1,5 +1,5 @@
 -- A reply, from what its parts give.
-use Rattle.std.proofs.Common.{◌≡◌, ◌≤◌, ◌⊎◌, ℕ, nat_lt, MatchBool, List, [], Option, None, Some, Result, Ok, Err, IsErr, IsErrAnd, length, inl, inr, refl, sym, ap, subst}
+use Rattle.std.proofs.Common.{◌≡◌, ◌≤◌, ◌⊎◌, ℕ, nat_lt, MatchBool, List, [], Option, Some, Result, Ok, Err, IsErr, IsErrAnd, length, inl, inr, refl, sym, ap, subst}
 use Rattle.std.proofs.lemmas.Bool.{le-ltb, lt-ltb}
 use Rattle.board.specs.Board.{PlainBoard}
 use Rattle.board.specs.declared.fault.FenFault.{FenFault}
@@ -7,13 +7,10 @@ use Rattle.rules.specs.Reading.{IsSoundFault}
 use Rattle.devices.specs.Input.{IsInput, IsTooLong, OfInput}
 use Rattle.refusals.specs.Outcome.{Gives, GivesIfRead, reply_fault_of, IsSoundText}
 use Rattle.replies.specs.Outcome.{GivesReply}
-use Rattle.replies.specs.Output.{IsOutput, ShowsCommand, ShowsWithin, input_of}
-use Rattle.context.proofs.Refused.{refused_by}
-use Rattle.context.specs.Limits.{IsRefusedWithin, fault_of}
+use Rattle.replies.specs.Output.{IsOutput, ShowsCommand, input_of}
 use Rattle.rules.specs.declared.goal.Goal.{Goal}
-use Rattle.command_line.specs.declared.line.Limits.{Limits}
 use Rattle.command_line.specs.declared.line.Action.TheVariants.{Solve, Keys, Moves, Tree, Check}
-use Rattle.refusals.specs.Reply.{Reply, answered, refused}
+use Rattle.refusals.specs.Reply.{Reply, refused}
 use Rattle.refusals.specs.Refusal.{refusal_of_fen}
 use Rattle.command_line.specs.declared.line.Line.{Line}
 use Rattle.command_line.specs.declared.line.Action.{Action}
@@ -100,16 +97,6 @@ input_unread bytes most ShowsCommand known (Err (Refused refusal)) input.NoMemor
 input_unread bytes most ShowsCommand known (Err (Refused refusal)) input.ReadFailed long err = absurd cc
 input_unread bytes most ShowsCommand known (Err ReadFailed) fault long err = of_any known _ (λ read. tt)
 
--- ---- limits
-
--- it is shown in place of what would be found
-pub refused_within : (limits : Limits) (Shows : Reply → Type 0) (why : Refusal) → IsRefusedWithin limits why
-    → (why ≡ NoMemory) ⊎ ShowsWithin limits Shows (refused why)
-refused_within limits Shows why is = elim (refused_by limits why is) [
-  | inl (none, memory) ↦ inl memory
-  | inr (fault, at, same) ↦ inr (rw at (ap refused same))
-]
-
 -- a command that is no check reads no input
 pub reads_none : (action : Action) (known : Option (List ℕ)) → ((goal : Goal) → action ≡ Check goal → ⊥) → input_of action known ≡ Some []
 reads_none (Check goal) known none = absurd (none goal refl)
@@ -117,16 +104,3 @@ reads_none (Solve goal limits) known none = refl
 reads_none (Keys goal limits) known none = refl
 reads_none (Tree goal limits) known none = refl
 reads_none Moves known none = refl
-
--- ---- replies
-
--- what is given is given for what follows of it
-pub gives_weaker : {B : Type 0} (bytes : B → List ℕ) (P Q : Reply → Type 0) (r : Result B Refusal) → ((reply : Reply) → P reply → Q reply) → Gives bytes P r → Gives bytes Q r
-gives_weaker bytes P Q (Ok text) so gives = so (answered (bytes text)) gives
-gives_weaker bytes P Q (Err refusal) so (inl none) = inl none
-gives_weaker bytes P Q (Err refusal) so (inr shows) = inr (so (refused refusal) shows)
-
--- where all limits are taken, what is given is shown within them
-pub gives_within : {B : Type 0} (bytes : B → List ℕ) (limits : Limits) (Shows : Reply → Type 0) (r : Result B Refusal) → fault_of limits ≡ None
-    → Gives bytes Shows r → Gives bytes (ShowsWithin limits Shows) r
-gives_within bytes limits Shows r none gives = gives_weaker bytes Shows (ShowsWithin limits Shows) r (λ reply shows. rw none shows) gives

@@ -16,8 +16,8 @@ use Rattle.refusals.specs.Reply.{Reply, answered, refused, line_of}
 use Rattle.refusals.specs.declared.refusal.Refusal.TheVariants.{Move}
 use Rattle.answer_texts.specs.Answers.{none_text}
 use Rattle.refusals.specs.Outcome.{IsReplyAt, IsSoundText}
-use Rattle.replies.specs.Output.{ShowsWithin}
-use Rattle.replies.specs.Playing.{NamesNone}
+use Rattle.context.specs.Shown.{ShowsWithin}
+use Rattle.context.specs.Naming.{NamesNone}
 
 -- the text of that plan, or that there is none within the limit
 abbrev pub ShowsTreeOf : Goal → PlainBoard → Ply → ℕ → Reply → Type 0
@@ -36,10 +36,6 @@ ShowsFirst goal b name limits reply =
     ⊎ (NamesNone b name × (reply ≡ refused Move))
 
 -- ---- the root's moves by number
-
--- the move of this number has the name
-abbrev pub NamesJob : List Ply → List ℕ → ℕ → Type 0
-NamesJob moves name job = (m : Ply) × (slice_get moves job ≡ Some m) × (move_text m ≡ name)
 
 -- it takes no number of plies up to the limit
 abbrev pub MissesJob : Root → ℕ → ℕ → Type 0

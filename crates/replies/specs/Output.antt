@@ -1,12 +1,11 @@
 -- What the program writes for a line, and the status that it ends with.
-use Rattle.std.specs.Prelude.{◌≡◌, ◌⊎◌, ℕ, List, [], ◌≢◌, ◌≤◌, nat_lt, length, Option, Some, MatchBool, MatchOption, SomeIff}
+use Rattle.std.specs.Prelude.{◌≡◌, ◌⊎◌, ℕ, List, [], ◌≢◌, ◌≤◌, nat_lt, length, Option, Some, MatchBool, SomeIff}
 use Rattle.board.specs.Board.{PlainBoard}
 use Rattle.rules.specs.declared.goal.Goal.{Goal}
 use Rattle.rules.specs.declared.goal.Goal.TheVariants as goal
 use Rattle.rules.specs.Order.{ListsLawful}
 use Rattle.rules.specs.Squares.{Ply}
-use Rattle.problems.specs.declared.answer.Answer.{Answer}
-use Rattle.problems.specs.Answer.{IsAnswer, IsFewest, ForcesNothing}
+use Rattle.problems.specs.Answer.{IsFewest, ForcesNothing}
 use Rattle.problems.specs.declared.key.Key.{Key}
 use Rattle.problems.specs.Keys.{ListsKeys}
 use Rattle.searcher.specs.Best.{IsBest}
@@ -16,7 +15,7 @@ use Rattle.wintree.specs.Offset.{IsFaultOf}
 use Rattle.wintree.specs.Plan.{Plan, depth}
 use Rattle.wintree.specs.Text.{TreeText, text as plan_text}
 use Rattle.wintree.specs.Wins.{Wins, height}
-use Rattle.answer_texts.specs.Answers.{answer_text, checked_text, keys_text, moves_text, none_text}
+use Rattle.answer_texts.specs.Answers.{checked_text, keys_text, moves_text, none_text}
 use Rattle.devices.specs.Input.{without_line_feed}
 use Rattle.refusals.specs.Refusal.{refusal_of_tree}
 use Rattle.refusals.specs.Reply.{Reply, answered, refused, line_of}
@@ -26,18 +25,9 @@ use Rattle.command_line.specs.declared.line.Action.{Action}
 use Rattle.command_line.specs.declared.line.Action.TheVariants.{Solve, Keys, Moves, Tree, Check}
 use Rattle.refusals.specs.declared.refusal.Refusal.TheVariants.{TooLong}
 use Rattle.refusals.specs.Outcome.{IsSoundText, IsReplyAt}
-use Rattle.context.specs.Limits.{fault_of, refusal_of_solve}
+use Rattle.context.specs.Shown.{ShowsAnswer, ShowsWithin}
 
 -- ---- the reply to each command, at a position
-
--- what is shown where all these values are taken, or the refusal of the first that isn't
-abbrev pub ShowsWithin : Limits → (Reply → Type 0) → Reply → Type 0
-ShowsWithin limits Shows reply = MatchOption (fault_of limits) (Shows reply) (λ fault. reply ≡ refused (refusal_of_solve fault))
-
--- the answer for a goal within the limit, or the refusal of the limits
-abbrev pub ShowsAnswer : Goal → PlainBoard → Limits → Reply → Type 0
-ShowsAnswer goal b limits reply = ShowsWithin limits
-    (λ reply. (answer : Answer) × IsAnswer goal b limits.limit answer × (reply ≡ answered (answer_text goal answer))) reply
 
 -- the first moves that force a goal within the limit, in order, each with its plies; or the refusal of the limits
 abbrev pub ShowsKeys : Goal → PlainBoard → Limits → Reply → Type 0

@@ -3,15 +3,12 @@ use Rattle.std.specs.Prelude.{◌≡◌, ◌⊎◌, List, ℕ}
 use Rattle.board.specs.Board.{PlainBoard}
 use Rattle.board.specs.Fen.{IsFenText}
 use Rattle.rules.specs.MoveText.{move_text}
-use Rattle.rules.specs.Moves.{IsMove, IsLawful}
+use Rattle.rules.specs.Moves.{IsMove}
 use Rattle.rules.specs.Squares.{Ply}
 use Rattle.refusals.specs.Outcome.{IsReplyAt}
 use Rattle.refusals.specs.Reply.{Reply, answered, refused, line_of}
 use Rattle.refusals.specs.declared.refusal.Refusal.TheVariants.{Move}
-
--- no lawful move has this name
-abbrev pub NamesNone : PlainBoard → List ℕ → Type 0
-NamesNone b name = (m : Ply) → IsLawful b m → move_text m ≡ name → ⊥
+use Rattle.context.specs.Naming.{NamesNone}
 
 -- the text, on a line, of the position after the lawful move of this name, or that no lawful move has it
 abbrev pub ShowsAfter : PlainBoard → List ℕ → Reply → Type 0

@@ -1,36 +1,22 @@
 //! The reply to a first move that is given: its tree, where it wins within the limit.
 ghost use Rattle.std.specs.Prelude.{◌≡◌, ◌⊎◌, IfSome, MatchOption, None, min, vec_items};
 ghost use Rattle.problems.specs.Roots.{IsRoot, IsJobOf};
-ghost use Rattle.replies.specs.First.{IsFirstReply, IsUnmet, MissesAt, MissesJob, MissesWithin, NamesJob, ShowsFirst, ShowsJob};
+ghost use Rattle.replies.specs.First.{IsFirstReply, IsUnmet, MissesAt, MissesJob, MissesWithin, ShowsFirst, ShowsJob};
+ghost use Rattle.context.specs.Naming.{NamesJob};
 ghost use Rattle.refusals.specs.Outcome.{Gives};
 ghost use Rattle.context.specs.Limits.{fault_of};
-ghost use Rattle.replies.specs.Playing.{NamesNone};
+ghost use Rattle.context.specs.Naming.{NamesNone};
 
-use crate::shown::{none_line, tree_line};
+use crate::shown::tree_line;
 use board::Position;
 use command_line::{Limits, NamedMove};
-use context::{search_of, table_within};
-use moves::{Board, Goal, Move, after, lawful_on, read_move, read_sound};
+use context::{named_job, none_line, search_of, table_within};
+use moves::{Board, Goal, Move, after, lawful_on, read_sound};
 use problems::{Answer, MOST_LIMIT, Problem, Root};
 use refusals::{Refusal, advise_refuted};
 use searcher::{Crew, Table};
 use std::alloc::Global;
 use std::io::Write;
-
-/// The number of the lawful move of this name.
-pub fn named_job(root: &Root, name: &[u8]) -> Option<u16>
-    requires { IsRoot root.now }
-    ensures { MatchOption result (NamesNone root.now.board name.now)
-        (λ job. IsJobOf root.now job × NamesJob root.now.moves.items name.now job) }
-{
-    let named = read_move(name)?;
-    for job in 0..root.jobs() {
-        if root.moves[usize::from(job)] == named {
-            return Some(job);
-        }
-    }
-    None
-}
 
 /// The first reply behind which the goal isn't forced within so many plies, over what the table has. After a want of memory it is
 /// none.

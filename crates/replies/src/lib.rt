@@ -6,7 +6,7 @@ mod played;
 mod replying;
 mod shown;
 
-pub use first::{first_reply, named_job};
+pub use first::first_reply;
 pub use played::after_reply;
 pub use replying::reply_to;
-pub use shown::{none_line, shown_at, tree_line};
+pub use shown::{shown_at, tree_line};

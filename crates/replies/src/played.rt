@@ -5,7 +5,8 @@ ghost use Rattle.rules.specs.MoveText.{move_text};
 ghost use Rattle.rules.specs.Moves.{IsLawful};
 ghost use Rattle.refusals.specs.Reply.{line_of};
 ghost use Rattle.refusals.specs.Outcome.{Gives};
-ghost use Rattle.replies.specs.Playing.{NamesNone, ShowsAfter, IsAfterReply};
+ghost use Rattle.replies.specs.Playing.{ShowsAfter, IsAfterReply};
+ghost use Rattle.context.specs.Naming.{NamesNone};
 
 use board::{Position, fen_text};
 use moves::{Move, is_lawful, read_move, read_sound};

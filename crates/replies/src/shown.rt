@@ -41,13 +41,6 @@ fn plan_text<A: Allocator, B: Allocator>(
     }
 }
 
-/// That there is no tree, on one line.
-pub fn none_line<A: Allocator>(alloc: A, limit: u8) -> Result<Vec<u8, A>, Refusal>
-    ensures { Gives vec_items (λ reply. reply ≡ answered (none_text limit)) result }
-{
-    Ok(none_text(alloc, u32::from(limit))?.into_bytes())
-}
-
 /// The text of a tree, on a line.
 pub fn tree_line<A: Allocator, B: Allocator>(
     alloc: B,

@@ -1,5 +1,5 @@
 use Rattle.problems.proofs.Jobs.{got_at, move_at}
-use Rattle.replies.proofs.FirstLemmas.{job_lawful}
+use Rattle.context.proofs.NamingLemmas.{job_lawful}
 use Rattle.replies.proofs.first.tell_refutation.Goals as goal
 
 pub after-next-requires : goal.after-next-requires

@@ -1,4 +1,4 @@
-use Rattle.replies.proofs.PlayingLemmas.{none_read}
+use Rattle.context.proofs.NamingLemmas.{none_read}
 use Rattle.replies.proofs.played.named_move.Goals as goal
 
 pub returns-in_err-m : goal.returns-in_err-m

@@ -1,7 +1,7 @@
 use Rattle.std.proofs.Common.{rules, vec_items}
 use Rattle.searcher.specs.Best.{IsBestWithin}
 use Rattle.replies.specs.Output.{ShowsBest}
-use Rattle.replies.proofs.ReplyLemmas.{gives_within}
+use Rattle.context.proofs.ShownLemmas.{gives_within}
 use Rattle.replies.proofs.shown.shown_at.Goals as goal
 
 pub returns-in_ok-tree-in-Tree : goal.returns-in_ok-tree-in-Tree

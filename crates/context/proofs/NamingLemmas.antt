@@ -1,13 +1,15 @@
--- The lawful move of a name.
-use Rattle.std.proofs.Common.{◌≡◌, ℕ, ◌<◌, ◌≤◌, arith, sym, subst, List, length, get_or, None, Some}
-use Rattle.std.proofs.lemmas.Option.{same_Some}
+-- The lawful move of a name, and its number.
+use Rattle.std.proofs.Common.{◌≡◌, ℕ, ◌<◌, ◌≤◌, arith, sym, subst, List, length, get_or, slice_get, None, Some}
+use Rattle.std.proofs.lemmas.Option.{same_Some, get_or_from_slice_get}
 use Rattle.board.specs.Board.{PlainBoard}
 use Rattle.rules.specs.Squares.{Ply}
 use Rattle.rules.specs.MoveText.{move_text}
 use Rattle.rules.specs.Moves.{IsPly, IsLawful}
 use Rattle.rules.specs.Order.{ListsLawful}
 use Rattle.rules.proofs.Naming.{ply_of_lawful}
-use Rattle.replies.specs.Playing.{NamesNone}
+use Rattle.problems.specs.Roots.{IsJobOf}
+use Rattle.problems.specs.declared.root.Root.{Root}
+use Rattle.context.specs.Naming.{NamesNone}
 
 none_is_some : (m : Ply) → None ≡ Some m → ⊥
 none_is_some m e = cc
@@ -24,3 +26,7 @@ not_lawful b name named only unlawful m lawful is =
 -- what isn't on the list of lawful moves isn't lawful
 pub not_listed : (b : PlainBoard) (xs : List Ply) (job : ℕ) (m : Ply) → ListsLawful b xs → length xs ≤ job → ((k : ℕ) → k < job → get_or xs k m ≡ m → ⊥) → IsLawful b m → ⊥
 not_listed b xs job m lists past none lawful = let there = (lists.exact m).1 lawful in none there.0 (omega (arith, there.1, past)) there.2
+
+-- each move of a root is lawful
+pub job_lawful : (r : Root) (job : ℕ) (m : Ply) → IsJobOf r job → slice_get r.moves.items job ≡ Some m → IsLawful r.board m
+job_lawful r job m (lists, below) at = (lists.exact m).0 (job, below, get_or_from_slice_get r.moves.items job m m at)

@@ -1,8 +1,8 @@
 use Rattle.std.proofs.Common.{◌≡◌, ◌<◌, arith, length, rules, subst, sym}
 use Rattle.rules.specs.MoveText.{move_text}
 use Rattle.problems.proofs.Jobs.{got_at, move_at}
-use Rattle.replies.proofs.PlayingLemmas.{none_read, not_lawful, not_listed}
-use Rattle.replies.proofs.first.named_job.Goals as goal
+use Rattle.context.proofs.NamingLemmas.{none_read, not_lawful, not_listed}
+use Rattle.context.proofs.naming.named_job.Goals as goal
 
 pub returns-in_err-named : goal.returns-in_err-named
 returns-in_err-named c = rw c.from_residual.ensures (none_read c.args.root.now.board c.args.name.now c.in_err-named.ensures.read)
