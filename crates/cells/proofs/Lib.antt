@@ -4,3 +4,4 @@ pub mod Reached
 pub mod Masks
 pub mod OnRays
 pub mod Leaping
+pub mod LineTables

@@ -4,7 +4,7 @@ ghost use Rattle.cells.specs.Mailbox.{IsCell};
 ghost use Rattle.cells.specs.CellSets.{Has};
 ghost use Rattle.cells.specs.Ways.{IsOnStraight, IsOnSlanted};
 
-use crate::tables::{Way, ray};
+use crate::tables::{SLANTED_LINES, STRAIGHT_LINES, board_number};
 use board::Game;
 
 /// The other cells of the cell's rank and file.
@@ -12,10 +12,7 @@ pub fn straight_lines(game: Game, cell: u8) -> u64
     requires { IsCell game cell }
     ensures { (j : ℕ) → Has result j ↔ IsOnStraight game cell j }
 {
-    ray(game, Way::North, cell)
-        | ray(game, Way::South, cell)
-        | ray(game, Way::East, cell)
-        | ray(game, Way::West, cell)
+    STRAIGHT_LINES[board_number(game)][cell as usize]
 }
 
 /// The other cells of the cell's diagonals.
@@ -23,10 +20,7 @@ pub fn slanted_lines(game: Game, cell: u8) -> u64
     requires { IsCell game cell }
     ensures { (j : ℕ) → Has result j ↔ IsOnSlanted game cell j }
 {
-    ray(game, Way::NorthEast, cell)
-        | ray(game, Way::SouthWest, cell)
-        | ray(game, Way::NorthWest, cell)
-        | ray(game, Way::SouthEast, cell)
+    SLANTED_LINES[board_number(game)][cell as usize]
 }
 
 /// The cells up to the lowest of the set, which may be empty.

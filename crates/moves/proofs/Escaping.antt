@@ -1,5 +1,5 @@
 -- Steps of a king that are lawful after a move of the other side.
-use Rattle.moves.proofs.Common.{◌≡◌, ℕ, refl, sym, ap, subst, ◌∙◌, inl, inr, Some, None, false≢true, same_Some, King, Man, Side, other_side, PlainBoard, IsPosition, Place, Ply, IsOnBoard, unit_at, Allows, Reaches, AttacksFrom, IsAttacked, IsInCheck, once, IsSomeKing, IsPseudoLegal, IsLawful, placed, after, IsPosition-after, own_or_other, place_in, IsCell, Way, IsOnRay, Aims, IsPinned, IsCalm, single_step}
+use Rattle.moves.proofs.Common.{◌≡◌, ℕ, refl, sym, ap, subst, ◌∙◌, inl, inr, Some, None, false≢true, same_Some, King, Man, Side, other_side, PlainBoard, IsPosition, Place, Ply, IsOnBoard, unit_at, Allows, Reaches, AttacksFrom, IsAttacked, IsInCheck, once, IsSomeKing, IsPseudoLegal, IsLawful, placed, after, IsPosition-after, own_or_other, place_in, IsCell, Way, IsOnRay, Aims, IsPinned, IsCalm, single_step, Has, cell_of, IsCell-cell_of, place_in-cell_of, Promotes, Kind, Option, unwrap_or}
 use Rattle.moves.proofs.Laying.{unit_at-other}
 use Rattle.moves.proofs.Kings.{king_of, check_at, check_from}
 use Rattle.moves.proofs.Guarding.{king_moved}
@@ -8,6 +8,9 @@ use Rattle.moves.proofs.Pins.{stood, attacked_after}
 use Rattle.moves.proofs.Riding.{Rides-leads, rides-ray}
 use Rattle.moves.proofs.Seeing.{rider_way, king_single}
 use Rattle.moves.proofs.Shadows.{pinned_attacks}
+use Rattle.moves.proofs.SafeCells.{not_named}
+use Rattle.moves.specs.declared.checks.CheckInfo.{CheckInfo}
+use Rattle.moves.specs.Checking.{IsCheckInfo}
 
 -- what a rider would come to over a cell lies on a line of that cell
 pub over_lines : (b : PlainBoard) (side : Side) (k i : ℕ) → IsCell b.game k → IsCell b.game i → IsPinned b side (place_in i) (place_in k) → (way : Way) × IsOnRay b.game way k i
@@ -78,3 +81,15 @@ module _ (b : PlainBoard) (m : Ply) (u : Man) (is : IsPosition b) (p : IsPseudoL
                 ]
           ] in
           (fin, record { unit = v; pseudo = steps; leads = refl; safe = λ check. still_safe (check_at fin (IsPosition-after next n v is_next steps) side f to (king_moved next n v is_next steps refl) check) })
+
+  -- so is a step that the info has
+  pub known_step : (info : CheckInfo) → IsCheckInfo b info → (i : ℕ) → Has info.steps i → (place_in i ≡ m.from → ⊥) → (place_in i ≡ m.to → ⊥) → ((q : PlainBoard) → q.game ≡ b.game → Aims q (placed u m) m.to (place_in i) → ⊥)
+      → (IsPinned b (other_side b.mover) (place_in i) m.from → ⊥) → (Has info.uncovers (cell_of m.from) → ⊥) → (n : Ply) × IsLawful (after b m u) n
+  known_step info w i step away apart unseen shut covered =
+      let (target, calm) = w.steps i step in
+      let kept : IsPinned b (other_side b.mover) (place_in info.king) m.from → ⊥ = λ pin. covered (w.uncovers (cell_of m.from) (IsCell-cell_of b.game m.from p.on_board) (subst (IsPinned b (other_side b.mover) (place_in info.king)) (sym (place_in-cell_of b.game m.from p.on_board)) pin)) in
+      (_, lawful_step (place_in info.king) (place_in i) w.cell.on_board w.king target.0.on_board target.1 away apart calm unseen shut w.safe kept)
+
+  -- a unit that isn't promoted stays what it is
+  pub stays_same : (Promotes b.game u m.to → ⊥) → placed u m ≡ u
+  stays_same never = ap (λ (o : Option Kind). record { side = u.side; kind = unwrap_or o u.kind }) (not_named m.promotion (λ s. never (p.named.0 s)))

@@ -1,5 +1,5 @@
 -- Whether a move is lawful doesn't depend on what a pawn becomes.
-use Rattle.moves.proofs.Common.{◌≡◌, ℕ, ◌+◌, ◌^◌, ◌<◌, arith, refl, sym, ap, subst, ◌∙◌, ◌⊎◌, ◌↔◌, inl, inr, Option, Some, None, IsSome, same_Some, cases_eq, Game, Side, White, Black, Kind, King, Queen, Rook, Bishop, Knight, Pawn, Man, Step, width_of, other_side, PlainBoard, IsPosition, Place, Ply, IsOnBoard, unit_at, Leads, Reaches, IsAttacked, IsInCheck, once, again, IsLastRank, Promotes, IsSomeKing, IsPseudoLegal, IsLawful, placed, after, cell_of, place_in, Has, IsTarget, IsPinned, IsNamed, HasSafe, IsCalm, place_in-cell_of, lowest-has, IsRankAhead, to_on_board, own_or_other, cases_Bool, is_king, false≢true}
+use Rattle.moves.proofs.Common.{◌≡◌, ℕ, ◌+◌, ◌^◌, ◌<◌, arith, refl, sym, ap, subst, ◌∙◌, ◌⊎◌, ◌↔◌, inl, inr, Option, Some, None, Bool, IsSome, IfSome, IsTrue, IsPromotion, via, same_Some, cases_eq, Game, Side, White, Black, Kind, King, Queen, Rook, Bishop, Knight, Pawn, Man, Step, width_of, other_side, PlainBoard, IsPosition, Place, Ply, IsOnBoard, unit_at, Leads, Reaches, IsAttacked, IsInCheck, once, again, IsLastRank, Promotes, IsSomeKing, IsPseudoLegal, IsLawful, placed, after, cell_of, place_in, Has, IsTarget, IsPinned, IsNamed, HasSafe, IsCalm, place_in-cell_of, lowest-has, IsRankAhead, to_on_board, own_or_other, cases_Bool, is_king, false≢true}
 use Rattle.moves.proofs.KingSteps.{attacked_then, steps_safely}
 use Rattle.moves.proofs.Laying.{unit_at-to, unit_at-from, unit_at-other}
 use Rattle.moves.proofs.Looking.{carried}
@@ -19,10 +19,16 @@ IsBeforeLast g Black rank = rank ≡ 1
 abbrev pub becoming : Ply → Option Kind → Ply
 becoming m o = record { from = m.from; to = m.to; promotion = o }
 
+-- a promotion that is named well
+pub well_named : (b : PlainBoard) (m : Ply) (u : Man) (well : Bool) (g : Game) → g ≡ b.game → (IsTrue well ↔ ((IsSome m.promotion ↔ Promotes g u m.to) × IfSome m.promotion (IsPromotion g))) → IsTrue well ↔ IsNamed b.game u m
+well_named b m u well g same h =
+    via (subst (λ (x : Game). IsTrue well ↔ ((IsSome m.promotion ↔ Promotes x u m.to) × IfSome m.promotion (IsPromotion x))) same h)
+    (λ w. record { named = w.0; allowed = w.1 }, λ n. (n.named, n.allowed))
+
 king_cases : (k : Kind) → (k ≡ King) ⊎ (k ≡ King → ⊥)
 king_cases k = elim (cases_Bool (is_king k)) [ inl king ↦ inl (king_kind k king) | inr piece ↦ inr (λ e. false≢true (sym piece ∙ ap is_king e)) ]
 
-not_named : (o : Option Kind) → (IsSome o → ⊥) → o ≡ None
+pub not_named : (o : Option Kind) → (IsSome o → ⊥) → o ≡ None
 not_named None never = refl
 not_named (Some k) never = absurd (never refl)
 

@@ -194,23 +194,27 @@ module _ (b : PlainBoard) (side : Side) (i j : ℕ) (c : IsCell b.game i) where
 
 -- ---- a step's way, where it is a rider's
 
+-- a way along ranks and files is a queen's or a rook's, one along diagonals a queen's or a bishop's
+abbrev pub GoesAs : Kind → Way → Type 0
+GoesAs kind way = (IsAtomLeap Wazir (files_of way) (ranks_of way) × ((kind ≡ Queen) ⊎ (kind ≡ Rook))) ⊎ (IsAtomLeap Ferz (files_of way) (ranks_of way) × ((kind ≡ Queen) ⊎ (kind ≡ Bishop)))
+
 -- the way that a rider of a class goes
 pub record RidesAs (side : Side) (kind : Kind) (step : Step) : Type 0 where
   pub way : Way
   pub goes : Goes side way step
-  pub class : ((kind ≡ Queen) ⊎ (kind ≡ Rook)) ⊎ ((kind ≡ Queen) ⊎ (kind ≡ Bishop))
+  pub by : GoesAs kind way
 
-ride : (a : Atom) → (a ≡ atom.Knight → ⊥) → (side : Side) (q : Kind) (step : Step) → ((q ≡ Queen) ⊎ (q ≡ Rook)) ⊎ ((q ≡ Queen) ⊎ (q ≡ Bishop)) → Denotes (doubled a ∷ []) step → RidesAs side q step
-ride a other side q step of d = let w = step_way a other side step ((one_term (doubled a) step).0 d).leap.atom in record { way = w.way; goes = w.holds; class = of }
+ride : (a : Atom) → (a ≡ atom.Knight → ⊥) → (side : Side) (q : Kind) (step : Step) → ((way : Way) → IsAtomLeap a (files_of way) (ranks_of way) → GoesAs q way) → Denotes (doubled a ∷ []) step → RidesAs side q step
+ride a other side q step by d = let w = step_way a other side step ((one_term (doubled a) step).0 d).leap.atom in record { way = w.way; goes = w.holds; by = by w.way w.leap }
 
 pub king_single : (step : Step) → Denotes (terms_of King) step → step.rider ≡ false
 king_single step d = (leaps King refl step d).0
 
 pub rides_as : (side : Side) (kind : Kind) (step : Step) → Denotes (terms_of kind) step → (step.rider ≡ false) ⊎ RidesAs side kind step
 rides_as side King step d = inl (king_single step d)
-rides_as side Queen step d = inr (elim ((queen_step step).0 d) [ inl s ↦ ride Wazir (λ e. cc) side Queen step (inl (inl refl)) s | inr s ↦ ride Ferz (λ e. cc) side Queen step (inr (inl refl)) s ])
-rides_as side Rook step d = inr (ride Wazir (λ e. cc) side Rook step (inl (inr refl)) d)
-rides_as side Bishop step d = inr (ride Ferz (λ e. cc) side Bishop step (inr (inr refl)) d)
+rides_as side Queen step d = inr (elim ((queen_step step).0 d) [ inl s ↦ ride Wazir (λ e. cc) side Queen step (λ way l. inl (l, inl refl)) s | inr s ↦ ride Ferz (λ e. cc) side Queen step (λ way l. inr (l, inl refl)) s ])
+rides_as side Rook step d = inr (ride Wazir (λ e. cc) side Rook step (λ way l. inl (l, inr refl)) d)
+rides_as side Bishop step d = inr (ride Ferz (λ e. cc) side Bishop step (λ way l. inr (l, inr refl)) d)
 rides_as side Knight step d = inl (leaps Knight refl step d).0
 rides_as side Pawn step d = inl (leaps Pawn refl step d).0
 

@@ -33,7 +33,7 @@ comes_through b is side k i on cell w =
       rider = r;
       cell = rc;
       attacks = subst (λ x. AttacksFrom b (other_side side) x (place_in k)) (sym at) (pinned_attacks b is side (place_in i) (place_in k) w);
-      has = has_rider b (place_in r) w.rider stands way.class;
+      has = has_rider b (place_in r) w.rider way.way stands way.by;
       way = way.way;
       on = ray-beyond b.game way.way r k i (rides-ray b way.way r k first) (rides-ray b way.way k i then);
     }

@@ -1,6 +1,7 @@
 -- Which moves may give check, and what a move brings about at once.
-use Rattle.std.specs.Prelude.{◌≡◌, ℕ, Some, IfSome, MatchOption}
+use Rattle.std.specs.Prelude.{◌≡◌, ◌≢◌, ℕ, Some, IfSome, MatchOption}
 use Rattle.board.specs.declared.game.Kind.TheVariants.{King, Knight}
+use Rattle.board.specs.declared.game.Unit.{Unit as Man}
 use Rattle.board.specs.Games.{other_side}
 use Rattle.board.specs.Board.{PlainBoard}
 use Rattle.moves.specs.declared.at_once.Quest.{Quest}
@@ -12,6 +13,7 @@ use Rattle.rules.specs.Moves.{IsMove}
 use Rattle.rules.specs.Forces.{IsReached}
 use Rattle.cells.specs.Mailbox.{place_in, IsCell}
 use Rattle.moves.specs.Guard.{Guards}
+use Rattle.moves.specs.Looking.{Aims}
 use Rattle.moves.specs.Pinned.{IsPinned}
 use Rattle.cells.specs.CellSets.{Has}
 use Rattle.moves.specs.Safe.{IsCalm}
@@ -36,3 +38,8 @@ pub record Attains (goal : Goal) (b : PlainBoard) (m : Ply) : Type 0 where
 pub record Seeks (b : PlainBoard) (quest : Quest) : Type 0 where
   pub guards : MatchOption quest.guard (IsInCheck b (other_side b.mover) → ⊥) (Guards b)
   pub known : IfSome quest.info (IsCheckInfo b)
+
+-- another cell, on which the unit wouldn't take from the first, whatever else stands on the board
+pub record IsUnseen (b : PlainBoard) (u : Man) (to i : ℕ) : Type 0 where
+  pub other : i ≢ to
+  pub unseen : (c : PlainBoard) → c.game ≡ b.game → IsCell b.game i → Aims c u (place_in to) (place_in i) → ⊥

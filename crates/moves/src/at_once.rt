@@ -14,15 +14,15 @@ ghost use Rattle.moves.specs.Checking.{Attains, Seeks};
 use crate::any_move::{has_move, is_mated};
 use crate::board_list::{Guard, guard_of, promotion_count};
 use crate::checks::{CheckInfo, check_info, checking};
-use crate::escapes::escapes;
-use crate::look::{is_checked, mover_in_check};
+use crate::escapes::held;
+use crate::look::is_checked;
 use crate::packed::Board;
-use crate::safe::{is_calm, is_named, may_go};
+use crate::safe::{is_calm, may_go};
 use crate::sweep::any_cell;
 use crate::targets::targets;
 use board::Unit;
 use cells::square_in;
-use rules::{Goal, Move, PROMOTIONS, is_king};
+use rules::{Goal, Move, PROMOTIONS, is_king, is_promoted_well};
 
 /// The goal, by what checks to the other king are seen, if that isn't attacked already, and what the mover's king asks of each move, but
 /// for a mate where they are: mates are so few that one is asked last whether it leaves the own king attacked.
@@ -56,13 +56,8 @@ fn attains(board: &Board, quest: Quest, m: Move, unit: Unit) -> bool
     requires pseudo { IsNamed board.now.game unit m → IsPseudoLegal board.now m unit }
     ensures { IsTrue result ↔ Attains quest.goal board.now m }
 {
-    if !is_named(board, unit, m) {
+    if !is_promoted_well(board.game(), unit, m) {
         return false;
-    }
-    if let Some(info) = quest.info {
-        if escapes(board, info, m, unit) {
-            return false;
-        }
     }
     let next = board.moved(m, unit);
     is_reached(&next, quest.goal) && !is_checked(&next, unit.side)
@@ -129,7 +124,14 @@ fn hopeful(board: &Board, quest: Quest, unit: Unit, from: u8) -> u64
     ensures all { (m : Ply) → m.from ≡ place_in from → Attains quest.goal board.now m → Has result (cell_of m.to) }
 {
     match (quest.goal, quest.info) {
-        (Goal::Mate, Some(info)) => checking(board, info, unit, from),
+        (Goal::Mate, Some(info)) => held(
+            board,
+            info,
+            unit,
+            from,
+            checking(board, info, unit, from),
+        ),
+        (_, Some(info)) => held(board, info, unit, from, targets(board, unit, from)),
         _ => targets(board, unit, from),
     }
 }
@@ -157,7 +159,7 @@ pub fn reaches_at_once(board: &Board, goal: Goal) -> bool
 {
     let info = check_info(board);
     let guard = match (goal, info) {
-        (Goal::Mate, Some(_)) if !mover_in_check(board) => None,
+        (Goal::Mate, Some(_)) => None,
         _ => Some(guard_of(board)),
     };
     let quest = Quest { goal, guard, info };

@@ -1,22 +1,20 @@
 //! Steps by which a king gets away from a move, whatever else stands on the board.
 ghost use Rattle.std.specs.Prelude.{◌≡◌, ℕ, IsTrue};
-ghost use Rattle.board.specs.Board.{PlainBoard, IsPosition};
-ghost use Rattle.board.specs.Games.{other_side};
+ghost use Rattle.board.specs.Board.{IsPosition};
 ghost use Rattle.rules.specs.Squares.{Ply};
-ghost use Rattle.rules.specs.Moves.{IsPseudoLegal, IsLawful, placed, after};
+ghost use Rattle.rules.specs.Moves.{IsPseudoLegal, IsLawful, after};
 ghost use Rattle.cells.specs.Mailbox.{cell_of, place_in, IsCell};
 ghost use Rattle.cells.specs.CellSets.{Has};
-ghost use Rattle.moves.specs.Looking.{Aims};
 ghost use Rattle.moves.specs.Pinned.{IsPinned};
-ghost use Rattle.moves.specs.Checking.{IsCheckInfo};
+ghost use Rattle.moves.specs.Checking.{IsCheckInfo, IsUnseen};
 
-use crate::checks::CheckInfo;
+use crate::checks::{CheckInfo, may_promote};
 use crate::look::open_lines;
 use crate::packed::Board;
 use crate::seen::lines;
+use crate::sweep::take_lowest;
 use board::{Side, Unit};
-use cells::{cell_of, except, has, single};
-use rules::Move;
+use cells::{except, has, single, square_in, with_cell};
 
 /// The cells on the lines of this one, if a rider of the other side stands on them too.
 fn opened(board: &Board, side: Side, cell: u8) -> u64
@@ -28,34 +26,39 @@ fn opened(board: &Board, side: Side, cell: u8) -> u64
     if riders & lines == 0 { 0 } else { lines }
 }
 
-/// Cells to which the other king may not step after the move: its two, those that the unit may take on, and those to which the
-/// way may be open now.
-fn barred(board: &Board, m: Move, unit: Unit) -> u64
-    requires position { IsPosition board.now }
-    requires pseudo { IsPseudoLegal board.now m unit }
-    ensures from { Has result (cell_of m.from) }
-    ensures to { Has result (cell_of m.to) }
-    ensures aims { (b : PlainBoard) (j : ℕ) → b.game ≡ board.now.game → IsCell board.now.game j
-        → Aims b (placed unit m) m.to (place_in j) → Has result j }
-    ensures opens { (i : ℕ) → IsCell board.now.game i → IsPinned board.now (other_side unit.side) (place_in i) m.from
-        → Has result i }
+/// Whether one of these steps of the other king is to no cell on which the unit may take once it has come to the cell.
+fn flees(board: &Board, unit: Unit, to: u8, steps: u64) -> bool
+    requires { IsCell board.now.game to }
+    ensures { IsTrue result → (i : ℕ) × Has steps i × IsUnseen board.now unit to i }
 {
-    let from = cell_of(m.from);
-    let to = cell_of(m.to);
-    let kind = m.promotion.unwrap_or(unit.kind);
-    let aims = open_lines(board.game(), unit.side, kind, to);
-    single(from) | single(to) | aims | opened(board, unit.side.other(), from)
+    let aims = open_lines(board.game(), unit.side, unit.kind, to);
+    except(steps, single(to) | aims) != 0
 }
 
-/// Whether the other king has a step after the move that is lawful at a glance.
-pub(crate) fn escapes(board: &Board, info: CheckInfo, m: Move, unit: Unit) -> bool
+/// Of the cells of the board to which the unit may come, those where the other king has no step then that is lawful at a glance. It leaves
+/// out none of a pawn's that becomes another unit, and none of a unit's that alone keeps a rider from that king.
+pub(crate) fn held(board: &Board, info: CheckInfo, unit: Unit, from: u8, reached: u64) -> u64
     requires position { IsPosition board.now }
     requires known { IsCheckInfo board.now info }
-    requires pseudo { IsPseudoLegal board.now m unit }
-    ensures { IsTrue result → (n : Ply) × IsLawful (after board.now m unit) n }
+    requires cell { IsCell board.now.game from }
+    requires reached { (i : ℕ) → Has reached i → IsCell board.now.game i }
+    ensures some { (i : ℕ) → Has result i → Has reached i }
+    ensures all { (m : Ply) → m.from ≡ place_in from → IsPseudoLegal board.now m unit → Has reached (cell_of m.to)
+        → ((n : Ply) → IsLawful (after board.now m unit) n → ⊥) → Has result (cell_of m.to) }
 {
-    if has(info.uncovers, cell_of(m.from)) {
-        return false;
+    if has(info.uncovers, from) || may_promote(board, unit, square_in(from)) {
+        return reached;
     }
-    except(info.steps, barred(board, m, unit)) != 0
+    let steps = except(
+        info.steps,
+        single(from) | opened(board, unit.side.other(), from),
+    );
+    let mut left = reached;
+    let mut held = 0;
+    'cells: while left != 0 {
+        let to = take_lowest(&mut left);
+        let holds = !flees(board, unit, to, steps);
+        held = with_cell(held, to, holds);
+    }
+    held
 }

@@ -5,11 +5,10 @@ ghost use Rattle.rules.specs.Moves.{IsPseudoLegal, IsMove, IsLawful};
 
 use crate::look::is_checked;
 use crate::packed::Board;
-use crate::safe::is_named;
 use crate::targets::targets;
 use board::{Game, Unit};
 use cells::{cell_of, has};
-use rules::Move;
+use rules::{Move, is_promoted_well};
 
 /// Whether the board has both squares of the move.
 fn has_squares(game: Game, m: Move) -> bool
@@ -34,7 +33,7 @@ fn is_pseudo_legal(board: &Board, m: Move, unit: Unit) -> bool
     if board.has_king(to) {
         return false;
     }
-    is_named(board, unit, m)
+    is_promoted_well(board.game(), unit, m)
 }
 
 /// The board after the move, if the move is lawful.

@@ -17,7 +17,7 @@ use crate::sweep::take_lowest;
 use crate::targets::targets;
 use board::{Game, Kind, Side, Unit};
 use cells::{common, except, has, square_in, with_cell};
-use rules::{Move, Square, is_king, is_promoted_well, promotes};
+use rules::{Move, Square, is_king, promotes};
 
 /// A move between the squares: a pawn that comes to its last rank becomes a queen.
 fn queening(game: Game, unit: Unit, from: Square, to: Square) -> Move
@@ -35,13 +35,6 @@ fn queening(game: Game, unit: Unit, from: Square, to: Square) -> Move
         to,
         promotion,
     }
-}
-
-/// Whether the move names a promotion where it must, and one of the game's.
-pub(crate) fn is_named(board: &Board, unit: Unit, m: Move) -> bool
-    ensures { IsTrue result ↔ IsNamed board.now.game unit m }
-{
-    is_promoted_well(board.game(), unit, m)
 }
 
 /// Whether no king stands in the cell, and no unit of the other side attacks it.

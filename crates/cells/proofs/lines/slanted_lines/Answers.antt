@@ -1,10 +1,5 @@
-use Rattle.cells.specs.declared.tables.Way.TheVariants.{NorthEast, SouthWest, NorthWest, SouthEast}
-use Rattle.cells.specs.Ways.{IsOnRay}
-use Rattle.cells.proofs.Masks.{four-are}
+use Rattle.cells.proofs.LineTables.{slanted}
 use Rattle.cells.proofs.lines.slanted_lines.Goals as goal
 
 pub returns : goal.returns
-returns c =
-    let g = c.args.game in
-    let i = c.args.cell in
-    four-are (IsOnRay g NorthEast i) (IsOnRay g SouthWest i) (IsOnRay g NorthWest i) (IsOnRay g SouthEast i) c.ray.result c.ray-2.result c.ray-3.result c.ray-4.result c.ray.ensures c.ray-2.ensures c.ray-3.ensures c.ray-4.ensures
+returns c = λ j. slanted c.args.game c.board_number.result c.args.cell j c.board_number.ensures c.requires

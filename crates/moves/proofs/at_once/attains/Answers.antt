@@ -1,28 +1,20 @@
 use Rattle.moves.proofs.Common.{sym, subst, ◌∙◌, false≢true, PlainBoard, IsInCheck, IsLawful, after, IsReached, not_so, not-is}
-use Rattle.moves.proofs.AtOnce.{move_by, next_by, no_move_at}
-use Rattle.moves.proofs.SafeCells.{lawful_named}
+use Rattle.moves.proofs.AtOnce.{move_by, next_by}
+use Rattle.moves.proofs.SafeCells.{lawful_named, well_named}
 use Rattle.moves.proofs.at_once.attains.Goals as goal
 
-pub returns-then-not-is_named : goal.returns-then-not-is_named
-returns-then-not-is_named c = not_so (λ w. false≢true (sym c.if-not-is_named.true ∙ c.is_named.ensures.1 (lawful_named c.args.board.now c.args.m c.args.unit c.requires.stands (w.next, w.move))))
-
-pub escapes-requires-clause-pseudo : goal.escapes-requires-clause-pseudo
-escapes-requires-clause-pseudo c = c.requires.pseudo (c.is_named.ensures.0 c.if-not-is_named.false)
-
-pub returns-then-escapes : goal.returns-then-escapes
-returns-then-escapes c = not_so (λ w.
-    let step = c.escapes.ensures c.if-escapes.true in
-    no_move_at c.args.quest.goal w.next w.reached step.0 (subst (λ q. IsLawful q step.0) (sym (next_by c.args.board.now c.args.m c.args.unit c.requires.stands w.next w.move)) step.1))
+pub returns-then-not-is_promoted_well : goal.returns-then-not-is_promoted_well
+returns-then-not-is_promoted_well c = not_so (λ w. false≢true (sym c.if-not-is_promoted_well.true ∙ (well_named c.args.board.now c.args.m c.args.unit c.is_promoted_well.result c.game.result c.game.ensures.value c.is_promoted_well.ensures).1 (lawful_named c.args.board.now c.args.m c.args.unit c.requires.stands (w.next, w.move))))
 
 pub moved-next-requires : goal.moved-next-requires
-moved-next-requires c = c.requires.pseudo (c.is_named.ensures.0 c.if-not-is_named.false)
+moved-next-requires c = c.requires.pseudo ((well_named c.args.board.now c.args.m c.args.unit c.is_promoted_well.result c.game.result c.game.ensures.value c.is_promoted_well.ensures).0 c.if-not-is_promoted_well.false)
 
 pub returns-then-is_reached : goal.returns-then-is_reached
 returns-then-is_reached c =
     let b = c.args.board.now in
     let m = c.args.m in
     let u = c.args.unit in
-    let p = c.requires.pseudo (c.is_named.ensures.0 c.if-not-is_named.false) in
+    let p = c.requires.pseudo ((well_named c.args.board.now c.args.m c.args.unit c.is_promoted_well.result c.game.result c.game.ensures.value c.is_promoted_well.ensures).0 c.if-not-is_promoted_well.false) in
     let next = c.moved-next.result in
     let own = not-is c.is_checked.result c.is_checked.ensures in (
       λ yes. record {

@@ -1,6 +1,6 @@
 use Rattle.moves.proofs.Common.{rules, ◌≡◌, ℕ, sym, ap, subst, ◌∙◌, false≢true, PlainBoard, Place, Ply, IsOnBoard, unit_at, IsSomeKing, cell_of, place_in, IsTarget, place_in-cell_of, not_so}
 use Rattle.moves.proofs.Checking.{IsTarget-move}
-use Rattle.moves.proofs.SafeCells.{pseudo_named}
+use Rattle.moves.proofs.SafeCells.{pseudo_named, well_named}
 use Rattle.moves.proofs.one_move.is_pseudo_legal.Goals as goal
 
 -- the square of a cell
@@ -32,6 +32,6 @@ returns c =
     let from = place b c.m.inside.from m.from c.cell_of.result c.cell_of.ensures.value (ap (λ (x : Ply). x.from) c.m.view_is) c.requires.squares.0 in
     let to = place b c.m.inside.to m.to c.cell_of-to.result c.cell_of-to.ensures.value (ap (λ (x : Ply). x.to) c.m.view_is) c.requires.squares.1 in (
       λ yes. pseudo_named b m u (place_in c.cell_of.result) c.cell_of-to.result (subst (IsOnBoard b.game) (sym from) c.requires.squares.0) (ap (unit_at b) from ∙ c.requires.stands) owner
-          ((c.targets.ensures c.cell_of-to.result).0 (c.has.ensures.0 c.if-not-has.false)) (λ there. false≢true (sym c.if-has_king.false ∙ c.has_king.ensures.1 there)) (sym from) (sym to) (c.is_named.ensures.0 yes),
-      λ p. c.is_named.ensures.1 (record { named = p.named; allowed = p.allowed }),
+          ((c.targets.ensures c.cell_of-to.result).0 (c.has.ensures.0 c.if-not-has.false)) (λ there. false≢true (sym c.if-has_king.false ∙ c.has_king.ensures.1 there)) (sym from) (sym to) ((well_named b m u c.is_promoted_well.result c.game.result c.game.ensures.value c.is_promoted_well.ensures).0 yes),
+      λ p. (well_named b m u c.is_promoted_well.result c.game.result c.game.ensures.value c.is_promoted_well.ensures).1 (record { named = p.named; allowed = p.allowed }),
     )
