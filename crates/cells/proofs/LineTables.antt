@@ -1,5 +1,5 @@
 -- The tables of lines: each has the rays of four ways.
-use Rattle.std.proofs.Common.{◌≡◌, ℕ, ◌<◌, refl, sym, subst, ◌∙◌, arith, ◌↔◌, ◌⊎◌, Bool, true, eqb, List, [], get_or}
+use Rattle.std.proofs.Common.{◌≡◌, ℕ, refl, sym, subst, arith, ◌↔◌, ◌⊎◌, true, eqb, List, [], get_or}
 use Rattle.std.specs.Int.RustNames.{bit_or}
 use Rattle.std.proofs.lemmas.Bool.{eqb-true}
 use Rattle.board.specs.declared.game.Game.{Game}

@@ -1,12 +1,13 @@
 -- Runs of ones up to the lowest bit of a set, or down to the highest.
-use Rattle.std.proofs.Common.{◌≡◌, ◌≢◌, ℕ, ◌+◌, ◌-◌, ◌*◌, ◌/◌, ◌%◌, ◌^◌, ◌<◌, ◌≤◌, suc, sym, ap, subst, ◌∙◌, arith, ◌↔◌, ◌⊎◌, inl, inr, w64, IsTrue, not, eqb}
+use Rattle.std.proofs.Common.{◌≡◌, ◌≢◌, ℕ, ◌+◌, ◌-◌, ◌*◌, ◌/◌, ◌%◌, ◌^◌, ◌<◌, ◌≤◌, zero, suc, sym, ap, subst, ◌∙◌, arith, ◌↔◌, ◌⊎◌, inl, inr, w64, IsTrue, not, eqb}
 use native.Mathlib.Nat.{pow-suc}
-use lib.Count.{count_trailing_zeros, count_leading_zeros, leading_top}
+use lib.Count.{count_leading_zeros, leading_top}
 use Rattle.std.specs.Int.{bit_at, bit_not}
 use Rattle.std.specs.Int.RustNames.{bit_and, bit_or}
+use Rattle.std.specs.Int.Bits.{bit_xor}
 use Rattle.std.proofs.lemmas.Bool.{cases_eq, cases_lt, false≢true, eq-eqb, eqb-true, not_from_true, not_from_false, false_from_ne_true}
 use Rattle.std.proofs.lemmas.Nat.{or_lt, and_le_l, one_shl}
-use Rattle.std.proofs.lemmas.Nat.Bits.{bit_at-zero, bit_at-lt, bit_at_and, bit_at_or, bit_at_not, bit_at-pow_same, bit_at-pow_other, bit_at_ones, bit_at_ones_above, bit_at_above, bit_at-trailing_zeros, ones_shr, ones_shl, bit_at_mask_inside, bit_at_mask_below, bit_at_cat_high, bit_at_clear_same, bit_at_clear_other}
+use Rattle.std.proofs.lemmas.Nat.Bits.{bit_at-zero, bit_at-lt, bit_at-suc, bit_at_lowest, bit_at_and, bit_at_or, bit_at_xor, bit_at_not, bit_at-pow_same, bit_at-pow_other, bit_at_ones, bit_at_above, bit_at-trailing_zeros, ones_shl, bit_at_mask_inside, bit_at_mask_below, bit_at_cat_high, bit_at_clear_same, bit_at_clear_other}
 use Rattle.cells.specs.CellSets.{Has}
 
 some_from : (n i : ℕ) → bit_at n i ≡ 1 → 0 < n
@@ -19,48 +20,57 @@ some_from n i h = elim (cases_lt 0 n) [
       absurd (omega (arith, z, there))
 ]
 
-module _ (stops : ℕ) (fits : stops < 2 ^ 64) where
-  -- the place of the lowest bit, or 63
-  abbrev pub low : ℕ
-  low = count_trailing_zeros 64 (bit_or stops (2 ^ 63))
-
-  low_is : (low < 64) × (bit_at (bit_or stops (2 ^ 63)) low ≡ 1) × ((i : ℕ) → i < low → bit_at (bit_or stops (2 ^ 63)) i ≡ 0)
-  low_is =
-      let top = bit_at_or stops (2 ^ 63) 63 in
-      let one = bit_at-pow_same 63 in
-      let small = bit_at-lt stops 63 in
-      bit_at-trailing_zeros w64 (bit_or stops (2 ^ 63)) (some_from _ 63 (omega (arith, top, one, small))) (or_lt 64 stops (2 ^ 63) fits (omega arith))
-
-  pub low_small : low < 64
-  low_small = low_is.0
-
-  pub up_to : (j : ℕ) → j < 63 → Has ((2 ^ 64 - 1) / 2 ^ (63 - low)) j ↔ ((i : ℕ) → i < j → Has stops i → ⊥)
-  up_to j below =
-      let w = low_is in
-      let within = w.0 in
-      let run : (2 ^ 64 - 1) / 2 ^ (63 - low) ≡ 2 ^ (low + 1) - 1 = ones_shr 64 (63 - low) (omega (arith, within)) ∙ ap (λ k. 2 ^ k - 1) (omega (arith, within)) in (
-        λ h i less there.
-            elim (cases_lt low j) [
-              | inl past ↦
-                  let z = bit_at_ones_above (low + 1) j (omega (arith, past)) in
-                  let h' : bit_at (2 ^ (low + 1) - 1) j ≡ 1 = subst (λ n. bit_at n j ≡ 1) run h in
-                  omega (arith, z, h')
-              | inr near ↦
-                  let z = w.2 i (omega (arith, less, near)) in
-                  let e = bit_at_or stops (2 ^ 63) i in
-                  let o = bit_at-lt (2 ^ 63) i in
-                  omega (arith, z, e, there, o)
+-- a number and the one before it differ from the lowest bit down, and nowhere else
+lowered : (j n : ℕ) → 0 < n → ((bit_at n j + bit_at (n - 1) j) % 2 ≡ 1) ↔ ((i : ℕ) → i < j → Has n i → ⊥)
+lowered zero n some =
+    let a = bit_at_lowest n in
+    let b = bit_at_lowest (n - 1) in
+    (λ _ i less there. absurd (omega (arith, less)), λ _. omega (arith, a, b, some))
+lowered (suc j) n some =
+    let a = bit_at-suc n j in
+    let b = bit_at-suc (n - 1) j in
+    let bottom = bit_at_lowest n in
+    elim (cases_eq (n % 2) 1) [
+      | inl odd ↦
+          let same : (n - 1) / 2 ≡ n / 2 = omega (arith, odd) in
+          let b' : bit_at (n - 1) (suc j) ≡ bit_at (n / 2) j = b ∙ ap (λ k. bit_at k j) same in (
+            λ h. absurd (omega (arith, a, b', h)),
+            λ clear. absurd (clear 0 (omega arith) (omega (arith, bottom, odd))),
+          )
+      | inr even ↦
+          let same : (n - 1) / 2 ≡ n / 2 - 1 = omega (arith, even, some) in
+          let b' : bit_at (n - 1) (suc j) ≡ bit_at (n / 2 - 1) j = b ∙ ap (λ k. bit_at k j) same in
+          let half = lowered j (n / 2) (omega (arith, even, some)) in (
+            λ h i less there. elim (cases_eq i 0) [
+              | inl first ↦ let there' : bit_at n 0 ≡ 1 = subst (Has n) first there in omega (arith, bottom, even, there')
+              | inr later ↦
+                  let next : i ≡ suc (i - 1) = omega (arith, later) in
+                  half.0 (omega (arith, a, b', h)) (i - 1) (omega (arith, less, later)) (sym (bit_at-suc n (i - 1)) ∙ subst (Has n) next there)
             ],
-        λ clear. elim (cases_lt low j) [
-          | inl past ↦
-              let e = bit_at_or stops (2 ^ 63) low in
-              let o = bit_at-pow_other 63 low (omega (arith, past, below)) in
-              let s = bit_at-lt stops low in
-              absurd (clear low past (omega (arith, w.1, e, o, s)))
-          | inr near ↦ subst (λ n. bit_at n j ≡ 1) (sym run) (bit_at_ones (low + 1) j (omega (arith, near)))
-        ],
-      )
+            λ clear. let w = half.1 (λ i less there. clear (suc i) (omega (arith, less)) (bit_at-suc n i ∙ there)) in omega (arith, a, b', w),
+          )
+    ]
 
+pub up_to : (stops : ℕ) → stops < 2 ^ 64 → (j : ℕ) → j < 63 → Has (bit_xor stops ((stops + (2 ^ 64 - 1)) % 2 ^ 64)) j ↔ ((i : ℕ) → i < j → Has stops i → ⊥)
+up_to stops fits j below =
+    let e = bit_at_xor stops ((stops + (2 ^ 64 - 1)) % 2 ^ 64) j in
+    elim (cases_lt 0 stops) [
+      | inl some ↦
+          let less : (stops + (2 ^ 64 - 1)) % 2 ^ 64 ≡ stops - 1 = omega (arith, some, fits) in
+          let b : bit_at ((stops + (2 ^ 64 - 1)) % 2 ^ 64) j ≡ bit_at (stops - 1) j = ap (λ k. bit_at k j) less in
+          let w = lowered j stops some in
+          (λ h. w.0 (omega (arith, e, b, h)), λ clear. let x = w.1 clear in omega (arith, e, b, x))
+      | inr none ↦
+          let zero : stops ≡ 0 = omega (arith, none) in
+          let a : bit_at stops j ≡ 0 = ap (λ k. bit_at k j) zero ∙ bit_at-zero j in
+          let all : (stops + (2 ^ 64 - 1)) % 2 ^ 64 ≡ 2 ^ 64 - 1 = omega (arith, zero) in
+          let b : bit_at ((stops + (2 ^ 64 - 1)) % 2 ^ 64) j ≡ 1 = ap (λ k. bit_at k j) all ∙ bit_at_ones 64 j (omega (arith, below)) in (
+            λ _ i less there. let z = bit_at-zero i in let there' : bit_at 0 i ≡ 1 = subst (λ k. bit_at k i ≡ 1) zero there in omega (arith, z, there'),
+            λ _. omega (arith, e, a, b),
+          )
+    ]
+
+module _ (stops : ℕ) (fits : stops < 2 ^ 64) where
   -- the place of the highest bit, or 0
   high_is : (h : ℕ) × (count_leading_zeros 64 (bit_or stops 1) + suc h ≡ 64) × (2 ^ h ≤ bit_or stops 1) × (bit_or stops 1 < 2 ^ suc h)
   high_is =
@@ -161,6 +171,26 @@ Has-clear n k i fits low = elim (cases_lt i 64) [
         λ w. let x = w.0 in absurd (omega (arith, z, x)),
       )
 ]
+
+-- a set without its lowest cell
+pub Has-rest : (n low : ℕ) → 0 < n → Has n low → ((i : ℕ) → i < low → Has n i → ⊥) → (i : ℕ) → Has (bit_and n (n - 1)) i ↔ (Has n i × (i ≢ low))
+Has-rest n low some there least i =
+    let differ = lowered i n some in
+    let p = bit_at-lt n i in
+    let q = bit_at-lt (n - 1) i in (
+      λ h.
+          let (x, y) = (Has-and n (n - 1) i).0 h in (
+            x,
+            λ same. let d = differ.1 (λ k less. least k (omega (arith, same, less))) in omega (arith, x, y, d),
+          ),
+      λ w. elim (cases_lt low i) [
+        | inr near ↦ absurd (least i (let other = w.1 in omega (arith, near, other)) w.0)
+        | inl past ↦ elim (cases_eq (bit_at (n - 1) i) 1) [
+          | inl one ↦ (Has-and n (n - 1) i).1 (w.0, one)
+          | inr none ↦ let x = w.0 in absurd (differ.0 (omega (arith, p, q, x, none)) low past there)
+        ]
+      ],
+    )
 
 pub and_fits : (n m : ℕ) → n < 2 ^ 64 → bit_and n m < 2 ^ 64
 and_fits n m fits = let l = and_le_l n m in omega (arith, l, fits)

@@ -27,7 +27,7 @@ pub fn slanted_lines(game: Game, cell: u8) -> u64
 pub fn up_to_lowest(stops: u64) -> u64
     ensures { (j : ℕ) → j < 63 → Has result j ↔ ((i : ℕ) → i < j → Has stops i → ⊥) }
 {
-    u64::MAX >> (63 - (stops | 1 << 63).trailing_zeros())
+    stops ^ stops.wrapping_sub(1)
 }
 
 /// The cells down to the highest of the set, which may be empty.

@@ -5,7 +5,7 @@ pub use Rattle.std.proofs.lemmas.Int.{ints}
 pub use Rattle.std.proofs.lemmas.List.{take-take, take_all, get_or-set_same, get_or-set_other, length-set}
 pub use Rattle.std.proofs.lemmas.List.Elements.{Contains-push, Contains-append_left, Contains-append_cases, All-contains, All-get_or, All-more}
 pub use Rattle.std.proofs.lemmas.List.Sums.{count_by_more_yes, sum_by-take-le, count_by_more_no, AllPass-from_list_all, sum_by_more_le}
-pub use Rattle.std.proofs.lemmas.Nat.{mul-le, pow-add, shl-shr, shr-shr, shr_le, xor_shr, xor_mod, shl_whole, ones_le_self, xor_lt}
+pub use Rattle.std.proofs.lemmas.Nat.{mul-le, pow-add, shl-shr, shr-shr, shr_le, xor_shr, xor_mod, shl_whole, ones_le_self, xor_lt, and_le_r}
 pub use Rattle.std.proofs.lemmas.Nat.Bits.{bit_at_ones, bit_at-lt, bit_at_lowest, bit_at-suc}
 pub use Rattle.std.proofs.lemmas.Option.{same_Some}
 pub use Rattle.std.specs.Int.{bit_not, bit_at}
@@ -44,7 +44,7 @@ pub use Rattle.rules.specs.Squares.{Place, Ply, IsOnBoard, unit_at, square_numbe
 pub use Rattle.rules.specs.declared.goal.Goal.{Goal}
 pub use Rattle.rules.specs.declared.list.TheConstants.{PROMOTIONS}
 pub use Rattle.cells.proofs.CellNumbers.{place_in-cell_of, IsCell-cell_of, shift_in, small_squares, cell_of-place_in, cell_small}
-pub use Rattle.cells.proofs.Masks.{lowest-has, Has-and, Has-zero, Has-or, Has-minus, Has-clear, and_fits, Has-four, not-zero, less_cleared, four-are}
+pub use Rattle.cells.proofs.Masks.{lowest-has, Has-and, Has-zero, Has-or, Has-minus, Has-clear, Has-rest, and_fits, Has-four, not-zero, four-are}
 pub use Rattle.cells.proofs.OnRays.{next_of, next-is, is-next}
 pub use Rattle.cells.proofs.TableTests.{table_of-exact}
 pub use Rattle.cells.specs.CellSets.{Has}

@@ -1,8 +1,8 @@
 -- What is pinned is seen from the king along a way.
-use Rattle.moves.proofs.Common.{◌≡◌, ℕ, refl, sym, ap, subst, ◌∙◌, arith, ◌↔◌, ◌⊎◌, inl, inr, Some, None, Contains, bit_and, Side, other_side, PlainBoard, is_of_side, Way, North, South, East, West, NorthEast, SouthWest, NorthWest, SouthEast, WAYS, unit_at, Leads, cell_of, place_in, IsCell, IsPinned, Has, Rides, rises, IsCell-cell_of, place_in-cell_of, Has-and, Place, Man, HasRider, Owns, IsAtomLeap, Wazir, Ferz, files_of, ranks_of}
+use Rattle.moves.proofs.Common.{◌≡◌, ℕ, refl, sym, ap, subst, ◌∙◌, arith, ◌↔◌, inl, inr, Some, None, Contains, bit_and, Side, other_side, PlainBoard, is_of_side, Way, North, South, East, West, NorthEast, SouthWest, NorthWest, SouthEast, WAYS, unit_at, Leads, cell_of, place_in, IsCell, IsPinned, Has, IsOnRay, Rides, rises, IsCell-cell_of, place_in-cell_of, Has-and, Place, Man, HasRider, Owns, IsAtomLeap, Wazir, Ferz, files_of, ranks_of}
 use Rattle.moves.proofs.Looking.{both_back}
 use Rattle.moves.proofs.Guarding.{is_own}
-use Rattle.moves.proofs.Riding.{sooner-cases, Rides-clear, Rides-leads}
+use Rattle.moves.proofs.Riding.{sooner-cases, ray-beyond, rides-ray, Rides-clear, Rides-leads}
 use Rattle.moves.specs.declared.pinned.TheConstants.{STRAIGHT_WAYS, SLANTED_WAYS}
 use Rattle.moves.proofs.Seeing.{GoesAs, rider_way}
 
@@ -92,6 +92,10 @@ pinner b side foes owns k i on cell w =
       foe = (owns r).1 (rc, ap (is_of_side (other_side side)) stands ∙ is_own (other_side side) w.rider w.owner);
       by = way.by;
     }
+
+-- who pins stands on the king's line
+pub pinner-ray : (b : PlainBoard) (foes k i : ℕ) (p : Pinner b foes k i) → IsOnRay b.game p.way k p.rider
+pinner-ray b foes k i p = ray-beyond b.game p.way k i p.rider (rides-ray b p.way k i p.to_unit) (rides-ray b p.way i p.rider p.to_rider)
 
 pub pins-along : (b : PlainBoard) (side : Side) (foes riders : ℕ) → Owns b (other_side side) foes → ((j : ℕ) → Has riders j ↔ (IsCell b.game j × HasRider b (place_in j))) → (k i : ℕ) → IsCell b.game k → IsCell b.game i → IsPinned b side (place_in k) (place_in i) → PinsAlong b (bit_and foes riders) k i
 pins-along b side foes riders owns are k i on cell w =

@@ -46,7 +46,7 @@ pub(crate) fn held(board: &Board, info: CheckInfo, unit: Unit, from: u8, reached
     ensures all { (m : Ply) → m.from ≡ place_in from → IsPseudoLegal board.now m unit → Has reached (cell_of m.to)
         → ((n : Ply) → IsLawful (after board.now m unit) n → ⊥) → Has result (cell_of m.to) }
 {
-    if has(info.uncovers, from) || may_promote(board, unit, square_in(from)) {
+    if reached == 0 || has(info.uncovers, from) || may_promote(board, unit, square_in(from)) {
         return reached;
     }
     let steps = except(

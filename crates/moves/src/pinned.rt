@@ -12,7 +12,7 @@ use crate::packed::Board;
 use crate::seen::{along, lines};
 use crate::sets::Class;
 use board::Side;
-use cells::{Way, lowest, ray, without};
+use cells::{Way, lowest, ray, slanted_lines, straight_lines, without};
 
 /// The ways along ranks and files.
 static STRAIGHT_WAYS: [Way; 4] = [Way::North, Way::South, Way::East, Way::West];
@@ -84,8 +84,9 @@ pub(crate) fn pinned(board: &Board, side: Side, cell: u8) -> u64
     ensures { (i : ℕ) → IsCell board.now.game i → IsPinned board.now side (place_in cell) (place_in i) → Has result i }
 {
     let foes = board.foes_of(side);
-    let straight = foes & board.set(Class::Straight);
-    let slanted = foes & board.set(Class::Slanted);
+    let game = board.game();
+    let straight = foes & board.set(Class::Straight) & straight_lines(game, cell);
+    let slanted = foes & board.set(Class::Slanted) & slanted_lines(game, cell);
     pinned_on(board, &STRAIGHT_WAYS, cell, straight)
         | pinned_on(board, &SLANTED_WAYS, cell, slanted)
 }

@@ -15,7 +15,7 @@ pub(crate) fn take_lowest(set: &mut u64) -> u8
     ensures less { set.new < set.old }
 {
     let cell = lowest(*set);
-    *set &= !(1 << cell);
+    *set &= *set - 1;
     cell
 }
 

@@ -1,10 +1,10 @@
 //! The text of keys.
-ghost use Rattle.std.specs.Prelude.{◌≡◌, ℕ, All, IfOk, string_bytes};
+ghost use Rattle.std.specs.Prelude.{◌≡◌, ℕ, IfOk, string_bytes};
 ghost use Rattle.solutions.specs.Solutions.{AreThreats, IsKeyPlay};
-ghost use Rattle.solution_text.specs.Text.{AreTexts, threat_word, AreThreatsText, IsKeyText};
+ghost use Rattle.solution_text.specs.Text.{threat_word, AreThreatsText, IsKeyText};
 
+use crate::entries::{Entry, texts};
 use crate::lines::numbered_moves;
-use crate::variations::variations_text;
 use algebraic::Notation;
 use moves::{Board, Move, after};
 use solutions::{KeyPlay, Threats, passed};
@@ -45,36 +45,21 @@ pub(crate) fn threats_text<A: Allocator + Copy, B: Allocator>(
 }
 
 /// A key, what it threatens, and its variations.
-fn key_text<A: Allocator + Copy, B: Allocator>(
-    alloc: A,
-    notation: Notation,
-    board: &Board,
-    key: &KeyPlay<B>,
-) -> Result<String<A>, AllocError>
-    requires { (n : ℕ) × IsKeyPlay notation.goal board.now n key.now }
-    ensures { IfOk result (λ text. IsKeyText notation board.now key.now (string_bytes text)) }
-{
-    let next = after(board, key.first);
-    let name = notation.name(board, key.first);
-    let threats = threats_text(alloc, notation, 2, &next, &key.threats)?;
-    let variations = variations_text(alloc, notation, &next, key.variations.as_slice())?;
-    format!(in alloc; "1.{name}!{threats}\n{variations}")
-}
+impl<B: Allocator> Entry for KeyPlay<B> {
+    ghost holds = { λ notation b key. (n : ℕ) × IsKeyPlay notation.goal b n key };
 
-/// The keys, one behind the other.
-pub(crate) fn keys_text<A: Allocator + Copy, B: Allocator>(
-    alloc: A,
-    notation: Notation,
-    board: &Board,
-    keys: &[KeyPlay<B>],
-) -> Result<String<A>, AllocError>
-    requires { (n : ℕ) × All (IsKeyPlay notation.goal board.now n) keys.now }
-    ensures { IfOk result (λ text. AreTexts (IsKeyText notation board.now) keys.now (string_bytes text)) }
-{
-    let mut text = String::new(alloc);
-    for key in keys {
-        let one = key_text(alloc, notation, board, key)?;
-        text.push_str(one.as_str())?;
+    ghost shows = { IsKeyText };
+
+    fn text<A: Allocator + Copy>(
+        &self,
+        alloc: A,
+        notation: Notation,
+        board: &Board,
+    ) -> Result<String<A>, AllocError> {
+        let next = after(board, self.first);
+        let name = notation.name(board, self.first);
+        let threats = threats_text(alloc, notation, 2, &next, &self.threats)?;
+        let variations = texts(alloc, notation, &next, self.variations.as_slice())?;
+        format!(in alloc; "1.{name}!{threats}\n{variations}")
     }
-    Ok(text)
 }

@@ -4,6 +4,7 @@
 mod beginning;
 mod broken;
 mod data;
+mod entries;
 mod first_move;
 mod keys;
 mod lines;

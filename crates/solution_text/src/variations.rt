@@ -2,8 +2,9 @@
 ghost use Rattle.std.specs.Prelude.{All, IfOk, string_bytes};
 ghost use Rattle.rules.specs.Moves.{IsLawful};
 ghost use Rattle.solutions.specs.Solutions.{IsVariation};
-ghost use Rattle.solution_text.specs.Text.{AreTexts, AreDualsText, IsVariationText};
+ghost use Rattle.solution_text.specs.Text.{AreDualsText, IsVariationText};
 
+use crate::entries::Entry;
 use crate::lines::{line_text, numbered_moves};
 use algebraic::Notation;
 use moves::{Board, Move, after};
@@ -31,37 +32,22 @@ pub(crate) fn duals_text<A: Allocator + Copy>(
 }
 
 /// A variation, on a line of its own.
-fn variation_text<A: Allocator + Copy, B: Allocator>(
-    alloc: A,
-    notation: Notation,
-    board: &Board,
-    variation: &Variation<B>,
-) -> Result<String<A>, AllocError>
-    requires { IsVariation notation.goal board.now variation.now }
-    ensures { IfOk result (λ text. IsVariationText notation board.now variation.now (string_bytes text)) }
-{
-    let _plies = variation.plies;
-    let next = after(board, variation.reply);
-    let reply = notation.name(board, variation.reply);
-    let line = line_text(alloc, notation, &next, 2, variation.line.as_slice())?;
-    let duals = duals_text(alloc, notation, 2, &next, variation.moves.as_slice())?;
-    format!(in alloc; "  1...{reply}{line}{duals}\n")
-}
+impl<B: Allocator> Entry for Variation<B> {
+    ghost holds = { λ notation q variation. IsVariation notation.goal q variation };
 
-/// The variations, each on a line of its own.
-pub(crate) fn variations_text<A: Allocator + Copy, B: Allocator>(
-    alloc: A,
-    notation: Notation,
-    board: &Board,
-    variations: &[Variation<B>],
-) -> Result<String<A>, AllocError>
-    requires { All (IsVariation notation.goal board.now) variations.now }
-    ensures { IfOk result (λ text. AreTexts (IsVariationText notation board.now) variations.now (string_bytes text)) }
-{
-    let mut text = String::new(alloc);
-    for variation in variations {
-        let one = variation_text(alloc, notation, board, variation)?;
-        text.push_str(one.as_str())?;
+    ghost shows = { IsVariationText };
+
+    fn text<A: Allocator + Copy>(
+        &self,
+        alloc: A,
+        notation: Notation,
+        board: &Board,
+    ) -> Result<String<A>, AllocError> {
+        let _plies = self.plies;
+        let next = after(board, self.reply);
+        let reply = notation.name(board, self.reply);
+        let line = line_text(alloc, notation, &next, 2, self.line.as_slice())?;
+        let duals = duals_text(alloc, notation, 2, &next, self.moves.as_slice())?;
+        format!(in alloc; "  1...{reply}{line}{duals}\n")
     }
-    Ok(text)
 }

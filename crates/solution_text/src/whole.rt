@@ -4,7 +4,7 @@ ghost use Rattle.solutions.specs.declared.extras.Extras.{Extras};
 ghost use Rattle.solutions.specs.Solutions.{IsSetPlay, IsTry, IsSolution};
 ghost use Rattle.solution_text.specs.Text.{headline_word, cooked_text, noted_text, headline, IsTextOf, IsSetPlayText, AreTriesText, IsSolutionText};
 
-use crate::keys::keys_text;
+use crate::entries::texts;
 use crate::tries::{set_play_text, tries_text};
 use algebraic::Notation;
 use moves::{Board, Goal};
@@ -106,7 +106,7 @@ pub fn solution_text<A: Allocator + Copy, B: Allocator>(
     requires { (extras : Extras) × IsSolution notation.goal board.now extras solution.now }
     ensures { IfOk result (λ text. IsSolutionText notation board.now sooner solution.now (string_bytes text)) }
 {
-    let keys = keys_text(alloc, notation, board, solution.keys.as_slice())?;
+    let keys = texts(alloc, notation, board, solution.keys.as_slice())?;
     let set_play = set_play_if_asked(alloc, notation, board, &solution.set_play)?;
     let tries = tries_if_asked(alloc, notation, board, &solution.tries)?;
     let head = headline(

@@ -1,4 +1,4 @@
-use Rattle.std.proofs.Common.{inl, inr, refl, arith}
+use Rattle.std.proofs.Common.{inl, refl, arith}
 use Rattle.std.proofs.KnownBytes.{Appends-nil}
 use Rattle.batches.proofs.program.run.Goals as goal
 

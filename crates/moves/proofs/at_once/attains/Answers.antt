@@ -1,4 +1,4 @@
-use Rattle.moves.proofs.Common.{sym, subst, ◌∙◌, false≢true, PlainBoard, IsInCheck, IsLawful, after, IsReached, not_so, not-is}
+use Rattle.moves.proofs.Common.{sym, subst, ◌∙◌, false≢true, PlainBoard, IsInCheck, after, IsReached, not_so, not-is}
 use Rattle.moves.proofs.AtOnce.{move_by, next_by}
 use Rattle.moves.proofs.SafeCells.{lawful_named, well_named}
 use Rattle.moves.proofs.at_once.attains.Goals as goal

@@ -1,4 +1,4 @@
-use Rattle.moves.proofs.Common.{◌≡◌, ℕ, refl, sym, ap, subst, ◌∙◌, inl, inr, true, false, false≢true, not, cases_eq, cases_Bool, other_side, PlainBoard, Man, Reaches, unit_at, to_on_board, placed, cell_of, place_in, place_in-cell_of, cell_of-place_in, Aims, IsPinned, Has, Has-or, Has-zero}
+use Rattle.moves.proofs.Common.{◌≡◌, refl, sym, ap, subst, ◌∙◌, inl, inr, true, false≢true, not, cases_eq, cases_Bool, other_side, PlainBoard, Man, Reaches, unit_at, to_on_board, placed, cell_of, place_in, place_in-cell_of, cell_of-place_in, Aims, IsPinned, Has, Has-or, Has-zero}
 use Rattle.moves.proofs.Escaping.{known_step, stays_same}
 use Rattle.moves.proofs.escapes.held.Goals as goal
 

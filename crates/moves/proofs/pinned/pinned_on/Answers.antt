@@ -1,4 +1,4 @@
-use Rattle.moves.proofs.Common.{◌≡◌, All, inl, inr, sym, subst, arith, Way, bit_or, take_all, All-more, Has, Has-or, Has-zero}
+use Rattle.moves.proofs.Common.{All, inl, inr, subst, arith, Way, bit_or, take_all, All-more, Has, Has-or, Has-zero}
 use Rattle.moves.specs.Pinned.{HoldsPins}
 use Rattle.moves.proofs.pinned.pinned_on.Goals as goal
 

@@ -3,8 +3,8 @@ use Rattle.solution_text.proofs.Common.{IfOk-weaker, IsVariation, AreTexts, IsVa
 use Rattle.solution_text.proofs.Texts.{set_play_is}
 use Rattle.solution_text.proofs.tries.set_play_text.Goals as goal
 
-pub variations_text-requires : goal.variations_text-requires
-variations_text-requires g c =
+pub texts-requires : goal.texts-requires
+texts-requires g c =
     subst (λ b. All (IsVariation c.args.notation.goal b) c.args.variations.now) (sym c.in-Some.ensures.0) (c.requires.1.sound c.in-Some.ensures.1).each
 
 pub returns : goal.returns

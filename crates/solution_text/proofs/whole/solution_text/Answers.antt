@@ -3,10 +3,10 @@ use Rattle.solution_text.proofs.Common.{IfOk-weaker, IsKeyPlay, AreTexts, IsKeyT
 use Rattle.solution_text.proofs.Asked.{where_asked}
 use Rattle.solution_text.proofs.whole.solution_text.Goals as goal
 
-pub keys_text-requires : goal.keys_text-requires
-keys_text-requires g c =
+pub texts-requires : goal.texts-requires
+texts-requires g c =
     let plies = c.args.solution.now.plies in
-    (plies, subst (All (IsKeyPlay c.args.notation.goal c.args.board.now plies)) (sym c.as_slice.ensures.value) c.requires.1.keys.each)
+    λ i d less. (plies, subst (All (IsKeyPlay c.args.notation.goal c.args.board.now plies)) (sym c.as_slice.ensures.value) c.requires.1.keys.each i d less)
 
 pub set_play_if_asked-requires : goal.set_play_if_asked-requires
 set_play_if_asked-requires g c = (c.args.solution.now.plies, where_asked _ _ (λ list play. play) c.requires.0.set_play c.args.solution.now.set_play c.requires.1.set_play)

@@ -1,17 +1,17 @@
 use Rattle.std.proofs.Common.{All, ◌-◌, subst, sym, string_bytes}
 use Rattle.solution_text.proofs.Common.{IfOk-weaker, one_after, AreThreats, IsVariation, AreTexts, IsVariationText}
-use Rattle.solution_text.proofs.keys.key_text.Goals as goal
+use Rattle.solution_text.proofs.keys.KeyPlayEntry.text.Goals as goal
 
 pub threats_text-requires : goal.threats_text-requires
 threats_text-requires g c =
-    let key = c.args.key.now in
+    let key = c.args.self.now in
     let play = c.requires.1 in
     let same = one_after c.args.board.now key.first play.after c.after-next.result play.move c.after-next.ensures in
     (c.requires.0 - 2, subst (λ b. AreThreats c.args.notation.goal b (c.requires.0 - 2) key.threats) same play.threats)
 
-pub variations_text-requires : goal.variations_text-requires
-variations_text-requires g c =
-    let key = c.args.key.now in
+pub texts-requires : goal.texts-requires
+texts-requires g c =
+    let key = c.args.self.now in
     let play = c.requires.1 in
     let same = one_after c.args.board.now key.first play.after c.after-next.result play.move c.after-next.ensures in
     subst (All (IsVariation c.args.notation.goal c.after-next.result)) (sym c.as_slice.ensures.value) (subst (λ b. All (IsVariation c.args.notation.goal b) key.variations.items) same play.variations)

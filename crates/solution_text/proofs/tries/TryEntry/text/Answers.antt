@@ -1,5 +1,5 @@
 use Rattle.std.proofs.lemmas.Result.{IfOk-weaker}
-use Rattle.solution_text.proofs.tries.try_text.Goals as goal
+use Rattle.solution_text.proofs.tries.TryEntry.text.Goals as goal
 
 pub returns : goal.returns
 returns g c =
