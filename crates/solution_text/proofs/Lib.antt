@@ -1,5 +1,6 @@
 pub mod Common
 pub mod Texts
+pub mod Written
 pub mod BestLine
 pub mod Asked
 pub mod Told

@@ -3,7 +3,6 @@ use Rattle.std.proofs.Common.{false, ◌==◌, ◌-◌, ◌≤◌, arith, drop, 
 use Rattle.std.proofs.Math.Seq.{take-suc}
 use Rattle.std.proofs.lemmas.List.{flat_map_more}
 use Rattle.std.specs.List.{flat_map}
-use Rattle.solution_text.specs.Data.{parted}
 use Rattle.solution_text.proofs.Common.{append-nil, take_all, take_more, PlainBoard, Notation, Variation, passed, AreTexts, IsVariationText, IsSetPlayText}
 
 -- one more text behind the others
@@ -18,23 +17,6 @@ pub AreTexts-more : {X : Type 0} (P : X → List ℕ → Type 0) (xs : List X) (
 AreTexts-more P xs i x text one new below is all here added =
     let more : take (i + 1) xs ≡ take i xs ++ x ∷ [] = ap (λ k. take k xs) (add-one i) ∙ take-suc xs i x below ∙ ap (λ y. take i xs ++ y ∷ []) (sym is) in
     subst (AreTexts P (take (i + 1) xs)) (sym added) (subst (λ ys. AreTexts P ys (text ++ one)) (sym more) (AreTexts-push P (take i xs) x text one all here))
-
--- a loop's step: what is written of one more
-pub written_more : {X : Type 0} (f : X → List ℕ) (xs : List X) (i : ℕ) (x : X) (first text new : List ℕ) → i < length xs → x ≡ get_or xs i x
-    → text ≡ first ++ flat_map f (take i xs) → new ≡ text ++ f x → new ≡ first ++ flat_map f (take (i + 1) xs)
-written_more f xs i x first text new below is all added =
-    added ∙ ap (λ t. t ++ f x) all ∙ flat_map_more f first (take i xs) x ∙ ap (λ ys. first ++ flat_map f ys) (sym (take_more xs i x below is))
-
--- what is written of the first, and behind commas of the others
-pub all_written : {X : Type 0} (f : X → List ℕ) (xs : List X) (i : ℕ) (x : X) (first text : List ℕ) → 0 < length xs → x ≡ get_or xs 0 x
-    → length (take (length xs - 1) (drop 1 xs)) ≤ i → first ≡ f x
-    → text ≡ first ++ flat_map (λ y. codes "," ++ f y) (take i (take (length xs - 1) (drop 1 xs))) → text ≡ parted f xs
-all_written f [] i x first text some is over here all = absurd (omega (arith, some))
-all_written f (y ∷ ys) i x first text some is over here all =
-    let n = length (y ∷ ys) - 1 in
-    let full : length ys ≤ n = omega arith in
-    all ∙ ap (λ l. first ++ flat_map (λ z. codes "," ++ f z) l) (take_all i (take n ys) over ∙ take_all n ys full)
-    ∙ ap (λ h. h ++ flat_map (λ z. codes "," ++ f z) ys) (here ∙ ap f is)
 
 -- the text of set play with variations in it
 pub set_play_is : {A : Type 0} (notation : Notation) (b : PlainBoard) (list : List (Variation A)) (lines text : List ℕ) → (length list == 0) ≡ false → AreTexts (IsVariationText notation (passed b)) list lines → text ≡ codes "set play\n" ++ lines → IsSetPlayText notation b list text

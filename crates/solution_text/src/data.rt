@@ -1,116 +1,147 @@
 //! The short form of a solution as data.
-ghost use Rattle.std.specs.Prelude.{◌≡◌, ◌++◌, ℕ, IfOk, List, codes, string_bytes};
-ghost use Rattle.solution_text.specs.Data.{array_of, data_if_asked, goal_data, key_data, move_data, none_data, parted, problem_data, short_data, solution_data, threats_data, try_data, variation_data};
+ghost use Rattle.std.specs.Prelude.{◌≡◌, ◌∷◌, ◌++◌, [], IfOk, List, OnOk, codes, string_bytes};
+ghost use Rattle.json.specs.Print.{print};
+ghost use Rattle.json.specs.Token.{Token, boolean};
+ghost use Rattle.solution_text.specs.Data.{Appends, array_of, data_if_asked, goal_data, key_data, member, move_data, none_data, number_data, problem_data, solution_data, threats_data, try_data, variation_data};
 
+use json::Writer;
 use moves::{Goal, Move};
 use solutions::{KeyPlay, Solution, Threats, Try, Variation};
 use std::alloc::{AllocError, Allocator};
-use std::fmt::Write;
 
-/// A part of a solution that stands as a value in an object of JSON.
+/// What a write gives: it fails for want of memory.
+type Outcome = Result<(), AllocError>;
+
+/// What stands in JSON as a value.
 trait Datum {
-    /// Its text as such a value.
-    ghost text: { Self → List ℕ };
+    /// Its tokens.
+    ghost tokens: { Self → List Token };
 
-    /// It as text.
-    fn data<A: Allocator + Copy>(&self, alloc: A) -> Result<String<A>, AllocError>
-        ensures { IfOk result (λ said. string_bytes said ≡ text self.now) };
+    /// Writes it, behind what stands there.
+    fn write<A: Allocator + Copy>(&self, alloc: A, writer: &mut Writer<A>) -> Outcome
+        ensures { OnOk result (Appends writer.old writer.new (tokens self.now)) };
+}
+
+impl Datum for u8 {
+    ghost tokens = { number_data };
+
+    fn write<A: Allocator + Copy>(&self, _: A, writer: &mut Writer<A>) -> Outcome {
+        writer.u64(u64::from(*self))
+    }
+}
+
+impl Datum for bool {
+    ghost tokens = { λ b. boolean b ∷ [] };
+
+    fn write<A: Allocator + Copy>(&self, _: A, writer: &mut Writer<A>) -> Outcome {
+        writer.boolean(*self)
+    }
 }
 
 /// A move by its squares.
 impl Datum for Move {
-    ghost text = { move_data };
+    ghost tokens = { move_data };
 
-    fn data<A: Allocator + Copy>(&self, alloc: A) -> Result<String<A>, AllocError> {
-        format!(in alloc; "\"{self}\"")
+    fn write<A: Allocator + Copy>(&self, alloc: A, writer: &mut Writer<A>) -> Outcome {
+        let name = format!(in alloc; "{self}")?;
+        writer.string(name.as_str())
+    }
+}
+
+/// Values in an array.
+impl<T: Datum, B: Allocator> Datum for Vec<T, B> {
+    ghost tokens = { λ list. array_of T.tokens list.items };
+
+    fn write<A: Allocator + Copy>(&self, alloc: A, writer: &mut Writer<A>) -> Outcome {
+        writer.begin_array()?;
+        for item in self.as_slice() {
+            item.write(alloc, writer)?;
+        }
+        writer.end_array()
+    }
+}
+
+/// A value, or null.
+impl<T: Datum> Datum for Option<T> {
+    ghost tokens = { data_if_asked T.tokens };
+
+    fn write<A: Allocator + Copy>(&self, alloc: A, writer: &mut Writer<A>) -> Outcome {
+        match self {
+            Some(value) => value.write(alloc, writer),
+            None => writer.null(),
+        }
+    }
+}
+
+/// What a key threatens.
+impl<B: Allocator> Datum for Threats<B> {
+    ghost tokens = { threats_data };
+
+    fn write<A: Allocator + Copy>(&self, alloc: A, writer: &mut Writer<A>) -> Outcome {
+        match self {
+            Threats::End => writer.string("end"),
+            Threats::Check => writer.string("check"),
+            Threats::Zugzwang => writer.string("zugzwang"),
+            Threats::Moves { plies, moves } => {
+                writer.begin_object()?;
+                member(alloc, writer, "plies", plies)?;
+                member(alloc, writer, "moves", moves)?;
+                writer.end_object()
+            }
+        }
     }
 }
 
 /// A reply and what is behind it.
 impl<B: Allocator> Datum for Variation<B> {
-    ghost text = { variation_data };
+    ghost tokens = { variation_data };
 
-    fn data<A: Allocator + Copy>(&self, alloc: A) -> Result<String<A>, AllocError> {
-        let (reply, plies) = (self.reply, self.plies);
-        let moves = parted(alloc, self.moves.as_slice())?;
-        let line = parted(alloc, self.line.as_slice())?;
-        format!(in alloc;
-            "{{\"reply\":\"{reply}\",\"plies\":{plies},\"moves\":[{moves}],\"line\":[{line}]}}"
-        )
+    fn write<A: Allocator + Copy>(&self, alloc: A, writer: &mut Writer<A>) -> Outcome {
+        writer.begin_object()?;
+        member(alloc, writer, "reply", &self.reply)?;
+        member(alloc, writer, "plies", &self.plies)?;
+        member(alloc, writer, "moves", &self.moves)?;
+        member(alloc, writer, "line", &self.line)?;
+        writer.end_object()
     }
 }
 
 /// A key, what it threatens and its variations.
 impl<B: Allocator> Datum for KeyPlay<B> {
-    ghost text = { key_data };
+    ghost tokens = { key_data };
 
-    fn data<A: Allocator + Copy>(&self, alloc: A) -> Result<String<A>, AllocError> {
-        let first = self.first;
-        let threats = threats_data(alloc, &self.threats)?;
-        let variations = parted(alloc, self.variations.as_slice())?;
-        format!(in alloc;
-            "{{\"first\":\"{first}\",\"threats\":{threats},\"variations\":[{variations}]}}"
-        )
+    fn write<A: Allocator + Copy>(&self, alloc: A, writer: &mut Writer<A>) -> Outcome {
+        writer.begin_object()?;
+        member(alloc, writer, "first", &self.first)?;
+        member(alloc, writer, "threats", &self.threats)?;
+        member(alloc, writer, "variations", &self.variations)?;
+        writer.end_object()
     }
 }
 
 /// A try and the reply that refutes it.
 impl Datum for Try {
-    ghost text = { try_data };
+    ghost tokens = { try_data };
 
-    fn data<A: Allocator + Copy>(&self, alloc: A) -> Result<String<A>, AllocError> {
-        let Try { first, refutation } = *self;
-        format!(in alloc; "{{\"first\":\"{first}\",\"refutation\":\"{refutation}\"}}")
+    fn write<A: Allocator + Copy>(&self, alloc: A, writer: &mut Writer<A>) -> Outcome {
+        writer.begin_object()?;
+        member(alloc, writer, "first", &self.first)?;
+        member(alloc, writer, "refutation", &self.refutation)?;
+        writer.end_object()
     }
 }
 
-/// Values parted by commas.
-fn parted<A: Allocator + Copy, T: Datum>(alloc: A, items: &[T]) -> Result<String<A>, AllocError>
-    ensures { IfOk result (λ text. string_bytes text ≡ parted T.text items.now) }
-{
-    let [first, rest @ ..] = items else {
-        return Ok(String::new(alloc));
-    };
-    let mut text = first.data(alloc)?;
-    for other in rest {
-        let one = other.data(alloc)?;
-        write!(text, ",{one}")?;
-    }
-    Ok(text)
-}
-
-/// The array of what was asked for, or null.
-fn array_if_asked<A: Allocator + Copy, T: Datum, B: Allocator>(
+/// A member of an object: its name and its value.
+fn member<A: Allocator + Copy, T: Datum>(
     alloc: A,
-    asked: &Option<Vec<T, B>>,
-) -> Result<String<A>, AllocError>
-    ensures { IfOk result (λ text. string_bytes text
-        ≡ data_if_asked (λ list. array_of T.text list.items) asked.now) }
+    writer: &mut Writer<A>,
+    name: &str,
+    value: &T,
+) -> Outcome
+    ensures { OnOk result (Appends writer.old writer.new (member name.now (T.tokens value.now))) }
 {
-    match asked {
-        Some(list) => {
-            let listed = parted(alloc, list.as_slice())?;
-            format!(in alloc; "[{listed}]")
-        }
-        None => format!(in alloc; "null"),
-    }
-}
-
-fn threats_data<A: Allocator + Copy, B: Allocator>(
-    alloc: A,
-    threats: &Threats<B>,
-) -> Result<String<A>, AllocError>
-    ensures { IfOk result (λ text. string_bytes text ≡ threats_data threats.now) }
-{
-    match threats {
-        Threats::End => format!(in alloc; "\"end\""),
-        Threats::Check => format!(in alloc; "\"check\""),
-        Threats::Zugzwang => format!(in alloc; "\"zugzwang\""),
-        Threats::Moves { plies, moves } => {
-            let moves = parted(alloc, moves.as_slice())?;
-            format!(in alloc; "{{\"plies\":{plies},\"moves\":[{moves}]}}")
-        }
-    }
+    writer.key(name)?;
+    value.write(alloc, writer)
 }
 
 fn goal_data(goal: Goal) -> &'static str
@@ -122,22 +153,27 @@ fn goal_data(goal: Goal) -> &'static str
     }
 }
 
-/// The beginning of the object of a problem: the position's text and the goal.
-fn problem_data<A: Allocator>(alloc: A, fen: &str, goal: Goal) -> Result<String<A>, AllocError>
-    ensures { IfOk result (λ text. string_bytes text ≡ problem_data fen.now goal) }
+/// The beginning of an object: the position's text and the goal.
+fn begin_problem<A: Allocator>(writer: &mut Writer<A>, fen: &str, goal: Goal) -> Outcome
+    ensures { OnOk result (Appends writer.old writer.new (problem_data fen.now goal)) }
 {
-    let goal = goal_data(goal);
-    format!(in alloc; "{{\"position\":\"{fen}\",\"goal\":\"{goal}\"")
+    writer.begin_object()?;
+    writer.key("position")?;
+    writer.string(fen)?;
+    writer.key("goal")?;
+    writer.string(goal_data(goal))
 }
 
-fn short_data(sooner: bool) -> &'static str
-    ensures { result.now ≡ short_data sooner }
+/// What was written from nothing, as a line.
+fn line_of<A: Allocator>(writer: Writer<A>) -> Result<String<A>, AllocError>
+    requires { writer.before ≡ [] }
+    ensures { IfOk result (λ text. string_bytes text ≡ print writer.tokens ++ codes "\n") }
 {
-    if sooner {
-        ",\"short\":true"
-    } else {
-        ",\"short\":false"
-    }
+    let Ok(mut text) = String::from_utf8(writer.into_inner()) else {
+        unreachable!();
+    };
+    text.push('\n')?;
+    Ok(text)
 }
 
 /// The solution of the position of this text, as an object of JSON on a line.
@@ -150,15 +186,15 @@ pub fn solution_data<A: Allocator + Copy, B: Allocator>(
 ) -> Result<String<A>, AllocError>
     ensures { IfOk result (λ text. string_bytes text ≡ solution_data fen.now goal sooner solution.now) }
 {
-    let problem = problem_data(alloc, fen, goal)?;
-    let plies = solution.plies;
-    let short = short_data(sooner);
-    let keys = parted(alloc, solution.keys.as_slice())?;
-    let set_play = array_if_asked(alloc, &solution.set_play)?;
-    let tries = array_if_asked(alloc, &solution.tries)?;
-    format!(in alloc;
-        "{problem},\"plies\":{plies}{short},\"keys\":[{keys}],\"set_play\":{set_play},\"tries\":{tries}}}\n"
-    )
+    let mut writer = Writer::new(Vec::new(alloc));
+    begin_problem(&mut writer, fen, goal)?;
+    member(alloc, &mut writer, "plies", &solution.plies)?;
+    member(alloc, &mut writer, "short", &sooner)?;
+    member(alloc, &mut writer, "keys", &solution.keys)?;
+    member(alloc, &mut writer, "set_play", &solution.set_play)?;
+    member(alloc, &mut writer, "tries", &solution.tries)?;
+    writer.end_object()?;
+    line_of(writer)
 }
 
 /// That nothing is forced at the position of this text, as such an object.
@@ -169,8 +205,13 @@ pub fn none_data<A: Allocator + Copy>(
 ) -> Result<String<A>, AllocError>
     ensures { IfOk result (λ text. string_bytes text ≡ none_data fen.now goal) }
 {
-    let problem = problem_data(alloc, fen, goal)?;
-    format!(in alloc;
-        "{problem},\"plies\":null,\"short\":false,\"keys\":[],\"set_play\":null,\"tries\":null}}\n"
-    )
+    let mut writer = Writer::new(Vec::new(alloc));
+    begin_problem(&mut writer, fen, goal)?;
+    member(alloc, &mut writer, "plies", &None::<u8>)?;
+    member(alloc, &mut writer, "short", &false)?;
+    member(alloc, &mut writer, "keys", &Vec::<Move, A>::new(alloc))?;
+    member(alloc, &mut writer, "set_play", &None::<u8>)?;
+    member(alloc, &mut writer, "tries", &None::<u8>)?;
+    writer.end_object()?;
+    line_of(writer)
 }
