@@ -1,10 +1,10 @@
 //! What a batch writes of what was found of a position, on a line or as JSON.
 ghost use Rattle.std.specs.Prelude.{◌≡◌, IfOk, string_bytes};
-ghost use Rattle.batch_texts.specs.Forms.{IsFoundText, found_line, judged_line, key_item, keys_line, keys_listed};
+ghost use Rattle.batch_texts.specs.Forms.{IsFoundText, found_line, judged_line, keys_line, keys_listed};
 
 use crate::asked::{Asked, Batch, Found};
 use crate::asking::{judged, limit_of};
-use crate::objects::{found_object, string_of};
+use crate::objects::found_object;
 use answer_texts::{answer_text, keys_text};
 use devices::without_line_feed;
 use moves::Goal;
@@ -12,29 +12,18 @@ use problems::Key;
 use std::alloc::{AllocError, Global};
 use std::fmt::Write;
 
-/// A key with the plies that it takes.
-fn key_item(alloc: Global, json: bool, key: &Key) -> Result<String, AllocError>
-    ensures { IfOk result (λ text. string_bytes text ≡ key_item json key.now) }
-{
-    let Key { first, plies } = *key;
-    if json {
-        format!(in alloc; "{{\"first\":\"{first}\",\"plies\":{plies}}}")
-    } else {
-        format!(in alloc; "{first} {plies}")
-    }
-}
-
-/// The keys, parted by commas.
-pub fn keys_listed(alloc: Global, json: bool, keys: &[Key]) -> Result<String, AllocError>
-    ensures { IfOk result (λ text. string_bytes text ≡ keys_listed json keys.now) }
+/// The keys with the plies that they take, parted by commas.
+fn keys_listed(alloc: Global, keys: &[Key]) -> Result<String, AllocError>
+    ensures { IfOk result (λ text. string_bytes text ≡ keys_listed keys.now) }
 {
     let [first, rest @ ..] = keys else {
         return Ok(String::new(alloc));
     };
-    let mut text = key_item(alloc, json, first)?;
+    let Key { first, plies } = *first;
+    let mut text = format!(in alloc; "{first} {plies}")?;
     for key in rest {
-        let item = key_item(alloc, json, key)?;
-        write!(text, ",{item}")?;
+        let Key { first, plies } = *key;
+        write!(text, ",{first} {plies}")?;
     }
     Ok(text)
 }
@@ -46,7 +35,7 @@ fn keys_line(alloc: Global, limit: u32, keys: &[Key]) -> Result<String, AllocErr
     if keys.is_empty() {
         return keys_text(alloc, limit, keys);
     }
-    let mut text = keys_listed(alloc, false, keys)?;
+    let mut text = keys_listed(alloc, keys)?;
     text.push('\n')?;
     Ok(text)
 }
@@ -88,9 +77,8 @@ pub fn found_text(
     let agrees = judged(asked.moves, found);
     let limit = limit_of(batch.limits.limit, asked.moves);
     if batch.options.json {
-        let position = string_of(alloc, asked.fen)?;
         let terms = (batch.goal, limit);
-        return Ok(found_object(alloc, position.as_str(), terms, found, agrees)?.into_bytes());
+        return Ok(found_object(alloc, asked.fen, terms, found, agrees)?.into_bytes());
     }
     let line = found_line(alloc, batch.goal, limit, found)?;
     judged_line(alloc, agrees, line.into_bytes())

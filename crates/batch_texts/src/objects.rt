@@ -1,37 +1,16 @@
 //! What a batch writes as JSON: an object for each line.
-ghost use Rattle.std.specs.Prelude.{◌≡◌, IfOk, option_map, string_bytes};
-ghost use Rattle.command_line.specs.Words.{goal_word};
-ghost use Rattle.batch_texts.specs.Forms.{answer_members, answer_word, found_members, found_object, judged_member, position_member, refused_object, string_of};
+ghost use Rattle.std.specs.Prelude.{◌≡◌, IfOk, OnOk, codes, option_map, string_bytes};
+ghost use Rattle.std.specs.Str.Lossy.{utf8_lossy};
+ghost use Rattle.json_data.specs.Data.{Appends, member};
+ghost use Rattle.batch_texts.specs.Forms.{answer_members, answer_word, found_members, found_object, judged_member, position_data, refused_object};
 
 use crate::asked::Found;
-use crate::forms::keys_listed;
 use json::Writer;
+use json_data::{Outcome, begin_problem, into_line, member};
 use moves::Goal;
 use problems::Answer;
 use refusals::Refusal;
 use std::alloc::{AllocError, Global};
-
-/// Bytes as a string.
-pub fn string_of(alloc: Global, bytes: &[u8]) -> Result<String, AllocError>
-    ensures { IfOk result (λ text. string_bytes text ≡ string_of bytes.now) }
-{
-    let text = String::from_utf8_lossy(alloc, bytes)?;
-    let mut writer = Writer::new(Vec::new(alloc));
-    writer.string(text.as_str())?;
-    match String::from_utf8(writer.into_inner()) {
-        Ok(text) => Ok(text),
-        Err(_) => unreachable!(),
-    }
-}
-
-fn goal_word(goal: Goal) -> &'static str
-    ensures { result.now ≡ goal_word goal }
-{
-    match goal {
-        Goal::Mate => "mate",
-        Goal::MateOrStale => "stale",
-    }
-}
 
 fn answer_word(goal: Goal) -> &'static str
     ensures { result.now ≡ answer_word goal }
@@ -43,69 +22,77 @@ fn answer_word(goal: Goal) -> &'static str
 }
 
 /// What an object says of an answer.
-fn answer_members(alloc: Global, goal: Goal, answer: Answer) -> Result<String, AllocError>
-    ensures { IfOk result (λ text. string_bytes text ≡ answer_members goal answer) }
+fn write_answer(alloc: Global, writer: &mut Writer, goal: Goal, answer: Answer) -> Outcome
+    ensures { OnOk result (Appends writer.old writer.new (answer_members goal answer)) }
 {
     match answer {
         Answer::Mate { plies, first } => {
-            let word = answer_word(goal);
-            format!(in alloc; "\"answer\":\"{word}\",\"plies\":{plies},\"first\":\"{first}\"")
+            member(alloc, writer, "answer", &answer_word(goal))?;
+            member(alloc, writer, "plies", &plies)?;
+            member(alloc, writer, "first", &first)
         }
         Answer::NoneWithin(_) => {
-            format!(in alloc; "\"answer\":\"none\",\"plies\":null,\"first\":null")
+            member(alloc, writer, "answer", &"none")?;
+            member(alloc, writer, "plies", &None::<u8>)?;
+            member(alloc, writer, "first", &None::<u8>)
         }
     }
 }
 
 /// What an object says of what was found.
-fn found_members(alloc: Global, goal: Goal, found: &Found) -> Result<String, AllocError>
-    ensures { IfOk result (λ text. string_bytes text ≡ found_members goal found.now) }
+fn write_found(alloc: Global, writer: &mut Writer, goal: Goal, found: &Found) -> Outcome
+    ensures { OnOk result (Appends writer.old writer.new (found_members goal found.now)) }
 {
     match found {
-        Found::Answer(answer) => answer_members(alloc, goal, *answer),
-        Found::Keys(keys) => {
-            let listed = keys_listed(alloc, true, keys.as_slice())?;
-            format!(in alloc; "\"keys\":[{listed}]")
-        }
+        Found::Answer(answer) => write_answer(alloc, writer, goal, *answer),
+        Found::Keys(keys) => member(alloc, writer, "keys", keys),
     }
 }
 
-fn judged_member(agrees: Option<bool>) -> &'static str
-    ensures { result.now ≡ judged_member agrees }
+/// Whether the moves that were said are those, where some were said.
+fn write_judged(alloc: Global, writer: &mut Writer, agrees: Option<bool>) -> Outcome
+    ensures { OnOk result (Appends writer.old writer.new (judged_member agrees)) }
 {
     match agrees {
-        None => "",
-        Some(true) => ",\"ok\":true",
-        Some(false) => ",\"ok\":false",
+        None => Ok(()),
+        Some(agrees) => member(alloc, writer, "ok", &agrees),
     }
 }
 
-/// The object of what was found, on a line, behind a position that is quoted.
+/// The object of what was found, on a line.
 pub fn found_object(
     alloc: Global,
-    position: &str,
+    fen: &[u8],
     terms: (Goal, u32),
     found: &Found,
     agrees: Option<bool>,
 ) -> Result<String, AllocError>
-    ensures { IfOk result (λ text. string_bytes text ≡ found_object position.now terms.0 terms.1 found.now agrees) }
+    ensures { IfOk result (λ text. string_bytes text ≡ found_object fen.now terms.0 terms.1 found.now agrees) }
 {
     let (goal, limit) = terms;
-    let word = goal_word(goal);
-    let members = found_members(alloc, goal, found)?;
-    let ok = judged_member(agrees);
-    format!(in alloc;
-        "{{\"position\":{position},\"goal\":\"{word}\",\"limit\":{limit},{members}{ok}}}\n"
-    )
+    let fen = String::from_utf8_lossy(alloc, fen)?;
+    let mut writer = Writer::new(Vec::new(alloc));
+    begin_problem(alloc, &mut writer, fen.as_str(), goal)?;
+    member(alloc, &mut writer, "limit", &limit)?;
+    write_found(alloc, &mut writer, goal, found)?;
+    write_judged(alloc, &mut writer, agrees)?;
+    writer.end_object()?;
+    into_line(writer)
 }
 
-/// The position of a line, which is null where it was too long to be kept.
-fn position_member(alloc: Global, fen: Option<&[u8]>) -> Result<String, AllocError>
-    ensures { IfOk result (λ text. string_bytes text ≡ position_member (option_map (λ f. f.now) fen.entry)) }
+/// A line's position, or null where it was too long to be kept.
+fn write_position(alloc: Global, writer: &mut Writer, fen: Option<&[u8]>) -> Outcome
+    ensures { OnOk result (Appends writer.old writer.new
+        (member (codes "position") (position_data (option_map (λ f. f.now) fen.entry)))) }
 {
     match fen {
-        None => "null".to_string(alloc),
-        Some(fen) => string_of(alloc, fen),
+        None => member(alloc, writer, "position", &None::<u8>),
+        Some(fen) => member(
+            alloc,
+            writer,
+            "position",
+            &String::from_utf8_lossy(alloc, fen)?,
+        ),
     }
 }
 
@@ -117,11 +104,23 @@ pub fn refused_object(
     sentence: &[u8],
 ) -> Result<String, AllocError>
     ensures { IfOk result (λ text. string_bytes text
-        ≡ refused_object (position_member (option_map (λ f. f.now) fen.entry)) refusal (string_of sentence.now)) }
+        ≡ refused_object (option_map (λ f. f.now) fen.entry) refusal (utf8_lossy sentence.now)) }
 {
-    let position = position_member(alloc, fen)?;
-    let sentence = string_of(alloc, sentence)?;
-    format!(in alloc;
-        "{{\"position\":{position},\"refused\":\"{refusal}\",\"sentence\":{sentence}}}\n"
-    )
+    let mut writer = Writer::new(Vec::new(alloc));
+    writer.begin_object()?;
+    write_position(alloc, &mut writer, fen)?;
+    member(
+        alloc,
+        &mut writer,
+        "refused",
+        &format!(in alloc; "{refusal}")?,
+    )?;
+    member(
+        alloc,
+        &mut writer,
+        "sentence",
+        &String::from_utf8_lossy(alloc, sentence)?,
+    )?;
+    writer.end_object()?;
+    into_line(writer)
 }

@@ -1,6 +1,5 @@
 pub mod Common
 pub mod Texts
-pub mod Written
 pub mod BestLine
 pub mod Asked
 pub mod Told

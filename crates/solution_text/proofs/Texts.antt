@@ -1,9 +1,7 @@
 -- Texts one behind the other.
-use Rattle.std.proofs.Common.{false, ◌==◌, ◌-◌, ◌≤◌, arith, drop, codes, ◌≡◌, ℕ, ◌+◌, ◌<◌, List, [], ◌∷◌, ◌++◌, length, take, get_or, append_assoc, add-one, refl, sym, ◌∙◌, ap, subst}
+use Rattle.std.proofs.Common.{false, ◌==◌, codes, ◌≡◌, ℕ, ◌+◌, ◌<◌, List, [], ◌∷◌, ◌++◌, length, take, get_or, append_assoc, add-one, refl, sym, ◌∙◌, ap, subst}
 use Rattle.std.proofs.Math.Seq.{take-suc}
-use Rattle.std.proofs.lemmas.List.{flat_map_more}
-use Rattle.std.specs.List.{flat_map}
-use Rattle.solution_text.proofs.Common.{append-nil, take_all, take_more, PlainBoard, Notation, Variation, passed, AreTexts, IsVariationText, IsSetPlayText}
+use Rattle.solution_text.proofs.Common.{append-nil, PlainBoard, Notation, Variation, passed, AreTexts, IsVariationText, IsSetPlayText}
 
 -- one more text behind the others
 pub AreTexts-push : {X : Type 0} (P : X → List ℕ → Type 0) (xs : List X) (x : X) (text one : List ℕ) → AreTexts P xs text → P x one → AreTexts P (xs ++ x ∷ []) (text ++ one)

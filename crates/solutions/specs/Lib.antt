@@ -3,3 +3,4 @@ pub mod Lines
 pub mod Solutions
 pub mod Whole
 pub mod Changes
+pub mod Data

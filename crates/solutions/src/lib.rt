@@ -3,6 +3,7 @@
 
 mod changing;
 mod continuing;
+mod data;
 mod extras;
 mod first_try;
 mod key_play;

@@ -5,4 +5,4 @@ use Rattle.batch_texts.specs.Forms.{key_item}
 use Rattle.batch_texts.proofs.forms.keys_listed.Given as goal
 
 abbrev pub invariant-loop-key : goal.invariant-loop-key
-invariant-loop-key l = string_bytes l.text ≡ string_bytes l.initial.text ++ flat_map (λ key. codes "," ++ key_item l.json key) (take l.key-index l.rest)
+invariant-loop-key l = string_bytes l.text ≡ string_bytes l.initial.text ++ flat_map (λ key. codes "," ++ key_item key) (take l.key-index l.rest)
