@@ -30,9 +30,6 @@ const LOOKED_FROM: u8 = 6;
 /// From so many plies on an attacker's position is searched round by round.
 const ROUNDS_FROM: u8 = 11;
 
-/// From so many plies on other callers learn that a position is searched, and moves to those that they search are put off.
-const ENTERED_FROM: u8 = 4;
-
 /// The answer for n plies, where the table knows of a position below that ends the search: on the attacker's turn one that wins, on the
 /// defender's one that escapes.
 fn known_below<A: Allocator>(
@@ -201,7 +198,7 @@ fn search_listed<S: Stop, A: Allocator>(
     if let Some(yes) = known_below(caller, q, n, moves) {
         return Some(yes);
     }
-    if n < ENTERED_FROM || lead.scout.stop.underway().is_none() {
+    if lead.scout.stop.underway().is_none() {
         return try_listed(caller, lead, q, n, moves);
     }
     search_entered(caller, lead, q, n, moves)

@@ -132,6 +132,8 @@ enum Until {
     Others(u64),
     // Its partner has: the second is the first's, the fourth the third's, and so on.
     Partner,
+    // A second one has, where it is the first.
+    Second,
     // All others have, where it is the first.
     All,
     // All others have, where it has this number.
@@ -143,6 +145,7 @@ fn awaited(until: Until, job: u16, before: u64) -> u64 {
     match until {
         Until::Others(others) => others,
         Until::Partner if before < 16 && before % 2 == 0 => before + 1,
+        Until::Second if before == 0 => 1,
         Until::All if before == 0 => 16,
         Until::AllOf(held) if job == held => 16,
         _ => 0,
@@ -207,6 +210,12 @@ fn each_thread_holds_a_job_at_once(rt: HostRuntime) {
         let others = Until::Others(u64::from(workers));
         assert!(rt; held(&rt, rt.alloc(), workers, slots, others));
     }
+}
+
+// The first job that is begun, whichever it is, is held until another thread has begun a second one.
+#[test]
+fn the_first_job_is_held_until_a_second_has_begun(rt: HostRuntime) {
+    assert!(rt; held(&rt, rt.alloc(), 2, 64, Until::Second));
 }
 
 #[test]

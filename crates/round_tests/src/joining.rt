@@ -1,97 +1,94 @@
-//! That a thread that finds no job joins in the one that is out, and begins none; and that threads that join end, each time.
-ghost use Rattle.slots.specs.Promise.{slots_of, IsSeatOf};
-
-use crate::kept_entries::entry_of;
+//! That a thread with no job left joins in a job that another thread has begun, and that threads that join end, each time.
 use crate::solves::read;
-use board::Position;
-use entry::{MateLore, interval_of, key_of, pack};
+use entry::MateLore;
 use moves::{Goal, Move, Square};
 use problems::Answer;
 use rounds::solve;
 use searcher::{Gate, NoGate};
-use slots::{Probe, Seat, Slots};
+use slots::{Seat, Slots};
+use std::alloc::Global;
+use std::process::Abort;
+use std::sync::Wait;
 use std::sync::atomic::{AtomicU64, Ordering};
 use std::test::*;
 use std::thread;
+use std::thread::Threads;
 
-// Whether the reply says that there is no mate within six plies.
-fn says_none_within_six(reply: Probe) -> bool {
-    let Probe::Hit(words) = reply else {
-        return false;
-    };
-    match interval_of(words) {
-        Some(known) => known.below == 7,
-        None => false,
-    }
-}
-
-// Whether some slot says so of the key.
-fn is_known(slots: &Slots<MateLore>, seat: &mut Seat, key: [u64; 3]) -> bool
-    requires { IsSeatOf slots.now seat.old }
-    ensures { IsSeatOf slots.now seat.new }
-{
-    let mut known = false;
-    for slot in 0..slots.len() {
-        known = known || says_none_within_six(slots.probe(seat, slot, key));
-    }
-    known
-}
-
-// The job of round 9 is held until the table knows of a position that another thread has searched, for so many
-// turns at most.
+// How often jobs of round 15 are begun, how often threads join in them, and how often one does so before the job's call of
+// `begin` is over.
 #[derive(Drop)]
-struct Waits {
-    below: [Position; 2],
+struct Joins {
     begun: AtomicU64,
-    known: AtomicU64,
+    joined: AtomicU64,
+    early: AtomicU64,
 }
 
-impl Gate for Waits {
-    fn begin(&self, round: u8, _job: u16, slots: &Slots<MateLore>, seat: &mut Seat) {
-        if round != 9 {
+impl Joins {
+    fn new() -> Joins {
+        Joins {
+            begun: AtomicU64::new(0),
+            joined: AtomicU64::new(0),
+            early: AtomicU64::new(0),
+        }
+    }
+}
+
+impl Gate for Joins {
+    fn begin(&self, round: u8, _job: u16, _slots: &Slots<MateLore>, _seat: &mut Seat) {
+        if round != 15 {
             return;
         }
-        self.begun.fetch_add(1, Ordering::SeqCst);
-        let first = key_of(pack(&entry_of(self.below[0])));
-        let second = key_of(pack(&entry_of(self.below[1])));
-        for _ in 0..20_000 {
-            if is_known(slots, seat, first) && is_known(slots, seat, second) {
-                self.known.fetch_add(1, Ordering::SeqCst);
-                return;
-            }
+        // the other threads have time to find that no job is left
+        for _ in 0..1_000 {
             thread::yield_now();
+        }
+        self.begun.fetch_add(1, Ordering::SeqCst);
+    }
+
+    fn join(&self, round: u8, job: u16) {
+        if round != 15 {
+            return;
+        }
+        self.joined.fetch_add(1, Ordering::SeqCst);
+        if job != 0 || self.begun.load(Ordering::SeqCst) != 1 {
+            self.early.fetch_add(1, Ordering::SeqCst);
         }
     }
 }
 
-// White has one move, a4a3, Black one reply, a6b6, and White then two, a3a2 and a3b2, as a second reading of the
-// rules has it: so in round 9 one thread has the job, and what another can do is to search the positions after
-// those two, of which six plies are left.
+// Whether a thread joins in one of several solves. White has one move, a4a3, as a second reading of the rules has it, and
+// the pawns stand blocked for good, so nobody mates: each round has one job, which takes more than a moment.
+fn some_thread_joins<R: Threads + Wait + Abort + Sync>(
+    rt: &R,
+    alloc: Global,
+    workers: u8,
+    slots: usize,
+) -> bool {
+    let position = read(rt, b"k5/1p4/KP4/1P4/6/6 w");
+    for _ in 0..20 {
+        let gate = Joins::new();
+        let answer = solve(rt, alloc, &position, Goal::Mate, 15, workers, slots, &gate);
+        assert!(rt; answer == Ok(Answer::NoneWithin(15)));
+        assert!(rt; gate.begun.load(Ordering::SeqCst) == 1);
+        assert!(rt; gate.early.load(Ordering::SeqCst) == 0);
+        if gate.joined.load(Ordering::SeqCst) > 0 {
+            return true;
+        }
+    }
+    false
+}
+
 #[test]
 fn a_thread_with_no_job_joins(rt: HostRuntime) {
-    let position = read(&rt, b"k5/1p4/KP4/1P4/6/6 w");
-    let far = read(&rt, b"1k4/1p4/1P4/1P4/K5/6 b");
-    let near = read(&rt, b"1k4/1p4/1P4/1P4/1K4/6 b");
     for workers in [1, 4] {
-        let gate = Waits {
-            below: [far, near],
-            begun: AtomicU64::new(0),
-            known: AtomicU64::new(0),
-        };
-        let answer = solve(
-            &rt,
-            rt.alloc(),
-            &position,
-            Goal::Mate,
-            9,
-            workers,
-            512,
-            &gate,
-        );
-        assert!(rt; answer == Ok(Answer::NoneWithin(9)));
-        assert!(rt; gate.begun.load(Ordering::SeqCst) == 1);
-        assert!(rt; gate.known.load(Ordering::SeqCst) == 1);
+        assert!(rt; some_thread_joins(&rt, rt.alloc(), workers, 512));
     }
+}
+
+// Over a small table threads drive out what others found, so nobody joins.
+#[test]
+fn nobody_joins_over_a_small_table(rt: HostRuntime) {
+    assert!(rt; !some_thread_joins(&rt, rt.alloc(), 2, 64));
 }
 
 // The mate takes five plies and is c1c5, as another program has it; so in round 5 threads have more jobs than one, of which all but one lose.
@@ -103,7 +100,7 @@ fn threads_that_join_end_each_time(rt: HostRuntime) {
         to: Square { file: 2, rank: 4 },
         promotion: None,
     };
-    for _ in 0..50 {
+    for _ in 0..10 {
         for workers in [1, 3, 16] {
             let answer = solve(
                 &rt,

@@ -10,6 +10,8 @@ mod beginnings;
 #[cfg(test)]
 mod ends;
 #[cfg(test)]
+mod held_jobs;
+#[cfg(test)]
 mod joining;
 #[cfg(test)]
 mod kept_entries;

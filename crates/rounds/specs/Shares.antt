@@ -21,7 +21,7 @@ pub record IsRound {T : Type 0} (n : ℕ) (b : Round T) : Type 0 where
   pub plies : IsLimit b.plies
   pub wins : b.least.now.wins ≡ root_jobs b.search.now.root b.plies
   pub jobs : b.least.now.jobs ≡ n
-  pub words : length b.decided.now.items ≡ n
+  pub words : length b.states.now.words.items ≡ n
 
 -- the job wins in the round
 abbrev pub WinsHere : {T : Type 0} → Round T → ℕ → Type 0

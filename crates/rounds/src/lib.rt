@@ -2,6 +2,7 @@
 #![tactic(auto)]
 
 mod gated;
+mod job_state;
 mod keys;
 mod round;
 mod share;

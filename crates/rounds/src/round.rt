@@ -7,6 +7,7 @@ ghost use Rattle.rounds.specs.Seats.{AreJobSeats};
 ghost use Rattle.rounds.specs.Shares.{IsRound, WinsHere, IsShare, AreDealt, seats_back};
 ghost use Rattle.rounds.specs.Going.{SeatGoesOn, EachGoesOn, SeatsGoOn};
 
+use crate::job_state::JobStates;
 use crate::share::{Share, Verdict, memory_of};
 use crate::shared::{JobStop, RootJobs, Round, Solve};
 use crate::telling::decide_job;
@@ -16,7 +17,6 @@ use searcher::Gate;
 use slots::Seat;
 use std::alloc::{AllocError, Global};
 use std::sync::Wait;
-use std::sync::atomic::AtomicBool;
 use std::thread;
 use std::thread::Threads;
 
@@ -54,12 +54,12 @@ fn deal_out<'a, J: Count, T: Gate>(
         let seat = seats.take_last();
         let stop = JobStop {
             least: round.least,
-            decided: round.decided,
+            states: round.states,
             underway: round.underway,
             seat: job_seat,
             jobs: count,
             job: 0,
-            joins: false,
+            stops_at_answer: false,
         };
         let scout = Scout {
             stop,
@@ -74,17 +74,6 @@ fn deal_out<'a, J: Count, T: Gate>(
     }
     thieves.as_mut_slice().reverse();
     Ok(thieves)
-}
-
-/// No job is decided.
-fn none_decided(alloc: Global, jobs: u16) -> Result<Vec<AtomicBool>, AllocError>
-    ensures { IfOk result (λ decided. length decided.items ≡ jobs) }
-{
-    let mut decided = Vec::with_capacity(alloc, usize::from(jobs))?;
-    for _ in 0..jobs {
-        decided.push(AtomicBool::new(false))?;
-    }
-    Ok(decided)
 }
 
 /// Which positions are searched, none yet. Two callers put nothing off, since it gains nothing, nor do more where none joins in another's jobs.
@@ -228,13 +217,13 @@ pub(crate) fn round<J: Count + Send + Sync, T: Gate, R: Threads + Wait + Sync>(
         Err(MakeFault::NoMemory) => return Err(AllocError),
         Err(MakeFault::Size) => unreachable!(),
     };
-    let decided = none_decided(alloc, root.jobs())?;
+    let states = JobStates::all_waiting(alloc, root.jobs())?;
     let underway = none_underway(alloc, callers, search.is_joined(plies))?;
     let round = Round {
         search,
         plies,
         least: &least,
-        decided: &decided,
+        states: &states,
         underway: &underway,
     };
     work_all::<J, T, R>(rt, alloc, &round, job_seats, seats)

@@ -1,7 +1,9 @@
 //! What is solved, how its jobs are decided, what all threads of a round read, and what stops and orders the search of a job.
-ghost use Rattle.std.specs.Prelude.{◌≡◌, IsTrue, length};
+ghost use Rattle.std.specs.Prelude.{◌≡◌, ◌↔◌, IsTrue, length};
 ghost use Rattle.jobs.specs.Promise.{IsJobSeatOf};
+ghost use Rattle.rounds.specs.Joining.{IsJoined};
 
+use crate::job_state::{JobState, JobStates};
 use board::Position;
 use decision::{Stop, Underway};
 use entry::MateLore;
@@ -10,8 +12,6 @@ use moves::Goal;
 use problems::Root;
 use searcher::Gate;
 use slots::Slots;
-use std::sync::atomic::AtomicBool;
-use std::sync::atomic::Ordering::SeqCst;
 
 /// The jobs that win in a round: those whose moves win within so many plies.
 #[derive(Drop)]
@@ -42,8 +42,10 @@ const JOINED_FROM: u8 = 5;
 const JOINED_OVER: usize = 512;
 
 impl<T: Gate> Solve<'_, T> {
-    /// Whether threads join in jobs of a round of so many plies.
-    pub(crate) fn is_joined(&self, plies: u8) -> bool {
+    /// Returns whether threads join in jobs of a round of this number of plies.
+    pub(crate) fn is_joined(&self, plies: u8) -> bool
+        ensures { IsTrue result ↔ IsJoined self.now plies }
+    {
         JOINED_FROM <= plies && JOINED_OVER <= self.slots.len()
     }
 }
@@ -55,42 +57,44 @@ pub(crate) struct Round<'a, T: Gate> {
     pub plies: u8,
     /// The least job known to win.
     pub least: &'a Least<RootJobs>,
-    /// Whether some thread has decided the job, for each job. No answer rests on it.
-    pub decided: &'a Vec<AtomicBool>,
+    /// How far each job is.
+    pub states: &'a JobStates,
     /// Which positions are searched, where moves to these are put off.
     pub underway: &'a Option<Underway>,
 }
 
-/// Stops the search of a job once one below it wins, or, of a thread that has joined, once the job is decided: the round's words, a thread's
-/// seat of the least job known to win, and the job that the thread is at.
+/// Stops the search of a job once a job below it is known to win and, where asked, once some thread has the job's answer: the
+/// round's words, a thread's seat of the least job known to win, and the job that the thread searches.
 #[derive(Drop)]
 pub(crate) struct JobStop<'a> {
     pub least: &'a Least<RootJobs>,
-    pub decided: &'a Vec<AtomicBool>,
+    pub states: &'a JobStates,
     pub underway: &'a Option<Underway>,
     pub seat: JobSeat<RootJobs>,
     pub jobs: u16,
     pub job: u16,
-    /// The thread joins in jobs that others have begun.
-    pub joins: bool,
+    /// Whether the search also stops once some thread has the job's answer.
+    pub stops_at_answer: bool,
     ghost belongs: { IsJobSeatOf least.now seat },
     ghost of_board: { jobs ≡ least.now.jobs },
-    ghost each: { length decided.now.items ≡ jobs },
+    ghost each: { length states.now.words.items ≡ jobs },
 }
 
 impl JobStop<'_> {
-    /// Tells the other threads that the job is decided.
-    pub(crate) fn tell(&self) {
+    /// Sets the state of the thread's job.
+    pub(crate) fn set(&self, state: JobState) {
         if self.job < self.jobs {
-            self.decided[usize::from(self.job)].store(true, SeqCst);
+            self.states.set(self.job, state);
         }
     }
 
-    /// Whether a thread that has joined is told that the job is decided.
-    fn is_told(&self) -> bool
-        ensures { IsTrue result → IsTrue self.now.joins }
+    /// Returns whether some thread has the job's answer, where the search stops at that.
+    fn is_answered(&self) -> bool
+        ensures { IsTrue result → IsTrue self.now.stops_at_answer }
     {
-        self.joins && self.job < self.jobs && self.decided[usize::from(self.job)].load(SeqCst)
+        self.stops_at_answer
+            && self.job < self.jobs
+            && matches!(self.states.get(self.job), JobState::Answered)
     }
 }
 
@@ -99,16 +103,16 @@ impl Stop for JobStop<'_> {
     ghost use Rattle.std.proofs.Common.{◌∙◌, refl, rules};
     ghost use Rattle.jobs.specs.Promise.{least_known};
 
-    ghost told = { λ s. s.joins ≡ false → least_known s.seat < s.job };
+    ghost told = { λ s. s.stops_at_answer ≡ false → least_known s.seat < s.job };
 
     ghost stays = { λ a b. (b.least.now ≡ a.least.now) × (b.job ≡ a.job)
-        × (least_known b.seat ≤ least_known a.seat) × (b.joins ≡ a.joins) };
+        × (least_known b.seat ≤ least_known a.seat) × (b.stops_at_answer ≡ a.stops_at_answer) };
 
     fn is_set(&mut self) -> bool {
         if self.jobs <= self.job {
             return false;
         }
-        if self.is_told() {
+        if self.is_answered() {
             return true;
         }
         self.least.is_below(&mut self.seat, self.job)

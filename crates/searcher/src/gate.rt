@@ -8,9 +8,13 @@ use entry::MateLore;
 use progress::Ended;
 use slots::{Seat, Slots};
 
-/// Called before a job is decided, by the thread that decides it, with the solve's table and that thread's
-/// seat, and again once it is decided. The round is the number of plies, the job the number of a lawful
-/// root move. A round that ends with nothing is told by the caller's own thread, before the next begins.
+/// What a solve calls as its jobs begin and end. A round is a number of plies, and a job the number of a lawful root move.
+///
+/// `begin` is called before a job is decided, by the thread that decides it, with the solve's table and that thread's seat.
+/// `end` is called by the same thread once the job is decided, and by the caller's own thread after a round in which no job
+/// wins, before the next round begins. `join` is called by a thread that has no job of its own left, before it searches a job
+/// that another thread has begun: after that thread's `begin` has returned. What such a thread finds reaches the thread that
+/// decides the job through the table alone.
 pub trait Gate: Sync {
     ghost use Rattle.std.specs.Prelude.{ℕ};
     ghost use Rattle.atomic_table.specs.Seated.{TableId};
@@ -26,6 +30,8 @@ pub trait Gate: Sync {
         ensures keeps { keeps slots.now seat.old seat.new };
 
     fn end(&self, _round: u8, _ended: Ended) {}
+
+    fn join(&self, _round: u8, _job: u16) {}
 }
 
 /// The gate that does nothing.

@@ -102,8 +102,8 @@ visit-returns-clause-goes_on g t c = then_led c.look_far-known.ensures.goes_on c
 pub search_from-returns-clause-goes_on : goal.search_from-returns-clause-goes_on
 search_from-returns-clause-goes_on g t c = led_then c.search_in_rounds.ensures.goes_on c.keep_far.ensures
 
-pub search_listed-returns-then-n-lt-ENTERED_FROM-clause-goes_on : goal.search_listed-returns-then-n-lt-ENTERED_FROM-clause-goes_on
-search_listed-returns-then-n-lt-ENTERED_FROM-clause-goes_on g t c = then_led c.known_below.ensures.goes_on c.try_listed.ensures.goes_on
+pub search_listed-returns-then-is_none-clause-goes_on : goal.search_listed-returns-then-is_none-clause-goes_on
+search_listed-returns-then-is_none-clause-goes_on g t c = then_led c.known_below.ensures.goes_on c.try_listed.ensures.goes_on
 
 pub search_listed-returns-clause-goes_on : goal.search_listed-returns-clause-goes_on
 search_listed-returns-clause-goes_on g t c = then_led c.known_below.ensures.goes_on c.search_entered.ensures.goes_on

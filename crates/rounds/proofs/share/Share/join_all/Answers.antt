@@ -1,14 +1,18 @@
 use Rattle.decision.proofs.Calls.{continues_none, continues_more}
 use Rattle.rounds.proofs.share.Share.join_all.Goals as goal
 
-pub loop-job-init : goal.loop-job-init
-loop-job-init g c = record {
-  share = record { round = c.requires.round; stop = c.requires.stop; row = c.requires.row; right = c.requires.right; knows = c.requires.knows; seat = c.requires.seat };
+pub loop-init : goal.loop-init
+loop-init g c = record {
+  share = c.requires;
   continues = continues_none c.args.round.now.search.now.slots.now c.args.self.now.seat c.requires.seat;
 }
 
-pub loop-job-preserved : goal.loop-job-preserved
-loop-job-preserved g c = record {
-  share = c.join.ensures.share;
-  continues = continues_more c.args.round.now.search.now.slots.now c.args.self.now.seat c.loop-job.self.seat c.join.new.self.seat c.loop-job.invariant.continues c.join.ensures.continues;
+pub loop-preserved : goal.loop-preserved
+loop-preserved g c = record {
+  share = c.join_begun.ensures.share;
+  continues = continues_more c.args.round.now.search.now.slots.now c.args.self.now.seat c.loop.self.seat c.join_begun.new.self.seat c.loop.invariant.continues c.join_begun.ensures.continues;
 }
+
+pub returns-then-not-join_begun-clause-continues : goal.returns-then-not-join_begun-clause-continues
+returns-then-not-join_begun-clause-continues g c =
+    continues_more c.args.round.now.search.now.slots.now c.args.self.now.seat c.loop.self.seat c.join_begun.new.self.seat c.loop.invariant.continues c.join_begun.ensures.continues
