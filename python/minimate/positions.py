@@ -1,6 +1,7 @@
 """Positions of both games."""
 
 import enum
+import re
 from typing import Dict, List, Optional, Tuple, Union
 
 from . import _calls, drawing
@@ -9,6 +10,8 @@ from .refusals import Refused, answered
 
 # Sides, as python-chess has them.
 WHITE, BLACK = True, False
+# FEN's six fields, parted by one blank each: the board, the side to move, and four that change no mate in these games.
+SIX_FIELDS = re.compile(r"([^ ]*/[^ ]* [^ ]+)(?: [^ ]+){4}")
 
 
 class Game(enum.Enum):
@@ -31,7 +34,8 @@ class Game(enum.Enum):
 class Position:
     """A position: the board and the side to move.
 
-    It is made of its text in Forsyth-Edwards Notation, as ``k5/6/2K3/6/6/1R4 w``; a text that the program refuses is `Refused`. A
+    It is made of its text in Forsyth-Edwards Notation, as ``k5/6/2K3/6/6/1R4 w``; of a text of six fields it takes the first two, since
+    the others change no mate. Another text that the program refuses is `Refused`. A
     position doesn't change: `after` gives another one, where a board of python-chess has `push`. Positions are equal that have one text,
     and may be members of sets. Its text as `str` is the board as `minimate show` draws it; a notebook draws it as a picture.
     """
@@ -42,8 +46,9 @@ class Position:
     def __init__(self, text: str) -> None:
         if not isinstance(text, str):
             raise TypeError(f"a position is made of a text: here is {type(text).__name__}")
-        answered(_calls.calls().ask("fault", text.encode()))
-        self._text = text
+        six = SIX_FIELDS.fullmatch(text)
+        self._text = six[1] if six else text
+        answered(_calls.calls().ask("fault", self._text.encode()))
 
     @classmethod
     def _known(cls, text: str) -> "Position":

@@ -35,9 +35,11 @@ def bench_lines():
 
 
 def told_refusals():
-    """The rows of the table of refusals but those of a batch: the name, what was given, in which bytes stand as \\xff, and the sentence."""
+    """The rows of the table of refusals but those of a batch and of six fields, which the package cuts: the name, what was given, in which bytes
+    stand as \\xff, and the sentence."""
     with open(os.path.join(TOP, "tools", "sentences.tsv"), encoding="utf-8") as table:
-        rows = [row for row in re.findall(r"^([\w ]+)\t`(.+)`\t(.+)$", table.read(), flags=re.M) if not row[1].startswith("batch`")]
+        rows = re.findall(r"^([\w ]+)\t`(.+)`\t(.+)$", table.read(), flags=re.M)
+    rows = [row for row in rows if not row[1].startswith("batch`") and (row[0] != "Fields" or row[1].count(" ") != 5)]
     return [(name, given.encode().decode("unicode_escape").encode("latin-1").decode(), sentence) for name, given, sentence in rows]
 
 
@@ -114,6 +116,11 @@ class Positions(unittest.TestCase):
         self.assertEqual(Position(PROMOTES).moves(), ["f1e1", "f1e2", "f1f2", "c5c6q", "c5c6r", "c5c6n"])
         self.assertEqual(Solver().moves(PROMOTES), Position(PROMOTES).moves())
         self.assertEqual([len(game.start.moves()) for game in Game], [10, 7])
+
+    def test_six_fields(self):
+        position = Position("k5/6/2K3/6/6/1R4 w - - 0 1")
+        self.assertEqual((position, position.after("c4c5").fen()), (Position(ROOK), "k5/2K3/6/6/6/1R4 b"))
+        self.assertEqual(str(Solver().solve(f"{ROOK} - - 0 1", 3)), "mate 3 c4c5")
 
     def test_what_comes_after(self):
         self.assertEqual(Position(PROMOTES).after("c5c6n"), Position("k1N3/6/6/6/6/5K b"))
@@ -195,6 +202,7 @@ class Program(unittest.TestCase):
         drawn = b" 5  k . . . .\n 4  . . P . .\n 3  . K . . .\n 2  . . . . .\n 1  . . . . .\n    a b c d e      White to move\n"
         for words, given, wanted in (
             (["solve", "--limit", "3", ROOK], b"", b"mate 3 c4c5\n"),
+            (["solve", "--limit", "3", f"{ROOK} - - 0 1"], b"", b"mate 3 c4c5\n"),
             (["solve", "--limit", "1", "--goal", "stale", ROOK], b"", b"goal 1 b1b5\n"),
             (["keys", ROOK, "--limit=1"], b"", b"none within 1\n"),
             (["tree", "--limit", "3", "--slots", "64", ROOK], b"", b"c4c5{a6a5:b1a1#}\n"),

@@ -76,6 +76,21 @@ class Positions(unittest.TestCase):
         self.assertEqual(position.piece_map(), {"a6": "k", "c4": "K", "b1": "R"})
         self.assertEqual((position.piece_at("b1"), position.piece_at("b2")), ("R", None))
 
+    def test_six_fields_are_cut_to_two(self):
+        with fake.calls(solve=b"none within 3\n", moves=b"") as asked:
+            for fields in (" - - 0 1", " KQkq e3 12 30"):
+                position = Position(ROOK + fields)
+                self.assertEqual((position.text, position, repr(position)), (ROOK, Position(ROOK), f"Position('{ROOK}')"))
+                Solver().solve(ROOK + fields, 3)
+                Solver().moves(ROOK + fields)
+        self.assertEqual({values[0] for _, *values in asked.asked}, {ROOK.encode()})
+
+    def test_no_other_text_is_cut(self):
+        for text in (ROOK + " - - 0", ROOK + " - - 0 1 2", ROOK + " -  - 0 1", ROOK + " - - 0 ", f" {ROOK} - - 0", "k5 w - - 0 1", "k5 w - - 0 1/2"):
+            with fake.calls() as asked:
+                self.assertEqual(Position(text).text, text)
+            self.assertEqual(asked.asked, [("fault", text.encode())])
+
     def test_equal_positions(self):
         with fake.calls():
             position, same, other = Position(ROOK), Position(ROOK), Position(PAWN)
