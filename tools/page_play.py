@@ -1,6 +1,6 @@
 """Parts of tools/check_page: a position is set up and played through, pawns become units, and texts are refused."""
 
-from page_drive import ONE_PAWN, THIRD, VALUE
+from page_drive import ONE_PAWN, THIRD, VALUE, address
 
 
 def set_up(drive):
@@ -183,10 +183,24 @@ def refused(drive):
     drive.expect("no search of it", "state", "The position is refused: mend it first")
     tab.write("#fen", THIRD)
     drive.expect("a sound text again", "fault", "")
+    six_fields(drive)
     tab.write("#limit", "64")
     drive.press("#solve")
     drive.expect("no search within so many plies", "state", "The plies are a whole number from 1 to 63")
     tab.write("#limit", "3")
+
+
+def six_fields(drive):
+    """A text of FEN's six fields is the problem of its first two: in the field, which shows these once it is left, and in the address. Five are refused."""
+    tab = drive.tab
+    tab.write("#fen", f"{ONE_PAWN} - - 0")
+    drive.note(drive.said("fault").startswith("Refused, Fields: "), f"five fields are refused: {drive.said('fault')}")
+    tab.write("#fen", f"{ONE_PAWN} - - 0 1")
+    drive.expect("six fields", "fault", "")
+    tab.value("document.getElementById('limit').focus()")
+    drive.same("the field that is left has two", drive.fen(), ONE_PAWN)
+    tab.value(f"location.hash = '{address(f'{THIRD} KQkq e3 12 30')}'")
+    drive.waited(f"{VALUE.format('fen')} === '{THIRD}' && location.hash === '{address(THIRD)}'", "an address of six fields gives two")
 
 
 def flipped(drive):

@@ -6,7 +6,7 @@ import { Certificates } from "./certificates.js";
 import { Library, compiled, moduleName } from "./library.js";
 import { lawfulPart, played, playedThrough, positionOf } from "./line.js";
 import { lineWritten, moveWritten } from "./notation.js";
-import { SIDES, emptyRows, fitted, letterAt, placeOf, rowsOf, sideOf, textOf } from "./positions.js";
+import { SIDES, emptyRows, fitted, letterAt, placeOf, rowsOf, sideOf, textOf, twoFields } from "./positions.js";
 import { PROBLEMS } from "./problems.js";
 import { Rules } from "./rules.js";
 import { Search } from "./search.js";
@@ -83,8 +83,10 @@ function showProblem() {
   const { fen, goal, limit } = view.state;
   const fault = parts.rules.fault(fen);
   const listed = PROBLEMS.findIndex((one) => one.fen === fen && one.goal === goal);
-  const values = { fen, goal, limit, problems: listed < 0 ? "" : String(listed), side: sideOf(here()) };
+  const values = { goal, limit, problems: listed < 0 ? "" : String(listed), side: sideOf(here()) };
   for (const [name, value] of Object.entries(values)) setValue(name, value);
+  // While six fields are written they stay in the field.
+  if (twoFields($("fen").value) !== fen) setValue("fen", fen);
   $("fen").setAttribute("aria-invalid", String(fault.length > 0));
   $("fault").textContent = fault.length ? `Refused, ${fault[0].slice("refused: ".length)}: ${fault[1].slice("error: ".length)}.` : "";
   $("paper").textContent = `${fen}, ${goalSaid(goal === "stale")} within ${limit} plies`;
@@ -373,8 +375,8 @@ function escape() {
 // ---- the parts together
 
 function listen() {
-  $("fen").addEventListener("input", () => takeText($("fen").value, "text"));
-  $("fen").addEventListener("change", () => parts.steps.part());
+  $("fen").addEventListener("input", () => takeText(twoFields($("fen").value), "text"));
+  $("fen").addEventListener("change", () => (setValue("fen", view.state.fen), parts.steps.part()));
   $("problem").addEventListener("submit", (event) => (event.preventDefault(), ask("tree")));
   $("limit").addEventListener("input", () => change({ limit: $("limit").value }, "limit"));
   $("limit").addEventListener("change", () => parts.steps.part());

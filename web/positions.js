@@ -2,6 +2,11 @@
 
 export const GAMES = { 6: "Los Alamos chess", 5: "Gardner minichess" };
 
+/** The board and the side of a text in FEN's six fields, parted by one blank each: the others change no mate in these games. Another text as it is. */
+export function twoFields(text) {
+  return text.replace(/^([^ ]*\/[^ ]* [^ ]+)(?: [^ ]+){4}$/, "$1");
+}
+
 /** The rows of a text from the last rank down, each a list of letters and nulls; null where it hasn't the shape of a board. */
 export function rowsOf(fen) {
   const rows = fen.split(" ")[0].split("/").map(rowOf);
