@@ -1,6 +1,6 @@
 /* Forced mates in minichess, for programs in other languages: the calls of libminimate.a, which `tools/build_c` builds.
 
-   The first six calls answer a position with the very bytes that the program `minimate` writes for the same line, refusals among
+   The first seven calls answer a position with the very bytes that the program `minimate` writes for the same line, refusals among
    them: a line or lines of text, each ended by a line feed, with no zero byte at the end. They go into room that the caller lends, and the result is their
    number. Where the room is too small the result is SIZE_MAX and no byte of the room is written: call again with more room.
 
@@ -74,8 +74,8 @@ size_t minimate_verify(const uint8_t *fen, size_t fen_length, bool stale, const 
 /* `minimate moves`: the lawful moves, each on a line. */
 size_t minimate_moves(const uint8_t *fen, size_t fen_length, uint8_t *room, size_t room_length);
 
-/* The text of the position after a move, on a line. The move is named as `minimate moves` names it; another name is `refused: Move`. The
-   program has no such line. */
+/* `minimate after`: the text of the position after a move, on a line. The move is named as `minimate moves` names it; another name is
+   `refused: Move`. */
 size_t minimate_after(const uint8_t *fen, size_t fen_length, const uint8_t *move, size_t move_length, uint8_t *room, size_t room_length);
 
 /* Why a position's text is refused: the line that says so, and behind it the sentence that the program writes on standard error. Nothing,

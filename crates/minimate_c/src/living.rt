@@ -106,7 +106,7 @@ pub extern "C" fn minimate_solver_close(alloc: Global, solver: &mut SolverHandle
     let _ = solver.take(alloc);
 }
 
-/// TellsText a solver to stop, or to go on.
+/// Tells a solver to stop, or to go on.
 #[unsafe(no_mangle)]
 pub extern "C" fn minimate_stop_set(alloc: Global, stop: &mut StopHandle, set: bool) -> u32
     ensures { Sets set stop.old.held.value stop.new.held.value result }
