@@ -1,6 +1,8 @@
 """A file of positions, dealt out in parts: the answers are those of `minimate batch`, in the file's order."""
 
+import re
 import sys
+from typing import NamedTuple, Optional
 
 sys.dont_write_bytecode = True
 
@@ -13,6 +15,37 @@ READ_FAILED = 4
 PLAIN = set(b"ABCDEFGHIJKLMNOPQRSTUVWXYZabcdefghijklmnopqrstuvwxyz0123456789/ #")
 # No longer line is searched.
 MOST_BYTES = 256
+# A line with a limit of its own, in moves; and a position of FEN's six fields, of which `batch` reads two.
+OWN_LIMIT = re.compile(rb"([^;]*) ; dm ([1-9]|[12][0-9]|3[0-2])")
+SIX_FIELDS = re.compile(r"([^ ]*/[^ ]* [^ ]+)(?: [^ ]+){4}")
+
+
+class Question(NamedTuple):
+    """What a line asks: of this text, within so many plies; and the moves that the line itself names, where it does."""
+
+    text: bytes
+    limit: int
+    moves: Optional[int]
+
+    def fen(self):
+        """The position of a text that isn't refused."""
+        text = self.text.decode(errors="replace")
+        six = SIX_FIELDS.fullmatch(text)
+        return six[1] if six else text
+
+    def reply(self, answer):
+        """The line's reply, by the answer of its position: behind it stands whether the line names the moves that it takes."""
+        if self.moves is None:
+            return answer
+        is_right = answer.split()[1:2] == [str(self.limit)]
+        return f"{answer.rstrip()} {'ok' if is_right else 'differs'}\n"
+
+
+def question_of(line, limit):
+    """What a line asks in a batch of this limit."""
+    text = line.removesuffix(b"\r")
+    own = OWN_LIMIT.fullmatch(text)
+    return Question(own[1], 2 * int(own[2]) - 1, int(own[2])) if own else Question(text, limit, None)
 
 
 class Batch(dealt.Dealt):
@@ -23,18 +56,22 @@ class Batch(dealt.Dealt):
         self.ask_here("batch", limit)
         lines = self.lines()
         self.open_log()
-        answers = [self.kept(line, limit) for line in lines]
+        answers = [None] * len(lines)
         self.answer_here(lines, answers, limit, [place for place, line in enumerate(lines) if not is_searched(line)])
         if self.options.certify:
-            self.refuse_here(lines, answers)
-        wanted = [number for number, answer in enumerate(answers) if answer is None]
-        size = self.options.lines
-        parts = [wanted[begin : begin + size] for begin in range(0, len(wanted), size)]
-        if wanted and self.options.certify:
-            self.deal_certificates(lines, answers, wanted, limit)
-        elif wanted:
-            self.deal(lines, answers, parts, limit)
+            self.certify(answers, {place: question_of(line, limit) for place, line in enumerate(lines) if answers[place] is None})
+        else:
+            self.deal_parts(lines, answers, limit)
         return b"".join(answers)
+
+    def deal_parts(self, lines, answers, limit):
+        """What the joblog doesn't have goes out in parts."""
+        for place, answer in enumerate(answers):
+            answers[place] = answer or self.kept(lines[place], limit)
+        wanted = [place for place, answer in enumerate(answers) if answer is None]
+        size = self.options.lines
+        if wanted:
+            self.deal(lines, answers, [wanted[begin : begin + size] for begin in range(0, len(wanted), size)], limit)
 
     def lines(self):
         """The file's lines. The last may lack its feed."""
@@ -49,6 +86,20 @@ class Batch(dealt.Dealt):
         found = [self.log.answers.get(self.key(command, limit, position_of(line))) for command in self.believed()]
         return next((answer.encode() for answer in found if answer), None)
 
+    def certify(self, answers, questions):
+        """Answers each line by the certificate of its position, within the line's own limit where it has one: by that in the joblog, or by a task. What
+        is refused has none."""
+        self.refuse_here(answers, questions)
+        wanted = {}
+        for place, asked in questions.items():
+            kept = self.log.answers.get(self.key("certify", asked.limit, asked.fen()))
+            if answers[place] is None and kept:
+                answers[place] = asked.reply(kept).encode()
+            elif answers[place] is None:
+                wanted[place] = asked
+        if wanted:
+            self.deal_certificates(answers, wanted)
+
     def answer_here(self, lines, answers, limit, places):
         """The program here answers these lines: those that aren't searched may hold any bytes."""
         text = b"".join(lines[place] + b"\n" for place in places)
@@ -58,26 +109,30 @@ class Batch(dealt.Dealt):
         for place, answer in zip(places, told):
             answers[place] = answer + b"\n"
 
-    def refuse_here(self, lines, answers):
-        """Positions that are refused have no certificate: the program here refuses them, and answers what one ply shows."""
-        places, found = [place for place, answer in enumerate(answers) if answer is None], [None] * len(lines)
-        self.answer_here(lines, found, 1, places)
-        for place in places:
-            if not found[place].startswith(b"none "):
+    def refuse_here(self, answers, questions):
+        """Positions that are refused have no certificate: the program here refuses them, and answers what one ply shows. It is asked of each position
+        without the line's own limit, within which it would search."""
+        found = {}
+        self.answer_here({place: asked.text for place, asked in questions.items()}, found, 1, list(questions))
+        for place, asked in questions.items():
+            if found[place].startswith((b"mate ", b"goal ")):
+                answers[place] = asked.reply(found[place].decode()).encode()
+            elif not found[place].startswith(b"none "):
                 answers[place] = found[place]
 
-    def deal_certificates(self, lines, answers, wanted, limit):
+    def deal_certificates(self, answers, questions):
         """A task for each line, whose certificate is verified here."""
-        fens = [position_of(lines[place]) for place in wanted]
-        tasks = [self.line("certify", limit, "--", fen) for fen in fens]
+        places, asked = list(questions), list(questions.values())
+        tasks = [self.line("certify", it.limit, "--", it.fen()) for it in asked]
         with dealing.Dealing(tasks, self.machines()) as running:
             for number, ended in running:
                 if not ended.is_done():
                     raise self.unanswered(tasks[number], ended)
-                answer = self.answer_of(fens[number], tasks[number], ended)
+                fen = asked[number].fen()
+                answer = self.answer_of(fen, tasks[number], ended)
                 self.runs[ended.where()] += 1
-                answers[wanted[number]] = answer.encode()
-                self.log.add(self.key("certify", limit, fens[number]), answer, ended)
+                answers[places[number]] = asked[number].reply(answer).encode()
+                self.log.add(self.key("certify", asked[number].limit, fen), answer, ended)
 
     def deal(self, lines, answers, parts, limit):
         program = self.line("batch", limit)
