@@ -13,6 +13,7 @@ import dealt  # noqa: E402
 READ_FAILED = 4
 # What a shell's printf writes as it is; each other byte is written by its number.
 PLAIN = set(b"ABCDEFGHIJKLMNOPQRSTUVWXYZabcdefghijklmnopqrstuvwxyz0123456789/ #")
+MARK = b"\xef\xbb\xbf"
 # No longer line is searched.
 MOST_BYTES = 256
 # A line with a limit of its own, in moves; and a position of FEN's six fields, of which `batch` reads two.
@@ -74,10 +75,10 @@ class Batch(dealt.Dealt):
             self.deal(lines, answers, [wanted[begin : begin + size] for begin in range(0, len(wanted), size)], limit)
 
     def lines(self):
-        """The file's lines. The last may lack its feed."""
+        """The file's lines. The last may lack its feed, and a byte order mark before the first is none of it, as `batch` has it."""
         try:
             with open(self.options.file, "rb") as file:
-                return lines_of(file.read())
+                return lines_of(file.read().removeprefix(MARK))
         except OSError as fault:
             raise dealt.Answered(b"", READ_FAILED, f"spread: {self.options.file}: {fault.strerror}\n".encode()) from None
 
