@@ -1,4 +1,4 @@
-"""Servers of ssh on the loopback address, for tests."""
+"""Servers of ssh on the loopback address, for tests, and what stands in for these where `sshd` isn't installed. Nothing is installed."""
 
 import contextlib
 import getpass
@@ -87,6 +87,91 @@ class Servers:
     def __exit__(self, *_):
         for name in list(self.processes):
             self.end(name)
+
+
+# What stands in for `ssh`: it runs the command on this machine, in a session of its own and without this environment, as the server of that name would.
+STAND_IN = """#!{python}
+import os, subprocess, sys
+
+FOLDER, PORTS = {folder!r}, {ports!r}
+# The options of ssh that want a value.
+WITH_VALUE = ("-F", "-S", "-i", "-l", "-o", "-p")
+
+
+def is_down(host):
+    return host not in PORTS or os.path.exists(os.path.join(FOLDER, host + ".down"))
+
+
+def lost(host):
+    print("ssh: connect to host " + host + ": nobody serves it", file=sys.stderr)
+    sys.exit(255)
+
+
+words = sys.argv[1:]
+while words[0].startswith("-"):
+    del words[: 2 if words[0] in WITH_VALUE else 1]
+host = words[0].rpartition("@")[2]
+command = " ".join(words[2:] if words[1:2] == ["--"] else words[1:])
+if is_down(host):
+    lost(host)
+settings = {{"PATH": "/usr/local/bin:/usr/bin:/bin:/usr/sbin:/sbin", "SSH_CONNECTION": "127.0.0.1 1 127.0.0.1 " + str(PORTS[host])}}
+settings.update((name, os.environ[name]) for name in ("HOME", "USER", "LANG") if name in os.environ)
+process = subprocess.Popen(["/bin/sh", "-c", command], env=settings, start_new_session=True)
+with open(os.path.join(FOLDER, host + ".processes"), "a", encoding="ascii") as file:
+    file.write(str(process.pid) + "\\n")
+# Its server may have ended meanwhile.
+if is_down(host):
+    process.kill()
+status = process.wait()
+sys.exit(status) if 0 <= status < 255 and not is_down(host) else lost(host)
+"""
+
+
+class StandIns:
+    """What serves in place of such servers: an `ssh` of its own, first on the path."""
+
+    def __init__(self, folder, names):
+        self.folder, self.ports = folder, {name: number for number, name in enumerate(names, 1)}
+
+    def __enter__(self):
+        os.mkdir(self.folder, 0o700)
+        path = os.path.join(self.folder, "ssh")
+        with open(path, "w", encoding="utf-8") as file:
+            file.write(STAND_IN.format(python=sys.executable, folder=self.folder, ports=self.ports))
+        os.chmod(path, 0o755)
+        return self
+
+    def environment(self):
+        kept = {name: value for name, value in os.environ.items() if name != "PARALLEL_SSH"}
+        return {**kept, "PATH": f"{self.folder}:{os.environ['PATH']}"}
+
+    def end(self, name):
+        """Ends a server and all that it started."""
+        with open(os.path.join(self.folder, f"{name}.down"), "wb"):
+            pass
+        with contextlib.suppress(FileNotFoundError), open(os.path.join(self.folder, f"{name}.processes"), encoding="ascii") as file:
+            for process in map(int, file.read().split()):
+                for below in [process, *below_process(process)] if is_session(process) else []:
+                    with contextlib.suppress(ProcessLookupError):
+                        os.kill(below, signal.SIGKILL)
+
+    def __exit__(self, *_):
+        for name in self.ports:
+            self.end(name)
+
+
+def is_session(process):
+    """Whether it is still the first process of a session of its own: a number may have been given anew."""
+    try:
+        return os.getsid(process) == process
+    except ProcessLookupError:
+        return False
+
+
+def missing():
+    """What isn't installed of what serves over ssh."""
+    tools = {"sshd": find_sshd(), "ssh": shutil.which("ssh"), "ssh-keygen": shutil.which("ssh-keygen")}
+    return [name for name, path in tools.items() if not path]
 
 
 def below_process(process):
