@@ -90,8 +90,17 @@ def is_program(top, name):
 
 
 def end_tidily():
-    """SIGTERM ends this process as other ends do, so that what it has started ends too, and no folder stays."""
-    signal.signal(signal.SIGTERM, lambda number, _: sys.exit(128 + number))
+    """SIGTERM, and SIGHUP where it isn't ignored, end this process as other ends do, so that what it has started ends too, and no folder stays.
+    Further signals don't disturb that end."""
+    ending = [signal.SIGTERM] + [signal.SIGHUP] * (signal.getsignal(signal.SIGHUP) != signal.SIG_IGN)
+
+    def hear(number, _):
+        for it in ending:
+            signal.signal(it, signal.SIG_IGN)
+        sys.exit(128 + number)
+
+    for number in ending:
+        signal.signal(number, hear)
 
 
 def start_deaf(thread):
@@ -223,15 +232,14 @@ def started(kit, words, folder, hold=contextlib.nullcontext, told=subprocess.PIP
 
 
 def end(process):
-    """Interrupts the command and all that it has started, and kills what doesn't heed that."""
+    """Interrupts the command and all that it has started, and kills what doesn't heed that. It answers what the command has written."""
     with contextlib.suppress(ProcessLookupError):
         os.killpg(process.pid, signal.SIGINT)
-    try:
+    with contextlib.suppress(subprocess.TimeoutExpired):
         process.communicate(timeout=ENDS_WITHIN)
-    except subprocess.TimeoutExpired:
-        with contextlib.suppress(ProcessLookupError):
-            os.killpg(process.pid, signal.SIGKILL)
-        process.wait()
+    with contextlib.suppress(ProcessLookupError):
+        os.killpg(process.pid, signal.SIGKILL)
+    return process.communicate()[0]
 
 
 def put_back(process):
