@@ -21,10 +21,12 @@ use std::convert::AsStr;
 const PROGRESS_WORD: &str = "--progress";
 
 /// Why the words are no line.
-#[derive(Clone, Copy)]
+#[derive(Clone, Copy, Debug, thiserror::Error)]
 pub enum LineFault {
     /// They were refused, or they ask for help or the version.
+    #[error("the words are no command line")]
     Words,
+    #[error("memory was refused")]
     NoMemory,
 }
 

@@ -20,6 +20,7 @@ use std::alloc::Global;
 use std::sync::Wait;
 use std::thread::Threads;
 use std::time::Clock;
+use thiserror::Error;
 use verifying::{Checker, Fault};
 
 /// The answer's line, and the lines of claims as they are made.
@@ -30,11 +31,14 @@ pub struct Begun {
 }
 
 /// What ends a certificate before its last line.
-#[derive(Clone, Copy)]
+#[derive(Clone, Copy, Debug, Error)]
 pub enum Cut {
+    #[error("the output could not be written to its end")]
     WriteFailed,
+    #[error("memory was refused")]
     NoMemory,
     /// The checker doesn't take the next line.
+    #[error(transparent)]
     Refused(Refusal),
 }
 

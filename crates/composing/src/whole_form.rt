@@ -13,6 +13,7 @@ use problems::Root;
 use searcher::{Decider, Halt, Searcher, Table};
 use solution_text::{Beginning, SolutionStyle, played_key, whole_beginning};
 use std::alloc::Global;
+use thiserror::Error;
 
 /// A root whose limit is the fewest plies, and how its whole solution is told.
 #[derive(Drop)]
@@ -29,9 +30,11 @@ pub struct Solved {
 }
 
 /// What ends a solution before its last key.
-#[derive(Clone, Copy)]
+#[derive(Clone, Copy, Debug, Error)]
 pub enum CutOff {
+    #[error("the output could not be written to its end")]
     WriteFailed,
+    #[error("memory was refused")]
     NoMemory,
 }
 

@@ -7,10 +7,11 @@ ghost use Rattle.refusals.specs.declared.refusal.Refusal.TheVariants.{Claim, Gra
 use board::FenFault;
 use std::alloc::{AllocError, Allocator};
 use std::fmt;
+use thiserror::Error;
 use wintree::{NoMemory, TreeFault};
 
 /// Why a line was not answered, by the name that is printed.
-#[derive(Clone, Copy, Debug, PartialEq, Eq)]
+#[derive(Clone, Copy, Debug, PartialEq, Eq, Error)]
 pub enum Refusal {
     // of the position's text
     Fields,

@@ -9,11 +9,14 @@ use crate::refusal::Refusal;
 use board::FenFault;
 use devices::InputFault;
 use std::alloc::AllocError;
+use thiserror::Error;
 
 /// Why a line has no answer.
-#[derive(Clone, Copy)]
+#[derive(Clone, Copy, Debug, Error)]
 pub enum ReplyFault {
+    #[error(transparent)]
     Refused(Refusal),
+    #[error("the input could not be read to its end")]
     ReadFailed,
 }
 
