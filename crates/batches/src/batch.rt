@@ -1,8 +1,10 @@
 //! A batch: a solve of each position of the input, over one table.
-ghost use Rattle.std.specs.Prelude.{◌≡◌, ◌+◌, ◌++◌, ◌<◌, IfOk, codes, option_map};
+ghost use Rattle.std.specs.Prelude.{◌≡◌, ◌+◌, ◌++◌, ◌<◌, IfOk, IfSome, None, codes, option_map};
 ghost use Rattle.std.specs.Fmt.{decimal};
 ghost use Rattle.devices.specs.Input.{failed_reads};
 ghost use Rattle.input_lines.specs.Lines.{IsUnread, left_of};
+ghost use Rattle.line_tally.specs.Quiet.{IsQuiet};
+ghost use Rattle.line_tally.specs.Text.{lines_of};
 ghost use Rattle.batch_texts.specs.Asking.{IsFoundAt};
 ghost use Rattle.batch_texts.specs.Said.{said_in};
 ghost use Rattle.batches.specs.Batch.{HasReplyText, IsAskedReply, IsReplyText, left_out, next_number, remark_text, with_number, with_position};
@@ -19,7 +21,7 @@ use context::{Context, beside, search_of, table_within};
 use devices::{Failed, InputFault, Sink, Source, write_all};
 use endings::tell_if_over;
 use input_lines::{Next, Taken, Unread};
-use line_tally::Tally;
+use line_tally::{Lines, Tally};
 use moves::read_sound;
 use problems::Problem;
 use progress::Watch;
@@ -95,8 +97,17 @@ pub fn open_batch<R: Clock + AllocGlobal>(rt: &R, batch: Batch) -> Result<BatchR
         lookahead,
         unread: Unread::new(),
         number: 0,
-        tally: Tally::new(rt, batch.options.lines, left_out(batch.options)),
+        tally: tally_of(rt, batch.options),
     })
+}
+
+/// The count of the lines that are answered, where the options ask for it.
+fn tally_of<R: Clock>(rt: &R, options: BatchOptions) -> Tally
+    ensures quiet { options.lines ≡ None → IsQuiet result }
+    ensures lines { IfSome options.lines (λ count. result.lines ≡ lines_of count) }
+{
+    let lines = options.lines.map(Lines::of);
+    Tally::new(rt, lines, left_out(options))
 }
 
 /// The answer of a problem, or its keys, by a crew.
@@ -415,14 +426,16 @@ fn answer_next<
         .unread
         .next_line(context.rt, context.rt.alloc(), reader)?;
     look_ahead(context, &run.batch, &mut run.lookahead, &run.unread, &next);
-    let Some(plain) = made_text(context, &run.batch, &mut run.lookahead, next, errors)? else {
-        run.tally.clear(errors);
+    let mut messages = Vec::new(context.rt.alloc());
+    let made = made_text(context, &run.batch, &mut run.lookahead, next, &mut messages);
+    let _ = run.tally.message(errors, messages.as_slice());
+    let Some(plain) = made? else {
         return Ok(false);
     };
     let json = run.batch.options.json;
     let text = with_number(context.rt.alloc(), json, run.number, plain)?;
     write_all(writer, text.as_slice())?;
-    run.tally.tell(context.rt, run.number, errors);
+    let _ = run.tally.tell(context.rt, run.number, errors);
     Ok(!is_last)
 }
 
@@ -488,7 +501,7 @@ fn pass_over<R: Wait + AllocGlobal, S: Source>(
 }
 
 /// Passes over the lines that are left out, and answers those behind them, which keep their numbers.
-pub fn answer_batch<
+fn skip_and_answer<
     R: Threads + Wait + Eprint + Clock + Sync + AllocGlobal,
     C: Crew<Global>,
     S: Source,
@@ -518,4 +531,31 @@ pub fn answer_batch<
         Ok(false) => None,
         Err(fault) => Some(BatchStop::from(fault)),
     }
+}
+
+/// Answers the lines of a batch, and clears the count of lines that stands on the terminal at its end.
+pub fn answer_batch<
+    R: Threads + Wait + Eprint + Clock + Sync + AllocGlobal,
+    C: Crew<Global>,
+    S: Source,
+    K: Sink,
+    E: Write,
+>(
+    context: &Context<'_, R, C>,
+    run: &mut BatchRun,
+    reader: &mut S,
+    writer: &mut K,
+    errors: &mut E,
+) -> Option<BatchStop>
+    requires crew { C.ready context.now.crew }
+    requires run { IsBatchRun run.old }
+    requires reads { S.failures reader.old < u64.MAX }
+    requires writes { K.failures writer.old < u64.MAX }
+    ensures lines { TakesAnswered run.old.batch
+        (step_of run.old run.new S.remaining S.failures reader.old reader.new
+        K.contents K.failures writer.old writer.new) result }
+{
+    let stop = skip_and_answer(context, run, reader, writer, errors);
+    let _ = run.tally.clear(errors);
+    stop
 }

@@ -121,7 +121,7 @@ fn write_next<K: Sink>(certificate: &mut Checked, writer: &mut K) -> Result<bool
 /// Makes and writes line after line, to the end or until something cuts them off. The tally shows how many.
 pub fn write_claims<R: Clock + Eprint, K: Sink>(
     rt: &R,
-    tally: &Tally,
+    tally: &mut Tally,
     certificate: &mut Checked,
     writer: &mut K,
 ) -> Option<Cut>

@@ -29,7 +29,7 @@ use endings::{
     ANSWERED, REFUSED_WORDS, fail_to_write, finish, give_up_for_memory, refuse_and_tell,
     refuse_move, tell_if_over,
 };
-use line_tally::Tally;
+use line_tally::{Lines, Tally};
 use refusals::{Asking, Refusal, Refused};
 use rounds::Workers;
 use searcher::Crew;
@@ -92,10 +92,9 @@ fn write_all_claims<R: Clock + Eprint, C, K: Sink>(
     requires writes { K.failures writer.old < u64.MAX }
     ensures { EndsClaims certificate.old.checker (writing_of K.contents K.failures writer.old writer.new) result }
 {
-    // how many lines there will be isn't known
-    let lines = context.shows.then_some(0);
-    let tally = Tally::new(context.rt, lines, 0);
-    let cut = write_claims(context.rt, &tally, certificate, writer);
+    let lines = context.shows.then_some(Lines::Unknown);
+    let mut tally = Tally::new(context.rt, lines, 0);
+    let cut = write_claims(context.rt, &mut tally, certificate, writer);
     tally.hide(context.rt);
     cut
 }

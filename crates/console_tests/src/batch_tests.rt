@@ -1,9 +1,13 @@
 //! Batches: each line of the input has its reply.
-use crate::whole_runs::{expect_runs, expect_with};
+ghost use Rattle.std.specs.Prelude.{None};
+
+use crate::whole_runs::{expect_runs, expect_with, run};
+use devices::{Counted, Failed, Source};
 use std::process::Abort;
 use std::sync::Wait;
-use std::thread::Threads;
-use std::time::Clock;
+use std::thread::{Parker, Threads};
+use std::time::{Clock, Duration};
+use verdicts::Input;
 
 #[test]
 fn answers_a_batch(rt: HostRuntime) {
@@ -236,4 +240,67 @@ fn refuses_long_lines_of_a_batch(rt: HostRuntime) {
         let input = long_line(&rt, length, byte, rest);
         expect_with(&rt, &words, input.as_slice(), 0, output);
     }
+}
+
+/// An input whose second half comes more than a second after its first.
+#[derive(Drop)]
+struct Late<'a, R> {
+    rt: &'a R,
+    halves: [&'a [u8]; 2],
+    reads: usize,
+}
+
+impl<R: Wait> Source for Late<'_, R> {
+    ghost remaining = { λ _. None };
+
+    ghost failures = { λ _. 0 };
+
+    fn read(&mut self, buffer: &mut [u8]) -> Result<usize, Failed> {
+        if self.reads == 1 {
+            let parker = Parker::new();
+            parker.park_timeout(self.rt, Duration::from_millis(1100));
+        }
+        let Some(half) = self.halves.get(self.reads) else {
+            return Ok(0);
+        };
+        let count = half.len().min(buffer.len());
+        buffer[..count].copy_from_slice(&half[..count]);
+        self.reads += 1;
+        Ok(count)
+    }
+}
+
+impl<R: Wait> Input for Late<'_, R> {
+    fn beginning(&self) -> &[u8] {
+        b""
+    }
+}
+
+// The count of lines is cleared before a message, and at the end of a batch whose last line has no feed.
+#[test]
+fn clears_the_count_before_a_message(rt: HostRuntime) {
+    let words = ["minimate", "batch", "--limit", "1", "--lines", "3"];
+    let mut reader = Late {
+        rt: &rt,
+        halves: [
+            b"k5/6/1K4/6/6/5R w\n",
+            b"k5/6/1K4/6/6/5R w\nk5/6/1K4/6/6/5R v\nk5/6/1K4/6/6/5R w",
+        ],
+        reads: 0,
+    };
+    let mut writer = Counted::new(Vec::new(rt.alloc()));
+    let mut errors = Vec::new(rt.alloc());
+    let status = run(&rt, &words, &mut reader, &mut writer, &mut errors);
+    assert_eq!(rt; status, 0);
+    assert_eq!(rt;
+        writer.device.as_slice(),
+        b"mate 1 f1f6\nmate 1 f1f6\nrefused: Side\nmate 1 f1f6\n".as_slice()
+    );
+    let told = String::from_utf8_lossy(rt.alloc(), errors.as_slice()).expect(&rt, "memory");
+    let told = told.as_str();
+    assert!(rt; told.starts_with("\r2 of 3 lines, "));
+    assert!(rt;
+        told.contains("\r\u{1b}[Kerror: line 3: the side to move is w or b: here is 'v'\n")
+    );
+    assert!(rt; !told.contains("rate\u{1b}[Kerror"));
 }

@@ -1,2 +1,4 @@
 -- to be believed
+pub mod Text
+pub mod Drawing
 pub mod Quiet

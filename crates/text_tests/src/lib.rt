@@ -1,6 +1,8 @@
-//! Tests of what is read and written: positions, entries, trees, lines and signs of life.
+//! Tests of what is read and written: positions, entries, trees, lines, signs of life and counts of lines.
 #![tactic(auto)]
 
+#[cfg(test)]
+mod counts;
 #[cfg(test)]
 mod drawings;
 #[cfg(test)]

@@ -3,7 +3,7 @@ use Rattle.std.proofs.KnownBytes.{Appends-nil}
 use Rattle.batches.specs.BatchRun.{step_of}
 use Rattle.input_lines.specs.Lines.{left_of}
 use Rattle.batches.proofs.BatchLemmas.{batch_behind, batch_of_none, batch_unread}
-use Rattle.batches.proofs.batch.answer_batch.Goals as goal
+use Rattle.batches.proofs.batch.skip_and_answer.Goals as goal
 
 pub returns-in-Ok-true : goal.returns-in-Ok-true
 returns-in-Ok-true g c = record {

@@ -1,0 +1,97 @@
+//! The text of a count of lines: how many are answered, and how long the others take.
+ghost use Rattle.std.specs.Prelude.{◌≡◌};
+ghost use Rattle.line_tally.specs.Text.{lines_of, seconds_left};
+
+use std::fmt;
+
+/// The number of lines of an input.
+#[derive(Clone, Copy)]
+pub enum Lines {
+    Unknown,
+    Known(u32),
+}
+
+impl Lines {
+    /// The number of lines that the option `--lines` names, where 0 says that it isn't known.
+    pub fn of(count: u32) -> Lines
+        ensures { result ≡ lines_of count }
+    {
+        match count {
+            0 => Lines::Unknown,
+            _ => Lines::Known(count),
+        }
+    }
+}
+
+/// How many lines are answered after so many seconds.
+#[derive(Clone, Copy)]
+pub struct Count {
+    /// The number of the line that was answered last. The first line of the input has the number 1.
+    pub number: u64,
+    /// The lines of the whole input.
+    pub lines: Lines,
+    /// The lines at the beginning of the input that were skipped, and so took no time.
+    pub skipped: u32,
+    /// The whole seconds since the first line was read.
+    pub seconds: u32,
+}
+
+/// The seconds that the lines that are left take, if each takes as long as a line took so far. None if the number of lines isn't
+/// known or is too low, and before the first answer.
+fn seconds_left(count: &Count) -> Option<u64>
+    ensures { result ≡ seconds_left count.now }
+{
+    let Lines::Known(lines) = count.lines else {
+        return None;
+    };
+    let (lines, skipped) = (u64::from(lines), u64::from(count.skipped));
+    if lines < count.number || count.number <= skipped {
+        return None;
+    }
+    Some((lines - count.number) * u64::from(count.seconds) / (count.number - skipped))
+}
+
+/// A time in seconds.
+#[derive(Clone, Copy)]
+struct Time(u64);
+
+/// In seconds below two minutes, and else in whole minutes: as `119 s`, or `2 minutes`.
+impl fmt::Display for Time {
+    ghost use Rattle.std.specs.Prelude.{Some};
+    ghost use Rattle.line_tally.specs.Text.{time_text};
+
+    ghost output = { λ time. Some (time_text time.0) };
+
+    fn fmt<W: fmt::Write>(&self, f: &mut fmt::Formatter<W>) -> fmt::Result {
+        let seconds = self.0;
+        if seconds < 120 {
+            return write!(f, "{seconds} s");
+        }
+        let minutes = seconds / 60;
+        write!(f, "{minutes} minutes")
+    }
+}
+
+/// As `20 of 100 lines, 8 s to go at this rate`, or as `20 lines, 2 s` where the time to go isn't known.
+impl fmt::Display for Count {
+    ghost use Rattle.std.specs.Prelude.{Some};
+    ghost use Rattle.line_tally.specs.Text.{count_text};
+
+    ghost output = { λ count. Some (count_text count) };
+
+    fn fmt<W: fmt::Write>(&self, f: &mut fmt::Formatter<W>) -> fmt::Result {
+        let Count {
+            number,
+            lines,
+            seconds,
+            ..
+        } = *self;
+        match (lines, seconds_left(self)) {
+            (Lines::Known(lines), Some(left)) => {
+                let left = Time(left);
+                write!(f, "{number} of {lines} lines, {left} to go at this rate")
+            }
+            _ => write!(f, "{number} lines, {seconds} s"),
+        }
+    }
+}
