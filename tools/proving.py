@@ -18,9 +18,9 @@ import tempfile
 import time
 from typing import NamedTuple
 
-import proof_shares
-
 PARTS = ("src", "specs", "proofs")
+# The head of a function.
+FUNCTION = re.compile(r"^\s*(?:pub(?:\([^)]*\))? )?(?:unsafe )?(?:extern \"C\" )?(?:const )?fn \w+", re.M)
 # What `rt ci` runs a program with: words, input, files, and what has to come of it.
 RUN_WITH = ("args", "stdin", "data", "stdout", "status")
 # The logic by which all was proved, as `rt version` names it.
@@ -84,6 +84,34 @@ def sources_of(top, name, parts=PARTS):
 
 def is_program(top, name):
     return os.path.isfile(os.path.join(top, "crates", name, "src", "main.rt"))
+
+
+def texts_of(top, name, parts=PARTS):
+    """The texts of a crate's files in these folders."""
+    for path in sources_of(top, name, parts):
+        if os.path.isfile(path):
+            with open(path, encoding="utf-8", errors="replace") as file:
+                yield file.read()
+
+
+def count_functions(top, name):
+    """Counts the functions that are written in a crate's sources. The toolchain counts derived functions too, so its number is higher."""
+    return sum(len(FUNCTION.findall(text)) for text in texts_of(top, name, ("src",)))
+
+
+def count_lines(top, name, parts=PARTS):
+    """Counts the lines of a crate's sources, definitions and proofs, or of the named parts of these."""
+    return sum(len(text.splitlines()) for text in texts_of(top, name, parts))
+
+
+def chains(crates, names, weights):
+    """Returns, for each of these crates, the weight of the heaviest chain of crates that begins with it and in which each crate stands on the one
+    before. The names come lowest first."""
+    found = {}
+    for name in reversed(names):
+        above = [found[it] for it in names if name in crates[it].below]
+        found[name] = weights[name] + max(above, default=0)
+    return found
 
 
 # A folder of their own
@@ -310,7 +338,8 @@ class Proofs:
     def __init__(self, kit, top, names, folder, hold=contextlib.nullcontext):
         self.kit, self.top, self.folder, self.hold = kit, top, folder, hold
         self.crates, self.names = read_crates(top), lay_out(top, names, folder)
-        self.done = []
+        # The crates that are proved, and those that have a run of their own at the moment.
+        self.done, self.running = [], {}
 
     def run(self, log):
         """Proves and builds all: what `rt ci NAME` hasn't proved before, by one `rt ci`. The lines of `rt` go into the log when they come: those of a crate once
@@ -325,21 +354,22 @@ class Proofs:
 
         if AT_ONCE < processors() and ENOUGH < free_memory() and self.kit.keeps():
             self.run_apart(has_said)
+            self.running = {}
         run(self.kit, ["ci"], self.folder, has_said, self.hold)
 
     def run_apart(self, has_said):
-        """Proves each crate that others stand on by a run of its own, once those below it are proved. A crate that is alone in its run gets several
-        processors of the toolchain, and the longest chain of crates is what all is waited for: so its next one is begun first, and others are put back
-        behind it. One run has the rest where a crate is proved again, since nothing is kept then, where one is kept, since most are, and where none of the
-        rest could be proved beside another."""
-        chains = proof_shares.chains(self.crates, self.names, proof_shares.read_shares())
+        """Proves each crate that others stand on by a run of its own, once the crates below it are proved. A crate that is alone in its run gets several
+        processors of the toolchain. The whole build takes as long as the longest chain of crates, measured in lines: so the next crate of that chain is
+        begun first, and runs of much shorter chains get a lower priority. One run proves the rest in three cases: if a crate is proved a second time,
+        since the toolchain then keeps nothing; if a crate is kept, since most are then; and if the rest is a chain."""
+        weights = {it: count_lines(self.top, it) for it in self.names}
+        lengths, running = chains(self.crates, self.names, weights), self.running
         with contextlib.ExitStack() as runs:
-            running = {}
             while running or not self.is_chain():
-                for name in self.next_apart(chains, running):
+                for name in self.next_apart(lengths):
                     file = runs.enter_context(tempfile.TemporaryFile("w+", encoding="utf-8", errors="replace"))
                     process = runs.enter_context(started(self.kit, ["ci", name], self.folder, self.hold, file))
-                    if any(chains[name] < 0.8 * chains[it] for it in running):
+                    if any(lengths[name] < 0.8 * lengths[it] for it in running):
                         put_back(process)
                     running[name] = (process, file)
                 if not running:
@@ -360,11 +390,19 @@ class Proofs:
         left = [it for it in self.names if it not in self.done]
         return all(below in self.crates[name].below for below, name in zip(left, left[1:]))
 
-    def next_apart(self, chains, running):
+    def is_ready(self, name):
+        """Whether the crate isn't proved yet, and all below it are."""
+        return name not in self.done and set(self.crates[name].below) <= set(self.done)
+
+    def next_apart(self, lengths):
         """The crates that can be begun now, beside those that run: that on the longest chain first."""
         on = {below for name in self.names for below in self.crates[name].below}
-        able = [it for it in self.names if it in on and it not in running and it not in self.done and set(self.crates[it].below) <= set(self.done)]
-        return sorted(able, key=lambda it: -chains[it])[: AT_ONCE - len(running)]
+        able = [it for it in self.names if it in on and it not in self.running and self.is_ready(it)]
+        return sorted(able, key=lambda it: -lengths[it])[: AT_ONCE - len(self.running)]
+
+    def at_work(self):
+        """The crates whose proofs are running. While one run of `rt ci` proves all of them, these are the crates that are ready."""
+        return list(self.running) or [it for it in self.names if self.is_ready(it)]
 
     def program(self, name):
         """Where the program stands that was built."""
