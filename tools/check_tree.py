@@ -443,13 +443,13 @@ def counted_leaves():
 def self_test():
     """Says what differs; the status is 1 where something does."""
     tally = checking.Tally()
-    for fen, tree, goal, wanted in CASES:
+    for fen, tree, goal, wanted in checking.cases(CASES):
         got, status = answer(fen.encode(), tree.encode, goal)
         tally.expect(f"{fen} {goal} {tree[:40]}", got, wanted)
         tally.expect(f"status of {fen} {tree[:40]}", status, int(wanted.startswith("refused")))
     unread = answer(b"k5", lambda: 1 / 0)
     tally.expect("a refused position leaves the input alone", unread, ("refused: Fields", 1))
-    for fen, moves in MOVES:
+    for fen, moves in checking.cases(MOVES):
         tally.expect(fen, " ".join(map(move_text, lawful(read_position(fen.encode())))), moves)
     table = counted_leaves()
     tally.expect("positions with counts", len(table), 62)

@@ -1,5 +1,6 @@
 """What the tools beside this file share: the count of what passed, the lines of the bench, and the programs that are tried."""
 
+import contextlib
 import importlib.machinery
 import importlib.util
 import os
@@ -43,10 +44,25 @@ class Tally:
             print(f"FAILED: {what}", flush=True)
         return is_well
 
+    @contextlib.contextmanager
+    def part(self, name):
+        """A part of a check, in which something must be checked."""
+        before = self.passed + self.failed
+        yield
+        if self.passed + self.failed == before:
+            self.note(False, f"{name}: nothing was checked")
+
     def end(self):
-        """The last line, and the status."""
+        """Prints the last line, and returns the status. A check that checked nothing has failed."""
+        if self.passed + self.failed == 0:
+            self.note(False, "nothing was checked")
         print(f"{self.passed} passed, {self.failed} failed", flush=True)
         return int(self.failed > 0)
+
+
+def cases(table):
+    """The cases of a table, which must not be empty: a check that goes over an empty table would pass."""
+    return list(table) or stop("a table of cases is empty")
 
 
 def shown(value):
@@ -208,4 +224,4 @@ def bench_lines():
 
 def rows_of(name):
     with open(os.path.join(TOP, "bench", "mates", name + ".tsv"), encoding="ascii") as table:
-        return [line.rstrip("\n").split("\t") for line in table if not line.startswith("#")]
+        return cases(line.rstrip("\n").split("\t") for line in table if not line.startswith("#"))

@@ -1,5 +1,6 @@
 """Parts of tools/check_page: how the page looks in each size, what a thumb meets, and what a screen reader does."""
 
+import checking
 from page_drive import FIVE, KINGS, SIZES, THIRD
 
 BOARD = "Board: arrow keys go from square to square, Enter picks and plays"
@@ -174,10 +175,10 @@ def spoken(drive):
     drive.press("#keylist button")
     drive.waited("document.querySelector('.tree')", "the tree of the key")
     drive.mode("set")
-    for selector, role, name in SPOKEN:
+    for selector, role, name in checking.cases(SPOKEN):
         drive.same(f"{selector} as it is read out", list(tab.spoken(selector)), [role, name])
     drive.mode("play")
-    for name, role in LIVE.items():
+    for name, role in checking.cases(LIVE.items()):
         drive.same(f"{name} tells by itself", tab.value(f"document.getElementById('{name}').getAttribute('role')"), role)
     nodes = tab.ask("Accessibility.getFullAXTree")["nodes"]
     met = [(node["role"]["value"], node.get("name", {}).get("value", "")) for node in nodes if node.get("role", {}).get("value") in PRESSED]

@@ -314,7 +314,7 @@ def bare_kings(drive):
 def written(drive):
     """Moves are written as tools/show_tree writes them, whose table was made by hand."""
     drive.tab.value(WRITER)
-    for fen, move, wanted in SHOW_TREE.SHORT:
+    for fen, move, wanted in checking.cases(SHOW_TREE.SHORT):
         drive.same(f"{move} of {fen}", drive.tab.value(f"written('{fen}', '{move}')").rstrip("+#"), wanted)
     marked = [(THIRD, "b1a1", "Ra1+"), (THIRD, "b1b5", "Rb5="), (ONE_PAWN, "c4c5q", "c5=Q#"), (THIRD, "c4c5", "Kc5")]
     for fen, move, wanted in marked:

@@ -427,7 +427,7 @@ CASES = [
 
 def self_test():
     tally = checking.Tally()
-    for fen, text, goal, wanted in CASES:
+    for fen, text, goal, wanted in checking.cases(CASES):
         said = verify(fen.encode(), io.BytesIO(text.encode()), goal)
         tally.expect(f"{goal} of {fen}: {checking.shown(text)}", said, (wanted, int(wanted.startswith("refused"))))
     for fen in sorted({fen for fen, _, _, wanted in CASES if not wanted.startswith("refused")}):
