@@ -82,10 +82,6 @@ def sources_of(top, name, parts=PARTS):
             yield from (os.path.join(folder, file) for file in files)
 
 
-def is_program(top, name):
-    return os.path.isfile(os.path.join(top, "crates", name, "src", "main.rt"))
-
-
 def texts_of(top, name, parts=PARTS):
     """The texts of a crate's files in these folders."""
     for path in sources_of(top, name, parts):
@@ -154,7 +150,7 @@ def own_folder(hold=contextlib.nullcontext):
 
 def lay_out(top, names, folder, lines=None):
     """Makes a repository of these crates and of those that they stand on: their sources, and their lines of crates.txt, but for those given here.
-    No crate of tests is there, and no wrong body, so `rt ci` does no more than they need. Answers the crates, lowest first."""
+    No crate of tests is there, and no mutant, so `rt ci` does no more than they need. Answers the crates, lowest first."""
     crates = read_crates(top)
     found = all_reached(crates, names)
     # By it `rt` sees that the repository begins here.
