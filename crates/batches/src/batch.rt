@@ -30,7 +30,6 @@ use searcher::{Crew, Table};
 use std::alloc::{AllocError, Global};
 use std::io::Write;
 use std::sync::Wait;
-use std::sync::atomic::Ordering;
 use std::thread::Threads;
 use std::time::Clock;
 
@@ -326,7 +325,7 @@ fn asked_text<R: Threads + Wait + Eprint + Clock + Sync + AllocGlobal, C: Crew<G
 {
     match answered_text(context, table, batch, asked) {
         Ok(text) => {
-            tell_if_over(errors, asked.fen, Some(context.number()));
+            tell_if_over(errors, asked.fen, context.line);
             Ok(text)
         }
         Err(refusal) => {
@@ -404,16 +403,17 @@ fn answer_next<
     K: Sink,
     E: Write,
 >(
-    context: &Context<'_, R, C>,
+    context: &mut Context<'_, R, C>,
     run: &mut BatchRun,
     reader: &mut S,
     writer: &mut K,
     errors: &mut E,
 ) -> Result<bool, BatchStop>
-    requires crew { C.ready context.now.crew }
+    requires crew { C.ready context.old.crew }
     requires run { IsBatchRun run.old }
     requires reads { S.failures reader.old < u64.MAX }
     requires writes { K.failures writer.old < u64.MAX }
+    ensures crew { context.new.crew ≡ context.old.crew }
     ensures run { IsBatchRun run.new }
     ensures same { run.new.batch ≡ run.old.batch }
     ensures counts { run.new.number ≡ next_number run.old.number }
@@ -421,7 +421,7 @@ fn answer_next<
         K.contents K.failures writer.old writer.new) result }
 {
     run.number = run.number.saturating_add(1);
-    context.line.store(run.number, Ordering::SeqCst);
+    context.line = Some(run.number);
     let Taken { next, is_last } = run
         .unread
         .next_line(context.rt, context.rt.alloc(), reader)?;
@@ -447,13 +447,13 @@ fn answer_lines<
     K: Sink,
     E: Write,
 >(
-    context: &Context<'_, R, C>,
+    context: &mut Context<'_, R, C>,
     run: &mut BatchRun,
     reader: &mut S,
     writer: &mut K,
     errors: &mut E,
 ) -> Option<BatchStop>
-    requires crew { C.ready context.now.crew }
+    requires crew { C.ready context.old.crew }
     requires run { IsBatchRun run.old }
     requires reads { S.failures reader.old < u64.MAX }
     requires writes { K.failures writer.old < u64.MAX }
@@ -508,13 +508,13 @@ fn skip_and_answer<
     K: Sink,
     E: Write,
 >(
-    context: &Context<'_, R, C>,
+    context: &mut Context<'_, R, C>,
     run: &mut BatchRun,
     reader: &mut S,
     writer: &mut K,
     errors: &mut E,
 ) -> Option<BatchStop>
-    requires crew { C.ready context.now.crew }
+    requires crew { C.ready context.old.crew }
     requires run { IsBatchRun run.old }
     requires reads { S.failures reader.old < u64.MAX }
     requires writes { K.failures writer.old < u64.MAX }

@@ -42,8 +42,8 @@ pub fn run<
                 limits,
                 options,
             };
-            let context = context_of(rt, Workers { rt }, words);
-            run_batch(&context, batch, reader, writer, errors)
+            let mut context = context_of(rt, Workers { rt }, words);
+            run_batch(&mut context, batch, reader, writer, errors)
         }
         Ok(
             Order::One(_)

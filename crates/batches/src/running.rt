@@ -67,8 +67,14 @@ pub fn run_batch<
     S: Source,
     K: Sink,
     E: Write,
->(context: &Context<'_, R, C>, batch: Batch, reader: &mut S, writer: &mut K, errors: &mut E) -> u8
-    requires crew { C.ready context.now.crew }
+>(
+    context: &mut Context<'_, R, C>,
+    batch: Batch,
+    reader: &mut S,
+    writer: &mut K,
+    errors: &mut E,
+) -> u8
+    requires crew { C.ready context.old.crew }
     requires reads { S.failures reader.old < u64.MAX }
     requires writes { K.failures writer.old < u64.MAX }
     ensures unread { (fault_of batch.limits ≡ None) ⊎ (reader.new ≡ reader.old) }

@@ -22,7 +22,6 @@ use rounds::Workers;
 use std::convert::AsStr;
 use std::io::{self, Write, sink};
 use std::sync::Wait;
-use std::sync::atomic::AtomicU64;
 use std::thread::Threads;
 use std::time::Clock;
 
@@ -44,7 +43,7 @@ pub fn run_line<R: Threads + Wait + Eprint + Clock + Sync + AllocGlobal, S: Sour
         rt,
         crew: Workers { rt },
         shows: false,
-        line: AtomicU64::new(0),
+        line: None,
     };
     run_line_on(&context, line, reader, writer, &mut sink())
 }

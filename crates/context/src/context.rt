@@ -1,9 +1,9 @@
 //! What a run is given, and the watch over its search.
-ghost use Rattle.std.specs.Prelude.{◌≡◌, ◌≢◌, ◌<◌, All, Any, IfSome, None, MatchBool, false};
+ghost use Rattle.std.specs.Prelude.{◌≡◌, ◌≢◌, ◌<◌, All, Any, IfSome, None, MatchBool, MatchOption, false};
 ghost use Rattle.command_line.specs.Words.{progress_word};
 ghost use Rattle.progress.specs.Signs.{IsLastRound};
 ghost use Rattle.progress.specs.declared.watch.Course.{Course as TheCourse};
-ghost use Rattle.context.specs.Searching.{WatchesAt};
+ghost use Rattle.context.specs.Searching.{IsCourse, WatchesAt};
 
 use crate::limits::search_of;
 use board::Position;
@@ -11,7 +11,6 @@ use command_line::{Limits, asks_progress};
 use progress::{Course, Setting, Watch, shown};
 use std::convert::AsStr;
 use std::sync::Wait;
-use std::sync::atomic::{AtomicU64, Ordering};
 use std::thread::Threads;
 use std::time::{Clock, Instant};
 
@@ -21,8 +20,8 @@ pub struct Context<'a, R, C> {
     pub rt: &'a R,
     pub crew: C,
     pub shows: bool,
-    /// The number of a batch's line, and 0 where there is no batch.
-    pub line: AtomicU64,
+    /// The number of a batch's line, where there is a batch.
+    pub line: Option<u64>,
 }
 
 /// The context of what these words ask for, which shows how far a search is where they say so.
@@ -34,14 +33,16 @@ pub fn context_of<'a, R, C, W: AsStr>(rt: &'a R, crew: C, words: &[W]) -> Contex
         rt,
         crew,
         shows: asks_progress(words),
-        line: AtomicU64::new(0),
+        line: None,
     }
 }
 
 impl<R, C> Context<'_, R, C> {
-    /// The number of a batch's line.
-    pub fn number(&self) -> u64 {
-        self.line.load(Ordering::SeqCst)
+    /// The number of a batch's line, and 0 where there is no batch.
+    pub fn number(&self) -> u64
+        ensures { MatchOption self.now.line (result ≡ 0) (λ number. result ≡ number) }
+    {
+        self.line.unwrap_or(0)
     }
 }
 
@@ -50,23 +51,25 @@ impl<R: Clock + AllocGlobal, C> Context<'_, R, C> {
     fn watch(&self, position: &Position, course: Course, slots: u32) -> Option<Watch>
         ensures quiet { self.now.shows ≡ false → result ≡ None }
         ensures watches { IfSome result (WatchesAt position.now course slots) }
+        ensures line { IfSome result (λ watch. watch.setting.line ≡ self.now.line) }
     {
         if !self.shows {
             return None;
         }
         let start = Instant::now(self.rt).ok()?;
-        let line = match self.number() {
-            0 => None,
-            number => Some(number),
+        let setting = Setting {
+            line: self.line,
+            slots,
         };
-        let setting = Setting { line, slots };
         Watch::new(self.rt.alloc(), start, setting, position, course).ok()
     }
 
     /// A watch over a search for an answer, or for keys, if it is to be shown.
     pub fn watch_of(&self, position: &Position, keys: bool, limits: Limits) -> Option<Watch>
         ensures quiet { self.now.shows ≡ false → result ≡ None }
-        ensures watches { IfSome result (λ watch. (way : TheCourse) × WatchesAt position.now way limits.slots watch) }
+        ensures watches { IfSome result (λ watch. (way : TheCourse) × IsCourse keys limits.limit way
+            × WatchesAt position.now way limits.slots watch) }
+        ensures line { IfSome result (λ watch. watch.setting.line ≡ self.now.line) }
     {
         let course = if keys {
             Course::Keys(last_round(limits))

@@ -6,6 +6,7 @@ use Rattle.batches.proofs.batch.answer_lines.Goals as goal
 
 pub loop-init : goal.loop-init
 loop-init g c = record {
+  crew = refl;
   run = c.requires.run;
   same = refl;
   reads = refl;
@@ -19,6 +20,7 @@ loop-preserved g c =
     let step = rw c.in-Ok-true.field-0-test at c.in-Ok-true.ensures.step in
     let (line, text, feeds, taken, reply, grown, none) = step in
     record {
+      crew = c.answer_next.ensures.crew ∙ so_far.crew;
       run = c.answer_next.ensures.run;
       same = c.answer_next.ensures.same ∙ so_far.same;
       reads = omega (arith, none.0, so_far.reads);

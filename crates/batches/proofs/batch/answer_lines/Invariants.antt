@@ -7,6 +7,7 @@ use Rattle.batches.proofs.batch.answer_lines.Given as goal
 
 abbrev pub invariant-loop : goal.invariant-loop
 invariant-loop g l = record {
+  crew : l.context.crew ≡ l.fn.context.crew;
   run : IsBatchRun l.run;
   same : l.run.batch ≡ l.fn.run.batch;
   reads : g.S.Source.failures l.reader ≡ g.S.Source.failures l.fn.reader;
