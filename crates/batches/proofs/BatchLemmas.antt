@@ -1,5 +1,5 @@
 -- A batch, line by line.
-use Rattle.std.proofs.Common.{◌≡◌, ◌≢◌, ◌∙◌, ◌+◌, ◌-◌, ◌<◌, ℕ, Bool, true, false, List, [], ◌∷◌, ◌++◌, Option, None, Some, Result, Ok, Err, IfSome, IsErr, IsErrAnd, Vec, vec_items, length, take, drop, ap, inl, inr, refl, sym, subst, append_assoc, append-nil, drop-drop, length-append, ne_eqb, not, arith, All, MatchBool, ◌≤◌}
+use Rattle.std.proofs.Common.{◌≡◌, ◌≢◌, ◌∙◌, ◌+◌, ◌-◌, ◌<◌, ℕ, zero, suc, Bool, true, false, List, [], ◌∷◌, ◌++◌, Option, None, Some, Result, Ok, Err, IfSome, IsErr, IsErrAnd, Vec, vec_items, length, take, drop, ap, inl, inr, refl, sym, subst, append_assoc, append-nil, drop-drop, length-append, ne_eqb, not, arith, All, MatchBool, ◌≤◌}
 use Rattle.std.proofs.lemmas.Bool.{le-ltb}
 use Rattle.std.proofs.lemmas.List.{drop_all, flat_map_more}
 use Rattle.std.proofs.lemmas.List.Elements.{All-head, All-nil, All-push, All-tail}
@@ -24,8 +24,9 @@ use Rattle.batch_texts.specs.Asking.{IsAskedIn, IsFoundAt}
 use Rattle.batch_texts.specs.declared.asked.Found.{Found}
 use Rattle.problems.specs.declared.problem.Problem.{Problem}
 use Rattle.batches.specs.Batch.{AnswersLines, EndsBatch, HasReplyText, IsAskedReply, IsLineReply, IsUnnumberedReply, RefusesBatch, RunsBatch, answered_lines, joined, left_out, lines_of, next_number, numbered, onto, wanting_text, with_number, with_position}
-use Rattle.batches.specs.BatchRun.{AsksProblem, Fails, GivesAsked, GivesNext, IsFirstOf, IsAskedRefusal, PassesOver, Step, TakesAnswered, TakesLines, TakesStep, stop_of}
+use Rattle.batches.specs.BatchRun.{AsksProblem, Fails, GivesAsked, GivesNext, IsFirstOf, IsAskedRefusal, PassesOver, Step, TakesAnswered, TakesInput, TakesLines, TakesStep, stop_of}
 use Rattle.input_lines.specs.Lines.{HasNoFeed, IsFed, IsLastOf, IsReadAs, TakesLine, left_of}
+use Rattle.input_lines.specs.Mark.{SkipsMark, without_mark}
 use Rattle.endings.specs.Run.{Ending, Finishes, Run}
 use Rattle.batches.specs.declared.batch.BatchStop.{BatchStop}
 use Rattle.batches.specs.declared.batch.BatchStop.TheVariants.{ReadFailed, WriteFailed, NoMemory}
@@ -441,6 +442,51 @@ batch_unread batch step input.TooLong grown reads writes =
 batch_unread batch step input.NoMemory grown reads writes =
     ([], unanswered batch step.left 3 (λ e. absurd (omega (arith, e))), (grown, (reads, omega (arith, writes))))
 
+-- ---- the byte order mark
+
+-- the texts are the replies to the first of the lines behind a byte order mark
+abbrev pub MarkedAnswers : Batch → ℕ → List (List ℕ) → List ℕ → Type 0
+MarkedAnswers batch status texts input = AnswersLines batch status texts (answered_lines batch (without_mark input))
+
+-- the lines of what is left behind the mark are those of the input
+marked : (batch : Batch) (status : ℕ) (texts : List (List ℕ)) (before after : Option (List ℕ)) → SkipsMark before after
+    → OfInput after (Answers batch status texts) → OfInput before (MarkedAnswers batch status texts)
+marked batch status texts None after skips (input, told, answers) = (239 ∷ (187 ∷ (191 ∷ input)), tt, answers)
+marked batch status texts (Some xs) after skips (input, told, answers) =
+    let same : without_mark xs ≡ input = rw skips at told in
+    (xs, refl, subst (Answers batch status texts) (sym same) answers)
+
+-- what is behind the mark was answered
+pub behind_mark : (batch : Batch) (number : ℕ) (left : Option (List ℕ)) (step : Step) (reads : ℕ) (stop : Option BatchStop) → SkipsMark left step.left
+    → step.failed_reads ≡ reads → TakesAnswered batch step stop → TakesInput batch (whole_step step number left step.written reads step.failed_writes) stop
+behind_mark batch number left step reads None skips r (texts, answers, (written, fails)) =
+    (texts, marked batch 0 texts left step.left skips answers, (written, fails_since step number left step.written reads step.failed_writes 0 0 r refl fails))
+behind_mark batch number left step reads (Some ReadFailed) skips r (texts, answers, (written, fails)) =
+    (texts, marked batch 4 texts left step.left skips answers, (written, fails_since step number left step.written reads step.failed_writes 1 0 r refl fails))
+behind_mark batch number left step reads (Some WriteFailed) skips r (texts, answers, (written, fails)) =
+    (texts, marked batch 4 texts left step.left skips answers, (written, fails_since step number left step.written reads step.failed_writes 0 1 r refl fails))
+behind_mark batch number left step reads (Some NoMemory) skips r (texts, answers, (written, fails)) =
+    (texts, marked batch 3 texts left step.left skips answers, (written, fails_since step number left step.written reads step.failed_writes 0 0 r refl fails))
+
+-- of no bytes no line is answered
+pub empty_input : (batch : Batch) (step : Step) → IfSome step.left (λ xs. xs ≡ []) → Appends step.written step.written_after [] → Fails step 0 0
+    → TakesInput batch step None
+empty_input batch step none grown fails =
+    ([], ([], none, ([], [], ap (numbered (left_out batch.options.skip)) (none_dropped (left_out batch.options.skip)), tt, λ _. refl)), (grown, fails))
+  where
+    none_dropped : (n : ℕ) → drop n (lines_of []) ≡ []
+    none_dropped zero = refl
+    none_dropped (suc n) = refl
+
+-- the beginning of the input can't be read
+pub mark_unread : (batch : Batch) (step : Step) → Appends step.written step.written_after [] → step.failed_reads_after ≡ step.failed_reads + 1
+    → step.failed_writes_after ≡ step.failed_writes → TakesInput batch step (Some ReadFailed)
+mark_unread batch step grown reads writes = (
+  [],
+  of_any step.left _ (λ input. ([], answered_lines batch (without_mark input), refl, tt, λ e. absurd (omega (arith, e)))),
+  (grown, (reads, omega (arith, writes))),
+)
+
 -- ---- a run
 
 -- of a batch in which nothing was read, all of the input is left
@@ -450,13 +496,13 @@ fresh_left u (Some xs) from to = let none : u.to - u.from ≡ 0 = omega (arith, 
 
 -- the limits are searched, and lines were answered
 pub batch_ran : (opened batch : Batch) (run : Run) (left : Option (List ℕ)) (texts : List (List ℕ)) → fault_of opened.limits ≡ None
-    → opened ≡ batch → left ≡ run.input → OfInput left (Answers opened run.ending.status texts) → EndsBatch batch.options.json run (joined texts) → RunsBatch batch run
+    → opened ≡ batch → left ≡ run.input → OfInput left (MarkedAnswers opened run.ending.status texts) → EndsBatch batch.options.json run (joined texts) → RunsBatch batch run
 batch_ran opened batch run left texts searched same_batch same answers ends =
     let none : fault_of batch.limits ≡ None = subst (λ b. fault_of b.limits ≡ None) same_batch searched in
     rw none (
       texts,
-      subst (λ o. OfInput o (Answers batch run.ending.status texts)) same
-          (subst (λ b. OfInput left (Answers b run.ending.status texts)) same_batch answers),
+      subst (λ o. OfInput o (MarkedAnswers batch run.ending.status texts)) same
+          (subst (λ b. OfInput left (MarkedAnswers b run.ending.status texts)) same_batch answers),
       ends,
     )
 
@@ -469,7 +515,7 @@ batch_refused batch run why unread is refuses memory = elim (refused_by batch.li
 ]
   where
     wanting : fault_of batch.limits ≡ None → Finishes run.ending (wanting_text batch.options.json) 3 → RunsBatch batch run
-    wanting none wrote = rw none ([], of_any run.input _ (λ input. ([], answered_lines batch input, refl, tt, λ e. elim wrote [ inl w ↦ absurd (omega (arith, w.2, e)) | inr w ↦ absurd (omega (arith, w.2, e)) ])), inr (inr (unread, wrote)))
+    wanting none wrote = rw none ([], of_any run.input _ (λ input. ([], answered_lines batch (without_mark input), refl, tt, λ e. elim wrote [ inl w ↦ absurd (omega (arith, w.2, e)) | inr w ↦ absurd (omega (arith, w.2, e)) ])), inr (inr (unread, wrote)))
 
 -- want of memory isn't the end of the input
 pub gave_up : (ending : Ending) (text : List ℕ) → Finishes ending text 3 → ending.status ≡ 0 → ⊥
@@ -478,7 +524,7 @@ gave_up ending text (inr cut) none = absurd (omega (arith, cut.2, none))
 
 -- where lines may be left, the status plays no part
 pub answers_with : (batch : Batch) (m status : ℕ) (left : Option (List ℕ)) (texts : List (List ℕ)) → (status ≡ 0 → ⊥)
-    → OfInput left (Answers batch m texts) → OfInput left (Answers batch status texts)
+    → OfInput left (MarkedAnswers batch m texts) → OfInput left (MarkedAnswers batch status texts)
 answers_with batch m status left texts other answers = of_input_then left _ _ answers (λ xs a.
     let (front, rest, split, zip, end) = a in (front, rest, split, zip, λ e. absurd (other e)))
 

@@ -6,6 +6,7 @@ use Rattle.board.specs.Board.{PlainBoard}
 use Rattle.board.specs.declared.fault.FenFault.{FenFault}
 use Rattle.rules.specs.Reading.{IsSoundFault}
 use Rattle.devices.specs.Input.{OfInput, without_line_feed}
+use Rattle.input_lines.specs.Mark.{without_mark}
 use Rattle.refusals.specs.Outcome.{IsSoundText}
 use Rattle.context.specs.Limits.{fault_of, refusal_of_solve}
 use Rattle.refusals.specs.Reply.{line_of}
@@ -124,10 +125,10 @@ abbrev pub RefusesBatch : Bool → Ending → Refusal → Type 0
 RefusesBatch json ending why =
     ((text : List ℕ) × IsRefusalText json None why text × Finishes ending text (refusal_status why)) ⊎ Finishes ending (wanting_text json) 3
 
--- the run is one of the batch: the limits are refused, or its lines are answered as far as it came
+-- the run is one of the batch: the limits are refused, or the lines behind a byte order mark are answered as far as it came
 abbrev pub RunsBatch : Batch → Run → Type 0
 RunsBatch batch run = MatchOption (fault_of batch.limits)
     ((texts : List (List ℕ))
-    × OfInput run.input (λ input. AnswersLines batch run.ending.status texts (answered_lines batch input))
+    × OfInput run.input (λ input. AnswersLines batch run.ending.status texts (answered_lines batch (without_mark input)))
     × EndsBatch batch.options.json run (joined texts))
     (λ fault. (run.failed_reads ≡ 0) × RefusesBatch batch.options.json run.ending (refusal_of_solve fault))

@@ -25,6 +25,7 @@ use Rattle.devices.specs.declared.transfer.InputFault.TheVariants as input
 use Rattle.batch_texts.specs.Asking.{limit_of, with_plies}
 use Rattle.batches.specs.Batch.{AnswersLines, IsAskedReply, HasReplyText, IsLineReply, IsUnnumberedReply, answered_lines, joined, lines_of, next_number, numbered}
 use Rattle.input_lines.specs.Lines.{IsFed, IsLastOf, IsReadAs, IsUnread, left_of}
+use Rattle.input_lines.specs.Mark.{without_mark}
 use Rattle.batch_texts.specs.declared.asked.Asked.{Asked}
 use Rattle.batch_texts.specs.declared.asked.Batch.{Batch}
 use Rattle.batches.specs.declared.ahead.Ahead.{Ahead}
@@ -172,6 +173,11 @@ PassesOver count before after false = OfInput before (λ input. drop count (line
 abbrev pub TakesAnswered : Batch → Step → Option BatchStop → Type 0
 TakesAnswered batch step stop = (texts : List (List ℕ))
     × OfInput step.left (λ input. AnswersLines batch (stop_status stop) texts (answered_lines batch input)) × WritesUntil step stop (joined texts)
+
+-- the same behind a byte order mark at the beginning of the input
+abbrev pub TakesInput : Batch → Step → Option BatchStop → Type 0
+TakesInput batch step stop = (texts : List (List ℕ))
+    × OfInput step.left (λ input. AnswersLines batch (stop_status stop) texts (answered_lines batch (without_mark input))) × WritesUntil step stop (joined texts)
 
 -- what stops a batch at each fault of the input
 abbrev pub stop_of : InputFault → BatchStop

@@ -9,7 +9,7 @@ ghost use Rattle.batch_texts.specs.Asking.{IsFoundAt};
 ghost use Rattle.batch_texts.specs.Said.{said_in};
 ghost use Rattle.batches.specs.Batch.{HasReplyText, IsAskedReply, IsReplyText, left_out, next_number, remark_text, with_number, with_position};
 ghost use Rattle.batch_texts.specs.Forms.{IsRefusalText};
-ghost use Rattle.batches.specs.BatchRun.{AreAhead, AsksProblem, GivesAsked, GivesNext, IsBatchRun, IsSearched, OpensBatchRun, PassesOver, TakesAnswered, TakesLines, TakesStep, step_of, stop_of};
+ghost use Rattle.batches.specs.BatchRun.{AreAhead, AsksProblem, GivesAsked, GivesNext, IsBatchRun, IsSearched, OpensBatchRun, PassesOver, TakesAnswered, TakesInput, TakesLines, TakesStep, step_of, stop_of};
 ghost use Rattle.batches.specs.declared.batch.BatchStop.TheVariants.{NoMemory, WriteFailed};
 
 use crate::ahead::{Lookahead, look_ahead, take_ahead};
@@ -533,6 +533,36 @@ fn skip_and_answer<
     }
 }
 
+/// Skips a byte order mark at the beginning of the input, and answers the lines behind it.
+fn answer_input<
+    R: Threads + Wait + Eprint + Clock + Sync + AllocGlobal,
+    C: Crew<Global>,
+    S: Source,
+    K: Sink,
+    E: Write,
+>(
+    context: &Context<'_, R, C>,
+    run: &mut BatchRun,
+    reader: &mut S,
+    writer: &mut K,
+    errors: &mut E,
+) -> Option<BatchStop>
+    requires crew { C.ready context.now.crew }
+    requires run { IsBatchRun run.old }
+    requires fresh { (run.old.unread.from ≡ 0) × (run.old.unread.to ≡ 0) }
+    requires reads { S.failures reader.old < u64.MAX }
+    requires writes { K.failures writer.old < u64.MAX }
+    ensures lines { TakesInput run.old.batch
+        (step_of run.old run.new S.remaining S.failures reader.old reader.new
+        K.contents K.failures writer.old writer.new) result }
+{
+    match run.unread.skip_mark(reader) {
+        Ok(true) => skip_and_answer(context, run, reader, writer, errors),
+        Ok(false) => None,
+        Err(_failed) => Some(BatchStop::ReadFailed),
+    }
+}
+
 /// Answers the lines of a batch, and clears the count of lines that stands on the terminal at its end.
 pub fn answer_batch<
     R: Threads + Wait + Eprint + Clock + Sync + AllocGlobal,
@@ -549,13 +579,14 @@ pub fn answer_batch<
 ) -> Option<BatchStop>
     requires crew { C.ready context.now.crew }
     requires run { IsBatchRun run.old }
+    requires fresh { (run.old.unread.from ≡ 0) × (run.old.unread.to ≡ 0) }
     requires reads { S.failures reader.old < u64.MAX }
     requires writes { K.failures writer.old < u64.MAX }
-    ensures lines { TakesAnswered run.old.batch
+    ensures lines { TakesInput run.old.batch
         (step_of run.old run.new S.remaining S.failures reader.old reader.new
         K.contents K.failures writer.old writer.new) result }
 {
-    let stop = skip_and_answer(context, run, reader, writer, errors);
+    let stop = answer_input(context, run, reader, writer, errors);
     let _ = run.tally.clear(errors);
     stop
 }

@@ -304,3 +304,84 @@ fn clears_the_count_before_a_message(rt: HostRuntime) {
     );
     assert!(rt; !told.contains("rate\u{1b}[Kerror"));
 }
+
+/// An input that comes byte by byte.
+#[derive(Drop)]
+struct Bytewise<'a> {
+    bytes: &'a [u8],
+}
+
+impl Source for Bytewise<'_> {
+    ghost remaining = { λ _. None };
+
+    ghost failures = { λ _. 0 };
+
+    fn read(&mut self, buffer: &mut [u8]) -> Result<usize, Failed> {
+        let count = self.bytes.len().min(buffer.len()).min(1);
+        let (given, rest) = self.bytes.split_at(count);
+        buffer[..count].copy_from_slice(given);
+        self.bytes = rest;
+        Ok(count)
+    }
+}
+
+impl Input for Bytewise<'_> {
+    fn beginning(&self) -> &[u8] {
+        b""
+    }
+}
+
+/// Expects what a batch writes for an input, whether it comes at once or byte by byte.
+fn expect_either_way<R: Threads + Wait + Abort + AllocGlobal + Eprint + Clock + Sync>(
+    rt: &R,
+    words: &[&str],
+    input: &[u8],
+    output: &str,
+) {
+    expect_with(rt, words, input, 0, output);
+    let mut reader = Bytewise { bytes: input };
+    let mut writer = Counted::new(Vec::new(rt.alloc()));
+    let mut errors = Vec::new(rt.alloc());
+    let status = run(rt, words, &mut reader, &mut writer, &mut errors);
+    assert_eq!(rt; status, 0);
+    assert_eq!(rt; writer.device.as_slice(), output.as_bytes());
+}
+
+// A byte order mark, EF BB BF, is skipped at the beginning of the input, once, and nowhere else.
+#[test]
+fn skips_a_byte_order_mark(rt: HostRuntime) {
+    let words = ["minimate", "batch", "--limit", "1"];
+    for (input, output) in [
+        (
+            b"\xef\xbb\xbfk5/6/1K4/6/6/5R w\n".as_slice(),
+            "mate 1 f1f6\n",
+        ),
+        (b"k5/6/1K4/6/6/5R w\n".as_slice(), "mate 1 f1f6\n"),
+        (b"".as_slice(), ""),
+        (b"\xef\xbb\xbf".as_slice(), ""),
+        (b"\xef\xbb\xbf\n".as_slice(), "\n"),
+        (b"\xef\xbb\xbf# one\n".as_slice(), "# one\n"),
+        (b"\xef\xbb w".as_slice(), "refused: Shape\n"),
+        (b"\xef w".as_slice(), "refused: Shape\n"),
+        (
+            b"k5/6/1K4/6/6/5R w\n\xef\xbb\xbfk5/6/1K4/6/6/5R w\n".as_slice(),
+            "mate 1 f1f6\nrefused: Shape\n",
+        ),
+        (
+            b"\xef\xbb\xbf\xef\xbb\xbfk5/6/1K4/6/6/5R w\n".as_slice(),
+            "refused: Shape\n",
+        ),
+    ] {
+        expect_either_way(&rt, &words, input, output);
+    }
+    let behind = ["minimate", "batch", "--limit", "1", "--skip", "1"];
+    let input = b"\xef\xbb\xbfk5 w\nk5/6/1K4/6/6/5R w\n";
+    expect_either_way(&rt, &behind, input, "mate 1 f1f6\n");
+    let mut long = Vec::new(rt.alloc());
+    long.extend_from_slice(b"\xef\xbb\xbf")
+        .expect(&rt, "memory");
+    let line = long_line(&rt, 256, b'x', b"\n");
+    long.extend_from_slice(line.as_slice())
+        .expect(&rt, "memory");
+    expect_either_way(&rt, &words, long.as_slice(), "refused: Fields\n");
+}

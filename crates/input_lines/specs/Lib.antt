@@ -1,3 +1,4 @@
 -- to be believed
 pub mod Lines
 pub mod Within
+pub mod Mark

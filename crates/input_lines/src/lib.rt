@@ -2,6 +2,7 @@
 #![tactic(auto)]
 
 mod lines;
+mod mark;
 mod within;
 
 pub use lines::{Held, Next, Taken, Unread};
