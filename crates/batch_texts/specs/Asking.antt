@@ -7,6 +7,7 @@ use Rattle.problems.specs.declared.answer.Answer.TheVariants.{Mate, NoneWithin}
 use Rattle.problems.specs.Answer.{IsAnswer}
 use Rattle.problems.specs.Keys.{ListsKeys}
 use Rattle.command_line.specs.declared.line.Limits.{Limits}
+use Rattle.batch_texts.specs.Fields.{position_of}
 use Rattle.batch_texts.specs.declared.asked.Asked.{Asked}
 use Rattle.batch_texts.specs.declared.asked.Found.{Found}
 use Rattle.batch_texts.specs.declared.asked.Found.TheVariants.{Answer, Keys}
@@ -15,11 +16,15 @@ use Rattle.batch_texts.specs.declared.asked.Found.TheVariants.{Answer, Keys}
 abbrev pub SaysMoves : List ℕ → List ℕ → ℕ → Type 0
 SaysMoves said fen moves = (moves < 100) × (said ≡ fen ++ (codes " ; dm " ++ decimal moves))
 
--- a line's position and the moves that it says; one that says none is a position as it is
-abbrev pub IsAskedIn : List ℕ → Asked → Type 0
-IsAskedIn said asked = MatchOption asked.moves
+-- the text of a line's position and the moves that the line says; a line that says none is that text
+abbrev pub IsSplitIn : List ℕ → Asked → Type 0
+IsSplitIn said asked = MatchOption asked.moves
     ((asked.fen.now ≡ said) × ((fen : List ℕ) (moves : ℕ) → SaysMoves said fen moves → ⊥))
     (SaysMoves said asked.fen.now)
+
+-- a line's position and the moves that it says; of a FEN of six fields the position is the first two
+abbrev pub IsAskedIn : List ℕ → Asked → Type 0
+IsAskedIn said asked = (split : Asked) × IsSplitIn said split × (asked.fen.now ≡ position_of split.fen.now) × (asked.moves ≡ split.moves)
 
 -- the plies within which a line is searched: those of the moves that it says, or else those of the batch
 abbrev pub limit_of : ℕ → Option ℕ → ℕ

@@ -1,14 +1,26 @@
 //! What a line of a batch asks: a position, and perhaps in how many moves there is a mate.
 ghost use Rattle.std.specs.Prelude.{◌≡◌, ◌↔◌, ◌<◌, All, IfOk, IsTrue, length};
-ghost use Rattle.batch_texts.specs.Asking.{IsAskedIn, IsJudged, TakesPlies, limit_of};
+ghost use Rattle.batch_texts.specs.Asking.{IsAskedIn, IsJudged, IsSplitIn, TakesPlies, limit_of};
 
 use crate::asked::{Asked, Found};
+use crate::fields::position_of;
 use problems::{Answer, Key};
 use std::alloc::{AllocError, Global};
 
-/// What a line that is no remark asks.
+/// What a line that is no remark asks: its position, without the last four fields of a FEN of six, and the moves that it says.
 pub fn asked_in<'a>(alloc: Global, said: &'a [u8]) -> Result<Asked<'a>, AllocError>
     ensures { IfOk result (IsAskedIn said.entry.now) }
+{
+    let split = split_moves(alloc, said)?;
+    Ok(Asked {
+        fen: position_of(split.fen),
+        moves: split.moves,
+    })
+}
+
+/// The text of a line's position, and the moves that stand behind it, as ` ; dm 3`.
+fn split_moves<'a>(alloc: Global, said: &'a [u8]) -> Result<Asked<'a>, AllocError>
+    ensures { IfOk result (IsSplitIn said.entry.now) }
 {
     let plain = Asked {
         fen: said,

@@ -3,6 +3,7 @@
 
 mod asked;
 mod asking;
+mod fields;
 mod forms;
 mod objects;
 mod said;

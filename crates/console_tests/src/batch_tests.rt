@@ -385,3 +385,46 @@ fn skips_a_byte_order_mark(rt: HostRuntime) {
         .expect(&rt, "memory");
     expect_either_way(&rt, &words, long.as_slice(), "refused: Fields\n");
 }
+
+// Of a FEN of six fields the position is the first two.
+#[test]
+fn takes_the_first_two_of_six_fields(rt: HostRuntime) {
+    let plain = ["minimate", "batch", "--limit", "3"];
+    for (input, output) in [
+        ("k5/6/2K3/6/6/1R4 w - - 0 1", "mate 3 c4c5\n"),
+        ("k5/6/2K3/6/6/1R4 w KQkq e3 12 34\r\n", "mate 3 c4c5\n"),
+        ("k5/6/2K3/6/6/1R4 w - - 0 1 ; dm 2", "mate 3 c4c5 ok\n"),
+        (
+            "k5/6/2K3/6/6/1R4 w - - 0 1 ; dm 1",
+            "none within 1 differs\n",
+        ),
+        ("k5 w - - 0 1", "refused: Shape\n"),
+        ("k5/6/2K3/6/6/1R4 x - - 0 1", "refused: Side\n"),
+        ("k5/6/2K3/6/6/1R4 w - - 0", "refused: Fields\n"),
+        ("k5/6/2K3/6/6/1R4 w - - 0 1 2", "refused: Fields\n"),
+        ("k5/6/2K3/6/6/1R4 w - - 0 ", "refused: Fields\n"),
+        ("k5/6/2K3/6/6/1R4 w  - 0 1", "refused: Fields\n"),
+        ("k5/6/2K3/6/6/1R4 w - - 0 x", "refused: Fields\n"),
+        ("k5/6/2K3/6/6/1R4 w - - -1 1", "refused: Fields\n"),
+        ("k5/6/2K3/6/6/1R4 w xyz - 0 1", "refused: Fields\n"),
+        ("k5/6/2K3/6/6/1R4 w - i9 0 1", "refused: Fields\n"),
+        ("k5/6/2K3/6/6/1R4  w - - 0 1", "refused: Fields\n"),
+    ] {
+        expect_batch(&rt, &plain, input, output);
+    }
+    let echo = ["minimate", "batch", "--echo", "--limit", "3"];
+    let told = "k5/6/2K3/6/6/1R4 w - - 0 1\tmate 3 c4c5\n";
+    expect_batch(&rt, &echo, "k5/6/2K3/6/6/1R4 w - - 0 1", told);
+    let json = ["minimate", "batch", "--json", "--limit", "3"];
+    let object =
+        "{\"line\":1,\"position\":\"k5/6/2K3/6/6/1R4 w\",\"goal\":\"mate\",\"limit\":3,\"answer\":\"mate\",\"plies\":3,\"first\":\"c4c5\"}\n";
+    expect_batch(&rt, &json, "k5/6/2K3/6/6/1R4 w - - 0 1", object);
+    let alone = [
+        "minimate",
+        "solve",
+        "--limit",
+        "3",
+        "k5/6/2K3/6/6/1R4 w - - 0 1",
+    ];
+    expect_with(&rt, &alone, b"", 1, "refused: Fields\n");
+}

@@ -3,7 +3,7 @@ use Rattle.std.proofs.Transfers.{drop-appended}
 use Rattle.std.proofs.lemmas.Bool.{cases_lt, false≢true}
 use Rattle.std.specs.Fmt.{decimal}
 use lib.Pointwise.{bytes_decides}
-use Rattle.batch_texts.proofs.asking.asked_in.Goals as goal
+use Rattle.batch_texts.proofs.asking.split_moves.Goals as goal
 
 pub loop-moves-preserved : goal.loop-moves-preserved
 loop-moves-preserved c = λ fen m lt says. elim (cases_lt m c.loop-moves.moves-counter) [
