@@ -2,7 +2,7 @@
 use Rattle.std.proofs.Common.{◌≡◌, ◌≢◌, ◌∙◌, ◌==◌, ◌+◌, length, take, sym, ℕ, suc, Bool, true, false, List, [], ◌∷◌, ◌++◌, if◌then◌else◌, ap, refl, All, ne_eqb, arith}
 use Rattle.std.proofs.lemmas.List.Elements.{All-head, All-tail}
 use lib.Seq.{take-append-add, take-append_seam}
-use Rattle.batch_texts.specs.Fields.{are_counts, fields_of, onto, position_of}
+use Rattle.batch_texts.specs.Fields.{are_counts, fields_of, onto_field, position_of}
 
 -- no byte is a space
 abbrev pub HasNoSpace : List ℕ → Type 0
@@ -38,11 +38,11 @@ some_field : (text : List ℕ) → (field : List ℕ) × (fields : List (List �
 some_field [] = ([], [], refl)
 some_field (x ∷ xs) = by_space (x == 32) x (fields_of xs)
   where
-    first_of : (x : ℕ) (fields : List (List ℕ)) → (field : List ℕ) × (more : List (List ℕ)) × (onto x fields ≡ field ∷ more)
+    first_of : (x : ℕ) (fields : List (List ℕ)) → (field : List ℕ) × (more : List (List ℕ)) × (onto_field x fields ≡ field ∷ more)
     first_of x [] = (x ∷ [], [], refl)
     first_of x (field ∷ fields) = (x ∷ field, fields, refl)
 
-    by_space : (is_space : Bool) (x : ℕ) (fields : List (List ℕ)) → (field : List ℕ) × (more : List (List ℕ)) × ((if is_space then [] ∷ fields else onto x fields) ≡ field ∷ more)
+    by_space : (is_space : Bool) (x : ℕ) (fields : List (List ℕ)) → (field : List ℕ) × (more : List (List ℕ)) × ((if is_space then [] ∷ fields else onto_field x fields) ≡ field ∷ more)
     by_space true x fields = ([], fields, refl)
     by_space false x fields = first_of x fields
 

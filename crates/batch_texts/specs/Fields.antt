@@ -2,16 +2,17 @@
 -- no mate here.
 use Rattle.std.specs.Prelude.{◌==◌, ◌&&◌, ◌||◌, ℕ, Bool, true, false, List, [], ◌∷◌, ◌++◌, if◌then◌else◌, codes}
 
--- a byte goes onto the first of the fields
-abbrev pub onto : ℕ → List (List ℕ) → List (List ℕ)
-onto x [] = (x ∷ []) ∷ []
-onto x (field ∷ fields) = (x ∷ field) ∷ fields
+-- a byte goes onto_field the first of the fields
+abbrev pub onto_field : ℕ → List (List ℕ) → List (List ℕ)
+onto_field x [] = (x ∷ []) ∷ []
+onto_field x (field ∷ fields) = (x ∷ field) ∷ fields
 
 -- the fields of a text, which each space parts
 abbrev pub fields_of : List ℕ → List (List ℕ)
 fields_of [] = [] ∷ []
-fields_of (x ∷ xs) = if x == 32 then [] ∷ fields_of xs else onto x (fields_of xs)
+fields_of (x ∷ xs) = if x == 32 then [] ∷ fields_of xs else onto_field x (fields_of xs)
 
+-- the byte is one of these
 abbrev pub is_one_of : List ℕ → ℕ → Bool
 is_one_of [] x = false
 is_one_of (y ∷ ys) x = x == y || is_one_of ys x
@@ -38,5 +39,6 @@ abbrev pub position_in : List ℕ → List (List ℕ) → List ℕ
 position_in text (board ∷ (side ∷ counts)) = if are_counts counts then board ++ 32 ∷ side else text
 position_in text fields = text
 
+-- a text's position: of a FEN of six fields the first two fields, else the whole text
 abbrev pub position_of : List ℕ → List ℕ
 position_of text = position_in text (fields_of text)

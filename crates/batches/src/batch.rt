@@ -4,7 +4,7 @@ ghost use Rattle.std.specs.Fmt.{decimal};
 ghost use Rattle.devices.specs.Input.{failed_reads};
 ghost use Rattle.input_lines.specs.Lines.{IsUnread, left_of};
 ghost use Rattle.line_tally.specs.Quiet.{IsQuiet};
-ghost use Rattle.line_tally.specs.Text.{lines_of};
+ghost use Rattle.line_tally.specs.Text.{named_lines};
 ghost use Rattle.batch_texts.specs.Asking.{IsFoundAt};
 ghost use Rattle.batch_texts.specs.Said.{said_in};
 ghost use Rattle.batches.specs.Batch.{HasReplyText, IsAskedReply, IsReplyText, left_out, next_number, remark_text, with_number, with_position};
@@ -103,7 +103,7 @@ pub fn open_batch<R: Clock + AllocGlobal>(rt: &R, batch: Batch) -> Result<BatchR
 /// The count of the lines that are answered, where the options ask for it.
 fn tally_of<R: Clock>(rt: &R, options: BatchOptions) -> Tally
     ensures quiet { options.lines ≡ None → IsQuiet result }
-    ensures lines { IfSome options.lines (λ count. result.lines ≡ lines_of count) }
+    ensures lines { IfSome options.lines (λ count. result.lines ≡ named_lines count) }
 {
     let lines = options.lines.map(Lines::of);
     Tally::new(rt, lines, left_out(options))
@@ -541,13 +541,13 @@ fn answer_input<
     K: Sink,
     E: Write,
 >(
-    context: &Context<'_, R, C>,
+    context: &mut Context<'_, R, C>,
     run: &mut BatchRun,
     reader: &mut S,
     writer: &mut K,
     errors: &mut E,
 ) -> Option<BatchStop>
-    requires crew { C.ready context.now.crew }
+    requires crew { C.ready context.old.crew }
     requires run { IsBatchRun run.old }
     requires fresh { (run.old.unread.from ≡ 0) × (run.old.unread.to ≡ 0) }
     requires reads { S.failures reader.old < u64.MAX }
@@ -571,13 +571,13 @@ pub fn answer_batch<
     K: Sink,
     E: Write,
 >(
-    context: &Context<'_, R, C>,
+    context: &mut Context<'_, R, C>,
     run: &mut BatchRun,
     reader: &mut S,
     writer: &mut K,
     errors: &mut E,
 ) -> Option<BatchStop>
-    requires crew { C.ready context.now.crew }
+    requires crew { C.ready context.old.crew }
     requires run { IsBatchRun run.old }
     requires fresh { (run.old.unread.from ≡ 0) × (run.old.unread.to ≡ 0) }
     requires reads { S.failures reader.old < u64.MAX }

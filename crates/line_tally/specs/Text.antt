@@ -7,9 +7,9 @@ use Rattle.line_tally.specs.declared.count.Lines.{Lines}
 use Rattle.line_tally.specs.declared.count.Lines.TheVariants.{Unknown, Known}
 
 -- the number of lines that `--lines` names, where 0 says that it isn't known
-abbrev pub lines_of : ℕ → Lines
-lines_of zero = Unknown
-lines_of (suc n) = Known (suc n)
+abbrev pub named_lines : ℕ → Lines
+named_lines zero = Unknown
+named_lines (suc n) = Known (suc n)
 
 -- the seconds that the lines left take, at the average time of the lines answered so far: those left out at the beginning took none
 abbrev pub time_of_rest : ℕ → ℕ → ℕ → ℕ → ℕ
@@ -21,6 +21,7 @@ left_within Unknown number skipped seconds = None
 left_within (Known lines) number skipped seconds =
     if nat_lt lines number || nat_le number skipped then None else Some (time_of_rest lines number skipped seconds)
 
+-- the seconds left of a count, where they are known
 abbrev pub seconds_left : Count → Option ℕ
 seconds_left count = left_within count.lines count.number count.skipped count.seconds
 
@@ -34,12 +35,13 @@ counted_text (Known lines) (Some left) number seconds =
     decimal number ++ (codes " of " ++ (decimal lines ++ (codes " lines, " ++ (time_text left ++ codes " to go at this rate"))))
 counted_text _ _ number seconds = decimal number ++ (codes " lines, " ++ (decimal seconds ++ codes " s"))
 
+-- the text of a count
 abbrev pub count_text : Count → List ℕ
 count_text count = counted_text count.lines (seconds_left count) count.number count.seconds
 
 -- a count, drawn over what stands on the terminal's line
-abbrev pub drawn_text : Count → List ℕ
-drawn_text count = 13 ∷ (count_text count ++ clear)
+abbrev pub count_over_line : Count → List ℕ
+count_over_line count = 13 ∷ (count_text count ++ clear)
 
 -- what clears the terminal's line
 abbrev pub cleared_text : List ℕ

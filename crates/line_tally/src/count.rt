@@ -1,6 +1,6 @@
 //! The text of a count of lines: how many are answered, and how long the others take.
 ghost use Rattle.std.specs.Prelude.{◌≡◌};
-ghost use Rattle.line_tally.specs.Text.{lines_of, seconds_left};
+ghost use Rattle.line_tally.specs.Text.{named_lines, seconds_left};
 
 use std::fmt;
 
@@ -14,7 +14,7 @@ pub enum Lines {
 impl Lines {
     /// The number of lines that the option `--lines` names, where 0 says that it isn't known.
     pub fn of(count: u32) -> Lines
-        ensures { result ≡ lines_of count }
+        ensures { result ≡ named_lines count }
     {
         match count {
             0 => Lines::Unknown,

@@ -3,7 +3,7 @@ ghost use Rattle.std.specs.Prelude.{◌≡◌, ◌⊎◌, [], false, None, IfSom
 ghost use Rattle.std.specs.Io.KnownBytes.{Appends};
 ghost use Rattle.line_tally.specs.Quiet.{IsQuiet};
 ghost use Rattle.line_tally.specs.Drawing.{CountsOnce, clearing, count_of, message_text};
-ghost use Rattle.line_tally.specs.Text.{drawn_text};
+ghost use Rattle.line_tally.specs.Text.{count_over_line};
 
 use crate::count::{Count, Lines};
 use progress::CLEARED;
@@ -84,7 +84,7 @@ impl Tally {
         ensures quiet { IsQuiet self.old → errors.new ≡ errors.old }
         ensures once { self.new.told ≡ self.old.told → errors.new ≡ errors.old }
         ensures text { OnOk result ((errors.new ≡ errors.old) ⊎ Appends (E.contents errors.old) (E.contents errors.new)
-            (drawn_text (count_of self.old number self.new.told))) }
+            (count_over_line (count_of self.old number self.new.told))) }
     {
         match self.due_now(rt, number) {
             Some(count) => write!(errors, "\r{count}\u{1b}[K"),
