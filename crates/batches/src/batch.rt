@@ -7,6 +7,8 @@ ghost use Rattle.line_tally.specs.Quiet.{IsQuiet};
 ghost use Rattle.line_tally.specs.Text.{named_lines};
 ghost use Rattle.batch_texts.specs.Asking.{IsFoundAt};
 ghost use Rattle.batch_texts.specs.Said.{said_in};
+ghost use Rattle.progress.specs.declared.watch.Course.{Course};
+ghost use Rattle.context.specs.Searching.{IsCourse, WatchesAt};
 ghost use Rattle.batches.specs.Batch.{HasReplyText, IsAskedReply, IsReplyText, left_out, next_number, remark_text, with_number, with_position};
 ghost use Rattle.batch_texts.specs.Forms.{IsRefusalText};
 ghost use Rattle.batches.specs.BatchRun.{AreAhead, AsksProblem, GivesAsked, GivesNext, IsBatchRun, IsSearched, OpensBatchRun, PassesOver, TakesAnswered, TakesInput, TakesLines, TakesStep, step_of, stop_of};
@@ -168,6 +170,23 @@ pub(crate) fn problem_of(batch: &Batch, asked: &Asked<'_>) -> Result<Problem, Re
     }
 }
 
+/// The watch over the search of a line, with the line's own limit, where searches are shown.
+fn line_watch<R: Clock + AllocGlobal, C>(
+    context: &Context<'_, R, C>,
+    batch: &Batch,
+    problem: &Problem,
+) -> Option<Watch>
+    ensures { IfSome result (λ watch. (way : Course) × IsCourse batch.now.options.keys problem.now.limit way
+        × WatchesAt problem.now.position way batch.now.limits.slots watch) }
+{
+    let limits = Limits {
+        limit: u32::from(problem.limit),
+        workers: batch.limits.workers,
+        slots: batch.limits.slots,
+    };
+    context.watch_of(&problem.position, batch.options.keys, limits)
+}
+
 /// What is written for what a line asks, or why it is refused.
 fn answered_text<R: Threads + Wait + Eprint + Clock + Sync + AllocGlobal, C: Crew<Global>>(
     context: &Context<'_, R, C>,
@@ -180,18 +199,8 @@ fn answered_text<R: Threads + Wait + Eprint + Clock + Sync + AllocGlobal, C: Cre
     ensures { GivesAsked batch.now asked.now result }
 {
     let problem = problem_of(batch, asked)?;
-    let Batch {
-        limits,
-        options,
-        ..
-    } = *batch;
-    let limits = Limits {
-        limit: u32::from(problem.limit),
-        workers: limits.workers,
-        slots: limits.slots,
-    };
-    let watch = context.watch_of(&problem.position, options.keys, limits);
-    let found = find(context, table, options.keys, &problem, watch.as_ref())?;
+    let watch = line_watch(context, batch, &problem);
+    let found = find(context, table, batch.options.keys, &problem, watch.as_ref())?;
     Ok(found_text(context.rt.alloc(), batch, asked, &found)?)
 }
 
