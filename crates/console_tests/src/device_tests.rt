@@ -107,6 +107,34 @@ fn reads_no_certificate_on_after_a_failed_read(rt: HostRuntime) {
     }
 }
 
+// The reader gives four bytes a call, and fails at the call behind the one that gives the end of the line with the fault.
+#[test]
+fn reads_no_certificate_on_after_its_first_fault(rt: HostRuntime) {
+    let words = ["minimate", "verify", FEN];
+    let long = [b'a'; 8200];
+    for (bytes, calls, output) in [
+        (b"goal 1 b1b5\ni\n\n".as_slice(), 3, "refused: Answer\n"),
+        (
+            b"mate 3 c4c6\np.\naaaaaaaa-aaaaaa\n\n",
+            4,
+            "refused: Claim at line 2\n",
+        ),
+        (&long, 2049, "refused: TooLong\n"),
+    ] {
+        let mut reader = Counted::new(Stumbling {
+            bytes,
+            calls: 0,
+            fails_at: calls + 1,
+            kind: io::ErrorKind::Other,
+        });
+        let mut writer = Counted::new(Vec::new(rt.alloc()));
+        let status = run_quietly(&rt, words.as_slice(), &mut reader, &mut writer);
+        assert_eq!(rt; status, 1);
+        assert_eq!(rt; reader.device.calls, calls);
+        assert_eq!(rt; writer.device.as_slice(), output.as_bytes());
+    }
+}
+
 #[test]
 fn writes_nothing_after_a_failed_write(rt: HostRuntime) {
     let words = ["minimate", "tree", "--limit", "3", FEN];

@@ -48,6 +48,21 @@ fn refuses_what_proves_nothing(rt: HostRuntime) {
     expect_with(&rt, &no_position, MATE, 1, "refused: Shape\n");
 }
 
+// A line has at most 8,192 bytes before its feed, whether a feed or the end of the input ends it.
+#[test]
+fn reads_a_first_line_of_the_most_bytes(rt: HostRuntime) {
+    let words = ["minimate", "verify", ROOK];
+    for (count, output) in [(8192, "refused: Answer\n"), (8193, "refused: TooLong\n")] {
+        let mut text = Vec::new(rt.alloc());
+        for _ in 0..count {
+            text.push(b'a').expect(&rt, "memory");
+        }
+        expect_with(&rt, &words, text.as_slice(), 1, output);
+        text.push(b'\n').expect(&rt, "memory");
+        expect_with(&rt, &words, text.as_slice(), 1, output);
+    }
+}
+
 #[test]
 fn writes_certificates(rt: HostRuntime) {
     let stale = [
@@ -127,6 +142,22 @@ fn expect_nothing<R: Abort>(rt: &R, status: u8, written: &[u8], told: &[u8]) {
     assert_eq!(rt; status, 2);
     assert_eq!(rt; written, b"".as_slice());
     assert_eq!(rt; told, b"".as_slice());
+}
+
+// Of a certificate 64 bytes are kept. A line that fills them may have its feed behind them, so that its feed isn't said to be missing.
+#[test]
+fn explains_a_first_line_of_the_most_kept_bytes(rt: HostRuntime) {
+    let words = ["minimate", "verify", ROOK];
+    let line = [b'a'; 65];
+    let no_feed = "the first line has no line feed: write one behind it";
+    let no_answer = "the first line is no answer: write it as `solve` prints it for this goal, as mate 3 c4c5";
+    for (count, unfed) in [(63, no_feed), (64, no_answer), (65, no_answer)] {
+        let mut text = Vec::new(rt.alloc());
+        text.extend_from_slice(&line[..count]).expect(&rt, "memory");
+        expect_sentence(&rt, &words, text.as_slice(), unfed);
+        text.push(b'\n').expect(&rt, "memory");
+        expect_sentence(&rt, &words, text.as_slice(), no_answer);
+    }
 }
 
 // Each command is one program's.
