@@ -1,6 +1,6 @@
 //! Decisions over small tables.
 use crate::tables::{Table, learnt, nothing_of, position};
-use decision::{Never, Stop, Underway};
+use decision::{Memory, Never, Scout, Stop, Underway};
 use moves::Goal;
 use slots::{Probe, Store};
 
@@ -125,6 +125,25 @@ fn a_decision_is_stopped_or_right(rt: HostRuntime) {
     assert!(rt; table.decide_until(&position, Goal::Mate, 5, AtOnce) == Some(true));
     assert!(rt; !table.decide_on(&position, Goal::Mate, 4));
     assert!(rt; table.decide_on(&position, Goal::Mate, 5));
+}
+
+// A decision of one ply makes the moves of its own position alone, whatever the search state has counted before.
+#[test]
+fn each_decision_counts_its_own_positions(rt: HostRuntime) {
+    let cornered = position(&rt, CORNERED);
+    let mut scout = Scout {
+        stop: Never,
+        memory: Memory::new(),
+    };
+    let mut table = Table::make(&rt, rt.alloc(), 64);
+    let three = table.decide_by(&mut scout, &cornered, Goal::Mate, 3);
+    let three = three.expect(&rt, "a decision");
+    assert!(rt; three.yes && three.expanded > 1);
+    let mut empty = Table::make(&rt, rt.alloc(), 64);
+    let one = empty.decide_by(&mut scout, &cornered, Goal::Mate, 1);
+    let one = one.expect(&rt, "a decision");
+    assert!(rt; !one.yes);
+    assert_eq!(rt; one.expanded, 1);
 }
 
 #[test]

@@ -79,10 +79,24 @@ impl Table {
         requires { n ≤ 63 }
         ensures { IfSome result (λ yes. IsTrue yes ↔ Forces goal White position.now n) }
     {
-        let q = question(position, goal);
         let memory = Memory::new();
         let mut scout = Scout { stop, memory };
-        Some(decide_until(&self.slots, &mut self.seat, &mut scout, &q, n)?.yes)
+        Some(self.decide_by(&mut scout, position, goal, n)?.yes)
+    }
+
+    /// White attacks, and the caller's search state is used.
+    pub(crate) fn decide_by<S: Stop>(
+        &mut self,
+        scout: &mut Scout<S>,
+        position: &Position,
+        goal: Goal,
+        n: u8,
+    ) -> Option<Decision>
+        requires { n ≤ 63 }
+        ensures { IfSome result (λ d. IsTrue d.yes ↔ Forces goal White position.now n) }
+    {
+        let q = question(position, goal);
+        decide_until(&self.slots, &mut self.seat, scout, &q, n)
     }
 
     /// White attacks, and nothing stops it.
