@@ -215,7 +215,7 @@ k5/6/1K4/6/6/5R w'|the side to move is w or b: leave out '\\'' behind it|k5/6/1K
 #[test]
 fn explains_what_is_not_ascii(rt: HostRuntime) {
     let wanted =
-        "k5/6/1\u{2654}4/6/6/5R w|character 7 is not ASCII: write a letter, a digit, / or a space for '\\xe2\\x99\\x94'|k5/6/1K4/6/6/5R w
+        "k5/6/1\u{2654}4/6/6/5R w|character 7 is not ASCII: write a letter, a digit, / or a space for '\u{2654}'|k5/6/1K4/6/6/5R w
 k\u{e9}4/6/1K4/6/6/5R w|character 2 is not ASCII: write a letter, a digit, / or a space for '\\xc3\\xa9'|kr4/6/1K4/6/6/5R w
 k5/6/1K4/6/6/5R\u{a0}w|character 16 is not ASCII: write a letter, a digit, / or a space for '\\xc2\\xa0'|k5/6/1K4/6/6/5R w
 k5/6/1K4/6/6/5R \u{1f642}|character 17 is not ASCII: write a letter, a digit, / or a space for '\\xf0\\x9f\\x99\\x82'|k5/6/1K4/6/6/5R w";
@@ -240,7 +240,7 @@ k4/5/1K3/5/5/4R w|here are 6 ranks of 5 squares: write 5 ranks, as Gardner minic
 k4/5/1K3/4R w|here are 4 ranks of 5 squares: write 5 ranks, as Gardner minichess has|k4/5/1K3/5/4R w
 k5 w|a board has six ranks of six squares or five of five, with / between them: here are 1|
 k5/6/1K4/6/6/5R/6/4 w|a board has six ranks of six squares or five of five, with / between them: here are 8|
-k5//6/1K4/6/6/5R w|a board has six ranks of six squares or five of five, with / between them: here are 7|k5/6/1K4/6/6/5R w
+k5//6/1K4/6/6/5R w|the board has one / too many between two ranks: leave it out|k5/6/1K4/6/6/5R w
 k5/6/1K46/6/5R w|a board has six ranks of six squares or five of five, with / between them: here are 5, most of 6 squares|k5/6/1K4/6/6/5R w
 k4/5/1K1/2/5/4R w|a board has six ranks of six squares or five of five, with / between them: here are 6, most of 5 squares|k4/5/1K3/5/4R w
 k5/6/1K31/6/5R w|here are 5 ranks of 6 squares: write 6 ranks, as Los Alamos chess has; the board has a fault too|";
@@ -276,8 +276,8 @@ k5/6/1K31/6/6/5R w|rank 4 has '31': write each run of empty squares as one digit
 #[test]
 fn explains_units(rt: HostRuntime) {
     let units = "k5/6/1K4/6/6/5R x|the side to move is w or b: here is 'x'|k5/6/1K4/6/6/5R w
-k5/6/1K4/6/6/5R W|the side to move is w or b: here is 'W'|k5/6/1K4/6/6/5R w
-k5/6/1K4/6/6/5R white|the side to move is w or b: here is 'white'|k5/6/1K4/6/6/5R w
+k5/6/1K4/6/6/5R W|the side to move is w or b: write w in place of 'W'|k5/6/1K4/6/6/5R w
+k5/6/1K4/6/6/5R white|the side to move is w or b: write w in place of 'white'|k5/6/1K4/6/6/5R w
 6/6/1K4/6/6/K4R w|each side has one king, K and k: here are 2 K and 0 k|
 k4k/6/1K4/6/6/5R w|each side has one king, K and k: here are 1 K and 2 k|k5/6/1K4/6/6/5R w
 k5/QQQQQQ/QQQQQQ/6/6/K5 b|a side has at most 12 units in Los Alamos chess: here White has 13 and Black 1|k5/QQQQQQ/QQQQQ1/6/6/K5 b
@@ -428,7 +428,7 @@ fn explains_words_that_are_no_line(rt: HostRuntime) {
     let goal = explained(&rt, "minimate,check,--goal,Mate", FEN);
     assert_eq!(rt;
         goal.as_slice(),
-        b"error: the goal is neither `mate` nor `stale`\n".as_slice()
+        b"error: --goal is mate or stale: write one of these\n".as_slice()
     );
     let version = explained(&rt, "minimate", "--version");
     assert_eq!(rt; version.as_slice(), b"minimate 0.1.0\n".as_slice());
@@ -544,6 +544,42 @@ minimate,moves,--limit,3,--slots=9,k5/6/2K3/6/6/1R4 w|moves makes no search: lea
 minimate,moves,--limit=3,k5/6/2K3/6/6/1R4 w|moves makes no search: leave out --limit=3|minimate,moves,k5/6/2K3/6/6/1R4 w
 minimate,show,--progress,k5/6/2K3/6/6/1R4 w|show makes no search: leave out --progress|minimate,show,k5/6/2K3/6/6/1R4 w";
     expect_hints(&rt, words);
+}
+
+// Slashes that are too many, blanks in their place, and chess symbols, which are shown as they are.
+#[test]
+fn explains_how_a_board_is_misspelt(rt: HostRuntime) {
+    let boards =
+        "k5/6/2K3/6/6/1R4/ w|the board has one / too many at the end: leave it out|k5/6/2K3/6/6/1R4 w
+/k5/6/2K3/6/6/1R4 w|the board has one / too many at the beginning: leave it out|k5/6/2K3/6/6/1R4 w
+k5/6//2K3/6/6/1R4 w|the board has one / too many between two ranks: leave it out|k5/6/2K3/6/6/1R4 w
+k4/5/1K3/5/3R1/ w|the board has one / too many at the end: leave it out|k4/5/1K3/5/3R1 w
+k5/6/2X3/6/6/1R4/ w|the board has one / too many at the end: leave it out; the board has a fault too|
+k5 6 2K3 6 6 1R4 w|blanks separate the ranks: write / between the ranks instead|k5/6/2K3/6/6/1R4 w
+k4 5 1K3 5 3R1 b|blanks separate the ranks: write / between the ranks instead|k4/5/1K3/5/3R1 b
+k5 6 2X3 6 6 1R4 w|blanks separate the ranks: write / between the ranks instead; the board has a fault too|
+k5/6/2K3/6/6/1R4 B|the side to move is w or b: write b in place of 'B'|k5/6/2K3/6/6/1R4 b
+k5/6/2\u{2654}3/6/6/1R4 w|character 7 is not ASCII: write a letter, a digit, / or a space for '\u{2654}'|k5/6/2K3/6/6/1R4 w
+\u{265f}5/6/2K3/6/6/1R4 w|character 1 is not ASCII: write a letter, a digit, / or a space for '\u{265f}'|k5/6/2K3/6/6/1R4 w
+\u{2653}5/6/2K3/6/6/1R4 w|character 1 is not ASCII: write a letter, a digit, / or a space for '\\xe2\\x99\\x93'|k5/6/2K3/6/6/1R4 w";
+    expect_table(&rt, boards);
+}
+
+#[test]
+fn explains_options_of_other_commands(rt: HostRuntime) {
+    let words =
+        "minimate,solve,--tries,--limit,3,k5/6/2K3/6/6/1R4 w|--tries is an option of solution: leave out --tries|minimate,solve,--limit,3,k5/6/2K3/6/6/1R4 w
+minimate,keys,--limit,3,--echo,k5/6/2K3/6/6/1R4 w|--echo is an option of batch: leave out --echo|minimate,keys,--limit,3,k5/6/2K3/6/6/1R4 w
+minimate,solve,--limit,3,--skip,7,k5/6/2K3/6/6/1R4 w|--skip is an option of batch: leave out --skip 7|minimate,solve,--limit,3,k5/6/2K3/6/6/1R4 w
+minimate,solve,--limit,3,--skip=7,k5/6/2K3/6/6/1R4 w|--skip is an option of batch: leave out --skip=7|minimate,solve,--limit,3,k5/6/2K3/6/6/1R4 w
+minimate,moves,--json,k5/6/2K3/6/6/1R4 w|--json is an option of batch and solution: leave out --json|minimate,moves,k5/6/2K3/6/6/1R4 w
+minimate,solve,--svg,--limit,3,k5/6/2K3/6/6/1R4 w|--svg is an option of solution and show: leave out --svg|minimate,solve,--limit,3,k5/6/2K3/6/6/1R4 w
+minimate,batch,--limit,3,--tries|--tries is an option of solution: leave out --tries|minimate,batch,--limit,3";
+    expect_hints(&rt, words);
+    let dashes =
+        "minimate,solve,-limit,3,k5/6/2K3/6/6/1R4 w|write --limit in place of -limit|minimate,solve,--limit,3,k5/6/2K3/6/6/1R4 w
+minimate,keys,-mate=2,k5/6/2K3/6/6/1R4 w|write --mate in place of -mate|minimate,keys,--mate=2,k5/6/2K3/6/6/1R4 w";
+    expect_hints(&rt, dashes);
 }
 
 // Of a command that nobody knows no advice is given that it makes no search.
@@ -777,7 +813,7 @@ fn tells_of_words_by_each_program(rt: HostRuntime) {
     let both = "error: --limit and --mate say the same: leave one of them out\n";
     let words = "minimate,certify,--limit,3,--mate,2";
     expect(&rt, &tell_composer(&rt, words, FEN), 2, "", both);
-    let goal = "error: the goal is neither `mate` nor `stale`\n";
+    let goal = "error: --goal is mate or stale: write one of these\n";
     let words = "minimate,verify,--goal,x";
     expect(&rt, &tell_checker(&rt, words, FEN, b""), 2, "", goal);
     let proved = tell_checker(&rt, "minimate,verify", FEN, b"none within 2\n\n");

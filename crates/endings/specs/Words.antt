@@ -64,4 +64,4 @@ no_text = codes "error: a word of the command line is not UTF-8\n"
 
 -- what is said of a goal that is none
 abbrev pub no_goal : List ℕ
-no_goal = codes "error: the goal is neither `mate` nor `stale`\n"
+no_goal = codes "error: --goal is mate or stale: write one of these\n"

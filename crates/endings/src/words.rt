@@ -23,7 +23,7 @@ fn say_no_text<E: Write>(errors: &mut E) -> io::Result<()>
 fn say_no_goal<E: Write>(errors: &mut E) -> io::Result<()>
     ensures { OnOk result (Appends (E.contents errors.old) (E.contents errors.new) no_goal) }
 {
-    errors.write_all(b"error: the goal is neither `mate` nor `stale`\n")
+    errors.write_all(b"error: --goal is mate or stale: write one of these\n")
 }
 
 /// Whether the goal that was found is one.

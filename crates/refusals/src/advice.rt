@@ -140,6 +140,10 @@ fn answer_advice(asking: Asking<'_>) -> &'static str {
 
 const SIDES: &str = "the side to move is w or b: here is '%'";
 
+const SLASH: &str = "the board has one / too many %: leave it out%";
+
+const LETTER_OF_SIDE: &str = "the side to move is w or b: write % in place of '%'";
+
 const RANKS: &str = "here are % squares: write % ranks, as % has%";
 
 const BOARDS: &str =
@@ -180,9 +184,23 @@ fn position_sentence<'a>(refused: &Refused<'a>) -> Sentence<'a> {
         Refusal::Fields | Refusal::Side => {
             let (_, behind) = split_run(fen, b" ", false);
             let (_, side) = behind.split_at(behind.len().min(1));
-            Sentence(SIDES, (Bytes(side), NO, NO, NO))
+            side_sentence(side)
         }
         _ => units_sentence(refusal, &board),
+    }
+}
+
+/// Whether the board has a letter that is no unit's, or a run of empty squares that is not one digit.
+fn has_fault(board: &Board<'_>) -> bool {
+    board.foreign_letter().is_some() || board.split_digits().is_some()
+}
+
+/// The sentence on a side to move that is neither w nor b. It names the letter to write if the word names a side.
+fn side_sentence(side: &[u8]) -> Sentence<'_> {
+    match side {
+        b"W" | b"white" | b"White" => Sentence(LETTER_OF_SIDE, (Text("w"), Bytes(side), NO, NO)),
+        b"B" | b"black" | b"Black" => Sentence(LETTER_OF_SIDE, (Text("b"), Bytes(side), NO, NO)),
+        _ => Sentence(SIDES, (Bytes(side), NO, NO, NO)),
     }
 }
 
@@ -190,12 +208,19 @@ fn position_sentence<'a>(refused: &Refused<'a>) -> Sentence<'a> {
 /// ranks, two at most.
 fn shape_sentence<'a>(board: &Board<'a>) -> Sentence<'a> {
     let ranks = board.ranks;
+    if let Some(place) = board.extra_slash() {
+        let (text, ranks) = (board.text, ranks.saturating_sub(1));
+        let fault = has_fault(&Board { text, ranks });
+        return Sentence(SLASH, (Text(place), Fault(fault), NO, NO));
+    }
     for (width, game) in [(6, "Los Alamos chess"), (5, "Gardner minichess")] {
         if ranks > 1 && board.uneven(width, ranks).is_none() {
             let (here, text) = (Pair(ranks, " ranks of ", width), board.text);
             let whole = Board { text, ranks: width };
-            let fault = whole.foreign_letter().is_some() || whole.split_digits().is_some();
-            return Sentence(RANKS, (here, Number(width), Text(game), Fault(fault)));
+            return Sentence(
+                RANKS,
+                (here, Number(width), Text(game), Fault(has_fault(&whole))),
+            );
         }
     }
     if let Some(width) = board.other_width() {

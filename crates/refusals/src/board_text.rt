@@ -87,6 +87,32 @@ impl<'a> Board<'a> {
         }
     }
 
+    /// Returns where the board has one slash too many, if the board has a game's shape without it.
+    pub fn extra_slash(&self) -> Option<&'static str> {
+        match self.text {
+            [b'/', behind @ ..] if Board::of(behind).has_shape() => Some("at the beginning"),
+            [front @ .., b'/'] if Board::of(front).has_shape() => Some("at the end"),
+            _ if self.doubled_slash() => Some("between two ranks"),
+            _ => None,
+        }
+    }
+
+    /// Whether two slashes stand side by side: the board has one empty rank, and a game's shape without it.
+    fn doubled_slash(&self) -> bool {
+        let (mut text, mut empty, mut well) = (self.text, 0usize, 0usize);
+        let ranks = self.ranks.saturating_sub(1);
+        for _ in 0..self.ranks {
+            let (width, behind) = first_rank(text);
+            if width == 0 {
+                empty = empty.saturating_add(1);
+            } else if width == ranks {
+                well = well.saturating_add(1);
+            }
+            text = behind;
+        }
+        matches!(ranks, 5 | 6) && empty == 1 && well == ranks
+    }
+
     /// Whether there are as many ranks as a game has, and as many squares in each.
     pub fn has_shape(&self) -> bool {
         matches!(self.ranks, 5 | 6) && self.uneven(self.ranks, self.ranks).is_none()

@@ -15,7 +15,7 @@ pub enum Part<'a> {
     /// Two numbers, and what stands between them.
     Pair(usize, &'a str, usize),
     On(Square),
-    /// Bytes that someone wrote: those are escaped that are no printable ASCII.
+    /// Bytes that someone wrote. Bytes that are neither printable ASCII nor part of a chess symbol are escaped.
     Bytes(&'a [u8]),
     /// That the board has another fault, if so.
     Fault(bool),
@@ -32,11 +32,45 @@ pub const NO: Part<'static> = Part::Text("");
 #[derive(Clone, Copy)]
 pub struct Sentence<'a>(pub &'a str, pub (Part<'a>, Part<'a>, Part<'a>, Part<'a>));
 
+/// Splits off the chess symbol at the beginning of the text, if there is one: the three bytes of a character from U+2654, the white
+/// king, to U+265F, the black pawn.
+fn split_symbol(bytes: &[u8]) -> Option<(&[u8], &[u8])> {
+    match bytes {
+        [0xE2, 0x99, 0x94..=0x9F, ..] => Some(bytes.split_at(3)),
+        _ => None,
+    }
+}
+
+/// Writes a byte, escaped if it is not printable ASCII.
+fn write_byte<E: Write>(errors: &mut E, byte: &[u8]) -> io::Result<()>
+    ensures { OnOk result (AppendsText (E.contents errors.old) (E.contents errors.new)) }
+{
+    for c in byte.escape_ascii() {
+        errors.write_all(&[c])?;
+    }
+    Ok(())
+}
+
+/// Writes the chess symbol or the byte at the beginning of the text. Returns the bytes behind it.
+fn write_first<'a, E: Write>(errors: &mut E, text: &'a [u8]) -> io::Result<&'a [u8]>
+    ensures { OnOk result (AppendsText (E.contents errors.old) (E.contents errors.new)) }
+{
+    if let Some((symbol, behind)) = split_symbol(text) {
+        errors.write_all(symbol)?;
+        return Ok(behind);
+    }
+    let (byte, behind) = text.split_at(text.len().min(1));
+    write_byte(errors, byte)?;
+    Ok(behind)
+}
+
+/// Writes bytes: chess symbols as they are, and each other byte escaped if it is not printable ASCII.
 fn write_escaped<E: Write>(errors: &mut E, bytes: &[u8]) -> io::Result<()>
     ensures { OnOk result (AppendsText (E.contents errors.old) (E.contents errors.new)) }
 {
-    for c in bytes.escape_ascii() {
-        errors.write_all(&[c])?;
+    let mut rest = bytes;
+    for _ in 0..bytes.len() {
+        rest = write_first(errors, rest)?;
     }
     Ok(())
 }

@@ -41,6 +41,8 @@ const NO_SIDE: &str =
 
 const SPLIT: &str = "blanks stand inside the board: leave them out%";
 
+const RANKS: &str = "blanks separate the ranks: write / between the ranks instead%";
+
 const PARTED: &str = "%: write '% %'%";
 
 const MOVES: &str = "a line has its moves behind its position: write ' ; dm %' in place of '%'";
@@ -103,6 +105,28 @@ fn foreign_sentence(text: &[u8], is_needless: bool) -> Sentence<'_> {
     let number = Number(before.saturating_add(1));
     let text = if is_needless { NEEDLESS } else { FOREIGN };
     Sentence(text, (number, Bytes(character), NO, NO))
+}
+
+/// Whether the board is well once each run of blanks in it is a slash, if it then has a game's shape. The board ends at the first
+/// word that is a side.
+fn board_of_words(text: &[u8]) -> Option<bool> {
+    let (mut room, mut count, mut text) = ([0u8; MOST_BOARD], 0usize, text);
+    for _ in 0..text.len() {
+        let (_, words) = split_run(text, BLANKS, true);
+        let (word, behind) = split_run(words, BLANKS, false);
+        if matches!(word, [b'w' | b'b']) {
+            let board = Board::of(&room[..count.saturating_sub(1).min(MOST_BOARD)]);
+            return board.has_shape().then_some(board.is_well());
+        }
+        let end = count.saturating_add(word.len());
+        if word.is_empty() || end >= MOST_BOARD {
+            return None;
+        }
+        room[count..end].copy_from_slice(word);
+        room[end] = b'/';
+        (count, text) = (end.saturating_add(1), behind);
+    }
+    None
 }
 
 /// Whether the board is well once the blanks in it are left out: it ends before a word behind the first that is a side.
@@ -176,6 +200,8 @@ impl<'a> Layout<'a> {
         }
         let (text, is_well) = if self.board.is_empty() {
             (NOTHING, true)
+        } else if let (false, Some(is_well)) = (self.board.contains(&b'/'), board_of_words(text)) {
+            (RANKS, is_well)
         } else if board.ranks == 8 && board.uneven(8, 8).is_none() {
             (CHESS, true)
         } else if self.side.is_empty() {

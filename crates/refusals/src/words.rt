@@ -30,6 +30,25 @@ const FLAGS: &[&str] = &[
     "--black",
 ];
 
+/// An option that only some commands have: its name, the commands as a sentence names them, and the commands.
+#[derive(Clone, Copy)]
+struct Owned<'a>(&'a str, &'a str, &'a [&'a str]);
+
+const OWNED: [Owned<'static>; 12] = [
+    Owned("--echo", "batch", &["batch"]),
+    Owned("--keys", "batch", &["batch"]),
+    Owned("--lines", "batch", &["batch"]),
+    Owned("--skip", "batch", &["batch"]),
+    Owned("--json", "batch and solution", &["batch", "solution"]),
+    Owned("--set", "solution", &["solution"]),
+    Owned("--tries", "solution", &["solution"]),
+    Owned("--figurines", "solution", &["solution"]),
+    Owned("--short", "solution", &["solution"]),
+    Owned("--svg", "solution and show", &["solution", "show"]),
+    Owned("--unicode", "show", &["show"]),
+    Owned("--black", "show", &["show"]),
+];
+
 /// What an option takes: how far to search, another number of a search, a goal, or a number that a batch alone takes.
 #[derive(Clone, Copy)]
 enum Takes {
@@ -99,12 +118,21 @@ fn text_at(words: &[String], place: usize) -> &str {
     }
 }
 
+/// Whether the name is this option, or its beginning, written with one dash in place of two.
+fn has_one_dash(own: &str, name: &str, least: usize) -> bool {
+    match own.strip_prefix("-") {
+        Some(behind) => least <= name.len().saturating_add(1) && behind.starts_with(name),
+        None => false,
+    }
+}
+
 /// The option that is written so.
 fn option_of<'a>(name: &str) -> Option<Known<'a>> {
     for option in OPTIONS {
         let Known(own, least, other, ..) = option;
         let is_other = other.len() == name.len() && other.starts_with(name);
-        if least <= name.len() && (is_other || own.starts_with(name)) {
+        let is_begun = least <= name.len() && (is_other || own.starts_with(name));
+        if is_begun || has_one_dash(own, name, least) {
             return Some(option);
         }
     }
@@ -168,6 +196,23 @@ const INPUT: &str = "batch reads positions from its input: write '< %' in place 
 
 const NO_INPUT: &str =
     "batch reads positions from its input: write solve in place of batch for one position";
+
+/// The sentence on an option that only other commands have. It names these commands.
+fn of_another(words: &[String], place: usize) -> Option<Sentence<'_>> {
+    let (word, command) = (word_at(words, place), text_at(words, 1));
+    for Owned(name, owners, commands) in OWNED {
+        if name == word.name && !commands.contains(&command) {
+            let parts = (
+                Text(name),
+                Text(owners),
+                Text(word.text),
+                Behind(word.behind),
+            );
+            return Some(Sentence("% is an option of %: leave out %%", parts));
+        }
+    }
+    None
+}
 
 /// What a word means behind a command that searches.
 fn of_search(words: &[String], place: usize) -> Option<Sentence<'_>> {
@@ -269,6 +314,8 @@ enum Turn {
     Parts,
     /// Two options of a search that say the same.
     Again,
+    /// An option of other commands.
+    Another,
     /// What a word means.
     Word,
 }
@@ -280,6 +327,7 @@ fn first_found(words: &[String], turn: Turn) -> Option<Sentence<'_>> {
         let found = match turn {
             Turn::Parts => cut_position(words, i),
             Turn::Again => again_before(words, i),
+            Turn::Another => of_another(words, i),
             Turn::Word if searches => of_search(words, i),
             Turn::Word => of_idle(words, i),
         };
@@ -311,6 +359,10 @@ fn change_of(words: &[String]) -> Option<Sentence<'_>> {
         return parts;
     }
     if COMMANDS.contains(&command) {
+        let another = first_found(words, Turn::Another);
+        if another.is_some() {
+            return another;
+        }
         return match first_found(words, Turn::Again) {
             Some(again) if SEARCHES.contains(&command) => Some(again),
             _ => first_found(words, Turn::Word),

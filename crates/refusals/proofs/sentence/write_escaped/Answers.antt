@@ -1,5 +1,5 @@
-use Rattle.refusals.proofs.Telling.{text_of, text_then}
+use Rattle.refusals.proofs.Telling.{text_then}
 use Rattle.refusals.proofs.sentence.write_escaped.Goals as goal
 
-pub loop-c-preserved : goal.loop-c-preserved
-loop-c-preserved g c = text_then _ _ _ c.loop-c.invariant (text_of _ _ _ c.in_ok-write_all.ensures.bytes)
+pub loop-preserved : goal.loop-preserved
+loop-preserved g c = text_then _ _ _ c.loop.invariant c.in_ok-rest.ensures
