@@ -150,7 +150,8 @@ fn explains_a_first_line_of_the_most_kept_bytes(rt: HostRuntime) {
     let words = ["minimate", "verify", ROOK];
     let line = [b'a'; 65];
     let no_feed = "the first line has no line feed: write one behind it";
-    let no_answer = "the first line is no answer: write it as `solve` prints it for this goal, as mate 3 c4c5";
+    let no_answer =
+        "the first line is no answer: write it as `solve` prints it for this goal, as mate 3 c4c5";
     for (count, unfed) in [(63, no_feed), (64, no_answer), (65, no_answer)] {
         let mut text = Vec::new(rt.alloc());
         text.extend_from_slice(&line[..count]).expect(&rt, "memory");

@@ -149,7 +149,16 @@ fn hold_each<R: Threads + Wait + Abort + Sync>(
     let root = Root::of(&problem(rt, &position, Goal::Mate, limit));
     for job in 0..11 {
         let gate = Held::new(rt, alloc, &root, limit, job, 2_000);
-        let answer = solve(rt, alloc, &position, Goal::Mate, limit, workers, slots, &gate);
+        let answer = solve(
+            rt,
+            alloc,
+            &position,
+            Goal::Mate,
+            limit,
+            workers,
+            slots,
+            &gate,
+        );
         assert!(rt; answer == Ok(Answer::NoneWithin(limit)));
         assert!(rt; gate.is_kept());
     }
