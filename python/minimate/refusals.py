@@ -78,7 +78,7 @@ def named(name: str, offset: Optional[int] = None) -> Refused:
 
 def answered(reply: bytes) -> str:
     """The reply as text, where it is none of a refusal."""
-    text = reply.decode("ascii", "backslashreplace")
+    text = reply.decode("utf-8", "backslashreplace")
     found = REFUSED.fullmatch(text)
     if found is None:
         return text
