@@ -1,10 +1,10 @@
 //! A certificate as it is made, line by line.
-ghost use Rattle.std.specs.Prelude.{◌≡◌, ◌<◌, ◌≤◌, ◌++◌, ◌∷◌, [], IfOk, IfSome, List, OnOk};
+ghost use Rattle.std.specs.Prelude.{◌≡◌, ◌<◌, ◌≤◌, ◌++◌, ◌∷◌, [], IfNone, IfOk, IfSome, List, OnOk, length};
 ghost use Rattle.rules.specs.Moves.{IsLawful};
 ghost use Rattle.slots.specs.Promise.{IsSeatOf};
 ghost use Rattle.verifying.specs.Words.{words_line};
 ghost use Rattle.certifying.specs.Lines.{claim_line};
-ghost use Rattle.certifying.specs.Making.{IsOfAnswer, first_move, first_plies};
+ghost use Rattle.certifying.specs.Making.{IsOfAnswer, IsSpent, first_move, first_plies};
 ghost use Rattle.verifying.specs.declared.words.Word.{Word as TheWord};
 
 use crate::choosing::Chooser;
@@ -108,7 +108,9 @@ impl Certificate {
 
     /// The next claim, as a question, and its plies.
     fn next_claim(&mut self) -> Option<(Question, u8)>
-        ensures { IfSome result (λ r. r.1 ≤ 63) }
+        ensures most { IfSome result (λ r. r.1 ≤ 63) }
+        ensures first { self.new.first ≡ self.old.first }
+        ensures none { IfNone result (length self.new.claims ≤ self.new.next) }
     {
         if self.claims.len() <= self.next {
             return None;
@@ -144,7 +146,10 @@ impl Certificate {
     }
 
     /// The words of the next no claim's line, or none where each has its own.
-    fn next_held(&mut self) -> Result<Option<Vec<Word>>, AllocError> {
+    fn next_held(&mut self) -> Result<Option<Vec<Word>>, AllocError>
+        ensures first { IfOk result (λ line. IfNone line (self.new.first ≡ self.old.first)) }
+        ensures none { IfOk result (λ line. IfNone line (length self.new.claims ≤ self.new.next)) }
+    {
         let Some((q, plies)) = self.next_claim() else {
             return Ok(None);
         };
@@ -174,7 +179,9 @@ impl Certificate {
     }
 
     /// The words of the next line, or none where the certificate ends.
-    fn next_words(&mut self) -> Result<Option<Vec<Word>>, AllocError> {
+    fn next_words(&mut self) -> Result<Option<Vec<Word>>, AllocError>
+        ensures { IfOk result (λ line. IfNone line (IsSpent self.new)) }
+    {
         let Some(first) = self.first else {
             return self.next_held();
         };
@@ -187,7 +194,9 @@ impl Certificate {
 
     /// The next line, without its feed, or none where the certificate ends.
     pub(crate) fn next_text(&mut self) -> Result<Option<Vec<u8>>, AllocError>
-        ensures { IfOk result (λ line. IfSome line (λ text. (words : List TheWord) × (text.items ≡ words_line words))) }
+        ensures words { IfOk result (λ line. IfSome line (λ text.
+            (words : List TheWord) × (text.items ≡ words_line words))) }
+        ensures spent { IfOk result (λ line. IfNone line (IsSpent self.new)) }
     {
         let Some(words) = self.next_words()? else {
             return Ok(None);
@@ -197,7 +206,9 @@ impl Certificate {
 
     /// The next line, with its feed, or none where the certificate ends.
     pub fn next_line(&mut self) -> Result<Option<Vec<u8>>, AllocError>
-        ensures { IfOk result (λ line. IfSome line (λ text. (words : List TheWord) × (text.items ≡ claim_line words))) }
+        ensures words { IfOk result (λ line. IfSome line (λ text.
+            (words : List TheWord) × (text.items ≡ claim_line words))) }
+        ensures spent { IfOk result (λ line. IfNone line (IsSpent self.new)) }
     {
         let Some(line) = self.next_text()? else {
             return Ok(None);

@@ -1,8 +1,9 @@
 //! A certificate of which nothing is handed out that the checker doesn't take.
-ghost use Rattle.std.specs.Prelude.{◌≡◌, IfErr, IfNone, IfOk, IfSome, List, ℕ};
+ghost use Rattle.std.specs.Prelude.{◌≡◌, IfErr, IfNone, IfOk, IfSome, List};
 ghost use Rattle.certifying.specs.Lines.{claim_line};
+ghost use Rattle.certifying.specs.Making.{RefusesNext};
 ghost use Rattle.problems.specs.declared.answer.Answer.{Answer as TheAnswer};
-ghost use Rattle.verifying.specs.Checking.{HasTaken, IsProvedBy, RefusesMore, TakesMore};
+ghost use Rattle.verifying.specs.Checking.{HasTaken, IsProvedBy, TakesMore};
 ghost use Rattle.verifying.specs.declared.fault.Fault.TheVariants.{NoMemory};
 ghost use Rattle.verifying.specs.declared.words.Word.{Word as TheWord};
 
@@ -29,8 +30,9 @@ impl Checked {
             TakesMore self.old.checker self.new.checker text.items)) }
         ensures whole { IfOk result (λ line. IfNone line
             ((answer : TheAnswer) × IsProvedBy self.old.checker answer)) }
+        // A refused request for memory is told as such: any other fault is the checker's.
         ensures refuses { IfErr result (λ fault. (fault ≡ NoMemory → ⊥)
-            → (more : List ℕ) × RefusesMore self.old.checker more fault) }
+            → RefusesNext self.old.checker self.new.certificate fault) }
     {
         let Some(line) = self.certificate.next_text()? else {
             self.checker.ended(b"")?;

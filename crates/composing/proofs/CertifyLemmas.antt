@@ -24,11 +24,14 @@ use Rattle.verifying.specs.declared.fault.Fault.{Fault}
 use Rattle.verifying.specs.declared.fault.Fault.TheVariants as certificate
 use Rattle.verifying.specs.declared.words.Word.{Word}
 use Rattle.verifying.specs.Certificate.{IsCertificate}
-use Rattle.verifying.specs.Checking.{HasTakenText, HasTaken, IsProvedBy, TakesMore, RefusesMore}
+use Rattle.verifying.specs.Checking.{HasTakenText, HasTaken, IsProvedBy, TakesMore}
+use Rattle.verifying.specs.Words.{words_line}
 use Rattle.verifying.specs.FirstLine.{IsInRange, HasNamedMove, first_line}
 use Rattle.rules.proofs.Naming.{ply_of_lawful}
 use Rattle.verifying.proofs.Refused.{begun_answer}
 use Rattle.certifying.specs.Lines.{claim_line, claim_lines}
+use Rattle.certifying.specs.Making.{IsSpent, RefusesNext}
+use Rattle.certifying.specs.declared.certificate.Certificate.{Certificate}
 use Rattle.refusals.specs.Reply.{refused}
 use Rattle.refusals.specs.declared.refusal.Refusal.{Refusal}
 use Rattle.refusals.specs.declared.refusal.Refusal.TheVariants as refusal
@@ -39,7 +42,7 @@ use Rattle.verdicts.specs.Verdict.{IsRefusedFor}
 use Rattle.verdicts.proofs.VerdictLemmas.{answer_line}
 use Rattle.context.specs.Shown.{ShowsPosition}
 use Rattle.composing.specs.Certifying.{WritesCertificate, WritesClaims}
-use Rattle.composing.specs.Claims.{AddsAll, AddsClaims, BeginsAt, BeginsCertificate, HasAnswerLine, CutsClaims, StopsClaims, EndsWriting, Writing, WritesLines, cut_of}
+use Rattle.composing.specs.Claims.{AddsAll, AddsClaims, BeginsAt, BeginsCertificate, HasAnswerLine, CutsClaims, StopsClaims, RefusesBehind, RefusesNextBehind, EndsWriting, Writing, WritesLines, cut_of}
 use Rattle.endings.specs.Run.{Ending, Finishes, Refuses, no_memory}
 use Rattle.endings.proofs.EndingLemmas.{finishes_after}
 use Rattle.composing.specs.declared.certificate.Begun.{Begun}
@@ -110,12 +113,12 @@ adds_one old new w text words is takes written same =
     let one = one_line text words is in
     (words ∷ [], (subst (λ (l : List ℕ). Appends w.before w.after l) one written, same), λ goal b before taken. subst (λ (l : List ℕ). HasTakenText goal b new (before ++ l)) one (takes goal b before taken))
 
-pub ends_cut : (old new : Checker Global) (w : Writing) (r : Result Bool Cut) (text : List ℕ) (words : List Word) → text ≡ claim_line words → AppendsBeginning w.before w.after text
-    → w.failed_after ≡ w.failed_before + 1 → IsErr r × IsErrAnd r (λ cut. cut ≡ WriteFailed) → EndsWriting old new w r
-ends_cut old new w (Ok more) text words is cut one err = absurd err.1
-ends_cut old new w (Err stop) text words is cut one err =
+pub ends_cut : (old new : Checker Global) (maker : Certificate) (w : Writing) (r : Result Bool Cut) (text : List ℕ) (words : List Word) → text ≡ claim_line words → AppendsBeginning w.before w.after text
+    → w.failed_after ≡ w.failed_before + 1 → IsErr r × IsErrAnd r (λ cut. cut ≡ WriteFailed) → EndsWriting old new maker w r
+ends_cut old new maker w (Ok more) text words is cut one err = absurd err.1
+ends_cut old new maker w (Err stop) text words is cut one err =
     let cuts : CutsClaims w = (words ∷ [], subst (λ (l : List ℕ). AppendsBeginning w.before w.after l) (one_line text words is) cut, one) in
-    subst (StopsClaims old w) (sym err.1) cuts
+    subst (StopsClaims old maker w) (sym err.1) cuts
 
 -- nothing is written where nothing is handed out
 abbrev pub idle : Option (List ℕ) → ℕ → Writing
@@ -131,17 +134,28 @@ pub ends_whole : (old : Checker Global) (a : Option (List ℕ)) (n : ℕ) → ((
 ends_whole old a n (answer, proves) =
     ([], writes_none a n, λ goal b text taken. (answer, subst (λ (l : List ℕ). IsCertificate goal b answer l) (sym (append-nil text)) (proves goal b text taken).0))
 
-pub ends_refused : (old new : Checker Global) (a : Option (List ℕ)) (n : ℕ) (fault : Fault) (r : Result Bool Cut) → ((fault ≡ certificate.NoMemory → ⊥) → (more : List ℕ) × RefusesMore old more fault) → IsErr r × IsErrAnd r (λ cut. cut ≡ cut_of fault) → EndsWriting old new (idle a n) r
-ends_refused old new a n fault (Ok more) refuses err = absurd err.1
-ends_refused old new a n fault (Err cut) refuses err = subst (StopsClaims old (idle a n)) (sym err.1) (by_fault fault refuses)
-  where
-    refusing : (why : Refusal) (more : List ℕ) → ((goal : Goal) (b : PlainBoard) (text : List ℕ) → HasTakenText goal b old text → IsRefusedFor goal b (text ++ more) why) → StopsClaims old (idle a n) (Refused why)
-    refusing why more so = ([], writes_none a n, (more, λ goal b text taken. subst (λ (l : List ℕ). IsRefusedFor goal b (l ++ more) why) (sym (append-nil text)) (so goal b text taken)))
+-- behind what the checker has taken, this text is refused
+abbrev RefusesAtOnce : Checker Global → List ℕ → Refusal → Type 0
+RefusesAtOnce old more why = (goal : Goal) (b : PlainBoard) (text : List ℕ) → HasTakenText goal b old text → IsRefusedFor goal b (text ++ more) why
 
-    by_fault : (fault : Fault) → ((fault ≡ certificate.NoMemory → ⊥) → (more : List ℕ) × RefusesMore old more fault) → StopsClaims old (idle a n) (cut_of fault)
-    by_fault certificate.Answer refuses = let told = refuses (λ e. cc) in refusing refusal.Answer told.0 told.1
-    by_fault (certificate.Claim line) refuses = let told = refuses (λ e. cc) in refusing (refusal.Claim line) told.0 told.1
-    by_fault certificate.TooLong refuses = let told = refuses (λ e. cc) in refusing refusal.TooLong told.0 told.1
+behind_none : (old : Checker Global) (more : List ℕ) (why : Refusal) → RefusesAtOnce old more why → RefusesBehind old [] more why
+behind_none old more why so = λ goal b text taken. subst (λ (l : List ℕ). IsRefusedFor goal b (l ++ more) why) (sym (append-nil text)) (so goal b text taken)
+
+refusing : (old : Checker Global) (maker : Certificate) (a : Option (List ℕ)) (n : ℕ) (why : Refusal)
+    → ((words : List Word) × ((rest : List ℕ) → RefusesAtOnce old (words_line words ++ 10 ∷ rest) why)) ⊎ (IsSpent maker × RefusesAtOnce old [] why)
+    → StopsClaims old maker (idle a n) (Refused why)
+refusing old maker a n why (inl (words, so)) = ([], writes_none a n, inl (words, λ rest. behind_none old (words_line words ++ 10 ∷ rest) why (so rest)))
+refusing old maker a n why (inr (spent, so)) = ([], writes_none a n, inr (spent, behind_none old [] why so))
+
+pub ends_refused : (old new : Checker Global) (maker : Certificate) (a : Option (List ℕ)) (n : ℕ) (fault : Fault) (r : Result Bool Cut) → ((fault ≡ certificate.NoMemory → ⊥) → RefusesNext old maker fault) → IsErr r × IsErrAnd r (λ cut. cut ≡ cut_of fault)
+    → EndsWriting old new maker (idle a n) r
+ends_refused old new maker a n fault (Ok more) refuses err = absurd err.1
+ends_refused old new maker a n fault (Err cut) refuses err = subst (StopsClaims old maker (idle a n)) (sym err.1) (by_fault fault refuses)
+  where
+    by_fault : (fault : Fault) → ((fault ≡ certificate.NoMemory → ⊥) → RefusesNext old maker fault) → StopsClaims old maker (idle a n) (cut_of fault)
+    by_fault certificate.Answer refuses = refusing old maker a n refusal.Answer (refuses (λ e. cc))
+    by_fault (certificate.Claim line) refuses = refusing old maker a n (refusal.Claim line) (refuses (λ e. cc))
+    by_fault certificate.TooLong refuses = refusing old maker a n refusal.TooLong (refuses (λ e. cc))
     by_fault certificate.NoMemory refuses = ([], writes_none a n)
     by_fault certificate.ReadFailed refuses = ([], writes_none a n)
 
@@ -153,6 +167,20 @@ still_taken old new w (goal, b, text, taken) (lines, written, takes) = (goal, b,
 -- the text of lines behind others
 behind : (text : List ℕ) (xs ys : List (List Word)) → (text ++ claim_lines xs) ++ claim_lines ys ≡ text ++ claim_lines (xs ++ ys)
 behind text xs ys = append_assoc text (claim_lines xs) (claim_lines ys) ∙ ap (λ (l : List ℕ). text ++ l) (sym (flat_map-append claim_line xs ys))
+
+-- what is refused behind later lines is refused behind all
+refuses_more : (old mid : Checker Global) (xs ys : List (List Word)) (more : List ℕ) (why : Refusal) → TakesMore old mid (claim_lines xs) → RefusesBehind mid ys more why → RefusesBehind old (xs ++ ys) more why
+refuses_more old mid xs ys more why takes refuses = λ goal board text taken.
+    subst (λ (l : List ℕ). IsRefusedFor goal board (l ++ more) why) (behind text xs ys) (refuses goal board (text ++ claim_lines xs) (takes goal board text taken))
+
+refuses_next_more : (old mid : Checker Global) (maker : Certificate) (xs ys : List (List Word)) (why : Refusal) → TakesMore old mid (claim_lines xs) → RefusesNextBehind mid maker ys why → RefusesNextBehind old maker (xs ++ ys) why
+refuses_next_more old mid maker xs ys why takes (inl (words, refuses)) = inl (words, λ rest. refuses_more old mid xs ys (words_line words ++ 10 ∷ rest) why takes (refuses rest))
+refuses_next_more old mid maker xs ys why takes (inr (spent, refuses)) = inr (spent, refuses_more old mid xs ys [] why takes refuses)
+
+-- some text is refused
+refused_text : (old : Checker Global) (maker : Certificate) (lines : List (List Word)) (why : Refusal) → RefusesNextBehind old maker lines why → (more : List ℕ) × RefusesBehind old lines more why
+refused_text old maker lines why (inl (words, refuses)) = (words_line words ++ 10 ∷ [], refuses [])
+refused_text old maker lines why (inr (spent, refuses)) = ([], refuses)
 
 module _ (a b c : Option (List ℕ)) (p q r : ℕ) where
   writes_more : (xs ys : List (List Word)) → WritesLines (record { before = a; after = b; failed_before = p; failed_after = q }) xs
@@ -178,11 +206,11 @@ module _ (a b c : Option (List ℕ)) (p q r : ℕ) where
         (one.0, subst (λ (l : List ℕ). IsCertificate goal board one.0 l) (behind text xs ys) one.1),
   )
 
-  pub stops_more : (old mid : Checker Global) (cut : Cut) → AddsClaims old mid (record { before = a; after = b; failed_before = p; failed_after = q })
-      → StopsClaims mid (record { before = b; after = c; failed_before = q; failed_after = r }) cut
-      → StopsClaims old (record { before = a; after = c; failed_before = p; failed_after = r }) cut
-  stops_more old mid NoMemory (xs, first, takes) (ys, second) = (xs ++ ys, writes_more xs ys first second)
-  stops_more old mid WriteFailed (xs, (first, none), takes) (ys, (taken, rest, is, grown), one) = (
+  pub stops_more : (old mid : Checker Global) (maker : Certificate) (cut : Cut) → AddsClaims old mid (record { before = a; after = b; failed_before = p; failed_after = q })
+      → StopsClaims mid maker (record { before = b; after = c; failed_before = q; failed_after = r }) cut
+      → StopsClaims old maker (record { before = a; after = c; failed_before = p; failed_after = r }) cut
+  stops_more old mid maker NoMemory (xs, first, takes) (ys, second) = (xs ++ ys, writes_more xs ys first second)
+  stops_more old mid maker WriteFailed (xs, (first, none), takes) (ys, (taken, rest, is, grown), one) = (
     xs ++ ys,
     (
       claim_lines xs ++ taken,
@@ -192,15 +220,7 @@ module _ (a b c : Option (List ℕ)) (p q r : ℕ) where
     ),
     one ∙ ap (λ (n : ℕ). n + 1) none,
   )
-  stops_more old mid (Refused why) (xs, first, takes) (ys, second, (more, refuses)) = (
-    xs ++ ys,
-    writes_more xs ys first second,
-    (
-      more,
-      λ goal board text taken.
-          subst (λ (l : List ℕ). IsRefusedFor goal board (l ++ more) why) (behind text xs ys) (refuses goal board (text ++ claim_lines xs) (takes goal board text taken)),
-    ),
-  )
+  stops_more old mid maker (Refused why) (xs, first, takes) (ys, second, refuses) = (xs ++ ys, writes_more xs ys first second, refuses_next_more old mid maker xs ys why takes refuses)
 
 -- ---- runs
 
@@ -267,16 +287,17 @@ module _ (goal : Goal) (board : PlainBoard) (answer : Answer) (begun : Begun) (b
       no_room (lines, (more, same)) last =
           (lines, inr (inl (finishes_after a c d p r s status 3 (answer_text goal answer ++ claim_lines lines) no_memory (Appends-trans a b c (answer_text goal answer) (claim_lines lines) first more) (omega (arith, none, same)) last)))
 
-      pub not_taken : (why : Refusal) → StopsClaims begun.certificate.checker (record { before = b; after = c; failed_before = q; failed_after = r }) (Refused why)
+      pub not_taken : (why : Refusal) (maker : Certificate) → StopsClaims begun.certificate.checker maker (record { before = b; after = c; failed_before = q; failed_after = r }) (Refused why)
           → Refuses (record { before = c; after = d; failed_writes = s - r; status = status }) why
           → WritesClaims goal board answer (record { before = a; after = d; failed_writes = s - p; status = status })
-      not_taken why (lines, written, told) (inr last) = no_room (lines, written) last
-      not_taken why (lines, (more, same), (left, refuses)) (inl last) = (
-        lines,
-        inr (inr (
-          why,
-          left,
-          refuses goal board (answer_text goal answer) begins.taken,
-          finishes_after a c d p r s status (refused why).status (answer_text goal answer ++ claim_lines lines) (refused why).text (Appends-trans a b c (answer_text goal answer) (claim_lines lines) first more) (omega (arith, none, same)) last,
-        )),
-      )
+      not_taken why maker (lines, written, told) (inr last) = no_room (lines, written) last
+      not_taken why maker (lines, (more, same), told) (inl last) =
+          let left = refused_text begun.certificate.checker maker lines why told in (
+            lines,
+            inr (inr (
+              why,
+              left.0,
+              left.1 goal board (answer_text goal answer) begins.taken,
+              finishes_after a c d p r s status (refused why).status (answer_text goal answer ++ claim_lines lines) (refused why).text (Appends-trans a b c (answer_text goal answer) (claim_lines lines) first more) (omega (arith, none, same)) last,
+            )),
+          )

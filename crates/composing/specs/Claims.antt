@@ -1,5 +1,5 @@
 -- The steps of the writing of a certificate.
-use Rattle.std.specs.Prelude.{◌≡◌, ◌⊎◌, ◌+◌, ◌++◌, ℕ, List, Bool, true, false, Option, None, Some, Result, Ok, Err, vec_items}
+use Rattle.std.specs.Prelude.{◌≡◌, ◌⊎◌, ◌+◌, ◌++◌, ◌∷◌, [], ℕ, List, Bool, true, false, Option, None, Some, Result, Ok, Err, vec_items}
 use Rattle.std.specs.declared.alloc.Global.{Global}
 use Rattle.std.specs.Io.KnownBytes.{Appends}
 use Rattle.board.specs.Board.{PlainBoard}
@@ -10,6 +10,8 @@ use Rattle.devices.specs.Device.{AppendsBeginning}
 use Rattle.command_line.specs.declared.line.Limits.{Limits}
 use Rattle.command_line.specs.declared.line.Subject.{Subject}
 use Rattle.certifying.specs.Lines.{claim_lines}
+use Rattle.certifying.specs.Making.{IsSpent}
+use Rattle.certifying.specs.declared.certificate.Certificate.{Certificate}
 use Rattle.verifying.specs.declared.checker.Checker.{Checker}
 use Rattle.verifying.specs.declared.fault.Fault.{Fault}
 use Rattle.verifying.specs.declared.fault.Fault.TheVariants as certificate
@@ -17,6 +19,7 @@ use Rattle.verifying.specs.declared.words.Word.{Word}
 use Rattle.verifying.specs.Certificate.{IsCertificate}
 use Rattle.verifying.specs.Checking.{HasTakenText, TakesMore}
 use Rattle.verifying.specs.FirstLine.{IsInRange, HasNamedMove}
+use Rattle.verifying.specs.Words.{words_line}
 use Rattle.refusals.specs.Reply.{refused}
 use Rattle.refusals.specs.declared.refusal.Refusal.{Refusal}
 use Rattle.refusals.specs.declared.refusal.Refusal.TheVariants as refusal
@@ -83,12 +86,21 @@ AddsAll old w = (lines : List (List Word)) × WritesLines w lines
 abbrev pub CutsClaims : Writing → Type 0
 CutsClaims w = (lines : List (List Word)) × AppendsBeginning w.before w.after (claim_lines lines) × (w.failed_after ≡ w.failed_before + 1)
 
+-- behind what the checker had taken and these lines, this text is refused
+abbrev pub RefusesBehind : Checker Global → List (List Word) → List ℕ → Refusal → Type 0
+RefusesBehind old lines more why = (goal : Goal) (b : PlainBoard) (text : List ℕ) → HasTakenText goal b old text → IsRefusedFor goal b ((text ++ claim_lines lines) ++ more) why
+
+-- behind these lines a line of claims is refused, whatever comes behind it; or the end is, where the maker has no line more
+abbrev pub RefusesNextBehind : Checker Global → Certificate → List (List Word) → Refusal → Type 0
+RefusesNextBehind old maker lines why =
+    ((words : List Word) × ((rest : List ℕ) → RefusesBehind old lines (words_line words ++ 10 ∷ rest) why))
+    ⊎ (IsSpent maker × RefusesBehind old lines [] why)
+
 -- how the writing of lines was cut off
-abbrev pub StopsClaims : Checker Global → Writing → Cut → Type 0
-StopsClaims old w WriteFailed = CutsClaims w
-StopsClaims old w NoMemory = (lines : List (List Word)) × WritesLines w lines
-StopsClaims old w (Refused why) = (lines : List (List Word)) × WritesLines w lines
-    × ((more : List ℕ) × ((goal : Goal) (b : PlainBoard) (text : List ℕ) → HasTakenText goal b old text → IsRefusedFor goal b ((text ++ claim_lines lines) ++ more) why))
+abbrev pub StopsClaims : Checker Global → Certificate → Writing → Cut → Type 0
+StopsClaims old maker w WriteFailed = CutsClaims w
+StopsClaims old maker w NoMemory = (lines : List (List Word)) × WritesLines w lines
+StopsClaims old maker w (Refused why) = (lines : List (List Word)) × WritesLines w lines × RefusesNextBehind old maker lines why
 
 -- how each fault of the checker cuts them off
 abbrev pub cut_of : Fault → Cut
@@ -99,12 +111,12 @@ cut_of certificate.NoMemory = NoMemory
 cut_of certificate.ReadFailed = NoMemory
 
 -- how a step ended
-abbrev pub EndsWriting : Checker Global → Checker Global → Writing → Result Bool Cut → Type 0
-EndsWriting old new w (Ok true) = AddsClaims old new w
-EndsWriting old new w (Ok false) = AddsAll old w
-EndsWriting old new w (Err cut) = StopsClaims old w cut
+abbrev pub EndsWriting : Checker Global → Checker Global → Certificate → Writing → Result Bool Cut → Type 0
+EndsWriting old new maker w (Ok true) = AddsClaims old new w
+EndsWriting old new maker w (Ok false) = AddsAll old w
+EndsWriting old new maker w (Err cut) = StopsClaims old maker w cut
 
 -- how all steps ended
-abbrev pub EndsClaims : Checker Global → Writing → Option Cut → Type 0
-EndsClaims old w None = AddsAll old w
-EndsClaims old w (Some cut) = StopsClaims old w cut
+abbrev pub EndsClaims : Checker Global → Certificate → Writing → Option Cut → Type 0
+EndsClaims old maker w None = AddsAll old w
+EndsClaims old maker w (Some cut) = StopsClaims old maker w cut

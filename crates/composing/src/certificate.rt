@@ -108,7 +108,7 @@ pub fn begin<R: Threads + Wait + Eprint + Clock + Sync + AllocGlobal, C: Crew<Gl
 fn write_next<K: Sink>(certificate: &mut Checked, writer: &mut K) -> Result<bool, Cut>
     requires begun { HasTaken certificate.old.checker }
     requires writes { K.failures writer.old < u64.MAX }
-    ensures { EndsWriting certificate.old.checker certificate.new.checker
+    ensures { EndsWriting certificate.old.checker certificate.new.checker certificate.new.certificate
         (writing_of K.contents K.failures writer.old writer.new) result }
 {
     let Some(line) = certificate.next_line()? else {
@@ -127,7 +127,8 @@ pub fn write_claims<R: Clock + Eprint, K: Sink>(
 ) -> Option<Cut>
     requires begun { HasTaken certificate.old.checker }
     requires writes { K.failures writer.old < u64.MAX }
-    ensures { EndsClaims certificate.old.checker (writing_of K.contents K.failures writer.old writer.new) result }
+    ensures { EndsClaims certificate.old.checker certificate.new.certificate
+        (writing_of K.contents K.failures writer.old writer.new) result }
 {
     let mut number: u64 = 0;
     for _ in 0..u64::MAX {

@@ -90,7 +90,8 @@ fn write_all_claims<R: Clock + Eprint, C, K: Sink>(
 ) -> Option<Cut>
     requires begun { HasTaken certificate.old.checker }
     requires writes { K.failures writer.old < u64.MAX }
-    ensures { EndsClaims certificate.old.checker (writing_of K.contents K.failures writer.old writer.new) result }
+    ensures { EndsClaims certificate.old.checker certificate.new.certificate
+        (writing_of K.contents K.failures writer.old writer.new) result }
 {
     let lines = context.shows.then_some(Lines::Unknown);
     let mut tally = Tally::new(context.rt, lines, 0);

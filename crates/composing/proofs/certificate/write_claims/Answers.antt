@@ -18,7 +18,7 @@ pub returns-in-Ok-false : goal.returns-in-Ok-false
 returns-in-Ok-false g c = all_more _ _ _ _ _ _ c.args.certificate.now.checker c.loop.certificate.checker c.loop.invariant (rw c.in-Ok-false.field-0-test at c.in-Ok-false.ensures)
 
 pub returns-in-Err : goal.returns-in-Err
-returns-in-Err g c = stops_more _ _ _ _ _ _ c.args.certificate.now.checker c.loop.certificate.checker c.in-Err.cut c.loop.invariant c.in-Err.ensures
+returns-in-Err g c = stops_more _ _ _ _ _ _ c.args.certificate.now.checker c.loop.certificate.checker c.write_next.new.certificate.certificate c.in-Err.cut c.loop.invariant c.in-Err.ensures
 
 pub returns : goal.returns
 returns g c = (c.loop.invariant.0, c.loop.invariant.1)

@@ -20,7 +20,7 @@ pub returns-in-Some-Refused-clause-writes : goal.returns-in-Some-Refused-clause-
 returns-in-Some-Refused-clause-writes g c = λ b answer begins.
     not_taken c.args.subject.now.goal b answer c.args.begun begins _ _ _ _ _ _
     (subst (λ (l : List ℕ). Appends (g.K.Sink.contents c.args.writer.now) (g.K.Sink.contents c.write_all.new.writer) l) c.as_slice.ensures.value c.in-Ok.ensures.all)
-    c.in-Ok.ensures.ok _ _ _ c.in-Some-Refused.refusal (rw c.in-Some-Refused.field-0-is at c.in-Some-Refused.ensures) (rw c.proof_refused-why.ensures at c.refuse_and_tell.ensures.refuses)
+    c.in-Ok.ensures.ok _ _ _ c.in-Some-Refused.refusal c.write_all_claims.new.certificate.certificate (rw c.in-Some-Refused.field-0-is at c.in-Some-Refused.ensures) (rw c.proof_refused-why.ensures at c.refuse_and_tell.ensures.refuses)
 
 pub returns-in-Ok-clause-writes : goal.returns-in-Ok-clause-writes
 returns-in-Ok-clause-writes g c = λ b answer begins.
