@@ -1,0 +1,132 @@
+"""Fixtures of the tests outside Rattle: the programs, the C library and the browser; and two rules of the whole run.
+
+The rules: a skip fails the run unless `--may-skip` lists its reason, and the summary says how many comparisons each file made, since many tests
+go over a large table in one function (fixture `count`).
+
+    /usr/bin/python3 -m pytest tests [-n 4] [--program PATH] [--may-skip REASON ..]
+"""
+
+import collections
+import contextlib
+import fcntl
+import os
+import shutil
+import subprocess
+import sys
+
+import pytest
+
+import programs as of_programs
+
+sys.dont_write_bytecode = True
+TOP = of_programs.TOP
+
+
+def pytest_addoption(parser):
+    parser.addoption("--program", metavar="PATH", help="the program `minimate` (default: crates/minimate/out/minimate, or what the launcher builds)")
+    parser.addoption("--may-skip", metavar="REASON", action="append", default=[], help="how the reason of an allowed skip begins; may be repeated")
+
+
+@contextlib.contextmanager
+def one_at_a_time(name):
+    """Lets one process at a time build what the others wait for."""
+    os.makedirs(os.path.join(TOP, "out"), exist_ok=True)
+    with open(os.path.join(TOP, "out", f"{name}.lock"), "w", encoding="ascii") as lock:
+        fcntl.flock(lock, fcntl.LOCK_EX)
+        yield
+
+
+def need(*tools):
+    """Skips the test where one of these tools isn't installed."""
+    for tool in tools:
+        if not shutil.which(tool):
+            pytest.skip(f"no {tool} on the path")
+
+
+# Programs
+
+
+@pytest.fixture(scope="session")
+def program(request):
+    """The path of the program `minimate`; the other programs stand beside it (`programs.started`)."""
+    given = request.config.getoption("--program")
+    with one_at_a_time("programs"):
+        return of_programs.find(given)
+
+
+@pytest.fixture(scope="session")
+def one_call():
+    """The path of the program of the crate `one_call`, which makes one call of the library per line."""
+    with one_at_a_time("programs"):
+        return of_programs.find_one_call()
+
+
+@pytest.fixture(params=["plain pages", "large pages"])
+def pages(request, monkeypatch):
+    """Runs the test as a user starts the program, and as the launcher starts a search."""
+    environment = of_programs.plain(os.environ)
+    if request.param == "large pages":
+        environment = of_programs.launched(environment)
+    monkeypatch.delenv(of_programs.TUNABLES, raising=False)
+    for name in {of_programs.TUNABLES} & set(environment):
+        monkeypatch.setenv(name, environment[name])
+    return request.param
+
+
+# The C library
+
+
+@pytest.fixture(scope="session")
+def library():
+    """The folder that holds libminimate.a and libminimate.so, built by tools/build_c where they aren't there."""
+    need("cc")
+    folder = os.path.join(TOP, "out")
+    with one_at_a_time("library"):
+        if not os.path.isfile(os.path.join(folder, "libminimate.so")):
+            if not shutil.which("rt"):
+                pytest.skip("no rt on the path, and no library in out/")
+            subprocess.run([os.path.join(TOP, "tools", "build_c"), "--shared"], check=True)
+    return folder
+
+
+# Counts and skips
+
+
+@pytest.fixture
+def count(request):
+    """Adds to the number of comparisons that the summary prints for the test's file: call it with how many the test has made."""
+    return lambda number=1: request.node.user_properties.append(("comparisons", number))
+
+
+def all_reports(reporter):
+    return [it for kind in reporter.stats.values() for it in kind if isinstance(it, pytest.TestReport)]
+
+
+def reason_of(report):
+    text = report.longrepr[2] if isinstance(report.longrepr, tuple) else str(report.longrepr)
+    return text.removeprefix("Skipped: ")
+
+
+def pytest_terminal_summary(terminalreporter, config):
+    made = collections.Counter()
+    for report in all_reports(terminalreporter):
+        if report.when == "call":
+            made[report.nodeid.split("::")[0]] += sum(value for name, value in report.user_properties if name == "comparisons")
+    for file, number in sorted(made.items()):
+        if number:
+            terminalreporter.write_line(f"{file}: {number} comparisons")
+    for reason in sorted(unlisted(terminalreporter, config)):
+        terminalreporter.write_line(f"FAILED: a skip that isn't listed: {reason}")
+
+
+def unlisted(reporter, config):
+    """The reasons of skips that no `--may-skip` lists."""
+    listed = tuple(config.getoption("--may-skip"))
+    return {it for it in map(reason_of, reporter.stats.get("skipped", [])) if not (listed and it.startswith(listed))}
+
+
+@pytest.hookimpl(trylast=True)
+def pytest_sessionfinish(session, exitstatus):
+    reporter = session.config.pluginmanager.get_plugin("terminalreporter")
+    if reporter and exitstatus == 0 and unlisted(reporter, session.config):
+        session.exitstatus = 1
