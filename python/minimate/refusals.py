@@ -10,15 +10,15 @@ SENTENCES = {
     "TooLong": "a tree has at most 1048576 bytes, its line feed counted, and a line of a certificate 8192",
     "Deep": "more than 32 moves of the attacker are nested: no tree of 63 plies needs so many",
     "Answer": "the first line is no answer: write it as `solve` prints it for this goal, as mate 3 c4c5",
-    "Claim": "this line isn't there, is no claim's, or says what isn't so of this position and goal",
+    "Claim": "this line is missing, isn't a claim, or is false for this position and goal",
     "Move": "no lawful move has this name: a move is two squares and what a pawn becomes, as c4c5q",
-    "NoMemory": "memory is wanting: a search takes less with fewer --slots or --workers",
+    "NoMemory": "out of memory: a search takes less with fewer --slots or --workers",
 }
 # How many bytes of a certificate are looked at for what is wrong with its first line.
 MOST_KNOWN = 64
-NO_TREE = "the input begins with no move: where `tree` wrote no tree, there is none to check, and a byte order mark is no part of one"
+NO_TREE = "the input doesn't begin with a move: if `tree` printed no tree, there is none to check; a byte order mark is no part of a tree"
 BROKEN_TREE = (
-    "after its first {} bytes the input is no tree: a tree is a move with # or =, or with replies, as c4c5{{a6a5:b1a1#}}, and one line feed may end it, without a carriage return"
+    "after its first {} bytes the input is no tree: a tree is a move and then #, = or the replies, as c4c5{{a6a5:b1a1#}}, and at most one line feed, without a carriage return"
 )
 REFUSED = re.compile(r"refused: (\w+)(?: at (offset|line) (\d+))?\n(?:error: (.*)\n)?", re.S)
 
@@ -63,9 +63,9 @@ def first_line_sentence(certificate: bytes, counts_stale: bool) -> str:
     if line.startswith(b"mate " if counts_stale else b"goal "):
         return f"the first line is an answer for the other goal: {'leave out' if counts_stale else 'add'} --goal stale"
     if line.endswith(b"\r\n"):
-        return "the first line ends with a carriage return: end each line with a line feed alone"
+        return "the first line ends with a carriage return: end each line with a line feed only"
     if line and len(line) < MOST_KNOWN and not line.endswith(b"\n"):
-        return "the first line has no line feed: write one behind it"
+        return "the first line has no line feed: write one after it"
     return SENTENCES["Answer"].replace("mate 3 c4c5", "goal 1 b1b5") if counts_stale else SENTENCES["Answer"]
 
 

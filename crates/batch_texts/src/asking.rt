@@ -1,4 +1,4 @@
-//! What a line of a batch asks: a position, and perhaps in how many moves there is a mate.
+//! The question of a line of a batch: a position, and optionally the number of moves that the problem claims.
 ghost use Rattle.std.specs.Prelude.{◌≡◌, ◌↔◌, ◌<◌, All, IfOk, IsTrue, length};
 ghost use Rattle.batch_texts.specs.Asking.{IsAskedIn, IsJudged, IsSplitIn, TakesPlies, limit_of};
 
@@ -7,7 +7,8 @@ use crate::fields::position_of;
 use problems::{Answer, Key};
 use std::alloc::{AllocError, Global};
 
-/// What a line that is no remark asks: its position, without the last four fields of a FEN of six, and the moves that it says.
+/// Reads a line that isn't a comment: its position, cut to two fields if it has six, and the number of moves that it claims. Fails if
+/// memory runs out.
 pub fn asked_in<'a>(alloc: Global, said: &'a [u8]) -> Result<Asked<'a>, AllocError>
     ensures { IfOk result (IsAskedIn said.entry.now) }
 {
@@ -18,7 +19,7 @@ pub fn asked_in<'a>(alloc: Global, said: &'a [u8]) -> Result<Asked<'a>, AllocErr
     })
 }
 
-/// The text of a line's position, and the moves that stand behind it, as ` ; dm 3`.
+/// Splits a line into the text of its position and the number of moves after it, written as ` ; dm 3`.
 fn split_moves<'a>(alloc: Global, said: &'a [u8]) -> Result<Asked<'a>, AllocError>
     ensures { IfOk result (IsSplitIn said.entry.now) }
 {
@@ -40,7 +41,7 @@ fn split_moves<'a>(alloc: Global, said: &'a [u8]) -> Result<Asked<'a>, AllocErro
     Ok(plain)
 }
 
-/// The plies within which a line is searched.
+/// Returns the limit of a line in plies: that of the moves that it claims, or the limit of the batch.
 pub fn limit_of(limit: u32, moves: Option<u8>) -> u32
     ensures { result ≡ limit_of limit moves }
 {
@@ -50,7 +51,7 @@ pub fn limit_of(limit: u32, moves: Option<u8>) -> u32
     }
 }
 
-/// Whether there are keys, and each takes so many plies.
+/// Returns whether there are keys, and each takes exactly this number of plies.
 fn all_take(keys: &[Key], plies: u32) -> bool
     ensures { IsTrue result ↔ ((0 < length keys.now) × All (λ key. key.plies ≡ plies) keys.now) }
 {
@@ -62,7 +63,7 @@ fn all_take(keys: &[Key], plies: u32) -> bool
     !keys.is_empty()
 }
 
-/// Whether the fewest plies of what was found are these.
+/// Returns whether the goal is forced in exactly this number of plies.
 fn takes(found: &Found, plies: u32) -> bool
     ensures { IsTrue result ↔ TakesPlies found.now plies }
 {
@@ -73,7 +74,7 @@ fn takes(found: &Found, plies: u32) -> bool
     }
 }
 
-/// Whether what was found takes the moves that a line says.
+/// Returns whether the goal takes exactly the number of moves that the line claims, or `None` if the line claims none.
 pub fn judged(moves: Option<u8>, found: &Found) -> Option<bool>
     ensures { IsJudged moves found.now result }
 {

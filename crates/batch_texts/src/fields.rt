@@ -1,4 +1,4 @@
-//! The fields of a FEN of six, of which a batch takes the first two.
+//! The first two fields of a FEN of six fields.
 ghost use Rattle.std.specs.Prelude.{◌≡◌, ◌++◌, ◌∷◌, [], IfSome, MatchOption};
 ghost use Rattle.batch_texts.specs.Fields.{all_of, are_counts, fields_of, is_made_of, is_one_of, position_of};
 
@@ -24,7 +24,7 @@ fn all_of(bytes: &[u8], field: &[u8]) -> bool
     true
 }
 
-/// Whether there is a byte in the field, and each byte in it is one of these.
+/// Returns whether the field isn't empty and has no byte but these.
 fn is_made_of(bytes: &[u8], field: &[u8]) -> bool
     ensures { result ≡ is_made_of bytes.now field.now }
 {
@@ -34,7 +34,7 @@ fn is_made_of(bytes: &[u8], field: &[u8]) -> bool
     }
 }
 
-/// The first field, and what stands behind the space that ends it, if one does.
+/// Splits the text at its first space: returns the first field, and the text after the space if there is one.
 fn split_field(text: &[u8]) -> (&[u8], Option<&[u8]>)
     ensures fields { MatchOption result.1 (fields_of text.now ≡ result.0.now ∷ [])
         (λ rest. fields_of text.now ≡ result.0.now ∷ fields_of rest.now) }
@@ -48,7 +48,7 @@ fn split_field(text: &[u8]) -> (&[u8], Option<&[u8]>)
     (text, None)
 }
 
-/// Whether these are the third to the sixth field of a FEN: castling rights, an en passant square, and two counts.
+/// Returns whether the text is the third to the sixth field of a FEN: castling rights, an en passant square, and two counts.
 fn are_counts(text: &[u8]) -> bool
     ensures { result ≡ are_counts (fields_of text.now) }
 {
@@ -72,7 +72,7 @@ fn are_counts(text: &[u8]) -> bool
     }
 }
 
-/// The first two fields where the text is a FEN of six fields, and else all of it.
+/// Returns the first two fields of a FEN of six fields, the board and the side to move. Any other text is returned whole.
 pub fn position_of(text: &[u8]) -> &[u8]
     ensures { result.now ≡ position_of text.now }
 {

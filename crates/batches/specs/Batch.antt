@@ -113,7 +113,7 @@ AnswersLines batch status texts lines =
 -- what is written for want of memory: a line, or an object among JSON
 abbrev pub wanting_text : Bool → List ℕ
 wanting_text false = no_memory
-wanting_text true = refused_object None NoMemory (codes "memory is wanting")
+wanting_text true = refused_object None NoMemory (codes "out of memory")
 
 -- how the writing of the text ended: well, by a failed read, or for want of memory; the first and the last perhaps by a failed write
 abbrev pub EndsBatch : Bool → Run → List ℕ → Type 0

@@ -19,7 +19,7 @@ use std::thread::Threads;
 use std::time::Clock;
 
 const WANTING: &[u8] =
-    b"{\"position\":null,\"refused\":\"NoMemory\",\"sentence\":\"memory is wanting\"}\n";
+    b"{\"position\":null,\"refused\":\"NoMemory\",\"sentence\":\"out of memory\"}\n";
 
 /// Ends a batch for want of memory, without taking memory.
 fn give_up<K: Sink, E: Write>(json: bool, writer: &mut K, errors: &mut E) -> u8

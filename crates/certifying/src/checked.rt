@@ -1,4 +1,4 @@
-//! A certificate of which nothing is handed out that the checker doesn't take.
+//! A certificate whose lines the checker has accepted before they are returned.
 ghost use Rattle.std.specs.Prelude.{◌≡◌, IfErr, IfNone, IfOk, IfSome, List};
 ghost use Rattle.certifying.specs.Lines.{claim_line};
 ghost use Rattle.certifying.specs.Making.{RefusesNext};
@@ -12,7 +12,7 @@ use crate::text::fed;
 use std::alloc::Global;
 use verifying::{Checker, Fault};
 
-/// A certificate as it is made, and a checker behind the line that was handed out last.
+/// A certificate that is being made, and the checker, which has read every line that was returned.
 #[derive(Drop)]
 pub struct Checked {
     pub certificate: Certificate,
@@ -20,8 +20,8 @@ pub struct Checked {
 }
 
 impl Checked {
-    /// The next line, with its feed, which the checker has taken, or none where the certificate ends, and is one. A line that the
-    /// checker doesn't take isn't handed out.
+    /// Returns the next line with its line feed, once the checker has accepted it, or `None` at the end of a complete certificate. Returns
+    /// an error in place of a line that the checker rejects.
     pub fn next_line(&mut self) -> Result<Option<Vec<u8>>, Fault>
         requires { HasTaken self.old.checker }
         ensures words { IfOk result (λ line. IfSome line (λ text.
@@ -30,7 +30,7 @@ impl Checked {
             TakesMore self.old.checker self.new.checker text.items)) }
         ensures whole { IfOk result (λ line. IfNone line
             ((answer : TheAnswer) × IsProvedBy self.old.checker answer)) }
-        // A refused request for memory is told as such: any other fault is the checker's.
+        // A refused request for memory is returned as such. Any other fault is the checker's.
         ensures refuses { IfErr result (λ fault. (fault ≡ NoMemory → ⊥)
             → RefusesNext self.old.checker self.new.certificate fault) }
     {

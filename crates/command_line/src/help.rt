@@ -1,5 +1,5 @@
-//! The program's commands and their arguments, as tables, with the texts of its help: the short ones of `-h`, the long ones of `--help`,
-//! and the example with which a command's begin.
+//! The program's commands and their arguments, as tables, with the texts of `-h` (short) and `--help` (long). The help of a command begins
+//! with an example.
 
 /// How an argument is written.
 pub enum Form {
@@ -33,8 +33,8 @@ pub struct Verb {
 pub const PROGRAM: &str = "Finds forced mates in two small chess games, and proves them";
 
 pub const PROGRAM_NOTES: &str = "\
-A mate in M moves is `--limit 2M-1`; beyond three moves give `--slots 1048573`.
-`minimate --help` and `minimate solve --help` say more.
+A mate in M moves is `--mate M` or `--limit 2M-1`. Beyond three moves add
+`--slots 1048573`. `minimate --help` and `minimate solve --help` explain more.
 
 Example:
   minimate solve --limit 3 'k5/6/2K3/6/6/1R4 w'";
@@ -42,10 +42,10 @@ Example:
 pub const PROGRAM_MORE: &str = "\
 The games are Los Alamos chess (6 by 6) and Gardner minichess (5 by 5).
 
-A mate in M moves is `--limit 2M-1`: limits and answers count plies, the moves
-of both sides. For a mate beyond three moves give `--slots 1048573`, which takes
-some 65 MB; the number is a prime, since a table of a power of two spreads its
-entries badly.
+Limits and answers count plies, and a ply is one move of one side. So a mate in
+M moves is `--limit 2M-1`, or `--mate M`. Beyond three moves add
+`--slots 1048573`, which takes some 65 MB of memory. The number is a prime:
+a table whose size is a power of two spreads its entries badly.
 
 A session:
   $ minimate show 'k5/6/2K3/6/6/1R4 w'
@@ -69,19 +69,21 @@ A session:
 
 Exit status:
   0  answered
-  1  refused; the output says what, as `refused: Kings`, and standard error why
-  2  the words are no command, or they ask for help
-  3  out of memory; the output is `refused: NoMemory`
-  4  the input could not be read or the output not be written";
+  1  refused; the output has the reason, as `refused: Kings`, and standard error
+     a sentence that says what to write
+  2  the command line is wrong, or it asks for help
+  3  out of memory; the output ends with `refused: NoMemory`
+  4  the input could not be read, or the output could not be written";
 
 pub const SOLVE: Verb = Verb {
     name: "solve",
     about: "Find the fewest plies to mate and the first move",
     example: "Example: minimate solve --limit 3 'k5/6/2K3/6/6/1R4 w'",
     more: "\
-The side to move attacks. The output is `mate 3 c4c5`, the fewest plies within
-which it forces mate and the least first move that keeps them, or
-`none within 3`. With `--goal stale` it is `goal 1 b1b5`.
+The side to move is the attacker. The output is `mate 3 c4c5`: the fewest plies
+within which the attacker forces mate, and the least first move that does so. It
+is `none within 3` if there is no mate within the limit. With `--goal stale` it
+is `goal 1 b1b5`.
 
 More examples:
   minimate solve --mate 2 'k5/6/2K3/6/6/1R4 w'
@@ -95,10 +97,10 @@ pub const KEYS: Verb = Verb {
     about: "List the first moves that force mate",
     example: "Example: minimate keys --limit 3 'k5/6/2K3/6/6/1R4 w'",
     more: "\
-Each first move that forces mate within the limit has a line of its own, with
-the fewest plies that it takes, as `c4c5 3`, in the order of `minimate moves`;
-where there is none, `none within 3`. So a problem has one key where one line
-alone has the least number.",
+The output has a line for each first move that forces mate within the limit, as
+`c4c5 3`: the move, and the fewest plies that it takes. The lines are in the
+order of `minimate moves`. The output is `none within 3` if there is no such
+move. A problem is cooked if two lines have the least number of plies.",
     arguments: &[LIMIT, MATE, WORKERS, SLOTS, GOAL, PROGRESS, FEN],
 };
 
@@ -107,11 +109,11 @@ pub const TREE: Verb = Verb {
     about: "Write the tree of moves that forces mate",
     example: "Example: minimate tree --limit 3 'k5/6/2K3/6/6/1R4 w'",
     more: "\
-The output is the tree that shows the answer of `solve`, on one line, or
-`none within 3`: a move of the attacker, then # for mate, = for stalemate, or in
-braces each lawful reply in order, a colon and the tree that meets it. At each
-turn the attacker's move is the least of those that force the goal in the fewest
-plies. `minimate check` checks it.
+The output is the answer of `solve` as a tree on one line, or `none within 3`. A
+tree is a move of the attacker, and then # for mate, = for stalemate, or in
+braces each lawful reply in order, a colon and the tree that answers the reply.
+At each turn the attacker plays the least of the moves that force the goal in
+the fewest plies. `minimate check` checks a tree.
 
 More examples:
   minimate tree --limit 3 --first f1f2 'k5/6/1K4/6/6/5R w'",
@@ -123,10 +125,11 @@ pub const SOLUTION: Verb = Verb {
     about: "Write the solution of a problem",
     example: "Example: minimate solution --limit 3 'k5/6/2K3/6/6/1R4 w'",
     more: "\
-The output is what a composer publishes, or `none within 3`: each key, with an
-exclamation mark, then what it threatens or `zugzwang`, and below it each reply
-of the defender, the move that meets it and its duals, and so on to the end;
-`1...~` stands before what follows a threat. More keys than one are cooks.
+The output is the solution as composers publish it, or `none within 3`. Each key
+is marked with ! and followed by its threat, or by `zugzwang`. The defender's
+replies follow below, indented, each with the attacker's answer and its duals,
+down to the mate. `1...~` introduces the play after a threat. If there is more
+than one key, the problem is cooked.
 
 More examples:
   minimate solution --mate 2 --set --tries 'k5/6/2K3/6/6/1R4 w'
@@ -145,11 +148,12 @@ pub const CHECK: Verb = Verb {
     about: "Check a tree of moves that is read from the input",
     example: "Example: echo 'c4c5{a6a5:b1a1#}' | minimate check 'k5/6/2K3/6/6/1R4 w'",
     more: "\
-The input is one tree, perhaps with a line feed after it, of at most 1048576
-bytes in all: a move of the attacker, then # for mate, = for stalemate, or in
-braces each lawful reply in order, a colon and the tree that meets it. The
-output is `yes 3`, the plies within which the tree forces the goal, or `no`.
-What is no tree is refused with the offset at which it goes wrong, and so is a
+The input is one tree, with or without a line feed after it, of at most 1048576
+bytes in all. A tree is a move of the attacker, and then # for mate, = for
+stalemate, or in braces each lawful reply in order, a colon and the tree that
+answers the reply. The output is `yes 3`, with the plies within which the tree
+forces the goal, or `no`; standard error then says where the tree is wrong. A
+text that is no tree is refused with the offset at which it goes wrong. So is a
 tree in which more than 32 moves of the attacker are nested.",
     arguments: &[GOAL, FEN],
 };
@@ -160,12 +164,12 @@ pub const VERIFY: Verb = Verb {
     example: "Example: minimate verify 'k5/6/2K3/6/6/1R4 w' < certificate",
     more: "\
 The input is a certificate: an answer as `solve` prints it, and then lines of
-claims, from which it follows that the answer is right: that no mate is shorter
-and no lesser first move as good, or that there is none. Where the lines hold,
-the output is that answer. What they don't prove is refused: `Answer` where the
-first line is no answer, and `Claim at line 3` where a line isn't there, is no
-claim's or says what isn't so. No search is made but of three plies, and no
-table. A line has at most 8192 bytes.",
+claims that prove it. They prove that no mate is shorter and no lesser first
+move as good, or that there is no mate. If every line holds, the output is the
+answer. Otherwise the certificate is refused: as `Answer` if the first line is
+no answer, and as `Claim at line 3` if a line is missing, isn't a claim, or is
+false. The checker uses no table, and searches three plies at most. A line has
+at most 8192 bytes.",
     arguments: &[GOAL, FEN],
 };
 
@@ -174,9 +178,10 @@ pub const CERTIFY: Verb = Verb {
     about: "Write a certificate of the answer",
     example: "Example: minimate certify --limit 3 'k5/6/2K3/6/6/1R4 w' > certificate",
     more: "\
-The first line is the answer of `solve`. The lines of claims after it prove it:
-that the mate is forced, that none is shorter and no lesser first move as good,
-or that there is none. `minimate verify` and tools/verify.py check it.",
+The first line is the answer of `solve`. The lines after it are claims that
+prove the answer: that the mate is forced, that no mate is shorter and no lesser
+first move as good, or that there is no mate. `minimate verify` and
+tools/verify.py check a certificate.",
     arguments: &[LIMIT, MATE, WORKERS, SLOTS, GOAL, PROGRESS, FEN],
 };
 
@@ -185,10 +190,10 @@ pub const MOVES: Verb = Verb {
     about: "List the lawful moves",
     example: "Example: minimate moves 'rnqknr/pppppp/6/6/PPPPPP/RNQKNR w'",
     more: "\
-Each move has a line of its own: the square it leaves, the square it comes to,
-and for a promotion q, r, b or n, as `c5c6q`. They are ordered by the first
-square, the second, and the promotion in that order; squares go by ranks, a1, b1
-and so on.",
+Each move has a line of its own: the square it leaves, the square it goes to,
+and q, r, b or n for a promotion, as `c5c6q`. Moves are ordered by the first
+square, then by the second, then by the promotion in that order. Squares are
+ordered by ranks: a1, b1 and so on.",
     arguments: &[FEN],
 };
 
@@ -197,8 +202,8 @@ pub const SHOW: Verb = Verb {
     about: "Draw the board",
     example: "Example: minimate show 'k5/6/1K4/6/6/5R w'",
     more: "\
-The board is drawn with its ranks and files, a letter for each unit, a point for
-each empty square, and the side to move.",
+The drawing has the numbers of the ranks and the letters of the files, a letter
+for each unit, a point for each empty square, and the side to move.",
     arguments: &[SVG, UNICODE, BLACK, FEN],
 };
 
@@ -207,9 +212,8 @@ pub const AFTER: Verb = Verb {
     about: "Write the position after a move",
     example: "Example: minimate after 'k5/6/2K3/6/6/1R4 w' c4c5",
     more: "\
-The output is the position after the move, in the notation of FEN. The move is
-named as `minimate moves` names it; what is no lawful move's name is refused as
-`Move`.",
+The output is the text of the position after the move. Write the move as
+`minimate moves` prints it. Any other text is refused as `Move`.",
     arguments: &[FEN, MOVE],
 };
 
@@ -218,15 +222,15 @@ pub const BATCH: Verb = Verb {
     about: "Solve each position that is read from the input",
     example: "Example: minimate batch --limit 5 --slots 1048573 < positions",
     more: "\
-The input has a position on each line. Each is answered on a line of its own, as
-by `solve`, or refused, and the next is read; all share one table. An empty line
-and one that begins with # are passed on as they are. A line has at most 256
-bytes.
+The input has a position on each line. For each line the output has a line, in
+the order of the input: the answer of `solve`, or the refusal. All lines share
+one table. Empty lines and lines that begin with # are copied to the output. A
+line has at most 256 bytes.
 
-Behind its position a line may have its own limit, in moves: a line
-`k5/6/2K3/6/6/1R4 w ; dm 2` is searched within three plies, whatever the limit,
-and behind its answer stands `ok` where that is a mate in two moves and no
-fewer, and else `differs`.",
+A line may have its own limit after the position, in moves, as in
+`k5/6/2K3/6/6/1R4 w ; dm 2`. That line is searched within three plies, whatever
+the limit is. Its answer ends with `ok` if the mate takes exactly two moves, and
+with `differs` otherwise.",
     arguments: &[
         LIMIT, MATE, WORKERS, SLOTS, GOAL, PROGRESS, ECHO, KEY_LISTS, OBJECTS, LINES, SKIP,
     ],
@@ -237,11 +241,11 @@ const FEN: Argument = Argument {
     form: Form::Word,
     help: "The position as one word, as 'k5/6/1K4/6/6/5R w'",
     more: "\
-The position as one word, so quote it: the ranks from the last one
+The position as one word, so quote it: the ranks from the top one
 down, with / between them, then a space and w or b, the side to move.
-A rank goes from the a-file: K Q R B N P are White's units, k q r b n
-p Black's, and a digit is a run of empty squares. Six ranks of six
-are Los Alamos chess, five of five Gardner minichess.
+A rank begins at the a-file. K Q R B N P are White's units, k q r b n
+p are Black's, and a digit counts empty squares. Six ranks of six
+squares are Los Alamos chess, five of five Gardner minichess.
 'k5/6/1K4/6/6/5R w': Black's king on a6, White's on b4, White's rook
 on f1, White to move.",
 };
@@ -251,8 +255,8 @@ const MOVE: Argument = Argument {
     form: Form::Word,
     help: "The move, as c4c5, or c5c6q for a promotion",
     more: "\
-The move: the square it leaves, the square it comes to, and for a
-promotion q, r, b or n, as c5c6q.",
+The move: the square it leaves, the square it goes to, and q, r, b or
+n for a promotion, as c5c6q.",
 };
 
 const LIMIT: Argument = Argument {
@@ -261,7 +265,7 @@ const LIMIT: Argument = Argument {
     help: "The most plies to the goal, 1 to 63",
     more: "\
 The most plies to the goal, 1 to 63. A ply is one move of one side,
-so a mate in M moves is 2M-1.",
+so a mate in M moves takes 2M-1 plies.",
 };
 
 const MATE: Argument = Argument {
@@ -269,8 +273,8 @@ const MATE: Argument = Argument {
     form: Form::Number("M", &[]),
     help: "The most moves to the goal, 1 to 32, in place of --limit",
     more: "\
-The most moves of the attacker to the goal, 1 to 32: `--mate M` is
-`--limit 2M-1`. Give one of the two. Answers stay in plies.",
+The most moves of the attacker to the goal, 1 to 32: `--mate M` means
+`--limit 2M-1`. Give one of the two. Answers count plies either way.",
 };
 
 const WORKERS: Argument = Argument {
@@ -278,8 +282,8 @@ const WORKERS: Argument = Argument {
     form: Form::Number("K", &["2"]),
     help: "How many threads search, 1 to 16",
     more: "\
-How many threads search, 1 to 16, beside the one that the program
-begins with. It changes how long the search takes, and never the
+How many threads search, 1 to 16, beside the first thread of the
+program. The number changes how long a search takes, and never the
 answer.",
 };
 
@@ -288,9 +292,10 @@ const SLOTS: Argument = Argument {
     form: Form::Number("S", &["64"]),
     help: "How many slots the table has, 1 to 1048576",
     more: "\
-How many slots the table of decided positions has, 1 to 1048576. It
-changes how long the search takes and how much memory (some 65 bytes
-a slot), and never the answer. Give a prime, as 1048573.",
+How many slots the table of decided positions has, 1 to 1048576. The
+number changes how long a search takes and how much memory it uses
+(some 65 bytes a slot), and never the answer. Best is a prime, as
+1048573.",
 };
 
 const GOAL: Argument = Argument {
@@ -298,19 +303,19 @@ const GOAL: Argument = Argument {
     form: Form::Value("GOAL", &["mate"]),
     help: "What to play for, `mate` or `stale`",
     more: "\
-What the attacker plays for: `mate`, or `stale`, by which a
-stalemated defender is as good as a mated one.",
+What the attacker plays for: `mate`, or `stale`. With `stale` a
+stalemate counts as much as a mate.",
 };
 
 const PROGRESS: Argument = Argument {
     name: "progress",
     form: Form::Flag,
-    help: "Show on standard error how far the search is",
+    help: "Show the progress of the search on standard error",
     more: "\
-Shows on standard error how far the search is: one line, drawn anew at
-least each second, as `12 s, none within 9, round 11: move 14 of 31,
-c4c5`, the least first move that isn't decided yet. Each round that
-ends with nothing leaves `none within 9` behind.",
+Shows the progress of the search on standard error, as one line that is
+redrawn at least every second: `12 s, none within 9, round 11: move 14
+of 31, c4c5`. The move is the least first move that isn't decided yet.
+Each round that finds no mate leaves a line `none within 9`.",
 };
 
 const FIRST: Argument = Argument {
@@ -318,43 +323,44 @@ const FIRST: Argument = Argument {
     form: Form::Value("MOVE", &[]),
     help: "The first move of the tree, as c4c5",
     more: "\
-The first move of the tree, as `minimate keys` names one: the tree is
-that of this move in its fewest plies, or `none within 3` where it
-forces nothing within the limit.",
+The first move of the tree, as `minimate keys` prints it. The output is
+the tree of this move in the fewest plies that it takes, or
+`none within 3` if it forces nothing within the limit.",
 };
 
 const SET: Argument = Argument {
     name: "set",
     form: Form::Flag,
-    help: "Tell the set play too",
+    help: "Print the set play too",
     more: "\
-Tells the set play too: what follows if the defender were to move.",
+Prints the set play too: what would follow if the defender were to
+move.",
 };
 
 const TRIES: Argument = Argument {
     name: "tries",
     form: Form::Flag,
-    help: "Tell the tries too",
+    help: "Print the tries too",
     more: "\
-Tells the tries too: first moves that miss the mate by one reply, with
-the reply that refutes each.",
+Prints the tries too: first moves that only one reply refutes, each with
+that reply.",
 };
 
 const FIGURINES: Argument = Argument {
     name: "figurines",
     form: Form::Flag,
-    help: "Name units by figurines",
+    help: "Print chess symbols in place of letters",
     more: "\
-Names units by figurines in place of the letters K Q R B N.",
+Prints chess symbols in place of the letters K Q R B N.",
 };
 
 const SHORT: Argument = Argument {
     name: "short",
     form: Form::Flag,
-    help: "Tell one line behind each reply to a key",
+    help: "Print one line of play after each reply to a key",
     more: "\
-Tells the best line alone behind each reply to a key, in place of all
-that follows it.",
+Prints the best line of play after each reply to a key, in place of
+everything that may follow it.",
 };
 
 const DATA: Argument = Argument {
@@ -363,8 +369,8 @@ const DATA: Argument = Argument {
     help: "Write the solution as a JSON object",
     more: "\
 Writes the short form as a JSON object, with position, goal, plies,
-short, keys, set_play and tries, which are null where they aren't
-asked for. Moves are named by their squares.",
+short, keys, set_play and tries. set_play and tries are null unless
+--set and --tries ask for them. Moves are written as squares.",
 };
 
 const CAPTIONED: Argument = Argument {
@@ -373,18 +379,19 @@ const CAPTIONED: Argument = Argument {
     help: "Draw the diagram, with stipulation and keys",
     more: "\
 Draws the diagram in place of the solution's text, as `minimate show
---svg` does, and below it the stipulation, as `#2`, or `=2` where the
-goal is stale, and the keys.",
+--svg` does. Below the board it writes the stipulation, `#2`, or `=2`
+with --goal stale, and the keys.",
 };
 
 const TOLD: Argument = Argument {
     name: "first",
     form: Form::Value("MOVE", &[]),
-    help: "The first move that is told of, as c4c5",
+    help: "Print the play after this first move only, as c4c5",
     more: "\
-Tells of this first move alone: what it threatens, the replies that
-are met in as few plies as the problem takes, and each that refutes
-it, as `but 1...Ka5!`. With it only --figurines changes the text.",
+Prints the play after this first move only: its threat, the replies
+that are answered in as few plies as the problem takes, and each reply
+that refutes it, as `but 1...Ka5!`. Of the other options of a solution
+only --figurines changes this text.",
 };
 
 const SVG: Argument = Argument {
@@ -392,9 +399,8 @@ const SVG: Argument = Argument {
     form: Form::Flag,
     help: "Draw a picture, in Scalable Vector Graphics",
     more: "\
-Draw a picture, in Scalable Vector Graphics: a file that stands
-alone, of shapes and no fonts, for print. It is drawn whether
---unicode is given or not.",
+Draw a picture, in Scalable Vector Graphics. The file contains shapes
+and no fonts, and needs no other file. --unicode doesn't change it.",
 };
 
 const UNICODE: Argument = Argument {
@@ -424,8 +430,8 @@ const KEY_LISTS: Argument = Argument {
     form: Form::Flag,
     help: "Write the keys of each position on a line",
     more: "\
-Writes the keys of each position, as `minimate keys` finds them, on
-one line, parted by commas: `c1c5 5,d3c5 5`, or `none within 5`.",
+Writes the keys of each position on one line, as `minimate keys` finds
+them, separated by commas: `c1c5 5,d3c5 5`, or `none within 5`.",
 };
 
 const OBJECTS: Argument = Argument {
@@ -433,28 +439,29 @@ const OBJECTS: Argument = Argument {
     form: Form::Flag,
     help: "Write each reply as a JSON object",
     more: "\
-Writes each reply as a JSON object on a line of its own, with the
-input's line, position, goal, limit, answer, plies and first, or
-keys; or with line, position, refused and a sentence. Empty lines
-and remarks are left out.",
+Writes each reply as a JSON object on a line of its own. An answer has
+line, position, goal, limit, answer, plies and first, or keys in place
+of plies and first. A refusal has line, position, refused and sentence.
+Empty lines and comments are left out.",
 };
 
 const LINES: Argument = Argument {
     name: "lines",
     form: Form::Number("L", &[]),
-    help: "How many lines the input has, to tell how far it is",
+    help: "How many lines the input has, to show the progress",
     more: "\
-How many lines the input has, or 0: shows on standard error, at most
-once a second, how many are answered and how long the rest may take.
-The launcher gives it where standard error alone is a terminal.",
+How many lines the input has, or 0 if you don't know: shows on standard
+error, at most once a second, how many lines are answered and how long
+the rest may take. The launcher adds `--lines 0` where standard error
+is a terminal and the input and the output are not.",
 };
 
 const SKIP: Argument = Argument {
     name: "skip",
     form: Form::Number("L", &[]),
-    help: "How many lines at the beginning are left out",
+    help: "How many lines at the beginning are skipped",
     more: "\
-How many lines at the beginning of the input are left out: they have
-no reply, and keep their numbers. So a batch that was interrupted goes
-on behind the lines that have their replies.",
+How many lines at the beginning of the input are skipped. Skipped lines
+have no reply, and the numbers of the other lines stay. So you can
+continue a batch that was interrupted.",
 };

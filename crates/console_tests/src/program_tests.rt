@@ -162,10 +162,10 @@ fn expect_table<R: Threads + Wait + Abort + AllocGlobal + Eprint + Clock + Sync>
 #[test]
 fn explains_fields(rt: HostRuntime) {
     let one =
-        "k5/6/1K4/6/6/5R|a position has two fields, the board and the side: here is one; write ' w' or ' b' behind the board|k5/6/1K4/6/6/5R b
-k5/6/1K4/6/6/5R |a position has two fields, the board and the side: here is one; write ' w' or ' b' behind the board|k5/6/1K4/6/6/5R w
-k4/5/1K3/5/4b|a position has two fields, the board and the side: here is one; write ' w' or ' b' behind the board|k4/5/1K3/5/4b w
-k5/6/1K4/6/6/4R|a position has two fields, the board and the side: here is one; write ' w' or ' b' behind the board; the board has a fault too|
+        "k5/6/1K4/6/6/5R|a position has two fields, the board and the side: here is one; write ' w' or ' b' after the board|k5/6/1K4/6/6/5R b
+k5/6/1K4/6/6/5R |a position has two fields, the board and the side: here is one; write ' w' or ' b' after the board|k5/6/1K4/6/6/5R w
+k4/5/1K3/5/4b|a position has two fields, the board and the side: here is one; write ' w' or ' b' after the board|k4/5/1K3/5/4b w
+k5/6/1K4/6/6/4R|a position has two fields, the board and the side: here is one; write ' w' or ' b' after the board; the board has a fault too|
 |there is no position: write one, as k5/6/1K4/6/6/5R w|k5/6/1K4/6/6/5R w
  |there is no position: write one, as k5/6/1K4/6/6/5R w|k5/6/1K4/6/6/5R w
 \t  |there is no position: write one, as k5/6/1K4/6/6/5R w|k5/6/1K4/6/6/5R w";
@@ -184,28 +184,28 @@ k5/6/1K4/6/6/5R w \u{2013} \u{2013}|a position has two fields, the board and the
 #[test]
 fn explains_blanks(rt: HostRuntime) {
     let between =
-        "k5/6/1K4/6/6/5R  w|several spaces stand behind the board: write 'k5/6/1K4/6/6/5R w'|k5/6/1K4/6/6/5R w
- k5/6/1K4/6/6/5R    b - - |several spaces stand behind the board: write 'k5/6/1K4/6/6/5R b'|k5/6/1K4/6/6/5R b
-k5/6/1K4/6/6/5R\tw|a tab or a line end stands behind the board: write 'k5/6/1K4/6/6/5R w'|k5/6/1K4/6/6/5R w
-k5/6/1K4/6/6/5R \tw|a tab or a line end stands behind the board: write 'k5/6/1K4/6/6/5R w'|k5/6/1K4/6/6/5R w
-k5/6/1K4/6/6/5R\tw - - 0 1|a tab or a line end stands behind the board: write 'k5/6/1K4/6/6/5R w'|k5/6/1K4/6/6/5R w
-k5/6/1K4/6/6/6w|no space stands behind the board: write 'k5/6/1K4/6/6/6 w'|k5/6/1K4/6/6/6 w
-k5/6/1K4/6/6/5Rb|no space stands behind the board: write 'k5/6/1K4/6/6/5R b'|k5/6/1K4/6/6/5R b
-k4/5/1K3/5/5w - -|no space stands behind the board: write 'k4/5/1K3/5/5 w'|k4/5/1K3/5/5 w";
+        "k5/6/1K4/6/6/5R  w|there are several spaces after the board: write 'k5/6/1K4/6/6/5R w'|k5/6/1K4/6/6/5R w
+ k5/6/1K4/6/6/5R    b - - |there are several spaces after the board: write 'k5/6/1K4/6/6/5R b'|k5/6/1K4/6/6/5R b
+k5/6/1K4/6/6/5R\tw|there is a tab or a line end after the board: write 'k5/6/1K4/6/6/5R w'|k5/6/1K4/6/6/5R w
+k5/6/1K4/6/6/5R \tw|there is a tab or a line end after the board: write 'k5/6/1K4/6/6/5R w'|k5/6/1K4/6/6/5R w
+k5/6/1K4/6/6/5R\tw - - 0 1|there is a tab or a line end after the board: write 'k5/6/1K4/6/6/5R w'|k5/6/1K4/6/6/5R w
+k5/6/1K4/6/6/6w|there is no space after the board: write 'k5/6/1K4/6/6/6 w'|k5/6/1K4/6/6/6 w
+k5/6/1K4/6/6/5Rb|there is no space after the board: write 'k5/6/1K4/6/6/5R b'|k5/6/1K4/6/6/5R b
+k4/5/1K3/5/5w - -|there is no space after the board: write 'k4/5/1K3/5/5 w'|k4/5/1K3/5/5 w";
     expect_table(&rt, between);
     let elsewhere =
-        " k5/6/1K4/6/6/5R w|blanks stand around the position: write 'k5/6/1K4/6/6/5R w'|k5/6/1K4/6/6/5R w
-k5/6/1K4/6/6/5R w |blanks stand around the position: write 'k5/6/1K4/6/6/5R w'|k5/6/1K4/6/6/5R w
-\tk5/6/1K4/6/6/5R w\t|blanks stand around the position: write 'k5/6/1K4/6/6/5R w'|k5/6/1K4/6/6/5R w
-k5/6/1K4/6/6/5R w\r|blanks stand around the position: write 'k5/6/1K4/6/6/5R w'|k5/6/1K4/6/6/5R w
-  k5/6/1K4/6/6/5R w - -|blanks stand around the position: write 'k5/6/1K4/6/6/5R w'|k5/6/1K4/6/6/5R w
-k5/6/1K4 /6/6/5R w|blanks stand inside the board: leave them out|k5/6/1K4/6/6/5R w
-k5 / 6 / 1K4 / 6 / 6 / 5R w|blanks stand inside the board: leave them out|k5/6/1K4/6/6/5R w
-k5/6/1K4/\t6/6/5R w|blanks stand inside the board: leave them out|k5/6/1K4/6/6/5R w
-k5/6/1K4/6/6/4R  w|several spaces stand behind the board: write 'k5/6/1K4/6/6/4R w'; the board has a fault too|
-k5/6/1K4/6/6 /4R w|blanks stand inside the board: leave them out; the board has a fault too|
-k5/6/1K4 /6/6/5R w - -|blanks stand inside the board: leave them out|k5/6/1K4/6/6/5R w
-k5/6/1K4/6/6/5R w;|the side to move is w or b: leave out ';' behind it|k5/6/1K4/6/6/5R w
+        " k5/6/1K4/6/6/5R w|there are blanks around the position: write 'k5/6/1K4/6/6/5R w'|k5/6/1K4/6/6/5R w
+k5/6/1K4/6/6/5R w |there are blanks around the position: write 'k5/6/1K4/6/6/5R w'|k5/6/1K4/6/6/5R w
+\tk5/6/1K4/6/6/5R w\t|there are blanks around the position: write 'k5/6/1K4/6/6/5R w'|k5/6/1K4/6/6/5R w
+k5/6/1K4/6/6/5R w\r|there are blanks around the position: write 'k5/6/1K4/6/6/5R w'|k5/6/1K4/6/6/5R w
+  k5/6/1K4/6/6/5R w - -|there are blanks around the position: write 'k5/6/1K4/6/6/5R w'|k5/6/1K4/6/6/5R w
+k5/6/1K4 /6/6/5R w|there are blanks inside the board: leave them out|k5/6/1K4/6/6/5R w
+k5 / 6 / 1K4 / 6 / 6 / 5R w|there are blanks inside the board: leave them out|k5/6/1K4/6/6/5R w
+k5/6/1K4/\t6/6/5R w|there are blanks inside the board: leave them out|k5/6/1K4/6/6/5R w
+k5/6/1K4/6/6/4R  w|there are several spaces after the board: write 'k5/6/1K4/6/6/4R w'; the board has a fault too|
+k5/6/1K4/6/6 /4R w|there are blanks inside the board: leave them out; the board has a fault too|
+k5/6/1K4 /6/6/5R w - -|there are blanks inside the board: leave them out|k5/6/1K4/6/6/5R w
+k5/6/1K4/6/6/5R w;|the side to move is w or b: leave out ';' after it|k5/6/1K4/6/6/5R w
 k5/6/1K4/6/6/5R b; dm 3|the side to move is w or b: leave out '; dm 3' behind it|k5/6/1K4/6/6/5R b
 k5/6/1K4/6/6/5R w'|the side to move is w or b: leave out '\\'' behind it|k5/6/1K4/6/6/5R w";
     expect_table(&rt, elsewhere);
@@ -232,8 +232,8 @@ k5/6/1K4/6/6/5R \u{a0}b|character 17 is not ASCII: leave out '\\xc2\\xa0'|k5/6/1
 #[test]
 fn explains_shapes(rt: HostRuntime) {
     let ranks =
-        "k7/8/2K5/8/8/8/8/7R w|a board of 8 ranks is chess's: Los Alamos chess has 6 ranks of 6 squares, Gardner minichess 5 of 5|k5/6/2K3/6/6/5R w
-rnbqkbnr/pppppppp/8/8/8/8/PPPPPPPP/RNBQKBNR w KQkq - 0 1|a board of 8 ranks is chess's: Los Alamos chess has 6 ranks of 6 squares, Gardner minichess 5 of 5|rnqknr/pppppp/6/6/PPPPPP/RNQKNR w
+        "k7/8/2K5/8/8/8/8/7R w|a board of 8 ranks is ordinary chess: Los Alamos chess has 6 ranks of 6 squares, Gardner minichess 5 of 5|k5/6/2K3/6/6/5R w
+rnbqkbnr/pppppppp/8/8/8/8/PPPPPPPP/RNBQKBNR w KQkq - 0 1|a board of 8 ranks is ordinary chess: Los Alamos chess has 6 ranks of 6 squares, Gardner minichess 5 of 5|rnqknr/pppppp/6/6/PPPPPP/RNQKNR w
 k5/6/1K4/6/5R w|here are 5 ranks of 6 squares: write 6 ranks, as Los Alamos chess has|k5/6/1K4/6/6/5R w
 k5/6/1K4/6/6/6/5R w|here are 7 ranks of 6 squares: write 6 ranks, as Los Alamos chess has|k5/6/1K4/6/6/5R w
 k4/5/1K3/5/5/4R w|here are 6 ranks of 5 squares: write 5 ranks, as Gardner minichess has|k4/5/1K3/5/4R w
@@ -282,10 +282,10 @@ k5/6/1K4/6/6/5R white|the side to move is w or b: write w in place of 'white'|k5
 k4k/6/1K4/6/6/5R w|each side has one king, K and k: here are 1 K and 2 k|k5/6/1K4/6/6/5R w
 k5/QQQQQQ/QQQQQQ/6/6/K5 b|a side has at most 12 units in Los Alamos chess: here White has 13 and Black 1|k5/QQQQQQ/QQQQQ1/6/6/K5 b
 kqrbn/nbrqp/p4/4P/KQRBN w|a side has at most 10 units in Gardner minichess: here White has 6 and Black 11|kqrbn/nbrqp/5/4P/KQRBN w
-k3P/5/1K3/5/5 w|rank 5 has a pawn: pawns stand on ranks 2 to 4 alone|k4/4P/1K3/5/5 w
-k5/6/1K4/6/6/4pR w|rank 1 has a pawn: pawns stand on ranks 2 to 5 alone|k5/6/1K4/6/4p1/5R w
-k5/6/1K4/6/6/4RP w|rank 1 has a pawn: pawns stand on ranks 2 to 5 alone|k5/6/1K4/6/5P/4R1 w
-k4p/1p4/1K4/6/1P4/5R w|rank 6 has a pawn: pawns stand on ranks 2 to 5 alone|k5/1p3p/1K4/6/1P4/5R w";
+k3P/5/1K3/5/5 w|rank 5 has a pawn: pawns can only be on ranks 2 to 4|k4/4P/1K3/5/5 w
+k5/6/1K4/6/6/4pR w|rank 1 has a pawn: pawns can only be on ranks 2 to 5|k5/6/1K4/6/4p1/5R w
+k5/6/1K4/6/6/4RP w|rank 1 has a pawn: pawns can only be on ranks 2 to 5|k5/6/1K4/6/5P/4R1 w
+k4p/1p4/1K4/6/1P4/5R w|rank 6 has a pawn: pawns can only be on ranks 2 to 5|k5/1p3p/1K4/6/1P4/5R w";
     expect_table(&rt, units);
 }
 
@@ -295,10 +295,10 @@ fn explains_checks(rt: HostRuntime) {
     let checks =
         "k4R/6/1K4/6/6/6 w|Black is in check, and White is to move: write b for the side, or move a unit|k4R/6/1K4/6/6/6 b
 K4r/6/1k4/6/6/6 b|White is in check, and Black is to move: write w for the side, or move a unit|K4r/6/1k4/6/6/6 w
-kK4/6/6/6/6/6 w|the kings stand next to each other, on b6 and a6: move one of them away|k1K3/6/6/6/6/6 w
-kK4/6/6/6/6/6 b|the kings stand next to each other, on b6 and a6: move one of them away|k1K3/6/6/6/6/6 b
-5/5/2k2/1K3/5 b|the kings stand next to each other, on b2 and c3: move one of them away|5/2k2/5/1K3/5 b
-6/3k2/3K2/6/6/6 w|the kings stand next to each other, on d4 and d5: move one of them away|3k2/6/3K2/6/6/6 w
+kK4/6/6/6/6/6 w|the kings are next to each other, on b6 and a6: move one of them away|k1K3/6/6/6/6/6 w
+kK4/6/6/6/6/6 b|the kings are next to each other, on b6 and a6: move one of them away|k1K3/6/6/6/6/6 b
+5/5/2k2/1K3/5 b|the kings are next to each other, on b2 and c3: move one of them away|5/2k2/5/1K3/5 b
+6/3k2/3K2/6/6/6 w|the kings are next to each other, on d4 and d5: move one of them away|3k2/6/3K2/6/6/6 w
 k4R/6/6/6/6/K4r w|both kings are in check: move the king of the side that is not to move, or what checks it|k5/5R/6/6/6/K4r w
 k4R/6/6/6/6/K4r w|both kings are in check: move the king of the side that is not to move, or what checks it|5R/k5/6/6/6/K4r w
 k4R/6/6/6/6/K4r b|both kings are in check: move the king of the side that is not to move, or what checks it|k4R/6/6/6/K5/5r b
@@ -357,13 +357,13 @@ fn expect_moves<R: Threads + Wait + Abort + AllocGlobal + Eprint + Clock + Sync>
 #[test]
 fn explains_moves_of_a_line(rt: HostRuntime) {
     let table =
-        "k5/6/2K3/6/6/1R4 w;dm 2|a line has its moves behind its position: write ' ; dm 2' in place of ';dm 2'|k5/6/2K3/6/6/1R4 w ; dm 2
-k5/6/2K3/6/6/1R4 w ; dm 2 |a line has its moves behind its position: write ' ; dm 2' in place of ' ; dm 2 '|k5/6/2K3/6/6/1R4 w ; dm 2
-k5/6/2K3/6/6/1R4 w ; dm 02|a line has its moves behind its position: write ' ; dm 2' in place of ' ; dm 02'|k5/6/2K3/6/6/1R4 w ; dm 2
-k5/6/2K3/6/6/1R4 w dm 2;|a line has its moves behind its position: write ' ; dm 2' in place of ' dm 2;'|k5/6/2K3/6/6/1R4 w ; dm 2
-k5/6/2K3/6/6/1R4 w - - dm 2;|a line has its moves behind its position: write ' ; dm 2' in place of ' - - dm 2;'|k5/6/2K3/6/6/1R4 w ; dm 2
-k5/6/2K3/6/6/1R4 w ; dm 33|behind ; dm a line has its moves, 1 to 32: write one of these|k5/6/2K3/6/6/1R4 w ; dm 2
-k5/6/2K3/6/6/1R4 w ; dm 0|behind ; dm a line has its moves, 1 to 32: write one of these|k5/6/2K3/6/6/1R4 w ; dm 2
+        "k5/6/2K3/6/6/1R4 w;dm 2|a line has its moves after its position: write ' ; dm 2' in place of ';dm 2'|k5/6/2K3/6/6/1R4 w ; dm 2
+k5/6/2K3/6/6/1R4 w ; dm 2 |a line has its moves after its position: write ' ; dm 2' in place of ' ; dm 2 '|k5/6/2K3/6/6/1R4 w ; dm 2
+k5/6/2K3/6/6/1R4 w ; dm 02|a line has its moves after its position: write ' ; dm 2' in place of ' ; dm 02'|k5/6/2K3/6/6/1R4 w ; dm 2
+k5/6/2K3/6/6/1R4 w dm 2;|a line has its moves after its position: write ' ; dm 2' in place of ' dm 2;'|k5/6/2K3/6/6/1R4 w ; dm 2
+k5/6/2K3/6/6/1R4 w - - dm 2;|a line has its moves after its position: write ' ; dm 2' in place of ' - - dm 2;'|k5/6/2K3/6/6/1R4 w ; dm 2
+k5/6/2K3/6/6/1R4 w ; dm 33|after ; dm a line has its number of moves: write one from 1 to 32|k5/6/2K3/6/6/1R4 w ; dm 2
+k5/6/2K3/6/6/1R4 w ; dm 0|after ; dm a line has its number of moves: write one from 1 to 32|k5/6/2K3/6/6/1R4 w ; dm 2
 k5/6/2K3/6/6/1R4 w ; bm c4c5|a position has two fields, the board and the side: here are five; leave out ' ; bm c4c5'|k5/6/2K3/6/6/1R4 w ; dm 2";
     for row in table.lines() {
         let (line, rest) = row.split_once('|').expect(&rt, "a sentence");
@@ -508,7 +508,7 @@ minimate,keys,--limit=3,--mate=2,k5/6/2K3/6/6/1R4 w|--limit and --mate say the s
 minimate,solve,--moves,2,k5/6/2K3/6/6/1R4 w|moves of the attacker are counted by --mate: write --mate in place of --moves|minimate,solve,--mate,2,k5/6/2K3/6/6/1R4 w
 minimate,solve,--threads,4,--limit,3,k5/6/2K3/6/6/1R4 w|threads are counted by --workers: write --workers in place of --threads|minimate,solve,--workers,4,--limit,3,k5/6/2K3/6/6/1R4 w
 minimate,solve,--lim,3,k5/6/2K3/6/6/1R4 w|write --limit in place of --lim|minimate,solve,--limit,3,k5/6/2K3/6/6/1R4 w
-minimate,solve,3,k5/6/2K3/6/6/1R4 w|a limit stands behind its option: write '--limit 3' in place of '3'|minimate,solve,--limit,3,k5/6/2K3/6/6/1R4 w
+minimate,solve,3,k5/6/2K3/6/6/1R4 w|a limit comes after its option: write '--limit 3' in place of '3'|minimate,solve,--limit,3,k5/6/2K3/6/6/1R4 w
 minimate,solve,--limit,--limit,3,k5/6/2K3/6/6/1R4 w|--limit stands there already: leave out --limit|minimate,solve,--limit,3,k5/6/2K3/6/6/1R4 w
 minimate,solve,--limit,3,--limit,5,k5/6/2K3/6/6/1R4 w|--limit stands there already: leave out --limit 5|minimate,solve,--limit,3,k5/6/2K3/6/6/1R4 w
 minimate,keys,--workers=3,--threads,4,--limit,3,k5/6/2K3/6/6/1R4 w|--workers stands there already: leave out --threads 4|minimate,keys,--workers=3,--limit,3,k5/6/2K3/6/6/1R4 w
@@ -537,7 +537,7 @@ minimate,batch,--limit,3,positions|batch reads positions from its input: write '
 minimate,batch,--limit=3,positions|batch reads positions from its input: write '< positions' in place of 'positions'|minimate,batch,--limit=3
 minimate,batch,--limit=3,--echo,positions|batch reads positions from its input: write '< positions' in place of 'positions'|minimate,batch,--limit=3,--echo
 minimate,batch,--limit,3,k5/6/2K3/6/6/1R4 w|batch reads positions from its input: write solve in place of batch for one position|minimate,solve,--limit,3,k5/6/2K3/6/6/1R4 w
-minimate,--workers,4,solve,--limit,3,k5/6/2K3/6/6/1R4 w|options stand behind the command: write it before --workers|minimate,solve,--workers,4,--limit,3,k5/6/2K3/6/6/1R4 w
+minimate,--workers,4,solve,--limit,3,k5/6/2K3/6/6/1R4 w|options come after the command: write it before --workers|minimate,solve,--workers,4,--limit,3,k5/6/2K3/6/6/1R4 w
 minimate,show,--slots,k5/6/2K3/6/6/1R4 w|show makes no search: leave out --slots|minimate,show,k5/6/2K3/6/6/1R4 w
 minimate,check,--mate,2,k5/6/2K3/6/6/1R4 w|check makes no search: leave out --mate 2|minimate,check,k5/6/2K3/6/6/1R4 w
 minimate,moves,--limit,3,--slots=9,k5/6/2K3/6/6/1R4 w|moves makes no search: leave out --limit 3, and the other options of a search|minimate,moves,k5/6/2K3/6/6/1R4 w
@@ -610,7 +610,7 @@ fn explains_moves(rt: HostRuntime) {
             "c4c5k",
             "a move is two squares of the board, and what a pawn becomes, as c4c5 or c5c6q",
         ),
-        ("k5/6/2K3/6/6/1R4 w", "d4d5", "nothing stands on d4"),
+        ("k5/6/2K3/6/6/1R4 w", "d4d5", "there is no unit on d4"),
         ("k5/6/2K3/6/6/1R4 w", "Kc5!", "write the move as c4c5"),
         ("k4/2P2/1K3/5/5 w", "c5=N", "write the move as c4c5n"),
         ("k4/2P2/1K3/5/5 w", "c5=Q#", "write the move as c4c5q"),

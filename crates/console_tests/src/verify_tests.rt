@@ -105,11 +105,11 @@ fn explains_first_lines(rt: HostRuntime) {
         ),
         (
             b"mate 3 c4c5\r\np.\r\naaaaaaaa-aaaaaa\r\n\r\n",
-            "the first line ends with a carriage return: end each line with a line feed alone",
+            "the first line ends with a carriage return: end each line with a line feed only",
         ),
         (
             b"mate 3 c4c5",
-            "the first line has no line feed: write one behind it",
+            "the first line has no line feed: write one after it",
         ),
         (
             b"mate 2 c4c5\n",
@@ -149,7 +149,7 @@ fn expect_nothing<R: Abort>(rt: &R, status: u8, written: &[u8], told: &[u8]) {
 fn explains_a_first_line_of_the_most_kept_bytes(rt: HostRuntime) {
     let words = ["minimate", "verify", ROOK];
     let line = [b'a'; 65];
-    let no_feed = "the first line has no line feed: write one behind it";
+    let no_feed = "the first line has no line feed: write one after it";
     let no_answer =
         "the first line is no answer: write it as `solve` prints it for this goal, as mate 3 c4c5";
     for (count, unfed) in [(63, no_feed), (64, no_answer), (65, no_answer)] {

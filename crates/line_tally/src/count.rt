@@ -1,4 +1,4 @@
-//! The text of a count of lines: how many are answered, and how long the others take.
+//! The text of the progress line: how many lines are answered, and how long the others may take.
 ghost use Rattle.std.specs.Prelude.{◌≡◌};
 ghost use Rattle.line_tally.specs.Text.{named_lines, seconds_left};
 
@@ -23,7 +23,7 @@ impl Lines {
     }
 }
 
-/// How many lines are answered after so many seconds.
+/// The progress of a batch: how many lines are answered after a number of seconds.
 #[derive(Clone, Copy)]
 pub struct Count {
     /// The number of the line that was answered last. The first line of the input has the number 1.
@@ -36,8 +36,8 @@ pub struct Count {
     pub seconds: u32,
 }
 
-/// The seconds that the lines that are left take, if each takes as long as a line took so far. None if the number of lines isn't
-/// known or is too low, and before the first answer.
+/// Estimates the seconds until the last line is answered, from the mean time of a line so far. Returns `None` before the first answer,
+/// and if the number of lines isn't known or is too low.
 fn seconds_left(count: &Count) -> Option<u64>
     ensures { result ≡ seconds_left count.now }
 {
@@ -51,11 +51,11 @@ fn seconds_left(count: &Count) -> Option<u64>
     Some((lines - count.number) * u64::from(count.seconds) / (count.number - skipped))
 }
 
-/// A time in seconds.
+/// A time, in seconds.
 #[derive(Clone, Copy)]
 struct Time(u64);
 
-/// In seconds below two minutes, and else in whole minutes: as `119 s`, or `2 minutes`.
+/// Writes seconds below two minutes, and whole minutes from there on: `119 s`, `2 minutes`.
 impl fmt::Display for Time {
     ghost use Rattle.std.specs.Prelude.{Some};
     ghost use Rattle.line_tally.specs.Text.{time_text};
@@ -72,7 +72,7 @@ impl fmt::Display for Time {
     }
 }
 
-/// As `20 of 100 lines, 8 s to go at this rate`, or as `20 lines, 2 s` where the time to go isn't known.
+/// Writes `20 of 100 lines, 8 s to go at this rate`, or `20 lines, 2 s` if there is no estimate.
 impl fmt::Display for Count {
     ghost use Rattle.std.specs.Prelude.{Some};
     ghost use Rattle.line_tally.specs.Text.{count_text};

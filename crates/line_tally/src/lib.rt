@@ -1,4 +1,4 @@
-//! How many lines are done, which standard error is told.
+//! The progress line of a batch or of a certificate: how many lines are done.
 #![tactic(auto)]
 
 mod count;

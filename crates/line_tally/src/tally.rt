@@ -1,4 +1,4 @@
-//! How far a batch, or the writing of a certificate, is, which standard error is told at most once a second.
+//! The progress line of a batch or of a certificate, drawn on standard error at most once a second.
 ghost use Rattle.std.specs.Prelude.{◌≡◌, ◌⊎◌, [], false, None, IfSome, OnOk};
 ghost use Rattle.std.specs.Io.KnownBytes.{Appends};
 ghost use Rattle.line_tally.specs.Quiet.{IsQuiet};
@@ -10,22 +10,22 @@ use progress::CLEARED;
 use std::io::{self, Write};
 use std::time::{Clock, Instant};
 
-/// What is told of a batch while it lasts. No reply rests on it.
+/// The state of the progress line. It changes no reply.
 #[derive(Drop)]
 pub struct Tally {
-    /// When the batch began, where it is told of.
+    /// When the batch began, or `None` if no progress is shown.
     start: Option<Instant>,
     lines: Lines,
     /// How many lines at the beginning of the input were skipped.
     skipped: u32,
-    /// The seconds after which a count was drawn last.
+    /// The second in which the progress line was drawn last.
     told: u32,
-    /// Whether a count stands on the terminal's line.
+    /// Whether the progress line is on the terminal.
     is_drawn: bool,
 }
 
 impl Tally {
-    /// A tally of a batch that begins now. Nothing is told where `lines` is `None`.
+    /// Starts the progress of a batch that begins now. Shows nothing if `lines` is `None`.
     pub fn new<R: Clock>(rt: &R, lines: Option<Lines>, skipped: u32) -> Tally
         ensures quiet { lines ≡ None → IsQuiet result }
         ensures lines { IfSome lines (λ count. result.lines ≡ count) }
@@ -44,8 +44,8 @@ impl Tally {
         }
     }
 
-    /// The count to draw once so many seconds are over and the line of this number is answered, if one is due: at most once a
-    /// second.
+    /// Returns the count to draw after this number of seconds, once the line of this number is answered. Returns `None` if the line was
+    /// drawn in this second already.
     pub fn due(&mut self, number: u64, seconds: u32) -> Option<Count>
         ensures { CountsOnce self.old self.new number seconds result }
     {
@@ -62,7 +62,7 @@ impl Tally {
         })
     }
 
-    /// The same, by the clock.
+    /// Returns the count to draw now, by the clock, or `None` if none is due or no progress is shown.
     fn due_now<R: Clock>(&mut self, rt: &R, number: u64) -> Option<Count>
         ensures quiet { IsQuiet self.old → result ≡ None }
         ensures count { IfSome result (λ count. count ≡ count_of self.old number self.new.told) }
@@ -74,7 +74,7 @@ impl Tally {
         self.due(number, seconds)
     }
 
-    /// Draws how many lines are answered, if a second is over since the last time.
+    /// Draws how many lines are answered, if a second has passed since the line was drawn last.
     pub fn tell<R: Clock, E: Write>(
         &mut self,
         rt: &R,
@@ -92,14 +92,14 @@ impl Tally {
         }
     }
 
-    /// Shows how many lines are written, if a second is over since the last time.
+    /// Shows on the process's standard error how many lines are written, if a second has passed since the last time. Ignores errors.
     pub fn show<R: Clock + Eprint>(&mut self, rt: &R, number: u64) {
         if let Some(count) = self.due_now(rt, number) {
             let _ = eprint!(rt; "\r{count}\u{1b}[K");
         }
     }
 
-    /// Clears what was shown, once all lines are written.
+    /// Clears the progress line that `show` drew, once all lines are written.
     pub fn hide<R: Eprint>(&mut self, rt: &R)
         ensures { self.new.is_drawn ≡ false }
     {
@@ -109,7 +109,7 @@ impl Tally {
         self.is_drawn = false;
     }
 
-    /// Clears the count that was drawn, if one stands on the terminal's line.
+    /// Clears the progress line, if it is on the terminal.
     pub fn clear<E: Write>(&mut self, errors: &mut E) -> io::Result<()>
         ensures cleared { self.new.is_drawn ≡ false }
         ensures text { OnOk result (Appends (E.contents errors.old) (E.contents errors.new) (clearing self.old.is_drawn)) }
@@ -121,7 +121,7 @@ impl Tally {
         errors.write_all(CLEARED.as_bytes())
     }
 
-    /// Writes a message on a line of its own: it clears the count before it.
+    /// Writes a message on a line of its own: clears the progress line first.
     pub fn message<E: Write>(&mut self, errors: &mut E, message: &[u8]) -> io::Result<()>
         ensures text { OnOk result (Appends (E.contents errors.old) (E.contents errors.new)
             (message_text self.old.is_drawn message.now)) }

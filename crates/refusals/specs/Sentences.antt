@@ -43,7 +43,7 @@ beginning_of _ = error_beginning
 
 -- a range that has no value, in the line of a batch and elsewhere
 abbrev pub limit_sentence : Asking → List ℕ
-limit_sentence (Line _) = codes "behind ; dm a line has its moves, 1 to 32: write one of these"
+limit_sentence (Line _) = codes "after ; dm a line has its number of moves: write one from 1 to 32"
 limit_sentence _ = codes "--limit is 1 to 63 plies: a mate in M moves is --limit 2M-1, or --mate M, 1 to 32"
 
 -- a text that is too long, as a line of a batch and elsewhere
@@ -53,17 +53,17 @@ length_sentence _ = codes "a tree has at most 1048576 bytes, its line feed count
 
 -- want of memory, by what was asked
 abbrev pub memory_sentence : Asking → List ℕ
-memory_sentence Search = codes "memory is wanting: a search takes less with fewer --slots or --workers"
-memory_sentence (Line _) = codes "memory is wanting: a search takes less with fewer --slots or --workers"
-memory_sentence (Proof _ _) = codes "memory is wanting: each claim of a certificate is kept, so give the process more"
-memory_sentence Plain = codes "memory is wanting: give the process more"
+memory_sentence Search = codes "out of memory: a search takes less with fewer --slots or --workers"
+memory_sentence (Line _) = codes "out of memory: a search takes less with fewer --slots or --workers"
+memory_sentence (Proof _ _) = codes "out of memory: the checker keeps each claim of a certificate, so give the process more memory"
+memory_sentence Plain = codes "out of memory: give the process more"
 
 -- a text that is no tree's behind so many bytes
 abbrev pub grammar_sentence : ℕ → List ℕ
 grammar_sentence offset =
-    if offset == 0 then codes "the input begins with no move: where `tree` wrote no tree, there is none to check, and a byte order mark is no part of one"
+    if offset == 0 then codes "the input doesn't begin with a move: if `tree` printed no tree, there is none to check; a byte order mark is no part of a tree"
     else codes "after its first " ++ (decimal offset
-    ++ codes " bytes the input is no tree: a tree is a move with # or =, or with replies, as c4c5{a6a5:b1a1#}, and one line feed may end it, without a carriage return")
+    ++ codes " bytes the input is no tree: a tree is a move and then #, = or the replies, as c4c5{a6a5:b1a1#}, and at most one line feed, without a carriage return")
 
 -- the sentence of a refusal, where it rests on no text that was read
 abbrev pub sentence_of : Refusal → Asking → Option (List ℕ)
@@ -74,7 +74,7 @@ sentence_of Slots _ = Some (codes "--slots is 1 to 1048576")
 sentence_of TooLong asking = Some (length_sentence asking)
 sentence_of (Grammar offset) _ = Some (grammar_sentence offset)
 sentence_of Deep _ = Some (codes "more than 32 moves of the attacker are nested: no tree of 63 plies needs so many")
-sentence_of (Claim _) _ = Some (codes "this line isn't there, is no claim's, or says what isn't so of this position and goal")
+sentence_of (Claim _) _ = Some (codes "this line is missing, isn't a claim, or is false for this position and goal")
 sentence_of NoMemory asking = Some (memory_sentence asking)
 sentence_of _ _ = None
 

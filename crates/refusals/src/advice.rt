@@ -68,11 +68,11 @@ pub fn write_sentence<E: Write>(errors: &mut E, refused: &Refused<'_>) -> io::Re
 {
     match refused.refusal {
         Refusal::Grammar(0) => errors.write_all(
-            b"the input begins with no move: where `tree` wrote no tree, there is none to check, and a byte order mark is no part of one",
+            b"the input doesn't begin with a move: if `tree` printed no tree, there is none to check; a byte order mark is no part of a tree",
         ),
         Refusal::Grammar(offset) => write!(
             errors,
-            "after its first {offset} bytes the input is no tree: a tree is a move with # or =, or with replies, as c4c5{{a6a5:b1a1#}}, and one line feed may end it, without a carriage return"
+            "after its first {offset} bytes the input is no tree: a tree is a move and then #, = or the replies, as c4c5{{a6a5:b1a1#}}, and at most one line feed, without a carriage return"
         ),
         Refusal::Fields | Refusal::Shape | Refusal::Letter | Refusal::Run | Refusal::Side => {
             write_told(errors, &position_sentence(refused))
@@ -94,15 +94,15 @@ fn plain_advice(refusal: Refusal, asking: Asking<'_>) -> &'static str
         (Refusal::TooLong, _) =>
             "a tree has at most 1048576 bytes, its line feed counted, and a line of a certificate 8192",
         (Refusal::Limit, Asking::Line(_)) =>
-            "behind ; dm a line has its moves, 1 to 32: write one of these",
+            "after ; dm a line has its number of moves: write one from 1 to 32",
         (Refusal::Limit, _) =>
             "--limit is 1 to 63 plies: a mate in M moves is --limit 2M-1, or --mate M, 1 to 32",
         (Refusal::Answer, _) => answer_advice(asking),
         (Refusal::NoMemory, Asking::Search | Asking::Line(_)) =>
-            "memory is wanting: a search takes less with fewer --slots or --workers",
+            "out of memory: a search takes less with fewer --slots or --workers",
         (Refusal::NoMemory, Asking::Proof(..)) =>
-            "memory is wanting: each claim of a certificate is kept, so give the process more",
-        (Refusal::NoMemory, Asking::Plain) => "memory is wanting: give the process more",
+            "out of memory: the checker keeps each claim of a certificate, so give the process more memory",
+        (Refusal::NoMemory, Asking::Plain) => "out of memory: give the process more",
         (Refusal::Move, _) =>
             "no lawful move has this name: a move is two squares and what a pawn becomes, as c4c5q",
         (Refusal::Workers, _) => "--workers is 1 to 16",
@@ -110,7 +110,7 @@ fn plain_advice(refusal: Refusal, asking: Asking<'_>) -> &'static str
         (Refusal::Deep, _) =>
             "more than 32 moves of the attacker are nested: no tree of 63 plies needs so many",
         _ =>
-            "this line isn't there, is no claim's, or says what isn't so of this position and goal",
+            "this line is missing, isn't a claim, or is false for this position and goal",
     }
 }
 
@@ -128,9 +128,9 @@ fn answer_advice(asking: Asking<'_>) -> &'static str {
         Goal::MateOrStale if line.starts_with(b"mate ") =>
             "the first line is an answer for the other goal: leave out --goal stale",
         _ if line.ends_with(b"\r") && has_feed =>
-            "the first line ends with a carriage return: end each line with a line feed alone",
+            "the first line ends with a carriage return: end each line with a line feed only",
         _ if !line.is_empty() && line.len() < MOST_KNOWN && !has_feed =>
-            "the first line has no line feed: write one behind it",
+            "the first line has no line feed: write one after it",
         Goal::Mate =>
             "the first line is no answer: write it as `solve` prints it for this goal, as mate 3 c4c5",
         Goal::MateOrStale =>
@@ -168,7 +168,7 @@ const KINGS: &str = "each side has one king, K and k: here are % K and % k";
 
 const UNITS: &str = "a side has at most % units in %: here White has % and Black %";
 
-const PAWNS: &str = "rank % has a pawn: pawns stand on ranks 2 to % alone";
+const PAWNS: &str = "rank % has a pawn: pawns can only be on ranks 2 to %";
 
 /// What is wrong with a position's text: how it is written, or else its board or its side.
 fn position_sentence<'a>(refused: &Refused<'a>) -> Sentence<'a> {

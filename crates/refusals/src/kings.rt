@@ -18,7 +18,7 @@ fn king_square(position: &Position, side: Side) -> Option<Square> {
     None
 }
 
-const TOUCHING: &str = "the kings stand next to each other, on % and %: move one of them away";
+const TOUCHING: &str = "the kings are next to each other, on % and %: move one of them away";
 
 const BOTH: &str =
     "both kings are in check: move the king of the side that is not to move, or what checks it";

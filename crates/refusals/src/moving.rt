@@ -45,7 +45,7 @@ fn move_sentence<'a>(position: &Position, moves: &'a [Move], name: &'a [u8]) -> 
     };
     let square = On(from);
     match position.unit(from.number(game)) {
-        None => return Sentence("'%': nothing stands on %", (told, square, NO, NO)),
+        None => return Sentence("'%': there is no unit on %", (told, square, NO, NO)),
         Some(unit) if unit.side != mover => {
             let (side, other) = (Text(side_word(mover)), Text(side_word(unit.side)));
             return Sentence(OTHERS, (told, side, square, other));

@@ -34,20 +34,20 @@ const FOREIGN: &str = "character % is not ASCII: write a letter, a digit, / or a
 const NOTHING: &str = "there is no position: write one, as k5/6/1K4/6/6/5R w";
 
 const CHESS: &str =
-    "a board of 8 ranks is chess's: Los Alamos chess has 6 ranks of 6 squares, Gardner minichess 5 of 5";
+    "a board of 8 ranks is ordinary chess: Los Alamos chess has 6 ranks of 6 squares, Gardner minichess 5 of 5";
 
 const NO_SIDE: &str =
-    "a position has two fields, the board and the side: here is one; write ' w' or ' b' behind the board%";
+    "a position has two fields, the board and the side: here is one; write ' w' or ' b' after the board%";
 
-const SPLIT: &str = "blanks stand inside the board: leave them out%";
+const SPLIT: &str = "there are blanks inside the board: leave them out%";
 
 const RANKS: &str = "blanks separate the ranks: write / between the ranks instead%";
 
 const PARTED: &str = "%: write '% %'%";
 
-const MOVES: &str = "a line has its moves behind its position: write ' ; dm %' in place of '%'";
+const MOVES: &str = "a line has its moves after its position: write ' ; dm %' in place of '%'";
 
-const STUCK: &str = "the side to move is w or b: leave out '%' behind it%";
+const STUCK: &str = "the side to move is w or b: leave out '%' after it%";
 
 const FIELDS: &str =
     "a position has two fields, the board and the side: here are %; leave out '%'%";
@@ -172,11 +172,11 @@ impl<'a> Layout<'a> {
         let (spaces, others) = split_run(self.gap, b" ", true);
         let (_, behind) = split_run(self.rest, BLANKS, true);
         let what = if !others.is_empty() {
-            "a tab or a line end stands behind the board"
+            "there is a tab or a line end after the board"
         } else if spaces.len() > 1 {
-            "several spaces stand behind the board"
+            "there are several spaces after the board"
         } else if !self.before.is_empty() || (behind.is_empty() && !self.rest.is_empty()) {
-            "blanks stand around the position"
+            "there are blanks around the position"
         } else {
             return self.behind_side(is_line);
         };
@@ -195,7 +195,7 @@ impl<'a> Layout<'a> {
         let is_more = self.side.contains(&b'/') || (!has_side && matches!(behind, [b'w' | b'b']));
         if matches!(letter, [b'w' | b'b']) && !has_side && Board::of(stuck).has_shape() {
             let fault = Fault(!Board::of(stuck).is_well());
-            let what = Text("no space stands behind the board");
+            let what = Text("there is no space after the board");
             return Some(Sentence(PARTED, (what, Bytes(stuck), Bytes(letter), fault)));
         }
         let (text, is_well) = if self.board.is_empty() {

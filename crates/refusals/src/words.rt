@@ -190,7 +190,7 @@ fn of_lone(words: &[String], place: usize) -> Option<Sentence<'_>> {
     Some(Sentence(if is_position { NO_INPUT } else { INPUT }, parts))
 }
 
-const LONE_NUMBER: &str = "a limit stands behind its option: write '--limit %' in place of '%'";
+const LONE_NUMBER: &str = "a limit comes after its option: write '--limit %' in place of '%'";
 
 const INPUT: &str = "batch reads positions from its input: write '< %' in place of '%'";
 
@@ -241,7 +241,7 @@ fn of_search(words: &[String], place: usize) -> Option<Sentence<'_>> {
     }
     let parts = (Text(name), Text(range), Text(value), Text(own));
     if is_missing && !is_one {
-        Some(Sentence("% is a number %: write % behind it", parts))
+        Some(Sentence("% is a number %: write % after it", parts))
     } else {
         Some(Sentence("% is a number %: write % in place of '%'", parts))
     }
@@ -293,7 +293,7 @@ fn surplus<'a>(first: &Word<'a>, second: &Word<'a>) -> Option<Sentence<'a>> {
     let stays = if is_second { first } else { second };
     let goes = if is_second { second } else { first };
     let parts = (Text(stays.name), Text(goes.text), Behind(goes.behind), NO);
-    Some(Sentence("% stands there already: leave out %%", parts))
+    Some(Sentence("% is there already: leave out %%", parts))
 }
 
 /// An option before this place that says the same as the one here.
@@ -381,7 +381,7 @@ fn change_of(words: &[String]) -> Option<Sentence<'_>> {
     None
 }
 
-const BEFORE: &str = "options stand behind the command: write it before %";
+const BEFORE: &str = "options come after the command: write it before %";
 
 /// Tells of words that are refused what is to be written instead, where that can be seen.
 pub fn advise_words<E: Write>(errors: &mut E, words: &[String]) -> io::Result<()>

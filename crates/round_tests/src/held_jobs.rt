@@ -1,4 +1,4 @@
-//! That no job is decided before the gate's call that begins it has returned, and each job is begun once.
+//! Tests that no job is decided before its call of `Gate::begin` has returned, and that each job is begun once.
 ghost use Rattle.slots.specs.Promise.{IsSeatOf};
 
 use crate::beginnings::{comes_above, count, counters};
@@ -18,7 +18,7 @@ use std::test::*;
 use std::thread;
 use std::thread::Threads;
 
-// Whether a reply says whether the goal is forced within so many plies.
+// Returns whether a reply settles whether the goal is forced within this number of plies.
 fn settles(reply: Probe, plies: u8) -> bool {
     let Probe::Hit(words) = reply else {
         return false;
@@ -29,7 +29,7 @@ fn settles(reply: Probe, plies: u8) -> bool {
     }
 }
 
-// Whether the table has the answer for the key's position within so many plies, in one of the key's two slots.
+// Returns whether the table settles the key's position within this number of plies, in one of the key's two slots.
 fn is_answered(slots: &Slots<MateLore>, seat: &mut Seat, key: [u64; 3], plies: u8) -> bool
     requires { IsSeatOf slots.now seat.old }
     ensures { IsSeatOf slots.now seat.new }
@@ -45,7 +45,7 @@ fn is_answered(slots: &Slots<MateLore>, seat: &mut Seat, key: [u64; 3], plies: u
     first + 1 < count && settles(slots.probe(seat, first + 1, key), plies)
 }
 
-// The key of the position after a job's move.
+// Returns the key of the position after a job's move.
 fn key_after(rt: &impl Abort, root: &Root, job: usize) -> [u64; 3] {
     let Some(m) = root.moves.get(job) else {
         panic!(rt; "no such job")
@@ -60,7 +60,7 @@ fn key_after(rt: &impl Abort, root: &Root, job: usize) -> [u64; 3] {
     key_of(pack_board(&q.position, q.attacker, q.goal, nothing))
 }
 
-// One job of a round is held as it is begun: until the round's other jobs have ended, and then for so many turns more.
+// A gate that holds one job of a round in `begin` until the round's other jobs have ended, and then for some turns more.
 #[derive(Drop)]
 struct Held {
     round: u8,
@@ -91,7 +91,7 @@ impl Held {
         }
     }
 
-    // Whether each of the root's 11 jobs was begun once and ended once, and the held one not before it was let go.
+    // Returns whether each of the root's 11 jobs was begun once and ended once, and the held one not before it was released.
     fn is_kept(&self) -> bool {
         let mut kept = self.early.load(Ordering::SeqCst) == 0;
         for job in 0..11 {

@@ -5,7 +5,7 @@ use Rattle.batches.specs.Batch.{wanting_text}
 use Rattle.batches.proofs.running.give_up.Goals as goal
 
 -- the object that is written is the kit's text of its tokens
-wanting : codes "{\"position\":null,\"refused\":\"NoMemory\",\"sentence\":\"memory is wanting\"}\n" ≡ wanting_text true
+wanting : codes "{\"position\":null,\"refused\":\"NoMemory\",\"sentence\":\"out of memory\"}\n" ≡ wanting_text true
 unfolding print_from escape_byte
 wanting = refl
 
