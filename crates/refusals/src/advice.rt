@@ -109,8 +109,7 @@ fn plain_advice(refusal: Refusal, asking: Asking<'_>) -> &'static str
         (Refusal::Slots, _) => "--slots is 1 to 1048576",
         (Refusal::Deep, _) =>
             "more than 32 moves of the attacker are nested: no tree of 63 plies needs so many",
-        _ =>
-            "this line is missing, isn't a claim, or is false for this position and goal",
+        _ => "this line is missing, isn't a claim, or is false for this position and goal",
     }
 }
 
