@@ -89,6 +89,43 @@ def library():
     return folder
 
 
+# The page
+
+
+@pytest.fixture(scope="session")
+def page_url():
+    """The address of the page in web/, whose modules web/build makes."""
+    need("chromium", "chromedriver")
+    pytest.importorskip("selenium", reason="no selenium for this Python")
+    if not os.path.isfile(os.path.join(TOP, "web", "out", "minimate32.wasm")):
+        pytest.skip("no modules in web/out: web/build makes them")
+    import browser
+
+    return browser.Server(os.path.join(TOP, "web")).url
+
+
+@pytest.fixture(scope="session")
+def driver(page_url):
+    """A headless Chromium."""
+    import browser
+
+    made = browser.chromium()
+    yield made
+    made.quit()
+
+
+@pytest.fixture(params=["mouse", "finger"])
+def drive(request, driver, page_url):
+    """A tab of the page, used by a mouse on a wide window or by a finger on a phone's. The page must throw nothing."""
+    import drive as of_page
+
+    made = of_page.Drive(driver, page_url, request.param)
+    yield made
+    faults = made.tab.faults()
+    made.tab.close()
+    assert faults == []
+
+
 # Counts and skips
 
 

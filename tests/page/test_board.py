@@ -1,9 +1,9 @@
-"""Parts of tools/check_page: a position is set up and played through, pawns become units, and texts are refused."""
+"""Sets positions up, plays through lines, promotes pawns, and writes texts that are refused."""
 
-from page_drive import ONE_PAWN, THIRD, VALUE, address
+from drive import ONE_PAWN, THIRD, VALUE, address
 
 
-def set_up(drive):
+def test_a_position_is_set_up_by_dragging(drive):
     """A position by dragging: three units from the tray, and one of them moved on."""
     drive.mode("set")
     drive.press("#clear")
@@ -26,7 +26,7 @@ def set_up(drive):
     drive.same("and filled by one", drive.fen(), THIRD)
 
 
-def under_a_finger(drive):
+def test_the_square_under_a_dragged_unit_is_marked(drive):
     """While a unit is dragged, the square that it would go to is marked, and a finger doesn't cover the unit."""
     drive.go(THIRD)
     drive.mode("set")
@@ -50,7 +50,7 @@ def under_a_finger(drive):
     drive.mode("play")
 
 
-def play_through(drive):
+def test_a_tree_is_played_through(drive):
     """The tree by hand and by keyboard, the line to and fro, and lawful moves by dots."""
     tab = drive.tab
     drive.go(THIRD)
@@ -83,7 +83,7 @@ def play_through(drive):
     drive.same("a move by a drag", drive.line(), "1.Rb2 Ka5 |")
 
 
-def promoted(drive):
+def test_a_pawn_becomes_what_is_chosen(drive):
     """A pawn becomes what is chosen, a unit is taken, and the line goes back and on over both."""
     tab = drive.tab
     drive.mode("play")
@@ -112,7 +112,7 @@ def promoted(drive):
     drive.same("nothing was thrown", tab.faults(), [])
 
 
-def set_otherwise(drive):
+def test_side_goal_and_game_are_changed(drive):
     """The side, the goal and the game are changed, and Gardner's tray has bishops."""
     tab = drive.tab
     drive.go(THIRD)
@@ -142,7 +142,7 @@ def set_otherwise(drive):
     drive.mode("play")
 
 
-def set_up_behind_moves(drive):
+def test_the_board_after_a_move_is_set_up(drive):
     """What is set up behind a move is what the board shows, with the same side to move; Undo gives the problem and its line back."""
     drive.go(THIRD)
     drive.play("c4c5")
@@ -156,7 +156,7 @@ def set_up_behind_moves(drive):
     drive.mode("play")
 
 
-def listed(drive):
+def test_a_listed_problem_has_its_position_goal_and_limit(drive):
     """A problem of the list brings its position, goal and limit. Queen and rook mate on the fifth rank, the only others don't."""
     tab = drive.tab
     drive.chosen("problems", "2")
@@ -170,7 +170,7 @@ def listed(drive):
     drive.same("and not another position", tab.value(named), "")
 
 
-def refused(drive):
+def test_a_refused_text_says_why(drive):
     """Texts that are refused say why, and the lawful ones that follow are taken again."""
     tab = drive.tab
     tab.write("#fen", "6/6/1K4/6/6/K4R w")
@@ -203,7 +203,7 @@ def six_fields(drive):
     drive.waited(f"{VALUE.format('fen')} === '{THIRD}' && location.hash === '{address(THIRD)}'", "an address of six fields gives two")
 
 
-def flipped(drive):
+def test_the_board_is_flipped(drive):
     """The board from Black's side: what is seen, what is pressed, and where the keys go."""
     tab = drive.tab
     drive.go(THIRD)

@@ -1,7 +1,8 @@
-"""Parts of tools/check_page: what is done can be undone, by the buttons, the keyboard and the browser's Back; the game keeps what fits."""
+"""Undoes and redoes, by the buttons, the keyboard and the browser's Back; another game keeps what fits."""
 
-import chromium
-from page_drive import HARD, KINGS, ONE_PAWN, THIRD, VALUE
+import pytest
+from browser import CONTROL, SHIFT
+from drive import HARD, KINGS, ONE_PAWN, THIRD, VALUE
 
 
 def shown(drive):
@@ -9,7 +10,7 @@ def shown(drive):
     return drive.fen(), drive.line()
 
 
-def undone(drive):
+def test_each_step_is_undone_and_redone(drive):
     """Setting up, playing, a problem of the list, the goal and the limit, each undone and done again."""
     tab = drive.tab
     drive.go(THIRD)
@@ -39,7 +40,7 @@ def undone(drive):
     drive.comes("and Back", lambda: shown(drive), steps[0])
 
 
-def undone_play(drive):
+def test_moves_of_a_line_are_undone(drive):
     """Moves of a line, also where another one took their place, and by the keyboard."""
     tab = drive.tab
     drive.go(THIRD)
@@ -47,13 +48,13 @@ def undone_play(drive):
     drive.press("#first")
     drive.play("b1b2")
     drive.same("another line", drive.line(), "1.Rb2 |")
-    tab.key("z", 90, modifiers=chromium.CONTROL)
+    tab.key("z", 90, modifiers=CONTROL)
     drive.comes("the first line is back", drive.line, "1.Kc5 Ka5")
-    tab.key("z", 90, modifiers=chromium.CONTROL)
+    tab.key("z", 90, modifiers=CONTROL)
     drive.comes("one move less", drive.line, "1.Kc5 |")
-    tab.key("z", 90, modifiers=chromium.CONTROL | chromium.SHIFT)
+    tab.key("z", 90, modifiers=CONTROL | SHIFT)
     drive.comes("and again", drive.line, "1.Kc5 Ka5")
-    tab.key("y", 89, modifiers=chromium.CONTROL)
+    tab.key("y", 89, modifiers=CONTROL)
     drive.comes("and the other line", drive.line, "1.Rb2 |")
     drive.chosen("problems", "2")
     drive.same("a listed problem", shown(drive), (ONE_PAWN, ""))
@@ -69,7 +70,7 @@ def undone_play(drive):
     drive.comes("and the one after", lambda: tab.value(VALUE.format("limit")), "9")
 
 
-def undone_text(drive):
+def test_a_written_text_is_one_step(drive):
     """A text that is written letter by letter is one step, and so is a walk through the tree."""
     tab = drive.tab
     drive.go(HARD)
@@ -91,7 +92,7 @@ def undone_text(drive):
     drive.expect("the answer is still there", "answer", "Mate in 2 moves (3 plies): 1.Kc5")
 
 
-def another_game(drive):
+def test_another_game_keeps_what_fits(drive):
     """Another game keeps what fits: squares by name, no bishop in Los Alamos chess, no pawn on an end."""
     drive.go("k4r/P3P1/2K3/4p1/1Q4/1R4 w")
     drive.mode("set")
@@ -107,7 +108,8 @@ def another_game(drive):
     drive.mode("play")
 
 
-def many_steps(drive):
+@pytest.mark.parametrize("drive", ["mouse"], indirect=True)
+def test_as_many_steps_are_undone_as_the_browser_keeps(drive):
     """As many steps are undone as the browser keeps, fifty with the page's own beginning, and no undo leaves the page."""
     drive.go(THIRD)
     drive.mode("set")
@@ -130,7 +132,7 @@ def many_steps(drive):
     drive.mode("play")
 
 
-def come_back(drive):
+def test_a_reload_finds_the_problem_with_its_line(drive):
     """A reload, and coming back from elsewhere, find the problem with its line."""
     tab = drive.tab
     drive.go(THIRD)

@@ -1,4 +1,4 @@
-"""Parts of tools/check_page: what goes out of the page, and the page without a network, from a file and on paper."""
+"""Takes links, diagrams and solutions out of the page; the page without a network, from a file and on paper."""
 
 import base64
 import json
@@ -10,13 +10,14 @@ import time
 import zlib
 
 import check_tree
-import checking
-import chromium
 import diagrams as pictures
-from page_drive import ONE_PAWN, TEXT, THIRD, VALUE, address, top
+import pytest
+from browser import Server, Tab
+from programs import tool
+from drive import ONE_PAWN, TEXT, THIRD, VALUE, address, top
 
-SHOW_TREE = checking.loaded("show_tree")
-ONE_FILE = checking.loaded("one_file", os.path.join(top(), "one_file.py"))
+SHOW_TREE = tool("show_tree")
+ONE_FILE = tool(os.path.join(top(), "one_file.py"))
 
 
 # What a paste hands over.
@@ -24,7 +25,7 @@ PASTE = """(() => { const held = new DataTransfer(); held.setData("text/plain", 
 document.body.dispatchEvent(new ClipboardEvent("paste", { clipboardData: held, bubbles: true, cancelable: true })); })()"""
 
 
-def verified(drive):
+def test_a_pasted_certificate_is_checked(drive):
     """A certificate that is pasted is checked, and one that is cut off is refused."""
     whole = "mate 3 c4c5\np.\naaaaaaaa-aaaaaa\n\n"
     for text, told in ((whole, "Certificate: mate 3 c4c5, checked in your browser"), (whole[:-1], "Certificate refused: Claim at line 4")):
@@ -33,7 +34,7 @@ def verified(drive):
         drive.comes("what the certificate proves", lambda told=told: drive.said("proved")[: len(told)], told)
 
 
-def linked(drive):
+def test_a_copied_link_opens_the_problem_and_its_line(drive):
     """The address has the problem and the line, its link is copied, and opens what was there."""
     drive.go(ONE_PAWN, "stale", 5)
     words = drive.tab.value("location.hash")
@@ -108,11 +109,11 @@ def nearest(left, up, corner):
     return min((left, up, corner), key=lambda it: abs(aim - it))
 
 
-def diagrams(drive):
+def test_diagrams_are_saved(drive):
     """SVG and PNG of what the board shows: where which unit stands, which squares are dark; flipped too."""
     drive.go(THIRD)
     with tempfile.TemporaryDirectory() as folder:
-        drive.browser.ask("Browser.setDownloadBehavior", behavior="allow", downloadPath=folder)
+        drive.tab.ask("Browser.setDownloadBehavior", behavior="allow", downloadPath=folder)
         for is_flipped in (False, True):
             check_svg(drive, saved(drive, folder, "svg"), is_flipped)
             check_png(drive, saved(drive, folder, "png"), is_flipped)
@@ -144,14 +145,14 @@ def check_png(drive, file, is_flipped):
     drive.note(max(dark) < 90, f"the black king's foot is dark: {dark}")
 
 
-def solutions(drive):
+def test_a_solution_is_saved_and_copied(drive):
     """The solution as text is that of tools/show_tree, into a file and into the clipboard."""
     drive.go(THIRD)
     drive.press("#first") if not drive.tab.value("document.getElementById('first').disabled") else None
     wanted, _ = SHOW_TREE.shown(THIRD.encode(), b"c4c5{a6a5:b1a1#}\n", False)
     drive.solve()
     with tempfile.TemporaryDirectory() as folder:
-        drive.browser.ask("Browser.setDownloadBehavior", behavior="allow", downloadPath=folder)
+        drive.tab.ask("Browser.setDownloadBehavior", behavior="allow", downloadPath=folder)
         name, data = saved(drive, folder, "savetext")
         drive.same("the solution", (name, data.decode()), ("minimate-k5-6-2K3-6-6-1R4-w.txt", wanted))
         drive.press("#copytext")
@@ -173,9 +174,10 @@ def solutions(drive):
         drive.same("keys and solution", lines[1:], ["White to move: mate in 1 move (1 ply)\nKeys: 1.c5=Q# in 1 move, 1.c5=R# in 1 move", "1.c5=Q#\n"])
 
 
-def without_network(drive):
+@pytest.mark.parametrize("drive", ["mouse"], indirect=True)
+def test_the_page_opens_without_its_server(drive):
     """Once the page was loaded it opens and solves without its server."""
-    server = chromium.Server(top())
+    server = Server(top())
     url, drive.url = drive.url, server.url
     first, drive.tab = drive.tab, drive.opened("")
     drive.waited("navigator.serviceWorker.controller", "the page is kept")
@@ -189,7 +191,8 @@ def without_network(drive):
     drive.tab.ask("Page.bringToFront")
 
 
-def kept_files(drive):
+@pytest.mark.parametrize("drive", ["mouse"], indirect=True)
+def test_every_file_of_the_page_is_kept_for_offline_use(drive):
     """All files of the page are kept: none is forgotten in the list."""
     names = [name for name in os.listdir(top()) if name.rsplit(".", 1)[-1] in ("html", "css", "js") and name != "offline.js"]
     wanted = sorted(["./", *names, "out/minimate32.wasm", "out/minimate64.wasm"])
@@ -198,13 +201,14 @@ def kept_files(drive):
     drive.same("the files that are kept", sorted(listed), wanted)
 
 
-def from_file(drive):
+@pytest.mark.parametrize("drive", ["mouse"], indirect=True)
+def test_the_page_in_one_file_opens_without_a_server(drive):
     """Opened as a file the page says what is wanted, and the page that is one file solves."""
-    tab = chromium.Tab(drive.browser, f"file://{os.path.join(top(), 'index.html')}")
+    tab = Tab(drive.driver, f"file://{os.path.join(top(), 'index.html')}")
     tab.wait("document.getElementById('state')?.textContent")
     said = tab.value(TEXT.format("state"))
     drive.note("out/minimate.html" in said and "python3 -m http.server --directory web" in said, f"a file says: {said}")
-    tab.ask("Page.close")
+    tab.close()
     with tempfile.TemporaryDirectory() as folder:
         path = os.path.join(folder, "minimate.html")
         with open(path, "w", encoding="utf-8") as file:
@@ -220,12 +224,12 @@ def from_file(drive):
         drive.press("#undo")
         drive.comes("and undoes", drive.line, "")
         drive.same("no fault of it", drive.tab.faults(), [])
-        drive.tab.ask("Page.close")
+        drive.tab.close()
     drive.tab, drive.url = first, url
     drive.tab.ask("Page.bringToFront")
 
 
-def on_paper(drive):
+def test_print_shows_the_problem_and_nothing_to_press(drive):
     """In print: the board, the position, the answer and the tree, in light colours, and nothing to press."""
     tab = drive.tab
     drive.go(THIRD)

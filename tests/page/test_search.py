@@ -1,13 +1,14 @@
-"""Parts of tools/check_page: what is solved, what is said of it while it is searched and after, and how the tree is read."""
+"""Solves, stops and continues searches, and reads keys and trees."""
 
 import re
 import time
 
 import check_tree
-import checking
-from page_drive import DONE, FIVE, KINGS, LONG, ONE_PAWN, TEXT, THIRD, VALUE, lawful_moves
+import pytest
+from programs import tool
+from drive import DONE, FIVE, KINGS, LONG, ONE_PAWN, TEXT, THIRD, VALUE, lawful_moves
 
-SHOW_TREE = checking.loaded("show_tree")
+SHOW_TREE = tool("show_tree")
 LINES = "[...document.querySelectorAll('.line')].map((one) => [...one.querySelectorAll('.move')].map((it) => it.textContent).join(' '))"
 DEPTHS = """[...document.querySelectorAll('.line')].map((one) => {
 let depth = 0; for (let up = one; (up = up.parentElement.closest('li')); ) depth += 1; return depth; })"""
@@ -23,7 +24,7 @@ new MutationObserver(() => told.push(state.textContent)).observe(state, { childL
 RUNS = "!document.getElementById('stop').disabled"
 
 
-def solved(drive):
+def test_a_problem_is_solved(drive):
     """The answer, the tree and the keys."""
     drive.go(THIRD)
     drive.solve()
@@ -41,7 +42,7 @@ def solved(drive):
     drive.same("as it is read out", drive.tab.value(label.replace("last-child", "nth-child(3)")), "Black Ra6, mate")
 
 
-def solved_behind_moves(drive):
+def test_the_position_after_moves_is_solved(drive):
     """What the board shows is solved, the line that led there stays, and there is a way back."""
     drive.go(THIRD)
     drive.play("c4c5", "a6a5")
@@ -67,7 +68,7 @@ def solved_behind_moves(drive):
     drive.shot("behind_moves")
 
 
-def keys_shown(drive):
+def test_a_press_on_a_key_shows_its_tree(drive):
     """A press on a key shows its tree. Each solution is read again by the second checker's rules, and wins."""
     drive.go(ONE_PAWN, limit=1)
     drive.solve("keys")
@@ -127,7 +128,7 @@ def moves_of(line):
     return [re.sub(r"^\d+\.(\.\.)?", "", word) for word in line.split()]
 
 
-def arrows_seen(drive):
+def test_arrows_show_the_suggested_moves(drive):
     """The arrow of the answer's move, of the tree's next one, and of the line's; each from its square to the other, flipped too."""
     drive.go(THIRD)
     drive.same("none before an answer", drive.arrows(), [])
@@ -151,7 +152,7 @@ def arrows_seen(drive):
     drive.shot("arrows")
 
 
-def folded(drive):
+def test_lines_fold_and_unfold(drive):
     """Lines of the tree fold and unfold, one by one and all, and their number is told."""
     tab = drive.tab
     drive.go(FIVE, limit=5)
@@ -181,7 +182,7 @@ def folded(drive):
     drive.same("their tree wins", height_of("1K1k1/qR3/5/5/5 w", tab.value(LINES), tab.value(DEPTHS)), 7)
 
 
-def walked(drive):
+def test_the_arrow_keys_walk_the_line(drive):
     """The arrow keys walk the line wherever the focus is, and go on by the tree; in a field they stay the field's own."""
     tab = drive.tab
     drive.go(THIRD)
@@ -210,7 +211,7 @@ def walked(drive):
     tab.value("document.activeElement.blur()")
 
 
-def onward(drive):
+def test_the_page_offers_to_search_deeper(drive):
     """Where nothing is forced within the limit, the page offers to go on."""
     drive.go(KINGS, limit=1)
     drive.solve()
@@ -235,7 +236,7 @@ def onward(drive):
     drive.same("has nothing to go on to", drive.texts("#onward button"), [])
 
 
-def told_in_words(drive):
+def test_a_long_search_says_what_is_known(drive):
     """A long search says in words what is searched and known, with its button in view. Presses on the board don't end it."""
     tab = drive.tab
     drive.go(LONG, limit=63)
@@ -260,7 +261,7 @@ def told_in_words(drive):
     drive.press("#stop")
 
 
-def stopped(drive):
+def test_a_stopped_search_can_go_on(drive):
     """Escape and Stop end a search, and what is known of it is gone on with."""
     tab = drive.tab
     drive.go(LONG, limit=63)
@@ -281,7 +282,7 @@ def stopped(drive):
     drive.note(drive.said("state").startswith("Stopped after "), "the button stops it")
 
 
-def searched_again(drive):
+def test_a_new_search_takes_the_place_of_another(drive):
     """A search takes the place of another that is under way, and of one that was stopped."""
     tab = drive.tab
     drive.go(LONG, limit=63)
@@ -296,7 +297,8 @@ def searched_again(drive):
     drive.expect("another search after it", "answer", "Mate in 2 moves (3 plies): 1.Kc5")
 
 
-def bare_kings(drive):
+@pytest.mark.parametrize("drive", ["mouse"], indirect=True)
+def test_the_page_answers_during_the_longest_search(drive):
     """63 plies of two bare kings: no trap, and the page goes on answering."""
     drive.go(KINGS, limit=63)
     drive.press("#solve")
@@ -311,17 +313,19 @@ def bare_kings(drive):
     drive.shot("two_bare_kings")
 
 
-def written(drive):
+@pytest.mark.parametrize("drive", ["mouse"], indirect=True)
+def test_moves_are_written_as_show_tree_writes_them(drive):
     """Moves are written as tools/show_tree writes them, whose table was made by hand."""
     drive.tab.value(WRITER)
-    for fen, move, wanted in checking.cases(SHOW_TREE.SHORT):
+    for fen, move, wanted in (SHOW_TREE.SHORT):
         drive.same(f"{move} of {fen}", drive.tab.value(f"written('{fen}', '{move}')").rstrip("+#"), wanted)
     marked = [(THIRD, "b1a1", "Ra1+"), (THIRD, "b1b5", "Rb5="), (ONE_PAWN, "c4c5q", "c5=Q#"), (THIRD, "c4c5", "Kc5")]
     for fen, move, wanted in marked:
         drive.same(f"{move} of {fen} with its mark", drive.tab.value(f"written('{fen}', '{move}')"), wanted)
 
 
-def narrow_module(drive):
+@pytest.mark.parametrize("drive", ["mouse"], indirect=True)
+def test_the_module_with_32_bit_memory_answers(drive):
     """The module with 32-bit memory answers here too."""
     call = "new Library(code).search('tree', 'k5/6/2K3/6/6/1R4 w', false, 3, 64)"
     words = f"import('./library.js').then(({{ Library, compiled }}) => compiled('out/minimate32.wasm').then((code) => {call}))"

@@ -1,12 +1,12 @@
-"""A tab of the page in web/, driven by a mouse on a wide window or by a finger on a phone's, and what is checked of it."""
+"""A tab of the page in web/, driven by a mouse on a wide window or by a finger on a phone's, and assertions on it."""
 
 import json
 import os
 import time
 
 import check_tree
-import checking
-import chromium
+from browser import Tab
+from programs import TOP
 
 THIRD = "k5/6/2K3/6/6/1R4 w"
 HARD = "6/R5/1k4/6/6/K5 w"
@@ -26,22 +26,22 @@ def address(fen, goal="mate", limit=3, line=""):
 
 
 class Drive:
-    """The hand is `mouse` or `finger`, and the window is as wide as goes with it."""
+    """The hand is `mouse` or `finger`, and the window has the size that goes with it. SHOTS names a folder for pictures."""
 
-    def __init__(self, check, browser, url, hand, shots=None):
-        self.check, self.browser, self.url, self.hand, self.shots = check, browser, url, hand, shots
-        permissions = ["clipboardReadWrite", "clipboardSanitizedWrite"]
-        browser.ask("Browser.grantPermissions", origin=url.rstrip("/"), permissions=permissions)
+    def __init__(self, driver, url, hand):
+        self.driver, self.url, self.hand, self.shots = driver, url, hand, os.environ.get("SHOTS")
         self.tab = self.opened("")
+        permissions = ["clipboardReadWrite", "clipboardSanitizedWrite"]
+        self.tab.ask("Browser.grantPermissions", origin=url.rstrip("/"), permissions=permissions)
 
     def opened(self, words):
-        """A tab of the page at this address."""
-        tab = chromium.Tab(self.browser)
+        """Returns a tab of the page at this address."""
+        tab = Tab(self.driver)
         width, height = SIZES[self.hand]
         tab.size(width, height, self.hand == "finger")
         tab.fingers(self.hand == "finger")
         tab.ask("Page.navigate", url=self.url + words)
-        self.note(tab.wait("document.documentElement?.dataset.ready"), f"the page is ready at {words}")
+        assert tab.wait("document.documentElement?.dataset.ready"), f"the page isn't ready at {words}"
         return tab
 
     # What the hand does
@@ -115,24 +115,24 @@ class Drive:
     # What is checked
 
     def note(self, is_well, what):
-        return self.check.note(bool(is_well), f"by {self.hand}: {what}")
+        assert is_well, what
 
     def same(self, what, got, wanted):
-        return self.check.expect(f"by {self.hand}: {what}", got, wanted)
+        assert got == wanted, what
 
     def expect(self, what, name, wanted):
         """The text of the element of this name."""
-        return self.same(what, self.said(name), wanted)
+        self.same(what, self.said(name), wanted)
 
     def waited(self, expression, what, seconds=30):
-        return self.note(self.tab.wait(expression, seconds), what)
+        self.note(self.tab.wait(expression, seconds), what)
 
     def comes(self, what, look, wanted, seconds=10):
         """What a look answers, once it is what is wanted."""
         late = time.monotonic() + seconds
         while look() != wanted and time.monotonic() < late:
             time.sleep(0.05)
-        return self.same(what, look(), wanted)
+        self.same(what, look(), wanted)
 
     def shot(self, name):
         if self.shots:
@@ -145,4 +145,4 @@ def lawful_moves(fen):
 
 
 def top():
-    return os.path.join(checking.TOP, "web")
+    return os.path.join(TOP, "web")

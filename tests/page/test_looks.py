@@ -1,7 +1,8 @@
-"""Parts of tools/check_page: how the page looks in each size, what a thumb meets, and what a screen reader does."""
+"""How the page looks in each size, what a thumb presses, and what a screen reader reads out."""
 
-import checking
-from page_drive import FIVE, KINGS, SIZES, THIRD
+import pytest
+from browser import Tab
+from drive import FIVE, KINGS, SIZES, THIRD
 
 BOARD = "Board: arrow keys go from square to square, Enter picks and plays"
 TREE = "Tree of moves: up and down go from move to move, left and right walk the line, plus and minus unfold and fold, Enter plays"
@@ -64,7 +65,7 @@ PAGE = """[document.documentElement.lang, document.title,
 CONTROLS = """[...document.querySelectorAll('button[id], input[id], select[id]')].filter((one) => one.getClientRects().length).map((one) => '#' + one.id)"""
 
 
-def looks(drive):
+def test_nothing_is_too_wide_in_light_and_dark(drive):
     """Light and dark, with nothing outside the window's width."""
     tab = drive.tab
     drive.go(FIVE, limit=5)
@@ -92,7 +93,7 @@ def looks(drive):
     tab.scheme("light")
 
 
-def in_view(drive):
+def test_answer_and_board_stay_in_view(drive):
     """The answer comes into view, and a press on the tree leaves the board in view."""
     tab = drive.tab
     drive.go(FIVE, limit=5)
@@ -137,7 +138,7 @@ def meet(one, other):
     return is_shared and one["stage"] == other["stage"]
 
 
-def thumbs(drive):
+def test_targets_fit_a_thumb(drive):
     """On a phone each target has 44 pixels each way, none lies on another, and none on what is read."""
     if drive.hand == "mouse":
         return
@@ -167,7 +168,7 @@ def check_targets(drive, what):
     drive.note(len(targets) > 50 and len(read) > 1, f"{what}: {len(targets)} targets, {len(read)} texts")
 
 
-def spoken(drive):
+def test_a_screen_reader_reads_each_control_out(drive):
     """What a screen reader meets: each control by its role and name, each square, and what tells by itself."""
     tab = drive.tab
     drive.go(THIRD)
@@ -175,10 +176,10 @@ def spoken(drive):
     drive.press("#keylist button")
     drive.waited("document.querySelector('.tree')", "the tree of the key")
     drive.mode("set")
-    for selector, role, name in checking.cases(SPOKEN):
+    for selector, role, name in (SPOKEN):
         drive.same(f"{selector} as it is read out", list(tab.spoken(selector)), [role, name])
     drive.mode("play")
-    for name, role in checking.cases(LIVE.items()):
+    for name, role in (LIVE.items()):
         drive.same(f"{name} tells by itself", tab.value(f"document.getElementById('{name}').getAttribute('role')"), role)
     nodes = tab.ask("Accessibility.getFullAXTree")["nodes"]
     met = [(node["role"]["value"], node.get("name", {}).get("value", "")) for node in nodes if node.get("role", {}).get("value") in PRESSED]
@@ -191,7 +192,8 @@ def spoken(drive):
     drive.same("controls that the list forgets", sorted(set(tab.value(CONTROLS)) - known - {"#there", "#unfold", "#fold"}), [])
 
 
-def by_keyboard(drive):
+@pytest.mark.parametrize("drive", ["mouse"], indirect=True)
+def test_everything_works_by_the_keyboard(drive):
     """Setting up, solving and playing without a hand: from control to control by the tabulator key."""
     tab = drive.tab
     drive.go(KINGS)
