@@ -1,7 +1,7 @@
-"""The program's commands by the library: `python -m minimate solve --limit 3 'k5/6/2K3/6/6/1R4 w'`.
+"""Runs the program's commands by the library: `python -m minimate solve --limit 3 'k5/6/2K3/6/6/1R4 w'`.
 
-They print what `minimate` prints, with its statuses: 0 an answer, 1 a refusal, 2 words that are no command, 3 want of memory, 4 a read or
-a write that failed, and 125 that there is no library. There is no `solution`, `certify` or `batch`, and no `--workers`: one thread searches.
+The output and the status are those of `minimate`: 0 answered, 1 refused, 2 wrong command line, 3 out of memory, 4 a read or a write failed, and
+125 if there is no library. There is no `solution`, `certify` or `batch`, and no `--workers`: one thread searches.
 """
 
 import argparse
@@ -22,7 +22,7 @@ NO_LIBRARY = 125
 
 
 def number(text: str) -> int:
-    """A number as the program reads it: digits, perhaps behind a plus, below 2^32."""
+    """A number as the program reads it: digits, perhaps after a plus, below 2^32."""
     if not re.fullmatch(r"\+?[0-9]+|-0+", text) or int(text) >= 2**32:
         raise argparse.ArgumentTypeError(f"{text!r} is no number from 0 to 4294967295")
     return int(text)
@@ -33,7 +33,7 @@ class Once(argparse.Action):
 
     def __call__(self, parser, namespace, values, option_string=None):  # type: ignore[no-untyped-def]
         if option_string in namespace.given:
-            parser.error(f"{option_string} stands twice")
+            parser.error(f"{option_string} is given twice")
         namespace.given.append(option_string)
         setattr(namespace, self.dest, True if self.nargs == 0 else values)
 
@@ -42,12 +42,12 @@ def reader() -> argparse.ArgumentParser:
     words = argparse.ArgumentParser(prog="python -m minimate", description=__doc__, allow_abbrev=False)
     words.formatter_class = argparse.RawDescriptionHelpFormatter
     words.add_argument("--version", action="version", version=f"minimate {minimate.__version__}")
-    words.add_argument("command", choices=list(COMMANDS), help="what is asked; `check` reads a tree on its input, `verify` a certificate")
-    words.add_argument("fen", metavar="FEN", nargs="+", help="the position, as one word; behind `after` a move too")
-    words.add_argument("--limit", metavar="N", type=number, action=Once, help="of a search: the most plies, 1 to 63")
-    words.add_argument("--slots", metavar="S", type=number, action=Once, help="of a search: slots of the table, 1 to 1048576")
-    words.add_argument("--goal", choices=["mate", "stale"], action=Once, help="of a search, a check or a certificate: stale is mate or stalemate")
-    words.add_argument("--progress", nargs=0, action=Once, help="of solve and tree: say on standard error what holds nothing so far")
+    words.add_argument("command", choices=list(COMMANDS), help="the command; `check` reads a tree on its input, `verify` a certificate")
+    words.add_argument("fen", metavar="FEN", nargs="+", help="the position, as one word; for `after` also a move")
+    words.add_argument("--limit", metavar="N", type=number, action=Once, help="for a search: the most plies, 1 to 63")
+    words.add_argument("--slots", metavar="S", type=number, action=Once, help="for a search: the slots of the table, 1 to 1048576")
+    words.add_argument("--goal", choices=["mate", "stale"], action=Once, help="for a search, a check or a certificate: with stale a stalemate counts too")
+    words.add_argument("--progress", nargs=0, action=Once, help="for solve and tree: print on standard error the plies without a mate so far")
     words.set_defaults(given=[])
     return words
 
