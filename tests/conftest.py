@@ -16,6 +16,7 @@ import sys
 
 import pytest
 
+import clones
 import programs as of_programs
 
 sys.dont_write_bytecode = True
@@ -124,6 +125,24 @@ def drive(request, driver, page_url):
     faults = made.tab.faults()
     made.tab.close()
     assert faults == []
+
+
+# Clones with a program that stands in for `rt`
+
+
+@pytest.fixture
+def clone(request):
+    """A clone with the launcher, in a folder of its own. A parameter is the clone's name."""
+    with clones.made(getattr(request, "param", "clone")) as made:
+        yield made
+
+
+@pytest.fixture(scope="module")
+def built():
+    """A clone in which all programs are built, for all tests of a file: they write nothing there."""
+    with clones.made() as made:
+        assert made.run("--all", launcher="tools/build_program").status == 0
+        yield made
 
 
 # Counts and skips
