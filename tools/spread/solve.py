@@ -1,25 +1,20 @@
-"""One position, dealt out as (first move, reply) and by rounds, as `minimate solve` plays them."""
+"""One position, by rounds of tasks as `minimate solve` plays them: a task for each first move and reply."""
 
 import os
-import sys
 
-sys.dont_write_bytecode = True
-
-import check_tree  # noqa: E402 (no compiled copy of it is to be left in tools/)
-import dealing  # noqa: E402
-import dealt  # noqa: E402
-import joblog  # noqa: E402
-import positions  # noqa: E402
-import tree_parts  # noqa: E402
+import check_tree
+import positions
+import tree_parts
+from spread import joblog, parallel, tasks
 
 
 class Reply:
-    """The position after a move and a reply, in which the attacker is to move again."""
+    """A position after a move and a reply, in which the attacker is to move again."""
 
     def __init__(self, text, position):
         self.text, self.position, self.fen = text, position, positions.fen_text(position)
         self.moves = None
-        # The fewest plies, if it is known to be forced, and within how many it isn't.
+        # The fewest plies in which the goal is forced, if that is known; and the most plies within which it is known not to be.
         self.forced, self.escapes = None, 0
 
     def learn(self, known):
@@ -29,7 +24,7 @@ class Reply:
             self.escapes = max(self.escapes, known.plies)
 
     def decided(self, plies):
-        """Whether the goal is forced within so many plies, or None where that isn't known."""
+        """Returns whether the goal is forced within so many plies, or None if that isn't known."""
         if self.forced is not None:
             return self.forced <= plies
         return False if self.escapes >= plies else None
@@ -42,20 +37,20 @@ class First:
         self.text, self.replies = text, replies
 
     def wins(self, plies):
-        """Whether each reply is met within so many plies, or None where that isn't known."""
+        """Returns whether each reply is met within so many plies, or None if that isn't known."""
         told = [reply.decided(plies) for reply in self.replies]
         if not self.replies or False in told:
             return False
         return None if None in told else True
 
     def open_replies(self, plies):
-        """The replies to ask of, the one that escaped last first."""
+        """Returns the replies to solve, the one that escaped last first."""
         if self.wins(plies) is not None:
             return []
         return sorted((it for it in self.replies if it.decided(plies) is None), key=lambda reply: -reply.escapes)
 
 
-class Solve(dealt.Dealt):
+class Solve(tasks.Work):
     """The answer to one position."""
 
     def __init__(self, options):
@@ -63,7 +58,7 @@ class Solve(dealt.Dealt):
         self.fen = options.fen
 
     def answer(self):
-        """What is printed. The first round is one call here, which also answers the refusals."""
+        """Returns the text to print. The first round is one call of the program here, which also refuses."""
         limit = self.limit("solve", "--", self.fen)
         at_once = self.ask_here("solve", 1, "--", self.fen)
         self.open_log()
@@ -75,14 +70,14 @@ class Solve(dealt.Dealt):
         for plies in range(3, limit + 1, 2):
             won = self.round(firsts, plies)
             if won:
-                return self.tree(won, plies) if self.options.tree else f"{joblog.word_of(self.goal)} {plies} {won.text}\n"
+                return self.tree(won, plies) if self.options.tree else f"{joblog.WORDS[self.goal]} {plies} {won.text}\n"
         return f"none within {limit}\n"
 
     def is_listing(self):
         return self.options.tasks
 
     def tasks(self, limit):
-        """The last round's tasks, as the joblog's lines begin."""
+        """Returns the last round's tasks, each as a line of the joblog begins."""
         within = limit - 2 if limit % 2 else limit - 3
         keys = dict.fromkeys(self.key(self.command(), within, reply.fen) for reply in all_replies(self.firsts())) if within > 0 else []
         return "".join("\t".join(key) + "\n" for key in keys)
@@ -99,16 +94,16 @@ class Solve(dealt.Dealt):
     # Rounds
 
     def round(self, firsts, plies):
-        """The least move that wins within so many plies, or None."""
+        """Returns the least move that wins within so many plies, or None."""
         within = plies - 2
         for reply in all_replies(firsts):
             self.recall(reply, within)
         if not is_decided(firsts, within):
-            self.deal_round(firsts, asked_of(firsts, within), within)
+            self.run_round(firsts, asked_of(firsts, within), within)
         return next((first for first in firsts if first.wins(within)), None)
 
     def recall(self, reply, within):
-        """Takes what the joblog has of it."""
+        """Takes the answers that the joblog has of a reply."""
         for limit, text in self.log.of(self.believed(), self.goal, reply.fen):
             if reply.decided(within) is None:
                 known = joblog.read_answer(text, self.goal, limit, self.moves(reply))
@@ -116,27 +111,27 @@ class Solve(dealt.Dealt):
                     reply.learn(known)
 
     def moves(self, reply):
-        """The moves at the position after the reply; the program lists the same."""
+        """Returns the moves at the position after the reply."""
         if reply.moves is None:
             reply.moves = [check_tree.move_text(move) for move in positions.listed_moves(self.program, reply.position)]
         return reply.moves
 
-    def deal_round(self, firsts, asked, within):
+    def run_round(self, firsts, asked, within):
         for replies in asked:
             self.moves(replies[0])
         lines = [self.line(self.command(), within, replies[0].fen) for replies in asked]
-        with dealing.Dealing(lines, self.machines()) as tasks:
-            for number, ended in tasks:
+        with parallel.Run(lines, self.machines) as running:
+            for number, ended in running:
                 self.learn(asked[number], within, lines[number], ended)
                 if is_decided(firsts, within):
                     return
                 unwanted = not_wanted(firsts, asked, within)
                 for other in unwanted:
-                    tasks.drop(other)
-        raise dealing.Fault("tasks are left undone")
+                    running.drop(other)
+        raise parallel.Fault("tasks are left undone")
 
     def learn(self, replies, within, line, ended):
-        """Takes a task's answer for all that it is the answer of."""
+        """Takes a task's answer for all replies that lead to its position."""
         if not ended.is_done():
             raise self.unanswered(line, ended)
         fen = replies[0].fen
@@ -155,19 +150,19 @@ class Solve(dealt.Dealt):
     # The tree
 
     def tree(self, first, plies):
-        """The move, and each reply with its tree. Each of those is one task."""
+        """Returns the tree of a move. The tree of each reply is a task."""
         kept = {reply.fen: self.log.answers.get(self.key("tree", reply.forced, reply.fen)) for reply in first.replies}
         texts = {fen: text for fen, text in kept.items() if text}
         asked = list({reply.fen: reply for reply in first.replies if reply.fen not in texts}.values())
         if asked:
-            self.deal_trees(asked, texts)
+            self.run_trees(asked, texts)
         below = ",".join(f"{reply.text}:{texts[reply.fen].rstrip()}" for reply in first.replies)
         return self.whole(f"{first.text}{{{below}}}\n", plies)
 
-    def deal_trees(self, asked, texts):
+    def run_trees(self, asked, texts):
         lines = [self.line("tree", reply.forced, reply.fen) for reply in asked]
-        with dealing.Dealing(lines, self.machines()) as tasks:
-            for number, ended in tasks:
+        with parallel.Run(lines, self.machines) as running:
+            for number, ended in running:
                 if not ended.is_done():
                     raise self.unanswered(lines[number], ended)
                 reply = asked[number]
@@ -175,11 +170,11 @@ class Solve(dealt.Dealt):
                 texts[reply.fen] = ended.output
 
     def whole(self, text, plies):
-        """The tree, once the program here has checked it."""
+        """Returns the tree, once the program here has checked it."""
         root = check_tree.read_position(os.fsencode(self.fen))
         told = tree_parts.checked(self.program, self.goal, root, text.removesuffix("\n"))
         if told != plies:
-            raise dealing.Fault(f"the tree that came back doesn't win within {plies} plies, so some machine answered wrongly")
+            raise parallel.Fault(f"the tree that came back doesn't win within {plies} plies, so some machine answered wrongly")
         return text
 
 
@@ -188,7 +183,7 @@ def all_replies(firsts):
 
 
 def is_decided(firsts, within):
-    """Whether the least move that wins is known, or that none does."""
+    """Whether the least move that wins is known, or it is known that none wins."""
     for first in firsts:
         told = first.wins(within)
         if told is not False:
@@ -197,7 +192,7 @@ def is_decided(firsts, within):
 
 
 def asked_of(firsts, within):
-    """The positions to ask of, each once with all its replies: one reply of each first move, then the next of each, and so on."""
+    """Returns the positions to solve, each once with all its replies: one reply of each first move, then the next of each, and so on."""
     lists, found = [first.open_replies(within) for first in firsts], {}
     for rank in range(max(map(len, lists), default=0)):
         for replies in lists:
@@ -207,7 +202,7 @@ def asked_of(firsts, within):
 
 
 def not_wanted(firsts, asked, within):
-    """The numbers of those of no more use: a reply to their move escapes, or a lesser move wins."""
+    """Returns the numbers of the tasks of no more use: a reply to their move escapes, or a lesser move wins."""
     wanted = set()
     for first in firsts:
         told = first.wins(within)
