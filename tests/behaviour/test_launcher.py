@@ -460,11 +460,3 @@ def test_the_launcher_and_the_benches_without_rt_say_what_they_lack(clone):
         ran = clone.run(launcher=f"bench/{bench}/run", PATH=path)
         assert ran.status not in (0, None)
         assert b"rt" in ran.error.split()
-
-
-def test_check_all_without_a_compiler_or_python3_says_what_it_lacks(tmp_path):
-    check_all = os.path.join(TOP, "tools/check_all")
-    ran = run([sys.executable, check_all], env={"PATH": str(make_tools(tmp_path / "without cc", ["rt"]))})
-    assert (ran.status, ran.output, b"cc" in ran.error.split()) == (2, b"", True)
-    ran = run([check_all], env={"PATH": str(make_tools(tmp_path / "without python3", ["rt", "python3"]))})
-    assert (ran.status, ran.output, b"python3" in ran.error) == (127, b"", True)
