@@ -1,31 +1,18 @@
-#!/usr/bin/env python3
-"""Checks that each specs/Lib.antt separates the definitions that public contracts rest on from all others.
-
-    tools/check_model
+"""Finds the definitions that public contracts rest on.
 
 A public contract rests on the files of definitions that it names, and on those that these use. A contract is public if it belongs to a call that
-its crate's lib.rt passes on, to the view of a public type, or to a public trait; of a program it is the contract of what `main` runs. Each
-specs/Lib.antt lists exactly these files in its first block, headed `-- to be believed`, and the others in its second, headed `-- inside`. Each
-definition to be believed has a comment right above it in its file, or is named in docs/MODEL.md. `tools/list definitions` prints these
-definitions. The last line is `N passed, M failed`. The status is 1 if a check failed.
+its crate's lib.rt passes on, to the view of a public type, or to a public trait; of a program it is the contract of what `main` runs.
 """
 
-import argparse
 import os
 import re
-import sys
 
-sys.dont_write_bytecode = True
-
-import checking  # noqa: E402 (no compiled copy of it is to be left in tools/)
-
-CRATES = os.path.join(checking.TOP, "crates")
-MODEL = os.path.join(checking.TOP, "docs", "MODEL.md")
+TOP = os.path.dirname(os.path.dirname(os.path.abspath(__file__)))
+CRATES = os.path.join(TOP, "crates")
 # Crates without a call of their own that a reader relies on: tests, trials and names of other crates.
 WITHOUT = {"acceptance", "example", "one_call", "round_tests", "search", "table_tests", "text_tests"}
 # What a program's `main` runs, and the call below it that promises name.
 OF_PROGRAM = {"run_program", "run"}
-HEADS = ("-- to be believed", "-- inside")
 # What an `impl` proves and no caller reads.
 INSIDE = {"invariant", "inverse", "size", "size_decreases"}
 USE = re.compile(r"use Rattle\.(\w+)\.specs\.(\w+)")
@@ -48,7 +35,7 @@ def sources(crate, folder, ending):
     return {name[: -len(ending)]: read(os.path.join(path, name)) for name in names}
 
 
-def definitions():
+def known():
     """What each file of definitions uses, by crate and file."""
     return {
         (crate, name): USE.findall(text)
@@ -99,7 +86,7 @@ def name_of(kind, head):
     return found.group(1) if found else ""
 
 
-def named(crate, known):
+def named(crate, files):
     """The files of definitions that the crate's public contracts name, each with the item that names it."""
     public = passed_on(crate)
     for file, text in sources(crate, "src", ".rt").items():
@@ -115,35 +102,20 @@ def named(crate, known):
             where = imported(text[: item.start()] + body)
             for clause in clauses(item.group(2), item.group(3), body):
                 for word in re.findall(r"[A-Za-z_][\w']*", clause):
-                    if where.get(word) in known:
+                    if where.get(word) in files:
                         yield where[word], f"{crate}::{name}"
 
 
-def believed(known):
-    """The files that public contracts rest on, each with what leads there."""
+def believed(files):
+    """The files of `known` that public contracts rest on, each with what leads there."""
     found, left = {}, []
     for crate in sorted(set(os.listdir(CRATES)) - WITHOUT):
-        left += named(crate, known)
+        left += named(crate, files)
     while left:
         file, why = left.pop()
         if file not in found:
             found[file] = why
-            left += [(use, "/".join(file)) for use in known[file] if use in known]
-    return found
-
-
-def blocks(crate):
-    """The two blocks of the crate's list of files, or None where it isn't of that form."""
-    lines = [line for line in read(os.path.join(CRATES, crate, "specs", "Lib.antt")).splitlines() if line]
-    marks = [line for line in lines if line.startswith("--")]
-    if tuple(marks) not in (HEADS, HEADS[:1], HEADS[1:]) or lines[0] not in HEADS:
-        return None
-    found, block = {head: [] for head in HEADS}, None
-    for line in lines:
-        if line in HEADS:
-            block = found[line]
-        else:
-            block.append(line.removeprefix("pub mod "))
+            left += [(use, "/".join(file)) for use in files[file] if use in files]
     return found
 
 
@@ -156,29 +128,3 @@ def described(text):
             above -= 1
         if name:
             yield name.group(1), " ".join(it[3:].strip() for it in lines[above:at])
-
-
-def words_of_model():
-    """The names that the page has in backticks."""
-    return set(re.findall(r"[A-Za-z_][\w']*", " ".join(re.findall(r"`([^`]*)`", read(MODEL)))))
-
-
-def main():
-    argparse.ArgumentParser(description=__doc__.splitlines()[0]).parse_args()
-    tally, known = checking.Tally(), definitions()
-    truth = believed(known)
-    for crate in checking.cases(sorted({crate for crate, _ in known})):
-        lists = blocks(crate)
-        tally.note(lists is not None, f"{crate}/specs/Lib.antt hasn't the blocks {HEADS}")
-        for head, block in (lists or {}).items():
-            due = {file for name, file in known if name == crate and ((name, file) in truth) == (head == HEADS[0])}
-            tally.note(set(block) == due, f"{crate}/specs/Lib.antt, {head}: move or list {sorted(set(block) ^ due)}")
-    said = words_of_model()
-    for crate, file in checking.cases(sorted(truth)):
-        left = [name for name, line in described(sources(crate, "specs", ".antt")[file]) if not line and name not in said]
-        tally.note(not left, f"{crate}/specs/{file}.antt: write a comment above {left}")
-    return tally.end()
-
-
-if __name__ == "__main__":
-    sys.exit(main())
