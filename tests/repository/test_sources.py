@@ -83,21 +83,10 @@ ITEMS = [
     ("Asks", ["/// What asks."], ["pub trait Asks"]),
 ]
 # The methods of its types.
+SUM = "pub fn sum(|    &self,|    more: u8,|) -> u8|    requires room { more ≡ 0|        × more ≡ 0 }|    ensures { result ≡ 0 }"
 METHODS = {
     "Pair": [
-        (
-            "Pair::sum",
-            ["/// The sum, { not the product }."],
-            [
-                "pub fn sum(",
-                "    &self,",
-                "    more: u8,",
-                ") -> u8",
-                "    requires room { more ≡ 0",
-                "        × more ≡ 0 }",
-                "    ensures { result ≡ 0 }",
-            ],
-        ),
+        ("Pair::sum", ["/// The sum, { not the product }."], SUM.split("|")),
         ("Pair::plain", ["/// Nothing is promised."], ["pub fn plain(&self) -> u8"]),
     ],
     "Asks": [("Asks::asks", ["/// What asks."], ["fn asks(&self) -> u8", "    ensures { result ≡ 1 };"])],
@@ -212,9 +201,8 @@ def test_the_list_of_files_separates_what_public_contracts_rest_on(crate, count)
 
 
 def test_each_definition_that_a_public_contract_rests_on_has_a_comment_or_is_listed_without(count):
-    without = [
-        name for crate, file in BELIEVED for name, words in definitions.described(read(f"crates/{crate}/specs/{file}.antt")) if not words
-    ]
+    texts = [read(f"crates/{crate}/specs/{file}.antt") for crate, file in BELIEVED]
+    without = [name for text in texts for name, words in definitions.described(text) if not words]
     section = PAGES["docs/project/definitions.md"].partition("\n## Definitions without a comment\n")[2].partition("\n## ")[0]
     assert sorted(without) == sorted(quoted(section)) and len(without) <= 50
     count(len(BELIEVED))
