@@ -43,8 +43,8 @@ def prose(text):
 
 
 def blocks(text, language):
-    """Returns the blocks of code of this language."""
-    return re.findall(rf"^```{language}\n(.*?)^```$", text, flags=re.M | re.S)
+    """Returns the blocks of code of this language; those of none are called ""."""
+    return [block for name, block in re.findall(r"^```(\w*)\n(.*?)^```$", text, flags=re.M | re.S) if name == language]
 
 
 def joined(text):

@@ -90,7 +90,7 @@ def unknown_options(words, commands):
 def sources():
     """Returns each word of the crates, the scripts, the page, the package and the header, and the names of their files and of the crates."""
     patterns = ["specs/*.antt", "src/**/*", "proofs/**/*.antt", "*must-fail/*"]
-    others = ["tools/**/*", "bench/**/*", "web/*", "python/minimate/*.py", "include/*", "tests/[!r]*/*", "tests/*"]
+    others = ["tools/**/*", "bench/**/*", "web/*", "python/minimate/*.py", "include/*", "crates.txt"]
     files = [it for it in found(*(f"crates/*/{it}" for it in patterns), *others) if is_file(it) and not it.endswith((".md", ".xz", ".pyc"))]
     texts = [re.sub(r"^#.*", "", read(it), flags=re.M) if it.endswith(".edit") else read(it, errors="replace") for it in files]
     return set(re.findall(r"\w+", " ".join([*texts, *CRATES, *(os.path.splitext(os.path.basename(it))[0] for it in files)])))
