@@ -40,7 +40,7 @@ PARTS = {"src", "specs", "proofs", "must-fail", "more-must-fail"}
 PROMISES, MUTANTS, HOUSE = (f"docs/project/{it}.md" for it in ("promises", "mutants", "architecture"))
 # Names of ssh and of the toolchain, and of the specification, which has a call in another crate.
 OTHERS = re.compile(r"ControlMaster|rattle_\w+|minimate::run_line")
-NAMES = r"(?<!of )(?<!in )((?:`[A-Za-z_]\w*`(?:, | and |, and )?)+)"
+NAMES = r"((?:`[A-Za-z_]\w*`(?:, | and |, and )?)+)"
 
 
 def paths(text):
@@ -65,6 +65,11 @@ def calls(text):
         for part in re.split(r"[|;&#]|\$\(", line):
             words = part.split()
             yield words[1:] if words[:1] == ["python3"] else words
+
+
+def each(names):
+    """Returns the names in backquotes that aren't crates'."""
+    return [it for it in re.findall(r"`(\w+)`", names) if it not in CRATES]
 
 
 def texts_below(path):
@@ -163,8 +168,8 @@ def test_a_crate_has_the_mutants_tests_and_names_that_a_page_places_in_it(page, 
     """A mutant is named as `slots/gate_wraps`; a test or another name as in "`round` of `rounds`"."""
     named = [it for it in re.findall(r"`(\w+)/(\w+)`", joined(PAGES[page])) if it[0] in CRATES and it[1] not in PARTS]
     missing = [it for it in named if not found(f"crates/{it[0]}/*must-fail/{it[1]}.edit")]
-    placed = [(name, it) for names, it in re.findall(rf"{NAMES} (?:of|in) `(\w+)`", joined(PAGES[page])) for name in re.findall(r"\w+", names)]
-    placed = [it for it in placed if it[0] != "and" and it[1] in CRATES]
+    rows = [it for it in re.findall(rf"{NAMES} (?:of|in) `(\w+)`", joined(PAGES[page])) if it[1] in CRATES]
+    placed = [(name, crate) for names, crate in rows for name in each(names)]
     for name, crate in placed:
         is_tests = crate.endswith("_tests") or crate == "acceptance"
         texts = "\n".join(map(read, found(f"crates/{crate}/src/**/*.rt", f"crates/{crate}/specs/*.antt")))
@@ -185,7 +190,7 @@ def test_the_architecture_has_every_crate_and_the_functions_of_a_row_are_in_its_
     assert [it for it in CRATES if not re.search(rf"\b{it}\b", PAGES[HOUSE])] == []
     table = PAGES[HOUSE].partition("\n| Function | File |")[2].partition("\n\n")[0]
     rows = re.findall(r"^\| (`.*?) \| (.*?) \|", table, re.M)
-    placed = [(name, "".join(map(read, paths(files)))) for names, files in rows for name in re.findall(r"\w+", names)]
+    placed = [(name, "".join(map(read, paths(files)))) for names, files in rows for name in re.findall(r"`(\w+)`", names)]
     assert placed and [name for name, text in placed if not re.search(rf"\bfn {name}\b", text)] == []
     count(len(CRATES) + len(placed))
 
@@ -199,13 +204,13 @@ def defined(*files):
 def test_definitions_are_in_the_files_in_which_the_promises_place_them(count):
     text = joined(PAGES[PROMISES])
     rows = re.findall(rf"{NAMES} \(([A-Z]\w+)(?: of `(\w+)`)?\)", text) + re.findall(r"\((`\w+`), ([A-Z]\w+)()\)", text)
-    placed = [(name, file, crate or "*") for names, file, crate in rows for name in re.findall(r"`(\w+)`", names)]
+    placed = [(name, file, crate or "*") for names, file, crate in rows for name in each(names)]
     assert placed and [it for it in placed if it[0] not in defined(*found(f"crates/{it[2]}/specs/{it[1]}.antt"))] == []
     count(len(placed))
 
 
 def test_definitions_are_in_the_files_in_which_the_page_of_definitions_lists_them(count):
     rows = re.findall(r"^\| (\w+/specs/\w+\.antt) \| (.*?) \|", PAGES["docs/project/definitions.md"], flags=re.M)
-    placed = [(file, name) for file, names in rows for name in re.findall(r"`(\w+)`", names)]
+    placed = [(file, name) for file, names in rows for name in each(names)]
     assert placed and [(file, name) for file, name in placed if name not in defined(f"crates/{file}")] == []
     count(len(placed))

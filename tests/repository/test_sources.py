@@ -27,24 +27,19 @@ pub enum Side {
     /// The other.
     Black,
 }
-
 /// A pair.
 pub struct Pair {
     pub first: u8,
     second: u8,
 }
-
 /// Nothing inside is public.
 pub struct Closed {
     own: u8,
 }
-
 /// The most.
 pub const MOST: usize = 5;
-
 pub(crate) fn hidden() {
 }
-
 impl Pair {
     /// The sum, { not the product }.
     pub fn sum(
@@ -57,17 +52,14 @@ impl Pair {
     {
         0
     }
-
     fn own(&self) -> u8 {
         1
     }
-
     /// Nothing is promised.
     pub fn plain(&self) -> u8 {
         2
     }
 }
-
 /// What asks.
 pub trait Asks {
     fn asks(&self) -> u8
