@@ -186,10 +186,9 @@ def test_the_gate_tries_the_mutants_that_promises_rely_on(count):
     count(len(named))
 
 
-def test_the_architecture_has_every_crate_and_the_functions_of_a_row_are_in_its_files(count):
+def test_the_architecture_has_every_crate_and_the_functions_of_an_item_are_in_its_files(count):
     assert [it for it in CRATES if not re.search(rf"\b{it}\b", PAGES[HOUSE])] == []
-    table = PAGES[HOUSE].partition("\n| Function | File |")[2].partition("\n\n")[0]
-    rows = re.findall(r"^\| (`.*?) \| (.*?) \|", table, re.M)
+    rows = re.findall(r"^- ((?:`\w+`(?:, )?)+) \((.*?)\):", joined(PAGES[HOUSE]), re.M)
     placed = [(name, "".join(map(read, paths(files)))) for names, files in rows for name in re.findall(r"`(\w+)`", names)]
     assert placed and [name for name, text in placed if not re.search(rf"\bfn {name}\b", text)] == []
     count(len(CRATES) + len(placed))
@@ -210,7 +209,7 @@ def test_definitions_are_in_the_files_in_which_the_promises_place_them(count):
 
 
 def test_definitions_are_in_the_files_in_which_the_page_of_definitions_lists_them(count):
-    rows = re.findall(r"^\| (\w+/specs/\w+\.antt) \| (.*?) \|", PAGES["docs/project/definitions.md"], flags=re.M)
-    placed = [(file, name) for file, names in rows for name in each(names)]
+    rows = re.findall(r"^- ((?:`\w+`(?:, )?)+) \((\w+/specs/\w+\.antt)\):", joined(PAGES["docs/project/definitions.md"]), flags=re.M)
+    placed = [(file, name) for names, file in rows for name in each(names)]
     assert placed and [(file, name) for file, name in placed if name not in defined(f"crates/{file}")] == []
     count(len(placed))
