@@ -74,6 +74,16 @@ def pages(request, monkeypatch):
     return request.param
 
 
+@pytest.fixture(scope="session")
+def refusing(tmp_path_factory):
+    """The library that counts and refuses requests for memory, preloaded into a run (refused_memory.py)."""
+    need("cc")
+    library = tmp_path_factory.mktemp("library") / "refuse_memory.so"
+    source = os.path.join(TOP, "tests", "behaviour", "refuse_memory.c")
+    subprocess.run(["cc", "-O1", "-shared", "-fPIC", "-o", library, source], check=True)
+    return str(library)
+
+
 # The C library
 
 
@@ -88,6 +98,14 @@ def library():
                 pytest.skip("no rt on the path, and no library in out/")
             subprocess.run([os.path.join(TOP, "tools", "build_c"), "--shared"], check=True)
     return folder
+
+
+@pytest.fixture(scope="session")
+def caller(library, tmp_path_factory):
+    """The program of library/caller.c, which makes calls of the C library."""
+    import library_calls
+
+    return library_calls.compiled(tmp_path_factory.mktemp("caller"), library)
 
 
 # The page

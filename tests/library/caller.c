@@ -1,10 +1,13 @@
-/* A solver that lives, as a program uses it: asked again and again, and stopped from another thread.
+/* Makes calls of the library, and writes their replies.
 
-       check_solver WORD SLOTS STALE LIMIT FEN ..    asks one solver about each position, by solve, keys or tree, and writes its answers
-       check_solver stop WORD SLOTS LIMIT LONG FEN   stops a search of LONG from another thread, writes how far it was, and asks about FEN
-       check_solver threads SLOTS LIMIT FEN          eight threads with a solver each
+       caller CALL STALE LIMIT SLOTS ROOM FEN         one of the calls that answer in text, in a room of ROOM bytes
+       caller solver CALL SLOTS STALE LIMIT FEN ..    asks one solver about each position, by solve, keys or tree
+       caller stop CALL SLOTS LIMIT LONG FEN          stops a search of LONG from another thread, writes its progress, and asks about FEN
+       caller threads SLOTS LIMIT FEN                 eight threads with a solver each
 
-   The status is 0 where all went as it should. */
+   The tree of `check`, the certificate of `verify` or the move of `after` is read from standard input. A room lies between bytes that no call
+   may change. The status is 0 if all went as it should, 3 if the room was too small, 4 if a byte was written outside the reply, 5 if the
+   program itself has no memory or can't write, and 6 if the library is of another version than the header. */
 #include <pthread.h>
 #include <stdio.h>
 #include <stdlib.h>
@@ -13,8 +16,57 @@
 
 #include "minimate.h"
 
-enum { THREADS = 8, MILLION = 1000000, EDGE = 64, MARK = 0xA5 };
+enum { THREADS = 8, MILLION = 1000000, EDGE = 64, MARK = 0xA5, MOST_TREE = 1 << 21 };
 
+/* The calls that answer in text. */
+static size_t call(const char *word, bool stale, uint32_t limit, uint32_t slots, const char *fen, uint8_t *room, size_t length) {
+    const uint8_t *text = (const uint8_t *)fen;
+    size_t count = strlen(fen);
+    if (strcmp(word, "solve") == 0)
+        return minimate_solve(text, count, stale, limit, slots, room, length);
+    if (strcmp(word, "keys") == 0)
+        return minimate_keys(text, count, stale, limit, slots, room, length);
+    if (strcmp(word, "tree") == 0)
+        return minimate_tree(text, count, stale, limit, slots, room, length);
+    if (strcmp(word, "moves") == 0)
+        return minimate_moves(text, count, room, length);
+    if (strcmp(word, "fault") == 0)
+        return minimate_fault(text, count, room, length);
+    uint8_t *tree = malloc(MOST_TREE);
+    if (!tree)
+        exit(5);
+    size_t read = fread(tree, 1, MOST_TREE, stdin);
+    size_t result;
+    if (strcmp(word, "after") == 0)
+        result = minimate_after(text, count, tree, read, room, length);
+    else if (strcmp(word, "verify") == 0)
+        result = minimate_verify(text, count, stale, tree, read, room, length);
+    else
+        result = minimate_check(text, count, stale, tree, read, room, length);
+    free(tree);
+    return result;
+}
+
+static int one_call(char **words) {
+    size_t length = strtoull(words[5], NULL, 10);
+    uint8_t *block = malloc(length + 2 * EDGE), *room = block + EDGE;
+    if (!block)
+        return 5;
+    memset(block, MARK, length + 2 * EDGE);
+    uint32_t limit = strtoul(words[3], NULL, 10), slots = strtoul(words[4], NULL, 10);
+    size_t result = call(words[1], words[2][0] == '1', limit, slots, words[6], room, length);
+    size_t written = result == SIZE_MAX ? 0 : result;
+    if (written > length)
+        return 4;
+    for (size_t i = 0; i < length + 2 * EDGE; i++)
+        if ((i < EDGE || i >= EDGE + written) && block[i] != MARK)
+            return 4;
+    if (result == SIZE_MAX)
+        return 3;
+    return fwrite(room, 1, written, stdout) == written && fflush(stdout) == 0 ? 0 : 5;
+}
+
+/* A solver, as a program uses it. */
 static const char *why(uint32_t result) {
     switch (result) {
     case MINIMATE_STOPPED: return "stopped";
@@ -157,27 +209,29 @@ static int all_threads(uint32_t slots, uint32_t limit, const char *fen) {
     return wrong;
 }
 
+static int ask_all(int count, char **words) {
+    struct minimate_solver solver = {0};
+    struct minimate_stop stop = {0};
+    uint32_t opened = minimate_solver_open(&solver, &stop, strtoul(words[1], NULL, 10));
+    if (opened) {
+        printf("%s\n", opened == MINIMATE_NO_MEMORY ? "refused: NoMemory" : opened == MINIMATE_SLOTS ? "refused: Slots" : "wrong");
+        return 0;
+    }
+    for (int i = 4; i < count; i++)
+        ask(&solver, words[0], words[i], words[2][0] == '1', strtoul(words[3], NULL, 10));
+    minimate_stop_close(&stop);
+    minimate_solver_close(&solver);
+    return fflush(stdout) == 0 ? 0 : 5;
+}
+
 int main(int count, char **words) {
     if (minimate_version() != MINIMATE_VERSION_NUMBER)
         return 6;
-    bool asks = count > 4 && (strcmp(words[1], "solve") == 0 || strcmp(words[1], "keys") == 0 || strcmp(words[1], "tree") == 0);
-    if (asks) {
-        struct minimate_solver solver = {0};
-        struct minimate_stop stop = {0};
-        uint32_t opened = minimate_solver_open(&solver, &stop, strtoul(words[2], NULL, 10));
-        if (opened) {
-            printf("%s\n", opened == MINIMATE_NO_MEMORY ? "refused: NoMemory" : opened == MINIMATE_SLOTS ? "refused: Slots" : "wrong");
-            return 0;
-        }
-        for (int i = 5; i < count; i++)
-            ask(&solver, words[1], words[i], words[3][0] == '1', strtoul(words[4], NULL, 10));
-        minimate_stop_close(&stop);
-        minimate_solver_close(&solver);
-        return fflush(stdout) == 0 ? 0 : 5;
-    }
+    if (count > 6 && strcmp(words[1], "solver") == 0)
+        return ask_all(count - 2, words + 2);
     if (count == 7 && strcmp(words[1], "stop") == 0)
         return stop_one(words[2], strtoul(words[3], NULL, 10), strtoul(words[4], NULL, 10), words[5], words[6]);
     if (count == 5 && strcmp(words[1], "threads") == 0)
         return all_threads(strtoul(words[2], NULL, 10), strtoul(words[3], NULL, 10), words[4]);
-    return 5;
+    return count == 7 ? one_call(words) : 5;
 }
