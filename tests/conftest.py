@@ -9,6 +9,7 @@ go over a large table in one function (fixture `count`).
 import collections
 import contextlib
 import fcntl
+import importlib
 import os
 import shutil
 import subprocess
@@ -106,6 +107,20 @@ def caller(library, tmp_path_factory):
     import library_calls
 
     return library_calls.compiled(tmp_path_factory.mktemp("caller"), library)
+
+
+@pytest.fixture(scope="session")
+def shared_library(library):
+    return os.path.join(library, "libminimate.so")
+
+
+@pytest.fixture(scope="module")
+def package(shared_library):
+    """The package `minimate` for Python, over the library."""
+    with pytest.MonkeyPatch.context() as patch:
+        patch.setenv("MINIMATE_LIBRARY", shared_library)
+        patch.syspath_prepend(os.path.join(TOP, "python"))
+        yield importlib.import_module("minimate")
 
 
 # The page
