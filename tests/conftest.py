@@ -53,7 +53,7 @@ def program(request):
     """The path of the program `minimate`; the other programs stand beside it (`programs.started`)."""
     given = request.config.getoption("--program")
     with one_at_a_time("programs"):
-        return of_programs.find(given)
+        return of_programs.find(given, gate=True)
 
 
 @pytest.fixture(scope="session")

@@ -8,7 +8,7 @@ import tarfile
 import tempfile
 from typing import NamedTuple
 
-import checking
+import programs
 
 PROGRAM, PLAIN = 0o755, 0o644
 
@@ -112,9 +112,9 @@ def package(items, control, path, epoch):
     with tempfile.TemporaryDirectory() as room:
         root = os.path.join(room, "root")
         lay_out([*items, *told], root, epoch)
-        ran = checking.run([checking.need("dpkg-deb"), "--root-owner-group", "-Zxz", "--build", root, path], timeout=600, env=settings)
+        ran = programs.run([programs.need("dpkg-deb"), "--root-owner-group", "-Zxz", "--build", root, path], timeout=600, env=settings)
     if ran.status != 0:
-        checking.stop(f"dpkg-deb ended with status {ran.status}: {ran.error.decode(errors='replace')}")
+        programs.stop(f"dpkg-deb ended with status {ran.status}: {ran.error.decode(errors='replace')}")
 
 
 def sums(paths):

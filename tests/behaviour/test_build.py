@@ -308,7 +308,7 @@ BUILDERS = {
 def begin(clone, builder, before=""):
     """Starts a builder in the clone, after these lines of a shell, and waits until its `rt` has begun."""
     files, begins = BUILDERS[builder]
-    clone.copy(*files)
+    clone.copy("tools/programs.py", *files)
     for crate in ("minimate_c", "page"):
         clone.write(f"crates/{crate}/src/lib.rt", "fn main() {}\n")
     clone.write("crates.txt", f"{CRATES}minimate_c: board\npage: board\n")
@@ -405,7 +405,7 @@ PRINTED = [
     (["board/a", "board/wrong"], TRIED[:1], 3, [REFUSED, NOT_TRIED, "1 of 2 mutants were tried", "1 passed, 0 failed"]),
 ], ids=["all", "one", "two"])
 def test_try_edits_prints_a_line_for_each_mutant_and_keeps_nothing(clone, names, says, status, printed):
-    clone.copy("tools/try_edits", "tools/list")
+    clone.copy("tools/try_edits", "tools/list", "tools/programs.py")
     for name in "abc":
         clone.write(f"{PLACE}{name}.edit", f"# mutant {name}\n")
     before = files_below(clone.top)

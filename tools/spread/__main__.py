@@ -23,8 +23,8 @@ sys.dont_write_bytecode = True
 # Python puts the folder that it runs first on the path. The package's own folder is no place for names such as `parallel`.
 sys.path[0] = os.path.dirname(os.path.dirname(os.path.abspath(__file__)))
 
-import checking  # noqa: E402
 import positions  # noqa: E402
+import programs  # noqa: E402
 from spread import batch, parallel, solve, tasks  # noqa: E402
 
 WRITE_FAILED, INTERRUPTED = 4, 130
@@ -136,8 +136,8 @@ def main():
     options = words_of_line()
     for what in (signal.SIGTERM, signal.SIGHUP):
         signal.signal(what, interrupt)
-    options.program = checking.find_program(options.program)
-    os.environ.update(checking.launched(os.environ))
+    options.program = programs.find(options.program)
+    os.environ.update(programs.launched(os.environ))
     output, status, error = answered(options)
     sys.stderr.buffer.write(error)
     sys.stderr.flush()

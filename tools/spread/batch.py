@@ -3,7 +3,7 @@
 import re
 from typing import NamedTuple, Optional
 
-import checking
+import programs
 from spread import parallel, tasks
 
 READ_FAILED = 4
@@ -75,7 +75,7 @@ class Batch(tasks.Work):
     def answer_here(self, lines, answers, limit, places):
         """Answers these lines by the program here. Lines that aren't searched may hold any bytes."""
         text = b"".join(lines[place] + b"\n" for place in places)
-        made = lines_of(checking.run(checking.started(self.program, *self.words("batch", limit)), text, timeout=None).output)
+        made = lines_of(programs.run(programs.started(self.program, *self.words("batch", limit)), text, timeout=None).output)
         if len(made) != len(places):
             raise parallel.Fault(f"{self.program} batch answered {len(made)} of {len(places)} lines")
         for place, answer in zip(places, made):

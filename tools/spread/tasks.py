@@ -5,7 +5,7 @@ import re
 import shlex
 from pathlib import Path
 
-import checking
+import programs
 from spread import joblog, parallel
 
 # Limits in plies and in moves.
@@ -40,7 +40,7 @@ class Work:
     def ask_here(self, command, within, *words):
         """Returns the answer of the program here. A refusal ends the work."""
         try:
-            ran = checking.run(checking.started(self.program, *self.words(command, within), *words), timeout=None)
+            ran = programs.run(programs.started(self.program, *self.words(command, within), *words), timeout=None)
         except (OSError, ValueError) as fault:
             raise parallel.Fault(f"{self.program} can't be run: {fault}") from None
         if ran.status != 0:
@@ -66,7 +66,7 @@ class Work:
     def line(self, command, limit, *words):
         """Returns a task as a shell's line. On other machines the launcher picks the program."""
         task = [*self.words(command, limit), *words]
-        return shlex.join([self.options.remote, *task] if self.options.hosts else checking.started(self.program, *task))
+        return shlex.join([self.options.remote, *task] if self.options.hosts else programs.started(self.program, *task))
 
     def command(self):
         """Returns the command of a task, which makes an answer or its certificate."""
@@ -81,8 +81,8 @@ class Work:
         if not self.options.certify:
             return ended.output
         first, feed, _ = ended.output.partition("\n")
-        words = checking.started(self.program, "verify", f"--goal={self.goal}", "--", fen)
-        ran = checking.run(words, ended.output.encode(), timeout=None)
+        words = programs.started(self.program, "verify", f"--goal={self.goal}", "--", fen)
+        ran = programs.run(words, ended.output.encode(), timeout=None)
         if (ran.output, ran.status) != ((first + feed).encode(), 0):
             why = (ran.error or ran.output).decode(errors="replace").strip()
             raise parallel.Fault(f"{line}: the certificate that came back from {ended.where()} proves no answer: {why}")

@@ -1,9 +1,10 @@
-"""The programs that the tests run, how one run ends, and the lines of the bench."""
+"""What tools and tests share: the programs, how one run ends, and the lines of the bench."""
 
 import importlib.machinery
 import importlib.util
 import os
 import re
+import shutil
 import subprocess
 import sys
 from typing import NamedTuple, Optional
@@ -40,23 +41,35 @@ def run(words, text=b"", timeout=60, **how):
     return Ran(ran.returncode, ran.stdout, ran.stderr)
 
 
-def tool(name):
-    """Imports a script of tools/ as a module: most have no ending, so that `import` doesn't find them."""
-    loader = importlib.machinery.SourceFileLoader(name, os.path.join(TOP, "tools", name))
+def stop(why):
+    """Ends a tool with status 2, and prints the reason on standard error."""
+    print(f"{os.path.basename(sys.argv[0])}: {why}", file=sys.stderr)
+    sys.exit(2)
+
+
+def need(name):
+    """Returns the path of a command, without which a tool can't work."""
+    return shutil.which(name) or stop(f"found no {name} on the path: install it")
+
+
+def tool(name, folder="tools"):
+    """Imports a script of this folder as a module: most have no ending, so that `import` doesn't find them."""
+    loader = importlib.machinery.SourceFileLoader(name, os.path.join(TOP, folder, name))
     module = importlib.util.module_from_spec(importlib.util.spec_from_loader(name, loader))
     sys.modules[name] = module
     loader.exec_module(module)
     return module
 
 
-def find(given=None):
-    """Returns the path of the program `minimate`: the given one, the one that `rt ci` left, or the one that the launcher builds."""
+def find(given=None, gate=False):
+    """Returns the path of the program `minimate`: the given one, with `gate` the one that `rt ci` left, or the one that the launcher builds."""
     if given:
-        return os.path.abspath(given)
+        return os.path.abspath(given) if os.path.isfile(given) and os.access(given, os.X_OK) else stop(f"no program at {given}")
     built = os.path.join(TOP, "crates", FIRST, "out", FIRST)
-    if all(os.access(program_of(built, name), os.X_OK) for name in PROGRAMS):
+    if gate and all(os.access(program_of(built, name), os.X_OK) for name in PROGRAMS):
         return built
-    subprocess.run([os.path.join(TOP, "tools", "build_program"), "--all"], check=True)
+    if subprocess.run([os.path.join(TOP, "tools", "build_program"), "--all"], check=False).returncode:
+        stop("the programs can't be built")
     return os.path.join(TOP, "out", FIRST)
 
 
