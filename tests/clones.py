@@ -112,7 +112,7 @@ FUNCTIONS = {"board": 2, "moves": 2, "wintree": 2, "minimate": 2, "batch": 4, "v
 TOOLS = """sh env awk wc dd basename cat chmod cmp cp dirname find iconv kill ln ls mkdir mktemp mv printf readlink rm rmdir sleep sort
 touch tail sed date echo""".split()
 FILES = """minimate tools/install tools/build_program tools/kit.py tools/crate_runs.py tools/show_tree tools/check_tree.py tools/diagrams.py
-tools/checking.py share/man/man1/minimate.1 share/bash/minimate share/zsh/_minimate share/fish/minimate.fish""".split()
+share/man/man1/minimate.1 share/bash/minimate share/zsh/_minimate share/fish/minimate.fish""".split()
 
 
 # A clone's name with a blank, and one that isn't UTF-8.

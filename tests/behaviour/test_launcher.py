@@ -19,7 +19,7 @@ WON, WINS = "k5/6/2K3/6/6/1R4 w", b"c4c5{a6a5:b1a1#}\n"
 # The few tools that an installed launcher may use.
 PLAIN_PATH = "/usr/bin:/bin"
 # The files that tools/install writes below its prefix.
-INSTALLED = """bin/minimate bin/minimate-show-tree lib/minimate/batch lib/minimate/check_tree.py lib/minimate/checking.py
+INSTALLED = """bin/minimate bin/minimate-show-tree lib/minimate/batch lib/minimate/check_tree.py
 lib/minimate/compose lib/minimate/diagrams.py lib/minimate/minimate lib/minimate/show_tree lib/minimate/verify
 share/bash-completion/completions/minimate share/fish/vendor_completions.d/minimate.fish share/man/man1/minimate.1
 share/zsh/site-functions/_minimate""".split()
