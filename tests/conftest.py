@@ -111,6 +111,7 @@ def caller(library, tmp_path_factory):
 
 @pytest.fixture(scope="session")
 def shared_library(library):
+    """The path of libminimate.so."""
     return os.path.join(library, "libminimate.so")
 
 

@@ -90,11 +90,17 @@ APART = [
     (Asked("after", THIRD, tree=b"c4c5\n"), b"refused: Move\n"),
     (Asked("after", THIRD, tree=b""), b"refused: Move\n"),
     (Asked("after", "k4R/6/1K4/6/6/6 w", tree=b"f6a6"), b"refused: OtherInCheck\n"),
-    (Asked("fault", "k5/6/1K4/6/6/5R"), b"refused: Fields\nerror: a position has two fields, the board and the side: here is one; write ' w' or ' b' after the board\n"),
+    (
+        Asked("fault", "k5/6/1K4/6/6/5R"),
+        b"refused: Fields\nerror: a position has two fields, the board and the side: here is one; write ' w' or ' b' after the board\n",
+    ),
     (Asked("fault", "6/6/1K4/6/6/K4R w"), b"refused: Kings\nerror: each side has one king, K and k: here are 2 K and 0 k\n"),
     (Asked("fault", THIRD), b""),
     # bytes that are no UTF-8, and a zero byte, are refused like any others
-    (Asked("fault", "k5/6/1K4/6/6/5R \udcff"), b"refused: Side\nerror: character 17 is not ASCII: write a letter, a digit, / or a space for '\\xff'\n"),
+    (
+        Asked("fault", "k5/6/1K4/6/6/5R \udcff"),
+        b"refused: Side\nerror: character 17 is not ASCII: write a letter, a digit, / or a space for '\\xff'\n",
+    ),
     (Asked("moves", "k5/6/1K4/6/6/5R \udcff"), b"refused: Side\n"),
     (Asked("check", THIRD, tree=b"c4c5\xff"), b"refused: Grammar at offset 4\n"),
     (Asked("check", THIRD, tree=b"c4c5\0"), b"refused: Grammar at offset 4\n"),

@@ -301,7 +301,7 @@ def test_a_signal_ends_install_with_its_build(clone):
 BUILDERS = {
     "tools/build_c": (["tools/build_c"], "lib"),
     "web/build": (["web/build", "web/one_file.py", "tools/build_c"], "lib"),
-    "tools/try_edits": (["tools/try_edits", "tools/list"], "must-fail"),
+    "tools/try_edits": (["tools/try_edits", "tools/list", "tools/definitions.py"], "must-fail"),
 }
 
 
@@ -405,7 +405,7 @@ PRINTED = [
     (["board/a", "board/wrong"], TRIED[:1], 3, [REFUSED, NOT_TRIED, "1 of 2 mutants were tried", "1 passed, 0 failed"]),
 ], ids=["all", "one", "two"])
 def test_try_edits_prints_a_line_for_each_mutant_and_keeps_nothing(clone, names, says, status, printed):
-    clone.copy("tools/try_edits", "tools/list", "tools/programs.py")
+    clone.copy("tools/try_edits", "tools/list", "tools/definitions.py", "tools/programs.py")
     for name in "abc":
         clone.write(f"{PLACE}{name}.edit", f"# mutant {name}\n")
     before = files_below(clone.top)

@@ -20,7 +20,8 @@ TOO_SMALL = ctypes.c_size_t(-1).value
 # The program in C itself requests memory too, and then has no room for the reply.
 NO_ROOM = (5, b"")
 # A line of each call.
-ONE_EACH = [next(it for it in KNOWN + APART if it[0].word == word) for word in ("solve", "keys", "tree", "check", "verify", "moves", "after", "fault")]
+WORDS = ("solve", "keys", "tree", "check", "verify", "moves", "after", "fault")
+ONE_EACH = [next(it for it in KNOWN + APART if it[0].word == word) for word in WORDS]
 
 
 def sized(data):

@@ -40,7 +40,7 @@ NEXT = {
 
 
 def interrupt(library, words, stream):
-    """Sends SIGINT a second after the first line on that stream. Returns both streams, the status, and when the signal was sent and the process ended."""
+    """Sends SIGINT a second after the first line on that stream. Returns both streams, the status, and the times of the signal and of the end."""
     how = {"stdout": subprocess.PIPE, "stderr": subprocess.PIPE, "env": settings(library)}
     # A process in the background may have been started with interrupts ignored.
     how["preexec_fn"] = lambda: signal.signal(signal.SIGINT, signal.SIG_DFL)
