@@ -38,8 +38,8 @@ LEFT_OUT = re.compile(r"(^|/)out(/|$)|/[A-Z_]+(/|\.edit$|$)")
 CRATES = sorted(it.split("/")[1] for it in found("crates/*"))
 PARTS = {"src", "specs", "proofs", "must-fail", "more-must-fail"}
 PROMISES, MUTANTS, HOUSE = (f"docs/project/{it}.md" for it in ("promises", "mutants", "architecture"))
-# Names of ssh and of the toolchain, and of the specification, which has a call in another crate.
-OTHERS = re.compile(r"ControlMaster|rattle_\w+|minimate::run_line")
+# Names of ssh, the C library and the toolchain; and one of the specification, which has a call in another crate.
+OTHERS = re.compile(r"ControlMaster|clock_gettime|rattle_\w+|minimate::run_line")
 NAMES = r"((?:`[A-Za-z_]\w*`(?:, | and |, and )?)+)"
 
 
