@@ -2,12 +2,10 @@
 """A second checker of winning trees, made from docs/ alone, in Python's standard library.
 
     tools/check_tree.py [--goal mate|stale] FEN < tree
-    tools/check_tree.py --self-test
 
 It reads a position from its word and a tree from the standard input, and prints what `minimate check` prints: `yes N` with
 the tree's height in plies, `no`, or `refused: ` and the name of the fault. Status 0 is an answer, 1 a refusal, 2 words that
-are no command. It shares nothing with the program but the documents, so that each can be held against the other:
-tools/compare_checkers does that.
+are no command. It shares nothing with the program but the documents: tests/answers/test_checkers.py compares the two.
 """
 
 import argparse
@@ -15,10 +13,6 @@ import os
 import re
 import sys
 from typing import NamedTuple
-
-sys.dont_write_bytecode = True
-
-import checking  # noqa: E402 (no compiled copy of it is to be left in tools/)
 
 # The most bytes of an input, its last line feed counted, and the braces that are too many.
 MOST_BYTES = 1 << 20
@@ -50,8 +44,20 @@ class Position(NamedTuple):
     units: dict
 
 
+def position_of(width, side, units):
+    """A position with these units by square, which may break any rule of positions."""
+    return Position(width, side, dict(units))
+
+
+def fen_text(position):
+    """The position's one text."""
+    files = range(position.width)
+    rows = ["".join(position.units.get((file, rank), "1") for file in files) for rank in reversed(files)]
+    return re.sub("1+", lambda run: str(len(run[0])), "/".join(rows)) + " " + position.side
+
+
 def read_position(text):
-    """The sound position whose text the bytes are. Each fault is asked only where none before it holds."""
+    """The sound position whose text the bytes are. Each fault is looked for only if no earlier one holds."""
     if text.count(b" ") != 1:
         raise Refused("Fields")
     board, side = text.split(b" ")
@@ -337,139 +343,11 @@ def answer(fen, source, goal="mate"):
     return ("no" if plies is None else f"yes {plies}"), 0
 
 
-# The self-test. Its expected answers are worked out by hand from the documents; the counts are another engine's.
-
-FIRST = "k5/6/2K3/6/6/1R4 w"
-THIRD = "1k4/5R/6/6/6/2R2K w"
-CORNER = "k4/2P2/1K3/5/5 w"
-NEST = "c4c5{a6a5:"
-CASES = [
-    (FIRST, "c4c5{a6a5:b1a1#}", "mate", "yes 3"),
-    (FIRST, "c4c5{a6a5:b1a1#}\n", "mate", "yes 3"),
-    (FIRST, "c4c5{a6a5:b1a1#}\n\n", "mate", "refused: Grammar at offset 16"),
-    (FIRST, "c4c5{a6a5:b1a1#}", "stale", "yes 3"),
-    (FIRST, "c4c5{}", "mate", "refused: Grammar at offset 5"),
-    (FIRST, "c4c5#", "mate", "no"),
-    (FIRST, "c4c5q{a6a5:b1a1#}", "mate", "no"),
-    (FIRST, "c4c5{a6a5:b1b2#}", "mate", "no"),
-    (FIRST, "c4c5{a6a5:b1a1#,a6a5:b1a1#}", "mate", "no"),
-    (FIRST, "b1b5=", "stale", "yes 1"),
-    (FIRST, "b1b5=", "mate", "no"),
-    (FIRST, "b1b5#", "stale", "no"),
-    (FIRST, "b1b5#", "mate", "no"),
-    (FIRST, "b1b5{a6a5:b5a5#}", "mate", "no"),
-    (FIRST, "b1a1#", "mate", "no"),
-    (FIRST, "c4c5=", "stale", "no"),
-    (FIRST, "c4c5{a6a5:b1a1=}", "stale", "no"),
-    (CORNER, "c4c5q#", "mate", "yes 1"),
-    (CORNER, "c4c5r#", "mate", "yes 1"),
-    (CORNER, "c4c5b#", "mate", "no"),
-    (CORNER, "c4c5#", "mate", "no"),
-    (CORNER, "f6f5#", "mate", "no"),
-    (THIRD, "c1e1{b6a6:e1e6#,b6c6:e1e6#}", "mate", "yes 3"),
-    (THIRD, "c1e1{b6a6:e1e6#}", "mate", "no"),
-    (THIRD, "c1e1{b6a6:e1d1{a6b6:d1d6#},b6c6:e1e6#}", "mate", "yes 5"),
-    (THIRD, "c1e1{b6c6:e1e6#,b6a6:e1e6#}", "mate", "no"),
-    # Black attacks, and is mated or stalemated at the root
-    ("5r/6/6/1k4/6/K5 b", "f6f1#", "mate", "yes 1"),
-    ("k4R/6/1K4/6/6/6 b", "a6a5#", "mate", "no"),
-    ("k5/2Q3/6/6/6/5K b", "a6a5=", "stale", "no"),
-    # Faults of a tree's text
-    (FIRST, "", "mate", "refused: Grammar at offset 0"),
-    (FIRST, "\n", "mate", "refused: Grammar at offset 0"),
-    (FIRST, "c4c5", "mate", "refused: Grammar at offset 4"),
-    (FIRST, "c4c5##", "mate", "refused: Grammar at offset 5"),
-    (FIRST, "g1a1#", "mate", "refused: Grammar at offset 0"),
-    (FIRST, "a7", "mate", "refused: Grammar at offset 1"),
-    (FIRST, "c4c5k", "mate", "refused: Grammar at offset 4"),
-    (FIRST, "c4c5qq", "mate", "refused: Grammar at offset 5"),
-    (FIRST, "c4c5{a6a5:b1a1#,}", "mate", "refused: Grammar at offset 16"),
-    (FIRST, "c4c5{a6a5#}", "mate", "refused: Grammar at offset 9"),
-    (FIRST, "c4c5{a6a5q:b1a1#} ", "mate", "refused: Grammar at offset 17"),
-    (FIRST, "c4c5#,", "mate", "refused: Grammar at offset 5"),
-    (FIRST, "c4c5#}", "mate", "refused: Grammar at offset 5"),
-    (FIRST, NEST * 31 + "b1a1#" + "}" * 31, "mate", "no"),
-    (FIRST, NEST * 32 + "b1a1#" + "}" * 32, "mate", "refused: Deep"),
-    (FIRST, NEST * 32, "mate", "refused: Deep"),
-    (FIRST, NEST * 31 + "c4c5{", "mate", "refused: Deep"),
-    (FIRST, NEST * 31 + "c4c5", "mate", "refused: Grammar at offset 314"),
-    (FIRST, NEST * 31 + "c4c5}" + NEST * 9, "mate", "refused: Grammar at offset 314"),
-    (FIRST, "a" * MOST_BYTES, "mate", "refused: Grammar at offset 1"),
-    (FIRST, "a" * MOST_BYTES + "\n", "mate", "refused: TooLong"),
-    # Faults of a position's text come before those of a tree's
-    ("k5/6/6/6/6/5K", "c4c5", "mate", "refused: Fields"),
-    ("", "", "mate", "refused: Fields"),
-    ("k5/6/6/6/6/5K  w", "", "mate", "refused: Fields"),
-    ("k5/6/6/6/5K w", "", "mate", "refused: Shape"),
-    ("k5/7/6/6/6/5K x", "", "mate", "refused: Shape"),
-    ("k5/6/6/6/6/B4K w", "", "mate", "refused: Letter"),
-    ("k5/6/33/6/6/5K w", "", "mate", "refused: Run"),
-    ("k05/6/6/6/6/5K w", "", "mate", "refused: Run"),
-    ("k5/6/6/6/6/4K0N w", "", "mate", "refused: Run"),
-    ("k5/6/6/6/6/5K x", "", "mate", "refused: Side"),
-    ("k5/6/6/6/6/5K ", "", "mate", "refused: Side"),
-    ("6/6/6/6/6/5K w", "", "mate", "refused: Kings"),
-    ("kk4/6/6/6/6/5K w", "", "mate", "refused: Kings"),
-    ("k4/QQQQQ/QQQQQ/5/4K w", "", "mate", "refused: Units"),
-    ("k5/6/6/6/6/P4K w", "", "mate", "refused: PawnRank"),
-    ("k4R/6/1K4/6/6/6 w", "c4c5", "mate", "refused: OtherInCheck"),
-]
-MOVES = [
-    ("rnqknr/pppppp/6/6/PPPPPP/RNQKNR w", "b1a3 b1c3 e1d3 e1f3 a2a3 b2b3 c2c3 d2d3 e2e3 f2f3"),
-    ("rnbqk/ppppp/5/PPPPP/RNBQK w", "b1a3 b1c3 a2a3 b2b3 c2c3 d2d3 e2e3"),
-    (CORNER, "b3a2 b3b2 b3c2 b3a3 b3c3 c4c5q c4c5r c4c5b c4c5n"),
-    ("k5/2P3/6/6/6/5K w", "f1e1 f1e2 f1f2 c5c6q c5c6r c5c6n"),
-    ("k5/2Q3/6/6/6/5K b", ""),
-]
-LEAVES = "crates/acceptance/src/leaves.rt"
-LEAVES_DEPTH = 3
-
-
-def leaves(position, depth):
-    """How many lines of so many plies begin here. The last ply's moves are counted and not made."""
-    moves = lawful(position)
-    if depth == 1:
-        return len(moves)
-    return sum(leaves(after(position, move), depth - 1) for move in moves)
-
-
-def counted_leaves():
-    """The positions with another engine's counts, out of the acceptance tests' table."""
-    with open(os.path.join(checking.TOP, LEAVES), encoding="ascii") as table:
-        found = re.findall(r'\(\s*"([^"]+)",\s*\[([0-9, ]+)\],?\s*\)', table.read())
-    return [(fen, [int(count) for count in counts.split(",")]) for fen, counts in found]
-
-
-def self_test():
-    """Says what differs; the status is 1 where something does."""
-    tally = checking.Tally()
-    for fen, tree, goal, wanted in checking.cases(CASES):
-        got, status = answer(fen.encode(), tree.encode, goal)
-        tally.expect(f"{fen} {goal} {tree[:40]}", got, wanted)
-        tally.expect(f"status of {fen} {tree[:40]}", status, int(wanted.startswith("refused")))
-    unread = answer(b"k5", lambda: 1 / 0)
-    tally.expect("a refused position leaves the input alone", unread, ("refused: Fields", 1))
-    for fen, moves in checking.cases(MOVES):
-        tally.expect(fen, " ".join(map(move_text, lawful(read_position(fen.encode())))), moves)
-    table = counted_leaves()
-    tally.expect("positions with counts", len(table), 62)
-    for fen, counts in table:
-        for depth in range(1, LEAVES_DEPTH + 1):
-            tally.expect(f"{fen} to depth {depth}", leaves(read_position(fen.encode()), depth), counts[depth - 1])
-    print(f"{len(CASES)} trees, {len(MOVES)} lists of moves, {len(table)} positions to depth {LEAVES_DEPTH}")
-    return tally.end()
-
-
 def main():
-    parser = argparse.ArgumentParser(description="Reads a winning tree on standard input and says whether it wins.")
-    parser.add_argument("--goal", choices=["mate", "stale"], default="mate")
-    parser.add_argument("--self-test", action="store_true", help="try the checker itself")
-    parser.add_argument("fen", metavar="FEN", nargs="?", help="the position, as one word")
+    parser = argparse.ArgumentParser(description="Reads a winning tree on standard input and prints whether it wins.")
+    parser.add_argument("--goal", choices=["mate", "stale"], default="mate", help="the attacker's goal (default %(default)s)")
+    parser.add_argument("fen", metavar="FEN", help="the position, as one word")
     words = parser.parse_args()
-    if words.self_test:
-        return self_test()
-    if words.fen is None:
-        parser.error("a position is wanted")
     line, status = answer(os.fsencode(words.fen), sys.stdin.buffer.read, words.goal)
     print(line)
     return status

@@ -1,44 +1,56 @@
-"""Checks a tree by `minimate check`, and one that is too long for that in parts, each under one reply."""
+"""The program's lists of moves, compared with those of check_tree.py; and a tree checked by `minimate check`, in parts if it is too long."""
 
 import re
-import sys
+import subprocess
 
-sys.dont_write_bytecode = True
+import check_tree
 
-import check_tree  # noqa: E402 (no compiled copy of it is to be left in tools/)
-import checking  # noqa: E402
-import positions  # noqa: E402
+
+class Differs(Exception):
+    """The rules here and the program list other moves."""
+
+
+def output_of(program, *words, text=b""):
+    """Returns the output of a run, or None if it failed."""
+    ran = subprocess.run([program, *words], input=text, capture_output=True, check=False)
+    return None if ran.returncode else ran.stdout.decode(errors="replace")
+
+
+def listed_moves(program, position):
+    """Returns the lawful moves, which the program has to list too. Raises Differs otherwise."""
+    moves, fen = check_tree.lawful(position), check_tree.fen_text(position)
+    texts = [check_tree.move_text(move) for move in moves]
+    listed = output_of(program, "moves", fen)
+    if listed is None or listed.split() != texts:
+        raise Differs(f"tools/check_tree.py lists other moves than {program} at {fen}: {' '.join(texts)}")
+    return moves
 
 
 def checked(program, goal, position, text):
-    """The plies within which the tree wins at the position, or None."""
-    if len(text) <= check_tree.MOST_BYTES:
-        ran = checking.run([program, "check", f"--goal={goal}", positions.fen_text(position)], text.encode(), timeout=None)
-        found = re.fullmatch(rb"yes (\d+)\n", ran.output)
-        return int(found[1]) if ran.status == 0 and found else None
-    return checked_parts(program, goal, position, text)
+    """Returns the plies within which the tree wins at the position, or None."""
+    if len(text) > check_tree.MOST_BYTES:
+        return checked_parts(program, goal, position, text)
+    answer = output_of(program, "check", f"--goal={goal}", check_tree.fen_text(position), text=text.encode())
+    found = re.fullmatch(r"yes (\d+)\n", answer or "")
+    return int(found[1]) if found else None
 
 
 def checked_parts(program, goal, position, text):
-    """The move has to be lawful, and the replies all lawful ones in order; each part is checked alone."""
-    move, parts = parts_of(text)
-    then = after(program, position, move)
-    if then is None or not parts:
+    """Checks each part alone. The move has to be lawful, and the replies all lawful ones in order."""
+    name, parts = parts_of(text)
+    move = next((it for it in listed_moves(program, position) if check_tree.move_text(it) == name), None)
+    if move is None or not parts:
         return None
-    replies = positions.listed_moves(program, then)
+    then = check_tree.after(position, move)
+    replies = listed_moves(program, then)
     if [check_tree.move_text(reply) for reply in replies] != [reply for reply, _ in parts]:
         return None
-    told = [checked(program, goal, check_tree.after(then, reply), part) for reply, (_, part) in zip(replies, parts)]
-    return None if None in told else 2 + max(told)
-
-
-def after(program, position, text):
-    moves = positions.listed_moves(program, position)
-    return next((check_tree.after(position, move) for move in moves if check_tree.move_text(move) == text), None)
+    plies = [checked(program, goal, check_tree.after(then, reply), part) for reply, (_, part) in zip(replies, parts)]
+    return None if None in plies else 2 + max(plies)
 
 
 def parts_of(text):
-    """The tree's move, and its replies with the texts of the trees that meet them; no replies where the text isn't opened so."""
+    """Returns the tree's move, and its replies with the texts of the trees that answer them; no replies if the text has no braces around them."""
     found = re.match(r"(\w+)\{", text)
     if not found or not text.endswith("}"):
         return text[:5], []

@@ -2,33 +2,36 @@
 """A second checker of certificates, made from docs/GAMES.md and docs/FORMATS.md alone, in Python's standard library.
 
     tools/verify.py [--goal mate|stale] FEN < certificate
-    tools/verify.py --self-test
 
 It prints the answer that the certificate proves, as `minimate solve` prints it, or `refused: ` and the name of the fault. Status 0
 is an answer, 1 a refusal, 2 words that are no command. The only search in it is over three plies.
 """
 
 import argparse
-import io
 import os
 import re
 import sys
 from functools import lru_cache
 from typing import NamedTuple, Optional
 
-sys.dont_write_bytecode = True
-
-import check_tree  # noqa: E402 (no compiled copy of it is to be left in tools/)
-import checking  # noqa: E402
-
 # The most bytes of a line without its line feed, and the most plies of an answer and of what is worked out here.
 MOST_BYTES = 8192
 MOST_PLIES = 63
 LEAF = 3
 
+# Of boards of each width: the kinds of units, the most units of a side, and what a pawn becomes.
+KINDS, MOST_UNITS, PROMOTIONS = {5: "KQRBNP", 6: "KQRNP"}, {5: 10, 6: 12}, {5: "qrbn", 6: "qrn"}
+STRAIGHT, SLANTED = [(1, 0), (-1, 0), (0, 1), (0, -1)], [(1, 1), (1, -1), (-1, 1), (-1, -1)]
+LEAPS = [(1, 2), (2, 1), (2, -1), (1, -2), (-1, -2), (-2, -1), (-2, 1), (-1, 2)]
+OTHER = {"w": "b", "b": "w"}
+
 LETTERS = b"abcdefghijklmnopqrstuvwxyzABCDEFGHIJKLMNOPQRSTUVWX"
 WORD = re.compile(rb"(Z*)([a-zA-X])|([.=-])")
 ANSWER = re.compile(rb"(?:(mate|goal) ([1-9]\d?) ([a-f][1-6][a-f][1-6][qrbn]?)|none within ([1-9]\d?))")
+
+
+class Refused(Exception):
+    """A fault, as it is printed after `refused: `."""
 
 
 # The rules, on boards that are kept as one string
@@ -41,97 +44,106 @@ class Board(NamedTuple):
     side: str
 
 
+def need(holds, fault):
+    if not holds:
+        raise Refused(fault)
+
+
+def read_position(text, goal):
+    """The rules of the game, and the board whose text the bytes are. Each fault is looked for only if no earlier one holds."""
+    need(text.count(b" ") == 1, "Fields")
+    board, side = text.decode("latin-1").split(" ")
+    rows = board.split("/")
+    width = len(rows)
+    need(width in KINDS and all(sum(int(it) if it in "0123456789" else 1 for it in row) == width for row in rows), "Shape")
+    need(set(board) <= set(KINDS[width] + KINDS[width].lower() + "0123456789/"), "Letter")
+    need(not re.search("0|[0-9][0-9]", board), "Run")
+    need(side in OTHER, "Side")
+    units = "".join("." * int(it) if it.isdigit() else it for row in reversed(rows) for it in row)
+    need(units.count("K") == units.count("k") == 1, "Kings")
+    need(max(sum(map(str.isupper, units)), sum(map(str.islower, units))) <= MOST_UNITS[width], "Units")
+    need(not re.search("[Pp]", units[:width] + units[-width:]), "PawnRank")
+    rules = Rules(width, goal)
+    need(not rules.in_check(Board(units, OTHER[side])), "OtherInCheck")
+    return rules, Board(units, side)
+
+
 class Rules:
     """Moves of one game, by tables of each square, and what is forced within three plies."""
 
     def __init__(self, width, goal):
         self.width, self.goal, self.last = width, goal, None
-        squares = [(file, rank) for rank in range(width) for file in range(width)]
-        self.names = [check_tree.square_text(square) for square in squares]
-        self.rides = {kind: [self.rides_from(square, check_tree.STEPS[kind]) for square in squares] for kind in "RB"}
-        self.leaps = {kind: [self.leaps_from(square, check_tree.STEPS[kind]) for square in squares] for kind in "KN"}
-        self.ahead = {side: [self.leaps_from(square, [(0, dy)]) for square in squares] for side, dy in (("w", 1), ("b", -1))}
-        self.takes = {side: [self.leaps_from(square, [(-1, dy), (1, dy)]) for square in squares] for side, dy in (("w", 1), ("b", -1))}
+        squares = range(width * width)
+        self.names = [file + rank for rank in "123456"[:width] for file in "abcdef"[:width]]
+        self.rides = {kind: [self.lines_from(it, steps, width) for it in squares] for kind, steps in (("R", STRAIGHT), ("B", SLANTED))}
+        self.leaps = {kind: [self.leaps_from(it, steps) for it in squares] for kind, steps in (("K", STRAIGHT + SLANTED), ("N", LEAPS))}
+        self.ahead = {side: [self.leaps_from(it, [(0, dy)]) for it in squares] for side, dy in (("w", 1), ("b", -1))}
+        self.takes = {side: [self.leaps_from(it, [(-1, dy), (1, dy)]) for it in squares] for side, dy in (("w", 1), ("b", -1))}
         self.moves = lru_cache(1 << 18)(self.moves)
         self.wins_at_once = lru_cache(1 << 20)(self.wins_at_once)
 
-    def number(self, square):
-        return square[1] * self.width + square[0]
+    def lines_from(self, start, steps, most):
+        """The squares that are reached from a square by each step, repeated so many times at most."""
+        lines = []
+        for dx, dy in steps:
+            places = [(start % self.width + dx * count, start // self.width + dy * count) for count in range(1, most + 1)]
+            line = [rank * self.width + file for file, rank in places if 0 <= file < self.width and 0 <= rank < self.width]
+            lines += [line] if line else []
+        return lines
 
-    def leaps_from(self, square, steps):
-        ends = [(square[0] + dx, square[1] + dy) for dx, dy in steps]
-        return [self.number(end) for end in ends if check_tree.is_on_board(end, self.width)]
-
-    def rides_from(self, square, steps):
-        lines = [[self.number(end) for end in check_tree.ride({}, self.width, square, step)] for step in steps]
-        return [line for line in lines if line]
-
-    def board(self, position):
-        letters = [position.units.get((file, rank), ".") for rank in range(self.width) for file in range(self.width)]
-        return Board("".join(letters), position.side)
+    def leaps_from(self, start, steps):
+        return [square for line in self.lines_from(start, steps, 1) for square in line]
 
     def is_attacked(self, units, square, side):
         king, queen, rook, bishop, knight, pawn = "KQRBNP" if side == "w" else "kqrbnp"
         if any(units[at] == knight for at in self.leaps["N"][square]) or any(units[at] == king for at in self.leaps["K"][square]):
             return True
-        if any(units[at] == pawn for at in self.takes[check_tree.other(side)][square]):
+        if any(units[at] == pawn for at in self.takes[OTHER[side]][square]):
             return True
         return self.is_seen(units, self.rides["R"][square], rook + queen) or self.is_seen(units, self.rides["B"][square], bishop + queen)
 
     @staticmethod
     def is_seen(units, lines, riders):
         """Whether the first unit of some line is one of these."""
-        for line in lines:
-            for at in line:
-                if units[at] != ".":
-                    if units[at] in riders:
-                        return True
-                    break
-        return False
+        firsts = (next((units[at] for at in line if units[at] != "."), ".") for line in lines)
+        return any(first in riders for first in firsts)
 
     def in_check(self, board):
-        king = "K" if board.side == "w" else "k"
-        return self.is_attacked(board.units, board.units.index(king), check_tree.other(board.side))
+        return self.is_attacked(board.units, board.units.index("K" if board.side == "w" else "k"), OTHER[board.side])
 
     def targets(self, units, start, side):
         """Where the unit may go, whatever becomes of its king."""
         kind = units[start].upper()
         if kind == "P":
             yield from (at for at in self.ahead[side][start] if units[at] == ".")
-            yield from (at for at in self.takes[side][start] if units[at] != "." and check_tree.side_of(units[at]) != side)
+            yield from (at for at in self.takes[side][start] if is_enemy(units[at], side))
         elif kind in "KN":
-            yield from (at for at in self.leaps[kind][start] if units[at] == "." or check_tree.side_of(units[at]) != side)
+            yield from (at for at in self.leaps[kind][start] if units[at] == "." or is_enemy(units[at], side))
         else:
             for line in (self.rides["R"][start] if kind in "RQ" else []) + (self.rides["B"][start] if kind in "BQ" else []):
                 for at in line:
-                    if units[at] == "." or check_tree.side_of(units[at]) != side:
+                    if units[at] == "." or is_enemy(units[at], side):
                         yield at
                     if units[at] != ".":
                         break
 
     def moves(self, board):
         """The lawful moves in order, each as its text and the board after it."""
-        units, side = board
-        found = []
-        for start, letter in enumerate(units):
-            if letter != "." and check_tree.side_of(letter) == side:
-                for end in sorted(self.targets(units, start, side)):
-                    found += self.moves_to(board, start, end)
-        return found
+        starts = [start for start, letter in enumerate(board.units) if is_enemy(letter, OTHER[board.side])]
+        ends = ((start, end) for start in starts for end in sorted(self.targets(board.units, start, board.side)))
+        return [move for start, end in ends for move in self.moves_to(board, start, end)]
 
     def moves_to(self, board, start, end):
         units, side = board
         letter = units[start]
         if units[end] in "Kk":
             return []
-        promotes = letter in "Pp" and not self.ahead[side][end]
-        kinds = check_tree.PROMOTIONS[self.width] if promotes else [""]
+        kinds = PROMOTIONS[self.width] if letter in "Pp" and not self.ahead[side][end] else [""]
         text = self.names[start] + self.names[end]
         after = [(text + kind, self.after(units, start, end, (kind.upper() if side == "w" else kind) or letter)) for kind in kinds]
-        king = after[0][1].index("K" if side == "w" else "k")
-        if self.is_attacked(after[0][1], king, check_tree.other(side)):
+        if self.in_check(Board(after[0][1], side)):
             return []
-        return [(text, Board(units, check_tree.other(side))) for text, units in after]
+        return [(text, Board(units, OTHER[side])) for text, units in after]
 
     @staticmethod
     def after(units, start, end, letter):
@@ -164,6 +176,10 @@ class Rules:
         return True
 
 
+def is_enemy(letter, side):
+    return letter.islower() if side == "w" else letter.isupper()
+
+
 # A certificate's lines
 
 
@@ -190,17 +206,16 @@ class Source:
     def __init__(self, stream):
         self.stream, self.number = stream, 0
 
-    def refused(self):
-        return check_tree.Refused("Answer" if self.number == 1 else f"Claim at line {self.number}")
+    def read(self):
+        self.number += 1
+        text = self.stream.readline(MOST_BYTES + 1)
+        need(len(text) <= MOST_BYTES or text.endswith(b"\n"), "TooLong")
+        return text
 
     def line(self):
         """The next line, without its line feed."""
-        self.number += 1
-        text = self.stream.readline(MOST_BYTES + 1)
-        if len(text) > MOST_BYTES and not text.endswith(b"\n"):
-            raise check_tree.Refused("TooLong")
-        if not text.endswith(b"\n"):
-            raise self.refused()
+        text = self.read()
+        self.need(text.endswith(b"\n"))
         return text[:-1]
 
     def words(self):
@@ -214,8 +229,7 @@ class Source:
         return words
 
     def need(self, holds):
-        if not holds:
-            raise self.refused()
+        need(holds, "Answer" if self.number == 1 else f"Claim at line {self.number}")
 
     def place(self, items, word):
         self.need(isinstance(word, int) and word < len(items))
@@ -223,11 +237,7 @@ class Source:
 
     def end(self):
         """No line may follow: one that does is read like any other."""
-        text = self.stream.readline(MOST_BYTES + 1)
-        self.number += 1
-        if len(text) > MOST_BYTES and not text.endswith(b"\n"):
-            raise check_tree.Refused("TooLong")
-        self.need(not text)
+        self.need(not self.read())
 
 
 def read_answer(source, goal):
@@ -320,12 +330,11 @@ class NoPart(Part):
         return text, reply, self.numbers.get(board)
 
 
-def lines_of(source, position, goal, looks=True):
-    """The answer, and then each claim with its line. Where nobody looks, what three plies show is taken as told."""
+def lines_of(source, fen, goal, looks=True):
+    """The answer, and then each claim with its line. Without `looks`, what a checker works out for itself is taken as true."""
+    rules, root = read_position(fen, goal)
     answer = read_answer(source, goal)
     yield answer
-    rules = Rules(position.width, goal)
-    root = rules.board(position)
     if answer.move is not None:
         yield from YesPart(rules, source, looks).lines(root, answer)
     yield from NoPart(rules, source, looks).lines(root, answer)
@@ -341,113 +350,17 @@ def answer_text(answer, goal):
 def verify(fen, stream, goal="mate"):
     """What is printed, and the status."""
     try:
-        position = check_tree.read_position(fen)
-        answer, *_ = lines_of(Source(stream), position, goal)
-    except check_tree.Refused as fault:
+        answer, *_ = lines_of(Source(stream), fen, goal)
+    except Refused as fault:
         return f"refused: {fault}", 1
     return answer_text(answer, goal), 0
 
 
-# The self-test. Its certificates are written by hand, from lists of moves that the documents give.
-
-FIRST = "k5/6/2K3/6/6/1R4 w"
-CORNER = "k4/2P2/1K3/5/5 w"
-KINGS = "k5/6/6/6/6/5K w"
-MATE = "mate 3 c4c5\np.\naaaaaaaa-aaaaaa\n\n"
-NONE = "none within 7\naaa\naaaaa\naaaaaaaa\naaaaa\n"
-CASES = [
-    (CORNER, "mate 1 c4c5q\nf\n\n", "mate", "mate 1 c4c5q"),
-    (CORNER, "mate 1 c4c5r\ng\n\n", "mate", "refused: Claim at line 3"),
-    (CORNER, "mate 1 c4c5q\ng\n\n", "mate", "refused: Claim at line 2"),
-    (CORNER, "mate 1 c4c5b\nh\n\n", "mate", "refused: Claim at line 2"),
-    (FIRST, MATE, "mate", "mate 3 c4c5"),
-    (FIRST, MATE, "stale", "refused: Answer"),
-    (FIRST, "goal 1 b1b5\ni\n\n", "stale", "goal 1 b1b5"),
-    (FIRST, "goal 1 b1b5\ni\n\n", "mate", "refused: Answer"),
-    (FIRST, "mate 1 b1b5\ni\n\n", "mate", "refused: Claim at line 2"),
-    (FIRST, "none within 1\n\n", "mate", "none within 1"),
-    (FIRST, "none within 2\n\n", "mate", "none within 2"),
-    (FIRST, "none within 1\n\n", "stale", "refused: Claim at line 2"),
-    (FIRST, "none within 1\na\n", "mate", "refused: Claim at line 2"),
-    (FIRST, "none within 3\naaaaaaaa-aaaaaaaa\n", "mate", "refused: Claim at line 2"),
-    # The plies, the moves before the first, a stalemate, places that aren't there
-    (FIRST, MATE.replace("mate 3", "mate 5"), "mate", "refused: Claim at line 3"),
-    (FIRST, MATE.replace("mate 3", "mate 1"), "mate", "refused: Claim at line 2"),
-    (FIRST, MATE.replace("a-a", "aaa"), "mate", "refused: Claim at line 3"),
-    (FIRST, MATE.replace("aaaaaaaa-", "-aaaaaaaa"), "mate", "refused: Claim at line 3"),
-    (FIRST, MATE.replace("aaaaaaaa-", "aaaaaaa-"), "mate", "refused: Claim at line 3"),
-    (FIRST, MATE.replace("aaaaaaaa-", "baaaaaaa-"), "mate", "refused: Claim at line 3"),
-    (FIRST, MATE.replace("aaaaaaaa-", "Zaaaaaaaa-"), "mate", "refused: Claim at line 3"),
-    (FIRST, MATE.replace("p.", "p"), "mate", "refused: Claim at line 2"),
-    (FIRST, MATE.replace("p.", "p.."), "mate", "refused: Claim at line 2"),
-    (FIRST, MATE.replace("p.", "p="), "mate", "refused: Claim at line 2"),
-    (FIRST, MATE.replace("p.", "."), "mate", "refused: Claim at line 2"),
-    (FIRST, MATE.replace("p.", ""), "mate", "refused: Claim at line 2"),
-    (FIRST, MATE.replace("p.\naaaaaaaa-aaaaaa\n\n", "pa\nk\naaaaaaaa-aaaaaa\n\n"), "mate", "refused: Claim at line 3"),
-    (FIRST, MATE.replace("p.", "pb"), "mate", "refused: Claim at line 2"),
-    # Lines too few and too many
-    (FIRST, MATE[:-1], "mate", "refused: Claim at line 4"),
-    (FIRST, MATE[:-2], "mate", "refused: Claim at line 3"),
-    (FIRST, MATE + "\n", "mate", "refused: Claim at line 5"),
-    (FIRST, MATE + "a", "mate", "refused: Claim at line 5"),
-    # Claims that lead to others
-    (KINGS, "none within 3\naaa\n", "mate", "none within 3"),
-    (KINGS, "none within 6\naaa\n", "stale", "none within 6"),
-    (KINGS, NONE, "mate", "none within 7"),
-    (KINGS, NONE.replace("within 7", "within 8"), "stale", "none within 8"),
-    (KINGS, NONE.replace("within 7", "within 5"), "mate", "refused: Claim at line 3"),
-    (KINGS, NONE.replace("within 7", "within 9"), "mate", "refused: Claim at line 6"),
-    (KINGS, NONE.replace("\naaa\n", "\naaA\n"), "mate", "refused: Claim at line 2"),
-    (KINGS, NONE.replace("aaaaaaaa", "aaaaaaa"), "mate", "refused: Claim at line 4"),
-    # The first line
-    (KINGS, "", "mate", "refused: Answer"),
-    (KINGS, "\n", "mate", "refused: Answer"),
-    (KINGS, "none within 3", "mate", "refused: Answer"),
-    (KINGS, "none within 0\n\n", "mate", "refused: Answer"),
-    (KINGS, "none within 03\naaa\n", "mate", "refused: Answer"),
-    (KINGS, "none within 64\naaa\n", "mate", "refused: Answer"),
-    (KINGS, "none within  3\naaa\n", "mate", "refused: Answer"),
-    (KINGS, "none within 3 \naaa\n", "mate", "refused: Answer"),
-    (FIRST, MATE.replace("mate 3", "mate 2"), "mate", "refused: Answer"),
-    (FIRST, MATE.replace("c4c5", "c4c7"), "mate", "refused: Answer"),
-    (FIRST, MATE.replace("c4c5", "c4c6"), "mate", "refused: Claim at line 2"),
-    (KINGS, "refused: NoMemory\n", "mate", "refused: Answer"),
-    (KINGS, "none within 7\naaa\nrefused: NoMemory\n", "mate", "refused: Claim at line 3"),
-    # Lines that are too long, and positions that are none
-    (KINGS, "a" * (MOST_BYTES + 1) + "\n", "mate", "refused: TooLong"),
-    (KINGS, "a" * MOST_BYTES + "\n", "mate", "refused: Answer"),
-    (KINGS, "none within 3\n" + "a" * (MOST_BYTES + 1), "mate", "refused: TooLong"),
-    (KINGS, "none within 3\n" + "a" * MOST_BYTES + "\n", "mate", "refused: Claim at line 2"),
-    (KINGS, "none within 3\naaa\n" + "a" * (MOST_BYTES + 1), "mate", "refused: TooLong"),
-    (KINGS, "none within 3\naaa\n" + "a" * MOST_BYTES, "mate", "refused: Claim at line 3"),
-    (KINGS[:-2], "none within 3\naaa\n", "mate", "refused: Fields"),
-    ("KK4/6/6/6/6/5k w", "", "mate", "refused: Kings"),
-]
-
-
-def self_test():
-    tally = checking.Tally()
-    for fen, text, goal, wanted in checking.cases(CASES):
-        said = verify(fen.encode(), io.BytesIO(text.encode()), goal)
-        tally.expect(f"{goal} of {fen}: {checking.shown(text)}", said, (wanted, int(wanted.startswith("refused"))))
-    for fen in sorted({fen for fen, _, _, wanted in CASES if not wanted.startswith("refused")}):
-        position = check_tree.read_position(fen.encode())
-        rules = Rules(position.width, "mate")
-        listed = [text for text, _ in rules.moves(rules.board(position))]
-        tally.expect(f"the moves of {fen}", listed, [check_tree.move_text(move) for move in check_tree.lawful(position)])
-    return tally.end()
-
-
 def main():
     parser = argparse.ArgumentParser(description="Prints the answer that a certificate on standard input proves.")
-    parser.add_argument("--goal", choices=["mate", "stale"], default="mate", help="what the attacker is to reach")
-    parser.add_argument("--self-test", action="store_true", help="try the checker itself")
-    parser.add_argument("fen", metavar="FEN", nargs="?", help="the position, as one word")
+    parser.add_argument("--goal", choices=["mate", "stale"], default="mate", help="the attacker's goal (default %(default)s)")
+    parser.add_argument("fen", metavar="FEN", help="the position, as one word")
     words = parser.parse_args()
-    if words.self_test:
-        return self_test()
-    if words.fen is None:
-        parser.error("a position is wanted")
     line, status = verify(os.fsencode(words.fen), sys.stdin.buffer, words.goal)
     print(line)
     return status

@@ -12,7 +12,6 @@ from pathlib import Path
 import pytest
 
 import check_tree
-import positions
 import tree_parts
 from clones import is_alive, wait_for
 from conftest import need
@@ -233,7 +232,7 @@ def of_no_use(spread):
     """Returns a position after a move to which another reply escapes, and after no other move."""
     root = check_tree.read_position(FIVE.encode())
     after = {move: check_tree.after(root, move) for move in check_tree.lawful(root)}
-    replies = {move: [positions.fen_text(check_tree.after(then, it)) for it in check_tree.lawful(then)] for move, then in after.items()}
+    replies = {move: [check_tree.fen_text(check_tree.after(then, it)) for it in check_tree.lawful(then)] for move, then in after.items()}
     for move, fens in replies.items():
         escaping = {fen for fen in fens if spread.ours("solve", 1, "mate", fen).startswith(b"none")}
         others = {fen for other, found in replies.items() if other != move for fen in found}

@@ -7,6 +7,7 @@ import check_tree
 import pytest
 from programs import tool
 from drive import DONE, FIVE, KINGS, LONG, ONE_PAWN, TEXT, THIRD, VALUE, lawful_moves
+from short_moves import SHORT
 
 SHOW_TREE = tool("show_tree")
 LINES = "[...document.querySelectorAll('.line')].map((one) => [...one.querySelectorAll('.move')].map((it) => it.textContent).join(' '))"
@@ -317,7 +318,7 @@ def test_the_page_answers_during_the_longest_search(drive):
 def test_moves_are_written_as_show_tree_writes_them(drive):
     """Moves are written as tools/show_tree writes them, whose table was made by hand."""
     drive.tab.value(WRITER)
-    for fen, move, wanted in (SHOW_TREE.SHORT):
+    for fen, move, wanted in SHORT:
         drive.same(f"{move} of {fen}", drive.tab.value(f"written('{fen}', '{move}')").rstrip("+#"), wanted)
     marked = [(THIRD, "b1a1", "Ra1+"), (THIRD, "b1b5", "Rb5="), (ONE_PAWN, "c4c5q", "c5=Q#"), (THIRD, "c4c5", "Kc5")]
     for fen, move, wanted in marked:

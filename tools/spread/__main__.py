@@ -23,8 +23,8 @@ sys.dont_write_bytecode = True
 # Python puts the folder that it runs first on the path. The package's own folder is no place for names such as `parallel`.
 sys.path[0] = os.path.dirname(os.path.dirname(os.path.abspath(__file__)))
 
-import positions  # noqa: E402
 import programs  # noqa: E402
+import tree_parts  # noqa: E402
 from spread import batch, parallel, solve, tasks  # noqa: E402
 
 WRITE_FAILED, INTERRUPTED = 4, 130
@@ -125,7 +125,7 @@ def answered(options):
         return text if isinstance(text, bytes) else text.encode(), 0, rests.encode()
     except tasks.Answered as end:
         return end.output, end.status, end.error
-    except (parallel.Fault, positions.Differs, OSError) as fault:
+    except (parallel.Fault, tree_parts.Differs, OSError) as fault:
         return b"", tasks.NOT_RUN, f"spread: {fault}\n".encode()
     except KeyboardInterrupt:
         how = "go on by the same words and --resume" if options.joblog else "no answer was kept, since there was no --joblog"

@@ -3,7 +3,6 @@
 import os
 
 import check_tree
-import positions
 import tree_parts
 from spread import joblog, parallel, tasks
 
@@ -12,7 +11,7 @@ class Reply:
     """A position after a move and a reply, in which the attacker is to move again."""
 
     def __init__(self, text, position):
-        self.text, self.position, self.fen = text, position, positions.fen_text(position)
+        self.text, self.position, self.fen = text, position, check_tree.fen_text(position)
         self.moves = None
         # The fewest plies in which the goal is forced, if that is known; and the most plies within which it is known not to be.
         self.forced, self.escapes = None, 0
@@ -84,9 +83,9 @@ class Solve(tasks.Work):
 
     def firsts(self):
         root, found = check_tree.read_position(os.fsencode(self.fen)), []
-        for move in positions.listed_moves(self.program, root):
+        for move in tree_parts.listed_moves(self.program, root):
             then = check_tree.after(root, move)
-            moves = positions.listed_moves(self.program, then)
+            moves = tree_parts.listed_moves(self.program, then)
             replies = [Reply(check_tree.move_text(reply), check_tree.after(then, reply)) for reply in moves]
             found.append(First(check_tree.move_text(move), replies))
         return found
@@ -113,7 +112,7 @@ class Solve(tasks.Work):
     def moves(self, reply):
         """Returns the moves at the position after the reply."""
         if reply.moves is None:
-            reply.moves = [check_tree.move_text(move) for move in positions.listed_moves(self.program, reply.position)]
+            reply.moves = [check_tree.move_text(move) for move in tree_parts.listed_moves(self.program, reply.position)]
         return reply.moves
 
     def run_round(self, firsts, asked, within):

@@ -1,0 +1,142 @@
+"""Tries tools/check_tree.py, the second checker of trees, on cases worked out by hand, and its moves on counts by Fairy-Stockfish."""
+
+import os
+import re
+
+import pytest
+
+import check_tree
+from command_lines import START, THIRD
+from programs import TOP
+
+FOURTH, CORNER = "1k4/5R/6/6/6/2R2K w", "k4/2P2/1K3/5/5 w"
+POSITIONS = {"THIRD": THIRD, "FOURTH": FOURTH, "CORNER": CORNER}
+# A position or its name, a tree, the goal and the answer; in a tree a semicolon is a line feed.
+TREES = """
+THIRD | c4c5{a6a5:b1a1#} | mate | yes 3
+THIRD | c4c5{a6a5:b1a1#}; | mate | yes 3
+THIRD | c4c5{a6a5:b1a1#};; | mate | refused: Grammar at offset 16
+THIRD | c4c5{a6a5:b1a1#} | stale | yes 3
+THIRD | c4c5{} | mate | refused: Grammar at offset 5
+THIRD | c4c5# | mate | no
+THIRD | c4c5q{a6a5:b1a1#} | mate | no
+THIRD | c4c5{a6a5:b1b2#} | mate | no
+THIRD | c4c5{a6a5:b1a1#,a6a5:b1a1#} | mate | no
+THIRD | b1b5= | stale | yes 1
+THIRD | b1b5= | mate | no
+THIRD | b1b5# | stale | no
+THIRD | b1b5# | mate | no
+THIRD | b1b5{a6a5:b5a5#} | mate | no
+THIRD | b1a1# | mate | no
+THIRD | c4c5= | stale | no
+THIRD | c4c5{a6a5:b1a1=} | stale | no
+CORNER | c4c5q# | mate | yes 1
+CORNER | c4c5r# | mate | yes 1
+CORNER | c4c5b# | mate | no
+CORNER | c4c5# | mate | no
+CORNER | f6f5# | mate | no
+FOURTH | c1e1{b6a6:e1e6#,b6c6:e1e6#} | mate | yes 3
+FOURTH | c1e1{b6a6:e1e6#} | mate | no
+FOURTH | c1e1{b6a6:e1d1{a6b6:d1d6#},b6c6:e1e6#} | mate | yes 5
+FOURTH | c1e1{b6c6:e1e6#,b6a6:e1e6#} | mate | no
+5r/6/6/1k4/6/K5 b | f6f1# | mate | yes 1
+k4R/6/1K4/6/6/6 b | a6a5# | mate | no
+k5/2Q3/6/6/6/5K b | a6a5= | stale | no
+THIRD | | mate | refused: Grammar at offset 0
+THIRD | ; | mate | refused: Grammar at offset 0
+THIRD | c4c5 | mate | refused: Grammar at offset 4
+THIRD | c4c5## | mate | refused: Grammar at offset 5
+THIRD | g1a1# | mate | refused: Grammar at offset 0
+THIRD | a7 | mate | refused: Grammar at offset 1
+THIRD | c4c5k | mate | refused: Grammar at offset 4
+THIRD | c4c5qq | mate | refused: Grammar at offset 5
+THIRD | c4c5{a6a5:b1a1#,} | mate | refused: Grammar at offset 16
+THIRD | c4c5{a6a5#} | mate | refused: Grammar at offset 9
+THIRD | c4c5{a6a5q:b1a1#}_ | mate | refused: Grammar at offset 17
+THIRD | c4c5#, | mate | refused: Grammar at offset 5
+THIRD | c4c5#} | mate | refused: Grammar at offset 5
+k5/6/6/6/6/5K | c4c5 | mate | refused: Fields
+| | mate | refused: Fields
+k5/6/6/6/6/5K  w | | mate | refused: Fields
+k5/6/6/6/5K w | | mate | refused: Shape
+k5/7/6/6/6/5K x | | mate | refused: Shape
+k5/6/6/6/6/B4K w | | mate | refused: Letter
+k5/6/33/6/6/5K w | | mate | refused: Run
+k05/6/6/6/6/5K w | | mate | refused: Run
+k5/6/6/6/6/4K0N w | | mate | refused: Run
+k5/6/6/6/6/5K x | | mate | refused: Side
+k5/6/6/6/6/5K_ | | mate | refused: Side
+6/6/6/6/6/5K w | | mate | refused: Kings
+kk4/6/6/6/6/5K w | | mate | refused: Kings
+k4/QQQQQ/QQQQQ/5/4K w | | mate | refused: Units
+k5/6/6/6/6/P4K w | | mate | refused: PawnRank
+k4R/6/1K4/6/6/6 w | c4c5 | mate | refused: OtherInCheck
+"""
+NEST = "c4c5{a6a5:"
+LONG_TREES = [
+    (NEST * 31 + "b1a1#" + "}" * 31, "no"),
+    (NEST * 32 + "b1a1#" + "}" * 32, "refused: Deep"),
+    (NEST * 32, "refused: Deep"),
+    (NEST * 31 + "c4c5{", "refused: Deep"),
+    (NEST * 31 + "c4c5", "refused: Grammar at offset 314"),
+    (NEST * 31 + "c4c5}" + NEST * 9, "refused: Grammar at offset 314"),
+    ("a" * check_tree.MOST_BYTES, "refused: Grammar at offset 1"),
+    ("a" * check_tree.MOST_BYTES + "\n", "refused: TooLong"),
+]
+MOVES = [
+    (START, "b1a3 b1c3 e1d3 e1f3 a2a3 b2b3 c2c3 d2d3 e2e3 f2f3"),
+    ("rnbqk/ppppp/5/PPPPP/RNBQK w", "b1a3 b1c3 a2a3 b2b3 c2c3 d2d3 e2e3"),
+    (CORNER, "b3a2 b3b2 b3c2 b3a3 b3c3 c4c5q c4c5r c4c5b c4c5n"),
+    ("k5/2P3/6/6/6/5K w", "f1e1 f1e2 f1f2 c5c6q c5c6r c5c6n"),
+    ("k5/2Q3/6/6/6/5K b", ""),
+]
+COUNTS_DEPTH = 3
+
+
+def trees():
+    for line in TREES.strip("\n").split("\n"):
+        fen, tree, goal, wanted = (it.strip(" ").replace(";", "\n").replace("_", " ") for it in line.split("|"))
+        yield POSITIONS.get(fen, fen), tree, goal, wanted
+    yield from ((THIRD, tree, "mate", wanted) for tree, wanted in LONG_TREES)
+
+
+def leaves(position, depth):
+    """Returns how many lines of so many plies begin here. The moves of the last ply are counted and not made."""
+    moves = check_tree.lawful(position)
+    return len(moves) if depth == 1 else sum(leaves(check_tree.after(position, move), depth - 1) for move in moves)
+
+
+def counts():
+    """Returns the positions with the counts of another engine, out of the table of the acceptance tests."""
+    with open(os.path.join(TOP, "crates/acceptance/src/leaves.rt"), encoding="ascii") as table:
+        found = re.findall(r'\(\s*"([^"]+)",\s*\[([0-9, ]+)\],?\s*\)', table.read())
+    return [(fen, [int(it) for it in numbers.split(",")]) for fen, numbers in found]
+
+
+@pytest.mark.parametrize("fen, tree, goal, wanted", trees(), ids=lambda it: it[:40])
+def test_the_answer_and_the_status(count, fen, tree, goal, wanted):
+    line, status = check_tree.answer(fen.encode(), tree.encode, goal)
+    assert (line, status) == (wanted, int(wanted.startswith("refused")))
+    count(2)
+
+
+def test_a_refused_position_leaves_the_input_unread(count):
+    assert check_tree.answer(b"k5", lambda: 1 / 0) == ("refused: Fields", 1)
+    count()
+
+
+@pytest.mark.parametrize("fen, moves", MOVES)
+def test_moves(count, fen, moves):
+    assert " ".join(map(check_tree.move_text, check_tree.lawful(check_tree.read_position(fen.encode())))) == moves
+    count()
+
+
+@pytest.mark.parametrize("part", range(4))
+def test_counts_of_lines(count, part):
+    table = counts()
+    assert len(table) == 62
+    for fen, wanted in table[part::4]:
+        position = check_tree.read_position(fen.encode())
+        assert [leaves(position, depth) for depth in range(1, COUNTS_DEPTH + 1)] == wanted[:COUNTS_DEPTH], fen
+        assert check_tree.fen_text(position) == fen
+        count(COUNTS_DEPTH)
