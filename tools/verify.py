@@ -1,5 +1,5 @@
 #!/usr/bin/env python3
-"""A second checker of certificates, made from docs/GAMES.md and docs/FORMATS.md alone, in Python's standard library.
+"""A second checker of certificates, made from docs/reference/games.md and formats.md alone, in Python's standard library.
 
     tools/verify.py [--goal mate|stale] FEN < certificate
 
@@ -105,8 +105,13 @@ class Rules:
     @staticmethod
     def is_seen(units, lines, riders):
         """Whether the first unit of some line is one of these."""
-        firsts = (next((units[at] for at in line if units[at] != "."), ".") for line in lines)
-        return any(first in riders for first in firsts)
+        for line in lines:
+            for at in line:
+                if units[at] != ".":
+                    if units[at] in riders:
+                        return True
+                    break
+        return False
 
     def in_check(self, board):
         return self.is_attacked(board.units, board.units.index("K" if board.side == "w" else "k"), OTHER[board.side])
@@ -141,7 +146,7 @@ class Rules:
         kinds = PROMOTIONS[self.width] if letter in "Pp" and not self.ahead[side][end] else [""]
         text = self.names[start] + self.names[end]
         after = [(text + kind, self.after(units, start, end, (kind.upper() if side == "w" else kind) or letter)) for kind in kinds]
-        if self.in_check(Board(after[0][1], side)):
+        if self.is_attacked(after[0][1], after[0][1].index("K" if side == "w" else "k"), OTHER[side]):
             return []
         return [(text, Board(units, OTHER[side])) for text, units in after]
 

@@ -116,9 +116,6 @@ def as_data(value):
     return {name: as_data(it) for name, it in value.items()} if isinstance(value, dict) else value
 
 
-# As text
-
-
 def move_name(position, move, goal):
     """Returns the move in algebraic notation."""
     start, end, promotion = move

@@ -11,67 +11,41 @@ from programs import TOP
 
 FOURTH, CORNER = "1k4/5R/6/6/6/2R2K w", "k4/2P2/1K3/5/5 w"
 POSITIONS = {"THIRD": THIRD, "FOURTH": FOURTH, "CORNER": CORNER}
-# A position or its name, a tree, the goal and the answer; in a tree a semicolon is a line feed.
+# A position or its name, the goal, the answer and the trees that get it; in these a semicolon is a line feed, and an underscore a blank.
 TREES = """
-THIRD | c4c5{a6a5:b1a1#} | mate | yes 3
-THIRD | c4c5{a6a5:b1a1#}; | mate | yes 3
-THIRD | c4c5{a6a5:b1a1#};; | mate | refused: Grammar at offset 16
-THIRD | c4c5{a6a5:b1a1#} | stale | yes 3
-THIRD | c4c5{} | mate | refused: Grammar at offset 5
-THIRD | c4c5# | mate | no
-THIRD | c4c5q{a6a5:b1a1#} | mate | no
-THIRD | c4c5{a6a5:b1b2#} | mate | no
-THIRD | c4c5{a6a5:b1a1#,a6a5:b1a1#} | mate | no
-THIRD | b1b5= | stale | yes 1
-THIRD | b1b5= | mate | no
-THIRD | b1b5# | stale | no
-THIRD | b1b5# | mate | no
-THIRD | b1b5{a6a5:b5a5#} | mate | no
-THIRD | b1a1# | mate | no
-THIRD | c4c5= | stale | no
-THIRD | c4c5{a6a5:b1a1=} | stale | no
-CORNER | c4c5q# | mate | yes 1
-CORNER | c4c5r# | mate | yes 1
-CORNER | c4c5b# | mate | no
-CORNER | c4c5# | mate | no
-CORNER | f6f5# | mate | no
-FOURTH | c1e1{b6a6:e1e6#,b6c6:e1e6#} | mate | yes 3
-FOURTH | c1e1{b6a6:e1e6#} | mate | no
-FOURTH | c1e1{b6a6:e1d1{a6b6:d1d6#},b6c6:e1e6#} | mate | yes 5
-FOURTH | c1e1{b6c6:e1e6#,b6a6:e1e6#} | mate | no
-5r/6/6/1k4/6/K5 b | f6f1# | mate | yes 1
-k4R/6/1K4/6/6/6 b | a6a5# | mate | no
-k5/2Q3/6/6/6/5K b | a6a5= | stale | no
-THIRD | | mate | refused: Grammar at offset 0
-THIRD | ; | mate | refused: Grammar at offset 0
-THIRD | c4c5 | mate | refused: Grammar at offset 4
-THIRD | c4c5## | mate | refused: Grammar at offset 5
-THIRD | g1a1# | mate | refused: Grammar at offset 0
-THIRD | a7 | mate | refused: Grammar at offset 1
-THIRD | c4c5k | mate | refused: Grammar at offset 4
-THIRD | c4c5qq | mate | refused: Grammar at offset 5
-THIRD | c4c5{a6a5:b1a1#,} | mate | refused: Grammar at offset 16
-THIRD | c4c5{a6a5#} | mate | refused: Grammar at offset 9
-THIRD | c4c5{a6a5q:b1a1#}_ | mate | refused: Grammar at offset 17
-THIRD | c4c5#, | mate | refused: Grammar at offset 5
-THIRD | c4c5#} | mate | refused: Grammar at offset 5
-k5/6/6/6/6/5K | c4c5 | mate | refused: Fields
-| | mate | refused: Fields
-k5/6/6/6/6/5K  w | | mate | refused: Fields
-k5/6/6/6/5K w | | mate | refused: Shape
-k5/7/6/6/6/5K x | | mate | refused: Shape
-k5/6/6/6/6/B4K w | | mate | refused: Letter
-k5/6/33/6/6/5K w | | mate | refused: Run
-k05/6/6/6/6/5K w | | mate | refused: Run
-k5/6/6/6/6/4K0N w | | mate | refused: Run
-k5/6/6/6/6/5K x | | mate | refused: Side
-k5/6/6/6/6/5K_ | | mate | refused: Side
-6/6/6/6/6/5K w | | mate | refused: Kings
-kk4/6/6/6/6/5K w | | mate | refused: Kings
-k4/QQQQQ/QQQQQ/5/4K w | | mate | refused: Units
-k5/6/6/6/6/P4K w | | mate | refused: PawnRank
-k4R/6/1K4/6/6/6 w | c4c5 | mate | refused: OtherInCheck
+THIRD | mate | yes 3 | c4c5{a6a5:b1a1#} c4c5{a6a5:b1a1#};
+THIRD | mate | refused: Grammar at offset 16 | c4c5{a6a5:b1a1#};; c4c5{a6a5:b1a1#,}
+THIRD | stale | yes 3 | c4c5{a6a5:b1a1#}
+THIRD | mate | refused: Grammar at offset 5 | c4c5{} c4c5## c4c5qq c4c5#, c4c5#}
+THIRD | mate | no | c4c5# c4c5q{a6a5:b1a1#} c4c5{a6a5:b1b2#} c4c5{a6a5:b1a1#,a6a5:b1a1#} b1b5= b1b5# b1b5{a6a5:b5a5#} b1a1#
+THIRD | stale | yes 1 | b1b5=
+THIRD | stale | no | b1b5# c4c5= c4c5{a6a5:b1a1=}
+CORNER | mate | yes 1 | c4c5q# c4c5r#
+CORNER | mate | no | c4c5b# c4c5# f6f5#
+FOURTH | mate | yes 3 | c1e1{b6a6:e1e6#,b6c6:e1e6#}
+FOURTH | mate | no | c1e1{b6a6:e1e6#} c1e1{b6c6:e1e6#,b6a6:e1e6#}
+FOURTH | mate | yes 5 | c1e1{b6a6:e1d1{a6b6:d1d6#},b6c6:e1e6#}
+5r/6/6/1k4/6/K5 b | mate | yes 1 | f6f1#
+k4R/6/1K4/6/6/6 b | mate | no | a6a5#
+k5/2Q3/6/6/6/5K b | stale | no | a6a5=
+THIRD | mate | refused: Grammar at offset 0 | EMPTY ; g1a1#
+THIRD | mate | refused: Grammar at offset 4 | c4c5 c4c5k
+THIRD | mate | refused: Grammar at offset 1 | a7
+THIRD | mate | refused: Grammar at offset 9 | c4c5{a6a5#}
+THIRD | mate | refused: Grammar at offset 17 | c4c5{a6a5q:b1a1#}_
 """
+# Positions that are refused, whatever the tree is.
+REFUSED = {
+    "Fields": ["k5/6/6/6/6/5K", "", "k5/6/6/6/6/5K  w"],
+    "Shape": ["k5/6/6/6/5K w", "k5/7/6/6/6/5K x"],
+    "Letter": ["k5/6/6/6/6/B4K w"],
+    "Run": ["k5/6/33/6/6/5K w", "k05/6/6/6/6/5K w", "k5/6/6/6/6/4K0N w"],
+    "Side": ["k5/6/6/6/6/5K x", "k5/6/6/6/6/5K "],
+    "Kings": ["6/6/6/6/6/5K w", "kk4/6/6/6/6/5K w"],
+    "Units": ["k4/QQQQQ/QQQQQ/5/4K w"],
+    "PawnRank": ["k5/6/6/6/6/P4K w"],
+    "OtherInCheck": ["k4R/6/1K4/6/6/6 w"],
+}
 NEST = "c4c5{a6a5:"
 LONG_TREES = [
     (NEST * 31 + "b1a1#" + "}" * 31, "no"),
@@ -95,8 +69,10 @@ COUNTS_DEPTH = 3
 
 def trees():
     for line in TREES.strip("\n").split("\n"):
-        fen, tree, goal, wanted = (it.strip(" ").replace(";", "\n").replace("_", " ") for it in line.split("|"))
-        yield POSITIONS.get(fen, fen), tree, goal, wanted
+        fen, goal, wanted, texts = (it.strip(" ") for it in line.split("|"))
+        for text in texts.split(" "):
+            yield POSITIONS.get(fen, fen), text.replace("EMPTY", "").replace(";", "\n").replace("_", " "), goal, wanted
+    yield from ((fen, tree, "mate", f"refused: {fault}") for fault, fens in REFUSED.items() for fen in fens for tree in ("", "c4c5"))
     yield from ((THIRD, tree, "mate", wanted) for tree, wanted in LONG_TREES)
 
 

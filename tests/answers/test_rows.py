@@ -16,11 +16,11 @@ be moved and tables renamed.
 """
 
 import ast
+import collections
 import functools
 import glob
 import os
 import re
-from typing import NamedTuple
 
 import pytest
 
@@ -41,22 +41,10 @@ MASK, TURN = (1 << 64) - 1, 0x9E3779B97F4A7C15
 CODES = "KQRBNPkqrbnp"
 
 
-class Word(NamedTuple):
-    """A name in a source, such as Goal::Mate: the last part, and what precedes it."""
+# A name in a source, such as Goal::Mate: the last part, and what precedes it.
+Word = collections.namedtuple("Word", "name of", defaults=[""])
+Row = collections.namedtuple("Row", "where shape fields")
 
-    name: str
-    of: str = ""
-
-
-class Row(NamedTuple):
-    """A row: its place, its shape, and its fields."""
-
-    where: str
-    shape: str
-    fields: tuple
-
-
-# Reading literals out of sources
 
 TOKEN = re.compile(
     r"""(?P<skip>\s+|//[^\n]*)|(?P<text>b?"(?:[^"\\]|\\.)*")|(?P<number>0x[0-9A-Fa-f_]+|\d[\d_]*)(?:[ui](?:8|16|32|64|size))?"""
@@ -97,9 +85,7 @@ def value_of(text):
 
 
 def past_calls(tokens, at):
-    while at < len(tokens) and tokens[at][0] == "call":
-        at += 1
-    return at
+    return next((it for it in range(at, len(tokens)) if tokens[it][0] != "call"), len(tokens))
 
 
 def items(tokens, at, closing):
@@ -150,9 +136,6 @@ def named(value, constants):
     return tuple(named(item, constants) for item in value) if isinstance(value, tuple) else value
 
 
-# Shapes
-
-
 def shape_of(row):
     """Returns the shape of a tuple with the fields that matter, or None. The arguments of a call of the tests' own make a tuple too."""
     row = [int(it) if isinstance(it, str) and re.fullmatch("[0-9]{1,7}", it) else it for it in row if it != Word("rt")]
@@ -187,18 +170,14 @@ def shape_of_answer(fen, text, numbers, goal, length):
     return None
 
 
-def position_of_line(line):
-    """Returns the position of a batch's line, without its own limit, and the first two fields if it has six."""
-    text = re.sub(r" ; dm (0|[1-9][0-9]?)$", "", line)
-    six = re.fullmatch(r"([^ ]* [^ ]*) [-KQkq]+ [-a-h1-8]+ [0-9]+ [0-9]+", text)
-    return six[1] if six else text
-
-
 def shape_of_refusal(row):
+    """Returns the shape of a row with a fault. A line of a batch may have its own limit, and six fields."""
     if len(row) == 2 and isinstance(row[0], str) and isinstance(row[1], Word) and row[1].of == "FenFault":
         return "refusal", (row[0], row[1].name)
     if len(row) == 2 and all(isinstance(it, str) for it in row) and row[1].removesuffix("\n") in REFUSED:
-        return "refusal", (position_of_line(row[0]), row[1].split()[1])
+        text = re.sub(r" ; dm (0|[1-9][0-9]?)$", "", row[0])
+        six = re.fullmatch(r"([^ ]* [^ ]*) [-KQkq]+ [-a-h1-8]+ [0-9]+ [0-9]+", text)
+        return "refusal", (six[1] if six else text, row[1].split()[1])
     return None
 
 
@@ -218,11 +197,9 @@ def rows():
         yield Row(where, "rook" if line.table == "rook" else "answer", (line.fen, line.limit, line.goal, answer))
 
 
-# The values. Each function returns what the row has and what is worked out, or None where the limit above excludes it.
-
-
+# Each of these functions returns the row's value and the one that is worked out, or None if the limits above exclude the row.
 def of_packing(fen, attacker, goal, below, upto, wanted, slots):
-    """Returns the three words of an entry, by the table of bits in docs/FORMATS.md, and the numbers of its slots."""
+    """Works out the three words of an entry, by the table of bits in docs/reference/formats.md, and the numbers of its slots."""
     position, words = check_tree.read_position(fen.encode()), [0, 0, 0]
     for (file, rank), unit in position.units.items():
         words[rank // 2] |= (CODES.index(unit) + 1) << 4 * (position.width * (rank % 2) + file)
@@ -234,13 +211,9 @@ def of_packing(fen, attacker, goal, below, upto, wanted, slots):
 
 
 def slot_number(words, slots):
-    low = [words[0], words[1] & ((1 << 48) - 1), words[2] & ((1 << 48) - 1)]
-    key = low[0] ^ turned(low[1], 20) ^ turned(low[2], 40)
-    return ((key * TURN & MASK) >> 32) % slots
-
-
-def turned(word, count):
-    return (word << count | word >> (64 - count)) & MASK
+    low = [(words[0], 0), (words[1] & ((1 << 48) - 1), 20), (words[2] & ((1 << 48) - 1), 40)]
+    first, second, third = ((word << count | word >> (64 - count)) & MASK for word, count in low)
+    return (((first ^ second ^ third) * TURN & MASK) >> 32) % slots
 
 
 def of_counts(fen, counts):

@@ -20,81 +20,52 @@ CORNER, KINGS = "k4/2P2/1K3/5/5 w", "k5/6/6/6/6/5K w"
 # tools/verify.py. The certificates are written by hand, from lists of moves that the documents give.
 
 MATE, NONE = "mate 3 c4c5\np.\naaaaaaaa-aaaaaa\n\n", "none within 7\naaa\naaaaa\naaaaaaaa\naaaaa\n"
-# A position, a certificate in which a semicolon is a line feed, the goal and the answer.
+# A position, the goal, the answer, and the certificates that get it; in these a semicolon is a line feed, and `OLD > NEW` a change.
 CERTIFICATES = """
-CORNER | mate 1 c4c5q;f;; | mate | mate 1 c4c5q
-CORNER | mate 1 c4c5r;g;; | mate | refused: Claim at line 3
-CORNER | mate 1 c4c5q;g;; | mate | refused: Claim at line 2
-CORNER | mate 1 c4c5b;h;; | mate | refused: Claim at line 2
-THIRD | MATE | mate | mate 3 c4c5
-THIRD | MATE | stale | refused: Answer
-THIRD | goal 1 b1b5;i;; | stale | goal 1 b1b5
-THIRD | goal 1 b1b5;i;; | mate | refused: Answer
-THIRD | mate 1 b1b5;i;; | mate | refused: Claim at line 2
-THIRD | none within 1;; | mate | none within 1
-THIRD | none within 2;; | mate | none within 2
-THIRD | none within 1;; | stale | refused: Claim at line 2
-THIRD | none within 1;a; | mate | refused: Claim at line 2
-THIRD | none within 3;aaaaaaaa-aaaaaaaa; | mate | refused: Claim at line 2
-THIRD | MATE, mate 3 > mate 5 | mate | refused: Claim at line 3
-THIRD | MATE, mate 3 > mate 1 | mate | refused: Claim at line 2
-THIRD | MATE, a-a > aaa | mate | refused: Claim at line 3
-THIRD | MATE, aaaaaaaa- > -aaaaaaaa | mate | refused: Claim at line 3
-THIRD | MATE, aaaaaaaa- > aaaaaaa- | mate | refused: Claim at line 3
-THIRD | MATE, aaaaaaaa- > baaaaaaa- | mate | refused: Claim at line 3
-THIRD | MATE, aaaaaaaa- > Zaaaaaaaa- | mate | refused: Claim at line 3
-THIRD | MATE, p. > p | mate | refused: Claim at line 2
-THIRD | MATE, p. > p.. | mate | refused: Claim at line 2
-THIRD | MATE, p. > p= | mate | refused: Claim at line 2
-THIRD | MATE, p. > . | mate | refused: Claim at line 2
-THIRD | MATE, p. > | mate | refused: Claim at line 2
-THIRD | MATE, p.;aaaaaaaa-aaaaaa;; > pa;k;aaaaaaaa-aaaaaa;; | mate | refused: Claim at line 3
-THIRD | MATE, p. > pb | mate | refused: Claim at line 2
-THIRD | mate 3 c4c5;p.;aaaaaaaa-aaaaaa; | mate | refused: Claim at line 4
-THIRD | mate 3 c4c5;p.;aaaaaaaa-aaaaaa | mate | refused: Claim at line 3
-THIRD | mate 3 c4c5;p.;aaaaaaaa-aaaaaa;;; | mate | refused: Claim at line 5
-THIRD | mate 3 c4c5;p.;aaaaaaaa-aaaaaa;;a | mate | refused: Claim at line 5
-KINGS | none within 3;aaa; | mate | none within 3
-KINGS | none within 6;aaa; | stale | none within 6
-KINGS | NONE | mate | none within 7
-KINGS | NONE, within 7 > within 8 | stale | none within 8
-KINGS | NONE, within 7 > within 5 | mate | refused: Claim at line 3
-KINGS | NONE, within 7 > within 9 | mate | refused: Claim at line 6
-KINGS | NONE, ;aaa; > ;aaA; | mate | refused: Claim at line 2
-KINGS | NONE, aaaaaaaa > aaaaaaa | mate | refused: Claim at line 4
-KINGS | | mate | refused: Answer
-KINGS | ; | mate | refused: Answer
-KINGS | none within 3 | mate | refused: Answer
-KINGS | none within 0;; | mate | refused: Answer
-KINGS | none within 03;aaa; | mate | refused: Answer
-KINGS | none within 64;aaa; | mate | refused: Answer
-KINGS | none within  3;aaa; | mate | refused: Answer
-KINGS | none within 3 ;aaa; | mate | refused: Answer
-THIRD | MATE, mate 3 > mate 2 | mate | refused: Answer
-THIRD | MATE, c4c5 > c4c7 | mate | refused: Answer
-THIRD | MATE, c4c5 > c4c6 | mate | refused: Claim at line 2
-KINGS | refused: NoMemory; | mate | refused: Answer
-KINGS | none within 7;aaa;refused: NoMemory; | mate | refused: Claim at line 3
-KINGS | LONGa; | mate | refused: TooLong
-KINGS | LONG; | mate | refused: Answer
-KINGS | none within 3;LONGa | mate | refused: TooLong
-KINGS | none within 3;LONG; | mate | refused: Claim at line 2
-KINGS | none within 3;aaa;LONGa | mate | refused: TooLong
-KINGS | none within 3;aaa;LONG | mate | refused: Claim at line 3
-k5/6/6/6/6/5K | none within 3;aaa; | mate | refused: Fields
-KK4/6/6/6/6/5k w | | mate | refused: Kings
+CORNER | mate | mate 1 c4c5q | mate 1 c4c5q;f;;
+CORNER | mate | refused: Claim at line 3 | mate 1 c4c5r;g;;
+CORNER | mate | refused: Claim at line 2 | mate 1 c4c5q;g;; / mate 1 c4c5b;h;;
+THIRD | mate | mate 3 c4c5 | MATE
+THIRD | stale | refused: Answer | MATE
+THIRD | stale | goal 1 b1b5 | goal 1 b1b5;i;;
+THIRD | mate | refused: Answer | goal 1 b1b5;i;; / MATE, mate 3 > mate 2 / MATE, c4c5 > c4c7
+THIRD | mate | refused: Claim at line 2 | mate 1 b1b5;i;; / none within 1;a; / none within 3;aaaaaaaa-aaaaaaaa; / MATE, mate 3 > mate 1
+THIRD | mate | refused: Claim at line 2 | MATE, p. > p / MATE, p. > p.. / MATE, p. > p= / MATE, p. > . / MATE, p. > / MATE, p. > pb
+THIRD | mate | refused: Claim at line 2 | MATE, c4c5 > c4c6
+THIRD | mate | none within 1 | none within 1;;
+THIRD | mate | none within 2 | none within 2;;
+THIRD | stale | refused: Claim at line 2 | none within 1;;
+THIRD | mate | refused: Claim at line 3 | MATE, mate 3 > mate 5 / MATE, a-a > aaa / MATE, aaaaaaaa- > -aaaaaaaa / MATE, aaaaaaaa- > aaaaaaa-
+THIRD | mate | refused: Claim at line 3 | MATE, aaaaaaaa- > baaaaaaa- / MATE, aaaaaaaa- > Zaaaaaaaa-
+THIRD | mate | refused: Claim at line 3 | MATE, p.;aaaaaaaa-aaaaaa;; > pa;k;aaaaaaaa-aaaaaa;; / mate 3 c4c5;p.;aaaaaaaa-aaaaaa
+THIRD | mate | refused: Claim at line 4 | mate 3 c4c5;p.;aaaaaaaa-aaaaaa;
+THIRD | mate | refused: Claim at line 5 | mate 3 c4c5;p.;aaaaaaaa-aaaaaa;;; / mate 3 c4c5;p.;aaaaaaaa-aaaaaa;;a
+KINGS | mate | none within 3 | none within 3;aaa;
+KINGS | stale | none within 6 | none within 6;aaa;
+KINGS | mate | none within 7 | NONE
+KINGS | stale | none within 8 | NONE, within 7 > within 8
+KINGS | mate | refused: Claim at line 3 | NONE, within 7 > within 5 / none within 7;aaa;refused: NoMemory; / none within 3;aaa;LONG
+KINGS | mate | refused: Claim at line 6 | NONE, within 7 > within 9
+KINGS | mate | refused: Claim at line 2 | NONE, ;aaa; > ;aaA; / none within 3;LONG;
+KINGS | mate | refused: Claim at line 4 | NONE, aaaaaaaa > aaaaaaa
+KINGS | mate | refused: Answer | none within 3 /  / ; / none within 0;; / none within 03;aaa; / none within 64;aaa; / none within  3;aaa;
+KINGS | mate | refused: Answer | none within 3 ;aaa; / refused: NoMemory; / LONG;
+KINGS | mate | refused: TooLong | LONGa; / none within 3;LONGa / none within 3;aaa;LONGa
+k5/6/6/6/6/5K | mate | refused: Fields | none within 3;aaa;
+KK4/6/6/6/6/5k w | mate | refused: Kings |
 """
 NAMED = {"CORNER": CORNER, "THIRD": THIRD, "KINGS": KINGS, "MATE": MATE, "NONE": NONE}
 
 
 def certificates():
     for line in CERTIFICATES.strip("\n").split("\n"):
-        fen, text, goal, wanted = (it.strip(" ").replace(";", "\n").replace("LONG", "a" * verify.MOST_BYTES) for it in line.split("|"))
-        text, _, change = text.partition(", ")
-        old, _, new = change.partition(" >")
-        text = NAMED.get(text, text)
-        assert not change or old in text
-        yield NAMED.get(fen, fen), text.replace(old, new.strip(" ")) if change else text, goal, wanted
+        fen, goal, wanted, texts = (it.strip(" ") for it in line.split("|"))
+        for text in texts.split(" / "):
+            text, _, change = text.replace(";", "\n").replace("LONG", "a" * verify.MOST_BYTES).partition(", ")
+            old, _, new = change.partition(" >")
+            text = NAMED.get(text, text)
+            assert old in text
+            yield NAMED.get(fen, fen), text.replace(old, new.strip(" ")) if change else text, goal, wanted
 
 
 @pytest.mark.parametrize("fen, text, goal, wanted", certificates(), ids=lambda it: it[:60])
@@ -110,8 +81,6 @@ def test_the_moves_of_both_second_checkers(count, fen):
     assert [text for text, _ in rules.moves(board)] == [check_tree.move_text(move) for move in moves]
     count()
 
-
-# tools/show_certificate
 
 CLAIMS = [
     (CORNER, "mate 1 c4c5q\nf\n\n", ["mate 1 c4c5q", f"yes 1: {CORNER} within 1 by c4c5q", f"no 1: {CORNER} not within 1"]),
@@ -137,8 +106,6 @@ def test_a_claim_of_a_stalemate(count):
     assert "b1b5 stalemates, b1b6 a6a5" in list(SHOW_CERTIFICATE.shown(THIRD.encode(), io.BytesIO(MATE.encode()), "mate"))[2]
     count()
 
-
-# tools/show_tree
 
 SOLUTIONS = [
     (THIRD, "c4c5{a6a5:b1a1#}\n", "White to move: mate in 2 moves (3 plies)", ["1.Kc5", "    1...Ka5 2.Ra1#"]),
@@ -263,8 +230,6 @@ def test_a_table_with_an_entry_for_each_placement(count, side):
     assert worked_out("KQK", side) == worked_out("KQK", side, BACKWARD_TABLE.Tables(5, is_plain=True))
     count()
 
-
-# Words
 
 TOOLS = ["check_tree.py", "verify.py", "show_tree", "show_certificate", "backward_table"]
 
