@@ -91,12 +91,7 @@ MUTANTS = [
     ("file: src/a.rt\n# below\n", "", ""),
 ]
 # For each list, a line that it prints about `board`.
-PRINTED = {
-    "items": "board::read_fen",
-    "definitions": "board/specs/Fen.antt, used by ",
-    "mutants": "board/must-fail/",
-    "crates": "board ",
-}
+PRINTED = {"items": "board::read_fen", "definitions": "board/specs/Fen.antt, used by ", "mutants": "board/must-fail/", "crates": "board "}
 
 KNOWN = definitions.known()
 BELIEVED = definitions.believed(KNOWN)
