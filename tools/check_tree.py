@@ -245,8 +245,8 @@ class Tree(NamedTuple):
     replies: list
 
 
-# What may come next. Each state names the bytes that it takes with the state that follows; opening and closing of braces is
-# told apart in `scan`. A move of the attacker has the states m0 to m5, a reply r0 to r5, a whole tree is `done`.
+# What may come next. Each state names the bytes that it takes with the state that follows; `scan` counts the braces
+# that are open. A move of the attacker has the states m0 to m5, a reply r0 to r5, a whole tree is `done`.
 FILES, RANKS, KINDS = b"abcdef", b"123456", b"qrbn"
 NEXT = {
     "m0": [(FILES, "m1")],

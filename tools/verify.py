@@ -38,7 +38,7 @@ class Refused(Exception):
 
 
 class Board(NamedTuple):
-    """The letters of all squares along the ranks from a1, `.` where nothing stands, and the side to move."""
+    """The letters of all squares along the ranks from a1, `.` for an empty square, and the side to move."""
 
     units: str
     side: str
@@ -83,7 +83,7 @@ class Rules:
         self.wins_at_once = lru_cache(1 << 20)(self.wins_at_once)
 
     def lines_from(self, start, steps, most):
-        """The squares that are reached from a square by each step, repeated so many times at most."""
+        """Returns a line of squares for each step, repeated at most so often from a square."""
         lines = []
         for dx, dy in steps:
             places = [(start % self.width + dx * count, start // self.width + dy * count) for count in range(1, most + 1)]
@@ -164,7 +164,7 @@ class Rules:
         return any(self.is_reached(after) for _, after in self.moves(board))
 
     def is_forced(self, board, plies):
-        """Whether the side to move forces the goal within so many plies, an odd number."""
+        """Decides whether the side to move forces the goal within an odd number of plies."""
         if plies == 1:
             return self.wins_at_once(board)
         return any(self.loses(after, plies - 1) for _, after in self.moves(board))
@@ -196,7 +196,7 @@ class Answer(NamedTuple):
 
 
 class Line(NamedTuple):
-    """A claim with what its line says: the attacker's move of a yes claim; each move with its word and the claim that it leads to."""
+    """A claim with its line: the attacker's move of a yes claim; each move with its word and the number of its next claim."""
 
     is_yes: bool
     board: Board
@@ -224,7 +224,7 @@ class Source:
         return text[:-1]
 
     def words(self):
-        """What a claim's line says: of each word a place in a list, from 0, or a sign."""
+        """Returns the words of a claim's line: places in a list, from 0, and signs."""
         text, words, at = self.line(), [], 0
         while at < len(text):
             word = WORD.match(text, at)
@@ -270,9 +270,9 @@ class Part:
         self.claims.append((board, plies))
         self.plies[board], self.numbers[board] = plies, len(self.claims)
 
-    def is_forced(self, board, plies, told):
-        """Whether the goal is forced within so few plies that no claim is needed; what is told, where nobody wants to look."""
-        return self.rules.is_forced(board, plies) if self.looks else told
+    def is_forced(self, board, plies, claimed):
+        """Decides whether the goal is forced within so few plies that no claim is needed. Without `looks` the certificate is believed."""
+        return self.rules.is_forced(board, plies) if self.looks else claimed
 
 
 class YesPart(Part):
@@ -305,7 +305,7 @@ class NoPart(Part):
         if answer.move is None:
             self.add(root, answer.plies - 1 + answer.plies % 2)
         else:
-            # Of the first claim only the moves before the answer's are told, and no line leads to it.
+            # The line of the first claim has only the moves before the answer's, and no line leads to it.
             self.claims.append((root, answer.plies))
             if answer.plies > 1:
                 self.add(root, answer.plies - 2)

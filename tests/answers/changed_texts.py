@@ -34,7 +34,7 @@ def changed_bytes(chance, text, some):
     yield "a byte left out", text[:place] + text[place + 1 :]
     yield "a byte more", text[:place] + byte + text[place:]
     yield "another byte", text[:place] + byte + text[place + 1 :]
-    yield "a byte behind", text + byte
+    yield "a byte at the end", text + byte
 
 
 def changed_positions(chance, fen, count):

@@ -18,7 +18,7 @@ class Search:
         return not lawful(position) and (self.goal == "stale" or in_check(position))
 
     def is_lost(self, position, plies):
-        """Decides whether the defender, to move, is where the goal wants it within so many plies, whatever it replies."""
+        """Decides whether the defender, to move, reaches the goal within these plies whatever it replies."""
         if plies == 0 and self.goal == "mate" and not in_check(position):
             return False
         moves = lawful(position)
@@ -27,7 +27,7 @@ class Search:
         return plies > 0 and all(self.is_won(after(position, move), plies - 1) for move in moves)
 
     def is_won(self, position, plies):
-        """Decides whether the attacker, to move, forces the goal within so many plies."""
+        """Decides whether the attacker, to move, forces the goal within these plies."""
         if plies < 1:
             return False
         name = position.side, frozenset(position.units.items()), plies
@@ -40,7 +40,7 @@ class Search:
         return next((plies for plies in range(1, limit + 1, 2) if self.is_won(position, plies)), None)
 
     def winning(self, position, plies):
-        """Yields the moves that force the goal within so many plies, in order."""
+        """Yields the moves that force the goal within these plies, in order."""
         return (move for move in lawful(position) if self.is_lost(after(position, move), plies - 1))
 
     def answer(self, position, limit):

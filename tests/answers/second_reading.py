@@ -8,7 +8,7 @@ import check_tree
 from plain_search import Search
 
 MOVE = r"[a-f][1-6][a-f][1-6][qrbn]?"
-# Of a search above so many plies, or on fuller boards, only the shape of the answer is known here; above MOST_PLIES it takes too long.
+# Above SURE_PLIES, or on boards with more units, only the shape of the answer is compared; above MOST_PLIES a search takes too long.
 SURE_PLIES, SURE_UNITS, MOST_PLIES = 1, 8, 5
 
 

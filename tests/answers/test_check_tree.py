@@ -77,7 +77,7 @@ def trees():
 
 
 def leaves(position, depth):
-    """Returns how many lines of so many plies begin here. The moves of the last ply are counted and not made."""
+    """Returns the number of lines of play of this depth. The moves of the last ply are counted and not made."""
     moves = check_tree.lawful(position)
     return len(moves) if depth == 1 else sum(leaves(check_tree.after(position, move), depth - 1) for move in moves)
 

@@ -19,7 +19,7 @@ from check_tree import move_text
 from programs import bench_lines, run
 
 SEED, CHANGED = os.environ.get("CHECKERS_SEED", "1"), int(os.environ.get("CHECKERS_CHANGED", "4"))
-# The texts changed from one tree have about so many bytes together, and are at least so many.
+# How many bytes the texts changed from one tree have together, about, and the least number of these texts.
 CHANGED_BYTES, FEWEST_CHANGED = 300_000, 2
 # Bytes that occur in trees, and some that never do.
 BYTES = b"abcdefg01234567qrbnkN#={}:, \n\x00\xff"
@@ -101,7 +101,7 @@ def other_texts(chance, tree, text, position, count):
         yield from changed_bytes(chance, text, BYTES)
     for depth in (30, 31, 32, 33, 40):
         deep = b"a1a2{a1a2:" * depth
-        yield from (("nested", deep + text + b"}" * depth), ("nested and cut", deep), ("nested and wrong behind", deep + b"a1a2#}x"))
+        yield from (("nested", deep + text + b"}" * depth), ("nested and cut", deep), ("nested and wrong at the end", deep + b"a1a2#}x"))
     yield from (("a line feed", text + b"\n"), ("two line feeds", text + b"\n\n"), ("a carriage return", text + b"\r\n"), ("no bytes", b""))
     for length in (check_tree.MOST_BYTES - 1, check_tree.MOST_BYTES, check_tree.MOST_BYTES + 1):
         yield "long", text + b"\n" * (length - len(text))
