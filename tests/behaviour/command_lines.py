@@ -9,7 +9,7 @@ START = "rnqknr/pppppp/6/6/PPPPPP/RNQKNR w"
 # A king alone mates nobody, and there is little that the other side can do.
 ALONE = "2k2/2p2/2p2/3pp/K4 w"
 TREE = b"c4c5{a6a5:b1a1#}\n"
-# Its letters are places among lawful moves, as docs/FORMATS.md says.
+# Its letters are places among lawful moves, as docs/reference/formats.md says.
 CERTIFICATE = b"mate 3 c4c5\np.\naaaaaaaa-aaaaaa\n\n"
 TURNED = """ 1  \u2656 . . . . .
  2  . . . . . .

@@ -363,7 +363,7 @@ def test_a_tree_serves_its_own_number_of_plies_alone(spread):
     spread.all_is_known((5, "mate", SMALL), "--joblog", log, trees=[True])
 
 
-# Answers the tasks of a file, each as a job of its own might, and makes a joblog of the answers, as docs/MACHINES.md has it.
+# Answers the tasks of a file, each as a job of its own might, and makes a joblog of the answers, as docs/project/machines.md has it.
 APART = """
 while IFS="$(printf '\\t')" read -r command goal limit fen; do
     answer=$("$minimate" "$command" --goal "$goal" --limit "$limit" --slots 64 "$fen" < /dev/null) || exit

@@ -9,7 +9,7 @@ made.
 of the moves after it. `batch` cuts the file into chunks of lines, each a task, and prints the answers in the file's order. A task that
 fails is tried again, on another machine if there is one.
 
-Without --hosts the tasks run on this machine. An interrupted run with --joblog goes on by the same words and --resume. docs/MACHINES.md
+Without --hosts the tasks run on this machine. An interrupted run with --joblog goes on by the same words and --resume. docs/project/machines.md
 says more.
 """
 

@@ -1,4 +1,4 @@
-//! Texts of solutions. The moves are those that tools/check_solution works out; their names are worked out by hand.
+//! Texts of solutions. The moves are those that tests/answers/solutions.py works out; their names are worked out by hand.
 
 use crate::composing::{ALL, solution_in};
 use crate::tables::position;

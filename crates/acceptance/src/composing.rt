@@ -1,4 +1,4 @@
-//! Solutions of problems, as tools/check_solution works them out: its rules and its search share no line with the program.
+//! Solutions of problems, as tests/answers/solutions.py works them out: its rules and its search share no line with the program.
 ghost use Rattle.std.specs.Prelude.{IfOk};
 ghost use Rattle.problems.specs.Roots.{IsRoot};
 ghost use Rattle.solutions.specs.Solutions.{IsSolution};

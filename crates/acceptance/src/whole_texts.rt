@@ -1,4 +1,4 @@
-//! Texts of whole solutions, as tools/check_solution works them out: its rules, its search and its names share no line with the program.
+//! Texts of whole solutions, as tests/answers/solutions.py works them out: its rules, its search and its names share no line with the program.
 ghost use Rattle.problems.specs.Roots.{IsRoot};
 
 use crate::composing::ALL;

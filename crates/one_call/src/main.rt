@@ -1,4 +1,4 @@
-//! Makes one call, the one that its word names, and says how it ended: `one_call solve`. `tools/refuse_memory` refuses each request
+//! Makes one call, the one that its word names, and says how it ended: `one_call solve`. tests/behaviour/test_memory.py refuses each request
 //! for memory of such a call in turn, and counts that calls which take none make none: of two words the one makes the same calls as
 //! the other, and others besides. The call is `table` where none is named.
 #![tactic(auto)]
