@@ -208,6 +208,8 @@ def test_the_page_in_one_file_opens_without_a_server(drive):
     tab.wait("document.getElementById('state')?.textContent")
     said = tab.value(TEXT.format("state"))
     drive.note("out/minimate.html" in said and "python3 -m http.server --directory web" in said, f"a file says: {said}")
+    # A browser doesn't load the scripts of a file.
+    assert all("file:///" in it for it in tab.faults())
     tab.close()
     with tempfile.TemporaryDirectory() as folder:
         path = os.path.join(folder, "minimate.html")
