@@ -23,8 +23,10 @@ def test_the_composing_guide_leads_to_a_published_problem(program, tmp_path):
     for block in blocks_of("guide/composing.md", "sh"):
         typed = re.sub(r"\./minimate (?=(\S*))", lambda it: f"{shlex.quote(started(program, it[1])[0])} ", block)
         assert run(["sh", "-ec", typed], cwd=tmp_path).status == 0, block
-    diagram, solution, certificate = ((tmp_path / name).read_bytes() for name in ("problem.svg", "solution.txt", "certificate.txt"))
-    assert diagram.startswith(b"<?xml ") and b"<svg " in diagram and b"#2" in diagram and b"1.Kc5" in diagram
+    names = ("problem.svg", "key.svg", "solution.txt", "certificate.txt")
+    diagram, with_key, solution, certificate = ((tmp_path / name).read_bytes() for name in names)
+    assert all(it.startswith(b"<?xml ") and b"<svg " in it for it in (diagram, with_key))
+    assert b"#2" in with_key and b"1.Kc5" in with_key and b"Kc5" not in diagram
     assert solution.startswith(b"mate in 2\nno set play\ntries\n1.Ra1+?\n  but 1...Kb6!\n1.Rb2? zugzwang\n  but 1...Ka5!\n")
     assert solution.endswith(b"1.Kc5! threat 2.Ra1#\n  1...Ka5 2.Ra1#\n")
     for checker in (started(program, "verify"), [sys.executable, os.path.join(TOP, "tools", "verify.py")]):
