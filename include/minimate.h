@@ -18,8 +18,8 @@
      during the call, and they overlap no text. So two calls never use one buffer at the same time.
    - A length is at most PTRDIFF_MAX.
    - `stale` is 0 or 1, as C's `bool` always is.
-   - `malloc`, `realloc` and `free` belong together, and align a block to every power of two up to 16 that divides its size. A call
-     releases all its memory before it returns. If memory runs out, its text is `refused: NoMemory`.
+   - `malloc`, `realloc` and `free` belong together, and align a block to every power of two up to 16 that divides its size. Each of the
+     first eight calls releases all its memory before it returns. If memory runs out, its text is `refused: NoMemory`.
    - No call is made from a signal handler, or in the forked child of a process with threads.
    - The calling thread has 1 MiB of stack left.
 
@@ -126,7 +126,7 @@ struct minimate_answer {
 };
 
 /* The progress of a search: the goal is not forced within `none_within` plies, and `tried` of `moves` first moves of the round under way
-   are decided. While keys are searched `none_within` is 0. While a tree is built the two numbers are those of one of its positions. */
+   are decided. While keys are searched `none_within` is 0. While a tree is built the numbers are those of one of its positions. */
 struct minimate_place {
     uint32_t none_within, tried, moves;
 };
