@@ -165,7 +165,7 @@ class BenchLine(NamedTuple):
 def bench_lines(tables=("cases", "hard", "rook")):
     """Yields the lines of these tables, numbered through as bench/mates/run does. harder.tsv takes too long to be solved by tests."""
     rows = [(name, *row) for name in tables for row in rows_of(name)]
-    for number, (name, limit, goal, fen, answer, _) in enumerate(rows, 1):
+    for number, (name, limit, goal, fen, answer, *_) in enumerate(rows, 1):
         found = re.match(r"(?:mate|goal) (\d+) (\w+)$", answer)
         yield BenchLine(number, name, int(limit), goal, fen, int(found[1]) if found else None, found and found[2])
 

@@ -12,6 +12,7 @@ import shutil
 
 import pytest
 
+import kit
 import programs
 import second_reading
 from programs import FIRST, PROGRAMS, TOP, program_named, run, started
@@ -87,8 +88,7 @@ def unlike(commands, lists, launcher):
 def test_each_command_is_one_programs_and_the_launcher_picks_that(commands):
     assert list(unlike(commands, PROGRAMS, LAUNCHER)) == []
     assert {program_named(it) for it in OF_FIRST} == {FIRST}
-    installed = re.search(r"for program in ([a-z ]+); do", read("tools", "install"))
-    assert installed[1].split() == list(PROGRAMS)
+    assert "kit.PROGRAMS" in read("tools", "install") and list(kit.PROGRAMS) == list(PROGRAMS)
 
 
 CASE = "    case ${1-} in\n        batch)"

@@ -312,7 +312,7 @@ const PROGRESS: Argument = Argument {
     form: Form::Flag,
     help: "Show the progress of the search on standard error",
     more: "\
-Shows the progress of the search on standard error, as one line that is
+Shows the progress of a search on standard error, as one line that is
 redrawn at least every second: `12 s, none within 9, round 11: move 14
 of 31, c4c5`. The move is the least first move that isn't decided yet.
 Each round that finds no mate leaves a line `none within 9`.",
@@ -323,7 +323,7 @@ const FIRST: Argument = Argument {
     form: Form::Value("MOVE", &[]),
     help: "The first move of the tree, as c4c5",
     more: "\
-The first move of the tree, as `minimate keys` prints it. The output is
+The tree's first move, as `minimate keys` prints it. The output is
 the tree of this move in the fewest plies that it takes, or
 `none within 3` if it forces nothing within the limit.",
 };
@@ -342,8 +342,8 @@ const TRIES: Argument = Argument {
     form: Form::Flag,
     help: "Print the tries too",
     more: "\
-Prints the tries too: first moves that only one reply refutes, each with
-that reply.",
+Prints the tries too: first moves that only one reply refutes, each
+with that reply.",
 };
 
 const FIGURINES: Argument = Argument {
@@ -441,8 +441,8 @@ const OBJECTS: Argument = Argument {
     more: "\
 Writes each reply as a JSON object on a line of its own. An answer has
 line, position, goal, limit, answer, plies and first, or keys in place
-of plies and first. A refusal has line, position, refused and sentence.
-Empty lines and comments are left out.",
+of plies and first. A refusal has line, position, refused and
+sentence. Empty lines and comments are left out.",
 };
 
 const LINES: Argument = Argument {
@@ -450,7 +450,7 @@ const LINES: Argument = Argument {
     form: Form::Number("L", &[]),
     help: "How many lines the input has, to show the progress",
     more: "\
-How many lines the input has, or 0 if you don't know: shows on standard
+How many lines the input has, 0 if you don't know: shows on standard
 error, at most once a second, how many lines are answered and how long
 the rest may take. The launcher adds `--lines 0` where standard error
 is a terminal and the input and the output are not.",
@@ -461,7 +461,7 @@ const SKIP: Argument = Argument {
     form: Form::Number("L", &[]),
     help: "How many lines at the beginning are skipped",
     more: "\
-How many lines at the beginning of the input are skipped. Skipped lines
+How many lines at the input's beginning are skipped. Skipped lines
 have no reply, and the numbers of the other lines stay. So you can
 continue a batch that was interrupted.",
 };
