@@ -206,8 +206,8 @@ k5/6/1K4/6/6/4R  w|there are several spaces after the board: write 'k5/6/1K4/6/6
 k5/6/1K4/6/6 /4R w|there are blanks inside the board: leave them out; the board has a fault too|
 k5/6/1K4 /6/6/5R w - -|there are blanks inside the board: leave them out|k5/6/1K4/6/6/5R w
 k5/6/1K4/6/6/5R w;|the side to move is w or b: leave out ';' after it|k5/6/1K4/6/6/5R w
-k5/6/1K4/6/6/5R b; dm 3|the side to move is w or b: leave out '; dm 3' behind it|k5/6/1K4/6/6/5R b
-k5/6/1K4/6/6/5R w'|the side to move is w or b: leave out '\\'' behind it|k5/6/1K4/6/6/5R w";
+k5/6/1K4/6/6/5R b; dm 3|the side to move is w or b: leave out '; dm 3' after it|k5/6/1K4/6/6/5R b
+k5/6/1K4/6/6/5R w'|the side to move is w or b: leave out '\\'' after it|k5/6/1K4/6/6/5R w";
     expect_table(&rt, elsewhere);
 }
 
@@ -509,16 +509,16 @@ minimate,solve,--moves,2,k5/6/2K3/6/6/1R4 w|moves of the attacker are counted by
 minimate,solve,--threads,4,--limit,3,k5/6/2K3/6/6/1R4 w|threads are counted by --workers: write --workers in place of --threads|minimate,solve,--workers,4,--limit,3,k5/6/2K3/6/6/1R4 w
 minimate,solve,--lim,3,k5/6/2K3/6/6/1R4 w|write --limit in place of --lim|minimate,solve,--limit,3,k5/6/2K3/6/6/1R4 w
 minimate,solve,3,k5/6/2K3/6/6/1R4 w|a limit comes after its option: write '--limit 3' in place of '3'|minimate,solve,--limit,3,k5/6/2K3/6/6/1R4 w
-minimate,solve,--limit,--limit,3,k5/6/2K3/6/6/1R4 w|--limit stands there already: leave out --limit|minimate,solve,--limit,3,k5/6/2K3/6/6/1R4 w
-minimate,solve,--limit,3,--limit,5,k5/6/2K3/6/6/1R4 w|--limit stands there already: leave out --limit 5|minimate,solve,--limit,3,k5/6/2K3/6/6/1R4 w
-minimate,keys,--workers=3,--threads,4,--limit,3,k5/6/2K3/6/6/1R4 w|--workers stands there already: leave out --threads 4|minimate,keys,--workers=3,--limit,3,k5/6/2K3/6/6/1R4 w
+minimate,solve,--limit,--limit,3,k5/6/2K3/6/6/1R4 w|--limit is there already: leave out --limit|minimate,solve,--limit,3,k5/6/2K3/6/6/1R4 w
+minimate,solve,--limit,3,--limit,5,k5/6/2K3/6/6/1R4 w|--limit is there already: leave out --limit 5|minimate,solve,--limit,3,k5/6/2K3/6/6/1R4 w
+minimate,keys,--workers=3,--threads,4,--limit,3,k5/6/2K3/6/6/1R4 w|--workers is there already: leave out --threads 4|minimate,keys,--workers=3,--limit,3,k5/6/2K3/6/6/1R4 w
 minimate,solve,--moves,k5/6/2K3/6/6/1R4 w|moves of the attacker are counted by --mate: write --mate 2 in place of --moves|minimate,solve,--mate,2,k5/6/2K3/6/6/1R4 w
 minimate,solve,--lim,k5/6/2K3/6/6/1R4 w|write --limit 3 in place of --lim|minimate,solve,--limit,3,k5/6/2K3/6/6/1R4 w";
     expect_hints(&rt, limits);
     let numbers =
         "minimate,solve,--limit,1.5,k5/6/2K3/6/6/1R4 w|--limit is a number from 1 to 63: write 3 in place of '1.5'|minimate,solve,--limit,3,k5/6/2K3/6/6/1R4 w
-minimate,solve,--limit,k5/6/2K3/6/6/1R4 w|--limit is a number from 1 to 63: write 3 behind it|minimate,solve,--limit,3,k5/6/2K3/6/6/1R4 w
-minimate,solve,--slots,--limit,3,k5/6/2K3/6/6/1R4 w|--slots is a number from 1 to 1048576: write 1048573 behind it|minimate,solve,--slots,1048573,--limit,3,k5/6/2K3/6/6/1R4 w
+minimate,solve,--limit,k5/6/2K3/6/6/1R4 w|--limit is a number from 1 to 63: write 3 after it|minimate,solve,--limit,3,k5/6/2K3/6/6/1R4 w
+minimate,solve,--slots,--limit,3,k5/6/2K3/6/6/1R4 w|--slots is a number from 1 to 1048576: write 1048573 after it|minimate,solve,--slots,1048573,--limit,3,k5/6/2K3/6/6/1R4 w
 minimate,solve,--limit,-1,k5/6/2K3/6/6/1R4 w|--limit is a number from 1 to 63: write 3 in place of '-1'|minimate,solve,--limit,3,k5/6/2K3/6/6/1R4 w
 minimate,tree,--mate=two,k5/6/2K3/6/6/1R4 w|--mate is a number from 1 to 32: write 2 in place of 'two'|minimate,tree,--mate=2,k5/6/2K3/6/6/1R4 w
 minimate,batch,--limit,3,--lines,x|--lines is a number from 0 to 4294967295: write 100 in place of 'x'|minimate,batch,--limit,3,--lines,100
