@@ -12,6 +12,7 @@ import fcntl
 import importlib
 import os
 import shutil
+import signal
 import subprocess
 import sys
 
@@ -21,6 +22,9 @@ import clones
 import programs as of_programs
 
 sys.dont_write_bytecode = True
+# Programs that the tests start inherit which signals are ignored, as under `nohup`.
+signal.signal(signal.SIGINT, signal.default_int_handler)
+signal.signal(signal.SIGHUP, signal.SIG_DFL)
 TOP = of_programs.TOP
 
 

@@ -421,7 +421,7 @@ LIBRARY = {"builds": 'echo "build_c $*"', "fails": "echo no library\nexit 2", "w
 
 
 @pytest.mark.parametrize("fails, library, status, output", [
-    ("", "builds", 1, b"12 passed, 0 failed\nbuild_c --shared\n-m pytest tests -q -n 4 --may-skip .*\n3 passed, 1 failed\n"),
+    ("", "builds", 1, b"12 passed, 0 failed\nbuild_c --shared\n-m pytest tests -q -n 4 -m not timed --may-skip .*\n3 passed, 1 failed\n"),
     ("1", "builds", 1, b"0 passed, 1 failed\n"),
     ("", "fails", 2, b"12 passed, 0 failed\nno library\n"),
     ("1", "waits", 1, b"0 passed, 1 failed\n"),

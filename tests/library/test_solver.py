@@ -34,6 +34,7 @@ def test_a_solver_answers_as_the_program_prints(program, caller, count, word):
     count(number)
 
 
+@pytest.mark.timed
 @pytest.mark.parametrize("word", REPLIES)
 def test_a_stop_ends_a_search_of_minutes_and_the_solver_answers_the_next_call(caller, word):
     ran = run([caller, "stop", word, "1048573", "3", LONG, THIRD])

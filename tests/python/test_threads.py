@@ -59,16 +59,20 @@ def interrupt(library, words, stream):
     return output.decode(), error.decode(), process.returncode, sent, ended
 
 
+@pytest.mark.timed
 @pytest.mark.parametrize("number", range(TRIES))
 @pytest.mark.parametrize("progress", ["None", "progress"])
 @pytest.mark.parametrize("call", NEXT)
 def test_ctrl_c_ends_a_search_and_the_next_answer_is_right(shared_library, count, call, progress, number):
-    code = SEARCHING.format(call=call, fen=LONG, progress=progress, other=THIRD)
-    output, error, status, sent, _ = interrupt(shared_library, ["-c", code], "stdout")
-    found = re.fullmatch(r"ready\ninterrupted ([\d.]+) (\d+) (\d+)\n" + re.escape(NEXT[call]) + "\n", output)
-    assert found and status == 0, (output, error)
-    # One clock serves all processes.
-    assert 0 < float(found[1]) - sent < MOST_WAIT
+    code, waits = SEARCHING.format(call=call, fen=LONG, progress=progress, other=THIRD), []
+    # A busy machine may hold a process up for longer than that, so it has three turns.
+    while len(waits) < 3 and not (waits and waits[-1] < MOST_WAIT):
+        output, error, status, sent, _ = interrupt(shared_library, ["-c", code], "stdout")
+        found = re.fullmatch(r"ready\ninterrupted ([\d.]+) (\d+) (\d+)\n" + re.escape(NEXT[call]) + "\n", output)
+        assert found and status == 0, (output, error)
+        # One clock serves all processes.
+        waits.append(float(found[1]) - sent)
+    assert 0 < waits[-1] < MOST_WAIT, waits
     if progress == "None" or call == "keys":
         # For keys no plies are reported, and it may take longer than a second until a first move is searched.
         assert found[2] == "0"
@@ -77,6 +81,7 @@ def test_ctrl_c_ends_a_search_and_the_next_answer_is_right(shared_library, count
     count(3)
 
 
+@pytest.mark.timed
 def test_ctrl_c_ends_python_m_minimate(shared_library):
     words = ["-m", "minimate", "solve", "--limit", "63", "--progress", LONG]
     output, error, status, sent, ended = interrupt(shared_library, words, "stderr")
