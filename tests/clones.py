@@ -225,7 +225,7 @@ class Clone:
         assert wait_for(lambda: list(words) in [line[: len(words)] for line in self.told()]), f"never: {words}"
 
     def has_ended(self, seconds=20):
-        """Whether all processes of the stand-in are gone within so many seconds."""
+        """Whether all processes of the stand-in are gone within this number of seconds."""
         processes = self.told("process")
         return processes != [] and wait_for(lambda: not any(is_alive(it) for it in processes), seconds)
 

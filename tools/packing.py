@@ -87,7 +87,7 @@ def md5sums(items):
 
 
 def lay_out(items, root, epoch):
-    """Writes them below the folder `root`, with their modes and the one time, whatever the mask of whoever packs."""
+    """Writes them below the folder `root`, with their modes and the one time, whatever the packer's mask is."""
     for item in items:
         path = os.path.join(root, item.path)
         os.makedirs(os.path.dirname(path), exist_ok=True)

@@ -234,7 +234,7 @@ def command_first(words, _):
 
 
 def without_search(words, command):
-    """The words without the options of a search that the command doesn't take, and without the numbers behind them."""
+    """The words without the options of a search that the command doesn't take, and without the numbers after them."""
     kept, rest, takes = [], list(words), second_reading.COMMANDS[command].values
     while rest:
         word = rest.pop(0)
@@ -387,7 +387,7 @@ def changed_words(chance, words):
 
 
 def changed_moves(chance, fen):
-    """A position with its moves behind it, written in another way than a batch reads them, or with too many of them."""
+    """A position followed by its moves, written in another way than a batch reads them, or with too many of them."""
     moves = chance.choice(["1", "2", "02", "32", "002"])
     tail = chance.choice([";dm {}", " ;dm {}", " ; dm {} ", " ; dm  {}", " dm {};", " - - dm {};", "; dm {};", " ;  dm {}", " ; dm{}"])
     return fen + chance.choice([tail.format(moves), tail.format(moves), f" ; dm {chance.choice(['0', '33', '64', '99'])}"])

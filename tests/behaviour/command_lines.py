@@ -35,13 +35,13 @@ SLOW, SLOW_WORDS, SLOW_ANSWER, SLOW_NONE = START, ["--slots", "4096", "--limit",
 # A search that ends long before its first progress line is due.
 SHORT_LIMIT = "3"
 SIGN = re.compile(rb"\r\x1b\[\?7l(\d+) s, (line 1, )?(?:none within (\d+), )?round (\d+): (?:move (\d+) of (\d+), (\w+)|(\w+) wins)(?:; --slots 1048573 may be faster)?\x1b\[K\x1b\[\?7h")
-# The seconds of a progress line, and whether it advises --slots, which it does after so many seconds over a small table.
+# The seconds of a progress line, and whether it advises --slots, which it does after ADVISED_AFTER seconds over a small table.
 ADVICE, ADVISED_AFTER = re.compile(rb"\r\x1b\[\?7l(\d+) s, [^\x1b\r]*?(; --slots 1048573 may be faster)?\x1b\[K"), 10
 # A root of 70 moves, 27 of which mate. White mates in it at once; what the moves are, tools/check_tree.py says.
 WIDE = "6/5k/QQ1Q2/4Q1/QQ4/1KQ3 w"
 # The greatest table takes more memory than this, a small one less.
 LITTLE_MEMORY = 30 << 20
-# A stack of so many bytes has room for the deepest runs, and of so few for none. docs/project/measurements.md says how much they take.
+# LITTLE_STACK is room for the deepest runs, and NO_STACK for none. docs/project/measurements.md says how much they take.
 LITTLE_STACK, NO_STACK = 512 << 10, 16 << 10
 # Searches within the most plies that are over soon: mates of 45, 39 and 23 plies, one of 11 among 19 units, and two positions that hold none, in
 # the second of which the defender has 55 moves.

@@ -36,7 +36,7 @@ PROBLEMS = [
 SMALL, SMALLER = "1Qn1k/K4/5/5/3N1 w", "1k4/5R/6/6/6/2R2K w"
 # A mate in 5 plies by one move, and within 5 mate or stalemate by a lesser one.
 BOTH = "r3k/3bp/1bPpP/R2KQ/4B w"
-# The lines of the bench that are solved too, with the slots that spread takes: three, or all within so many plies.
+# The lines of the bench that are solved too, with the slots that spread takes: three, or all within SPREAD_BENCH_PLIES plies.
 MOST_PLIES = int(os.environ.get("SPREAD_BENCH_PLIES", "0"))
 BENCH = [it for it in bench_lines() if it.limit <= MOST_PLIES] or [it for it in bench_lines() if it.limit == 5][::10]
 

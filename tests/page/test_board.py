@@ -143,7 +143,7 @@ def test_side_goal_and_game_are_changed(drive):
 
 
 def test_the_board_after_a_move_is_set_up(drive):
-    """What is set up behind a move is what the board shows, with the same side to move; Undo gives the problem and its line back."""
+    """The board after a move can be set up as it is, with the same side to move; Undo gives the problem and its line back."""
     drive.go(THIRD)
     drive.play("c4c5")
     drive.mode("set")

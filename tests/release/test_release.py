@@ -286,7 +286,7 @@ def test_packed_again_in_other_circumstances_the_bytes_are_the_same(members, tmp
 
 def test_lintian_finds_no_fault():
     need("lintian")
-    # The address is the commit's author's, or of whoever packs: which mail it takes is no matter of this test.
+    # The address is that of the commit's author or of the packer. This test doesn't judge it.
     addresses = "bogus-mail-host,bogus-mail-host-in-debian-changelog"
     ran = run(["lintian", "--fail-on", "error,warning", "--suppress-tags", addresses, "--allow-root", PACKAGE], timeout=300)
     assert (ran.status, ran.output.decode()) == (0, "")
